@@ -1,0 +1,10 @@
+pub mod Backward
+pub mod Feed
+pub mod Forward
+pub mod Judge
+pub mod Lists
+pub mod OneActList
+pub mod Pieces
+pub mod Stops
+pub mod Fields
+pub mod Reading

@@ -1,0 +1,46 @@
+-- The text of an outcome.
+use Rattle.std.specs.Prelude.{ℕ, List, [], ◌∷◌, ◌++◌, codes}
+use Rattle.std.specs.Fmt.{decimal}
+use Rattle.mdb_check.specs.declared.offence.Rule.{Rule}
+use Rattle.mdb_check.specs.declared.offence.Rule.TheVariants as rule
+use Rattle.mdb_check.specs.declared.offence.Blame.{Blame}
+use Rattle.mdb_check.specs.declared.offence.Blame.TheVariants as blame
+use Rattle.mdb_check.specs.declared.outcome.Outcome.{Outcome}
+use Rattle.mdb_check.specs.declared.outcome.Outcome.TheVariants.{Yes, No}
+
+-- the word of a rule
+abbrev pub rule_word : Rule → List ℕ
+rule_word rule.Order = codes "Order"
+rule_word rule.Speaker = codes "Speaker"
+rule_word rule.Mode = codes "Mode"
+rule_word rule.Early = codes "Early"
+rule_word rule.Late = codes "Late"
+rule_word rule.Spacing = codes "Spacing"
+rule_word rule.Length = codes "Length"
+rule_word rule.Sum = codes "Sum"
+rule_word rule.Break = codes "Break"
+rule_word rule.Answer = codes "Answer"
+rule_word rule.Message = codes "Message"
+rule_word rule.Same = codes "Same"
+rule_word rule.Profile = codes "Profile"
+rule_word rule.Changer = codes "Changer"
+rule_word rule.Bill = codes "Bill"
+rule_word rule.Cashless = codes "Cashless"
+
+-- the word of who is to blame
+abbrev pub blame_word : Blame → List ℕ
+blame_word blame.Controller = codes "controller"
+blame_word blame.Changer = codes "changer"
+blame_word blame.Bill = codes "bill"
+blame_word blame.Cashless = codes "cashless"
+blame_word blame.Other = codes "other"
+
+-- a line of a text
+abbrev pub line : List ℕ → List ℕ
+line words = words ++ 10 ∷ []
+
+-- what is written for an outcome
+abbrev pub text_of : Outcome → List ℕ
+text_of (Yes report) = line (codes "verdict yes") ++ line (codes "rows " ++ decimal report.rows)
+text_of (No offence) = line (codes "verdict no") ++ line (codes "row " ++ decimal offence.row) ++ line (codes "rule " ++ rule_word offence.rule)
+    ++ line (codes "blame " ++ blame_word offence.blame)

@@ -1,0 +1,96 @@
+-- What is answered to the records of a text.
+use Rattle.std.specs.Prelude.{◌≡◌, ◌≢◌, ◌+◌, ◌<◌, ◌≤◌, ℕ, List, [], ◌∷◌, ◌++◌, length, ⊤, Option, Some, None, Result, Ok, Err, pos, replicate}
+use Rattle.mdb_words.specs.declared.event.Event.{Event}
+use Rattle.mdb_words.specs.declared.row.RowFault.{RowFault}
+use Rattle.mdb_words.specs.Row.{IsRow, IsRefusal}
+use Rattle.mdb_records.specs.declared.ReadFault.{ReadFault}
+use Rattle.mdb_records.specs.declared.ReadFault.TheVariants as reading
+use Rattle.mdb_check.specs.declared.offence.Offence.{Offence}
+use Rattle.mdb_check.specs.declared.outcome.Account.{Account}
+use Rattle.mdb_check.specs.declared.outcome.Range.{Range}
+use Rattle.mdb_check.specs.declared.outcome.Report.{Report}
+use Rattle.mdb_check.specs.declared.outcome.Outcome.{Outcome}
+use Rattle.mdb_check.specs.declared.outcome.Outcome.TheVariants.{Yes, No}
+use Rattle.mdb_check.specs.declared.outcome.RunFault.{RunFault}
+use Rattle.mdb_check.specs.declared.outcome.RunFault.TheVariants.{BadRow, TooLong, Read, Write, Memory}
+use Rattle.mdb_check.specs.declared.verdict.TheConstants.{ROWS_MAX}
+use Rattle.mdb_check.specs.ActLists.{HasActList}
+use Rattle.mdb_check.specs.LinkFaults.{IsLinkFault}
+
+-- each record is a row, and these are their events
+abbrev pub AreRows : List (List (List ℕ)) → List Event → Type 0
+AreRows [] [] = ⊤
+AreRows (fields ∷ records) (event ∷ rows) = IsRow fields event × AreRows records rows
+AreRows [] (event ∷ rows) = ⊥
+AreRows (fields ∷ records) [] = ⊥
+
+-- the report of so many rows: nothing follows the money yet
+abbrev pub no_range : Range
+no_range = record { least = pos 0; greatest = pos 0 }
+
+abbrev pub report_of : ℕ → Report
+report_of count = record {
+  rows = count;
+  decimals = replicate 3 None;
+  accounts = replicate 5 (record { device = no_range; controller = no_range; difference = no_range });
+  silences = replicate 3 0;
+}
+
+-- All records are rows, and the controller and its peripherals can have said these words at these times.
+pub record IsPossible (records : List (List (List ℕ))) (report : Report) : Type 0 where
+  pub rows : List Event
+  pub told : AreRows records rows
+  pub few : length rows ≤ ROWS_MAX
+  pub possible : HasActList rows
+  pub telling : report ≡ report_of (length rows)
+
+-- Rows that can be, and then a record.
+pub record StopsAt (records : List (List (List ℕ))) (rows : List Event) (fields : List (List ℕ)) : Type 0 where
+  pub done : List (List (List ℕ))
+  pub rest : List (List (List ℕ))
+  pub split : records ≡ done ++ fields ∷ rest
+  pub told : AreRows done rows
+  pub possible : HasActList rows
+
+-- The first row that cannot follow the rows before it, the rule that it breaks, and who is to blame.
+pub record IsOffence (records : List (List (List ℕ))) (offence : Offence) : Type 0 where
+  pub rows : List Event
+  pub row : Event
+  pub fields : List (List ℕ)
+  pub stops : StopsAt records rows fields
+  pub told : IsRow fields row
+  pub few : length rows < ROWS_MAX
+  pub number : offence.row ≡ length rows + 1
+  pub impossible : HasActList (rows ++ row ∷ []) → ⊥
+  pub fault : IsLinkFault rows row offence.rule offence.blame
+
+-- The first record that is no row, behind rows that can be.
+pub record IsBadRow (records : List (List (List ℕ))) (row : ℕ) (fault : RowFault) : Type 0 where
+  pub rows : List Event
+  pub fields : List (List ℕ)
+  pub stops : StopsAt records rows fields
+  pub few : length rows < ROWS_MAX
+  pub number : row ≡ length rows + 1
+  pub refused : IsRefusal fields fault
+
+-- As many rows as there may be, which can be, and then a record.
+pub record IsTooLong (records : List (List (List ℕ))) : Type 0 where
+  pub rows : List Event
+  pub fields : List (List ℕ)
+  pub stops : StopsAt records rows fields
+  pub full : length rows ≡ ROWS_MAX
+
+-- The answer to the records of a text. Of a refused read, write or memory the records say nothing.
+abbrev pub IsAnswer : List (List (List ℕ)) → Result Outcome RunFault → Type 0
+IsAnswer records (Ok (Yes report)) = IsPossible records report
+IsAnswer records (Ok (No offence)) = IsOffence records offence
+IsAnswer records (Err (BadRow row fault)) = IsBadRow records row fault
+IsAnswer records (Err TooLong) = IsTooLong records
+IsAnswer records (Err Read) = ⊤
+IsAnswer records (Err Write) = ⊤
+IsAnswer records (Err Memory) = ⊤
+
+-- the fault of a run whose reading failed
+abbrev pub run_fault_of : ReadFault → RunFault
+run_fault_of reading.Read = Read
+run_fault_of reading.Memory = Memory

@@ -1,0 +1,17 @@
+//! The checker: reads a transcript, and answers whether the controller and its peripherals can have said these words at
+//! these times.
+#![tactic(auto)]
+
+mod bus;
+mod offence;
+mod outcome;
+mod program;
+#[cfg(test)]
+mod tests;
+mod text;
+mod verdict;
+
+pub use offence::{Blame, LinkFault, Offence, Rule};
+pub use outcome::{Account, Outcome, Range, Report, RunFault};
+pub use program::run;
+pub use verdict::{BYTES_MAX, ROWS_MAX, check};

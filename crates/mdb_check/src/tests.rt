@@ -1,0 +1,299 @@
+//! What no contract says: that a call can answer at all, the faults of readers and writers, and the program's words.
+
+use super::{Blame, Offence, Outcome, Rule, RunFault, check, run};
+use mdb_words::RowFault;
+use std::alloc::{AllocError, Global};
+use std::io;
+use std::io::{ErrorKind, Read, Write};
+use std::test::Fail;
+
+/// A changer's RESET and ACK, a POLL, the answer that it was reset, and the controller's ACK.
+const ROWS: &[u8] =
+    b"1000,M,108\n2200,M,008\n4200,S,100\n24200,M,10B\n25400,M,00B\n27400,S,00B\n28600,S,10B\n30600,M,000\n";
+
+/// The report on `ROWS`.
+const REPORT: &[u8] = b"verdict yes\nrows 8\n";
+
+/// `ROWS` up to a reply whose sum is wrong.
+const WRONG_SUM: &[u8] =
+    b"1000,M,108\n2200,M,008\n4200,S,100\n24200,M,10B\n25400,M,00B\n27400,S,00B\n28600,S,10C\n";
+
+/// The report on `WRONG_SUM`.
+const WRONG_SUM_REPORT: &[u8] = b"verdict no\nrow 7\nrule Sum\nblame changer\n";
+
+/// More reads and writes than `check` makes of `ROWS` in small pieces.
+const CALLS: u64 = 1_000;
+
+/// Gives a text in pieces, and fails at one of its reads alone.
+#[derive(Drop)]
+struct Pieces<'a> {
+    text: &'a [u8],
+    // The most bytes that a read gives.
+    most: usize,
+    reads: u64,
+    // The number of the read that fails, from 1; 0 for none.
+    failing: u64,
+    kind: ErrorKind,
+}
+
+impl<'a> Pieces<'a> {
+    fn new(text: &'a [u8], most: usize) -> Pieces<'a> {
+        Pieces {
+            text,
+            most,
+            reads: 0,
+            failing: 0,
+            kind: ErrorKind::Other,
+        }
+    }
+
+    fn failing(text: &'a [u8], most: usize, failing: u64, kind: ErrorKind) -> Pieces<'a> {
+        Pieces {
+            text,
+            most,
+            reads: 0,
+            failing,
+            kind,
+        }
+    }
+
+    fn has_failed(&self) -> bool {
+        0 < self.failing && self.failing <= self.reads
+    }
+}
+
+impl<'a> Read for Pieces<'a> {
+    fn read(&mut self, buf: &mut [u8]) -> io::Result<usize> {
+        self.reads = self.reads.saturating_add(1);
+        if self.reads == self.failing {
+            return Err(io::Error::from(self.kind));
+        }
+        let count = self.most.min(buf.len()).min(self.text.len());
+        let (given, rest) = self.text.split_at(count);
+        buf[..count].copy_from_slice(given);
+        self.text = rest;
+        Ok(count)
+    }
+}
+
+/// Keeps what is written, a few bytes at a time, and fails at one of its writes alone.
+#[derive(Drop)]
+struct Sheet {
+    text: Vec<u8>,
+    writes: u64,
+    // The number of the write that fails, from 1; 0 for none.
+    failing: u64,
+}
+
+impl Sheet {
+    fn failing(alloc: Global, failing: u64) -> Sheet {
+        Sheet {
+            text: Vec::new(alloc),
+            writes: 0,
+            failing,
+        }
+    }
+
+    fn has_failed(&self) -> bool {
+        0 < self.failing && self.failing <= self.writes
+    }
+}
+
+impl Write for Sheet {
+    fn write(&mut self, buf: &[u8]) -> io::Result<usize> {
+        self.writes = self.writes.saturating_add(1);
+        if self.writes == self.failing {
+            return Err(io::Error::from(ErrorKind::BrokenPipe));
+        }
+        let count = buf.len().min(3);
+        self.text.extend_from_slice(&buf[..count])?;
+        Ok(count)
+    }
+
+    fn flush(&mut self) -> io::Result<()> {
+        Ok(())
+    }
+}
+
+/// The number of rows of a yes.
+fn rows_of(answer: Result<Outcome, RunFault>) -> Option<u64> {
+    match answer {
+        Ok(Outcome::Yes(report)) => Some(report.rows),
+        _ => None,
+    }
+}
+
+/// The words of a command line.
+fn words_of(alloc: Global, words: &[&str]) -> Result<Vec<String>, AllocError> {
+    let mut list = Vec::new(alloc);
+    for word in words {
+        list.push(String::from_str(alloc, word)?)?;
+    }
+    Ok(list)
+}
+
+/// How many lines a text has, if it is empty or ends in a line feed.
+fn lines_of(text: &[u8]) -> Option<usize> {
+    match text.last() {
+        None | Some(b'\n') => Some(text.iter().filter(|byte| **byte == b'\n').count()),
+        Some(_) => None,
+    }
+}
+
+#[test]
+fn answers_yes_and_no(rt: HostRuntime) {
+    let mut out = Vec::new(rt.alloc());
+    assert_eq!(rt; rows_of(check(rt.alloc(), ROWS, &mut out)), Some(8));
+    assert_eq!(rt; out.as_slice(), REPORT);
+
+    let mut out = Vec::new(rt.alloc());
+    let offence = Offence {
+        row: 7,
+        rule: Rule::Sum,
+        blame: Blame::Changer,
+    };
+    assert_eq!(rt;
+        check(rt.alloc(), WRONG_SUM, &mut out),
+        Ok(Outcome::No(offence))
+    );
+    assert_eq!(rt; out.as_slice(), WRONG_SUM_REPORT);
+}
+
+#[test]
+fn refuses_a_bad_row(rt: HostRuntime) {
+    let mut out = Vec::new(rt.alloc());
+    let text: &[u8] = b"12,M,200\n";
+    let fault = RunFault::BadRow {
+        row: 1,
+        fault: RowFault::BadValue,
+    };
+    assert_eq!(rt; check(rt.alloc(), text, &mut out), Err(fault));
+    assert!(rt; out.is_empty());
+}
+
+#[test]
+fn reads_a_text_in_pieces(rt: HostRuntime) {
+    for most in [1, 2, 7] {
+        let mut out = Vec::new(rt.alloc());
+        let answer = check(rt.alloc(), Pieces::new(ROWS, most), &mut out);
+        assert_eq!(rt; rows_of(answer), Some(8), "{most} bytes at a time");
+        assert_eq!(rt; out.as_slice(), REPORT, "{most} bytes at a time");
+    }
+}
+
+#[test]
+fn a_failed_read_is_told(rt: HostRuntime) {
+    for kind in [ErrorKind::BrokenPipe, ErrorKind::Interrupted] {
+        let mut untouched = false;
+        for failing in 1..CALLS {
+            let mut out = Vec::new(rt.alloc());
+            let mut reader = Pieces::failing(ROWS, 7, failing, kind);
+            let answer = check(rt.alloc(), &mut reader, &mut out);
+            if !reader.has_failed() {
+                assert_eq!(rt; rows_of(answer), Some(8));
+                untouched = true;
+                break;
+            }
+            assert_eq!(rt; answer, Err(RunFault::Read), "at read {failing}");
+            assert!(rt; out.is_empty(), "at read {failing}");
+        }
+        assert!(rt; untouched);
+    }
+}
+
+#[test]
+fn a_failed_write_is_told(rt: HostRuntime) {
+    let mut untouched = false;
+    for failing in 1..CALLS {
+        let mut out = Sheet::failing(rt.alloc(), failing);
+        let answer = check(rt.alloc(), ROWS, &mut out);
+        if !out.has_failed() {
+            assert_eq!(rt; rows_of(answer), Some(8));
+            assert_eq!(rt; out.text.as_slice(), REPORT);
+            untouched = true;
+            break;
+        }
+        assert_eq!(rt; answer, Err(RunFault::Write), "at write {failing}");
+    }
+    assert!(rt; untouched);
+}
+
+#[test]
+fn an_offence_ends_the_reading(rt: HostRuntime) {
+    let mut out = Vec::new(rt.alloc());
+    let mut reader = Pieces::failing(b"1,S,100\nx\nx\nx\nx\n", 8, 3, ErrorKind::BrokenPipe);
+    let offence = Offence {
+        row: 1,
+        rule: Rule::Speaker,
+        blame: Blame::Other,
+    };
+    assert_eq!(rt;
+        check(rt.alloc(), &mut reader, &mut out),
+        Ok(Outcome::No(offence))
+    );
+    assert!(rt; !reader.has_failed());
+}
+
+#[test]
+fn statuses_of_check(rt: HostRuntime) -> Result<(), Fail> {
+    let bad_row: &[u8] = b"12,M,200\n";
+    let nothing: &[u8] = b"";
+    let cases = [
+        (ROWS, 0, REPORT, 0),
+        (WRONG_SUM, 1, WRONG_SUM_REPORT, 0),
+        (bad_row, 2, nothing, 1),
+    ];
+    for (text, status, report, lines) in cases {
+        let words = words_of(rt.alloc(), &["mdbcheck", "check"])?;
+        let mut out = Vec::new(rt.alloc());
+        let mut err = Vec::new(rt.alloc());
+        assert_eq!(rt; run(rt.alloc(), words, text, &mut out, &mut err), status);
+        assert_eq!(rt; out.as_slice(), report);
+        assert_eq!(rt; lines_of(err.as_slice()), Some(lines), "at status {status}");
+    }
+    Ok(())
+}
+
+/// Command lines that ask for no verdict.
+const REFUSED: [&[&str]; 8] = [
+    &[],
+    &["mdbcheck"],
+    &["mdbcheck", "frobnicate"],
+    &["mdbcheck", "check", "extra"],
+    &["mdbcheck", "--help"],
+    &["mdbcheck", "help"],
+    &["mdbcheck", "--version"],
+    &["mdbcheck", "check", "--help"],
+];
+
+#[test]
+fn refuses_other_words(rt: HostRuntime) -> Result<(), Fail> {
+    for (number, words) in REFUSED.iter().enumerate() {
+        let mut out = Vec::new(rt.alloc());
+        let mut err = Vec::new(rt.alloc());
+        let words = words_of(rt.alloc(), words)?;
+        assert_eq!(rt;
+            run(rt.alloc(), words, ROWS, &mut out, &mut err),
+            2,
+            "{number}"
+        );
+        assert!(rt; out.is_empty(), "{number}");
+        assert_eq!(rt; lines_of(err.as_slice()), Some(1), "{number}");
+    }
+    Ok(())
+}
+
+#[test]
+fn a_line_that_is_not_taken_changes_no_status(rt: HostRuntime) -> Result<(), Fail> {
+    let command_lines: [&[&str]; 2] = [&["mdbcheck", "check"], &["mdbcheck", "frobnicate"]];
+    for words in command_lines {
+        let text: &[u8] = b"12,M,200\n";
+        let mut out = Vec::new(rt.alloc());
+        let mut err = Sheet::failing(rt.alloc(), 1);
+        let words = words_of(rt.alloc(), words)?;
+        assert_eq!(rt; run(rt.alloc(), words, text, &mut out, &mut err), 2);
+        assert!(rt; err.has_failed());
+        assert!(rt; out.is_empty());
+    }
+    Ok(())
+}

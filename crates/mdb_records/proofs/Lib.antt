@@ -1,0 +1,6 @@
+pub mod MarkFacts
+pub mod MarkGives
+pub mod StepFacts
+pub mod MarkedRecords
+pub mod RowFacts
+pub mod ReadingFacts

@@ -1,0 +1,60 @@
+-- Which records are still to come from a reader of records.
+use Rattle.std.specs.Prelude.{◌≡◌, ◌≤◌, ◌++◌, ◌⊎◌, Bool, true, false, ℕ, List, [], ◌∷◌, Option, Some, None, All}
+use Rattle.csv.specs.Machine.{ends_at_end}
+use Rattle.csv.specs.Reading.{AreRecords, default_config, reader_config, reader_state, source_of}
+use Rattle.csv.specs.Records.{fields_of}
+use Rattle.mdb_records.specs.Mark.{given_of, mark}
+use Rattle.mdb_records.specs.declared.ReadFault.{ReadFault}
+use Rattle.mdb_records.specs.declared.Records.{Records}
+use Rattle.mdb_records.specs.declared.limited.Limited.{Limited}
+
+-- the bytes that a limited reader has left, by those of the reader that it limits
+abbrev pub limited_remaining : {R : Type 0} → (R → Option (List ℕ)) → Limited R → Option (List ℕ)
+limited_remaining remaining limited = given_of (remaining limited.inner) limited.left limited.held
+
+-- the mark stands somewhere in the text
+abbrev pub HasMark : List ℕ → List ℕ → Type 0
+HasMark text given = (before after : List ℕ) × (text ≡ before ++ after) × (given ≡ before ++ mark ∷ after)
+
+-- the mark comes after bytes above ASCII alone, as where the limit cuts a byte order mark
+abbrev pub IsCutAtStart : List ℕ → Type 0
+IsCutAtStart given = (before after : List ℕ) × All (λ b. 128 ≤ b) before × (given ≡ before ++ mark ∷ after)
+
+-- what is given is the text, or the limit's mark keeps each record from being given that is not the text's
+abbrev pub Gives : List ℕ → List ℕ → Type 0
+Gives text given = (given ≡ text) ⊎ HasMark text given ⊎ IsCutAtStart given
+
+-- these are all the records that are still to come, where `text` is the whole text that is left, however
+-- long, and `given` is what the limit leaves of it
+pub record ToCome {R : Type 0} (remaining : R → Option (List ℕ)) (value : Records R) (rows : List (List (List ℕ))) : Type 0 where
+  pub text : List ℕ
+  pub given : List ℕ
+  pub going : value.fault ≡ None
+  pub plain : reader_config value.reader ≡ default_config
+  pub between : ends_at_end (reader_state value.reader) ≡ false
+  pub source : source_of (limited_remaining remaining) value.reader ≡ Some given
+  pub gives : Gives text given
+  pub all : AreRecords default_config (reader_state value.reader) text rows
+
+-- the text that is left goes on behind the limit
+pub record IsOverLimit {R : Type 0} (remaining : R → Option (List ℕ)) (value : Records R) : Type 0 where
+  pub before : List ℕ
+  pub after : List ℕ
+  pub going : value.fault ≡ None
+  pub plain : reader_config value.reader ≡ default_config
+  pub between : ends_at_end (reader_state value.reader) ≡ false
+  pub source : source_of (limited_remaining remaining) value.reader ≡ Some (before ++ mark ∷ after)
+
+-- the fields of the record that was read last
+abbrev pub current_fields : {R : Type 0} → Records R → List (List ℕ)
+current_fields value = fields_of value.row
+
+-- the fault that ended the reading
+abbrev pub fault_of : {R : Type 0} → Records R → Option ReadFault
+fault_of value = value.fault
+
+-- a read that found the next of the records to come, and one that found that there is none
+abbrev pub Advances : {R : Type 0} → (R → Option (List ℕ)) → Records R → Bool → List (List (List ℕ)) → Type 0
+Advances remaining value true rows =
+    (rest : List (List (List ℕ))) × (rows ≡ current_fields value ∷ rest) × ToCome remaining value rest
+Advances remaining value false rows = rows ≡ []

@@ -1,0 +1,160 @@
+//! The CSV records of a text, one at a time, from any reader and under a limit on the number of its bytes.
+//!
+//! A text that is longer than the limit is an error and never the end of the text: each record that is given
+//! is one of the whole text's records, and the end is told only where the whole text ends.
+#![tactic(auto)]
+
+ghost use Rattle.std.specs.Prelude.{◌≡◌, ◌<◌, ℕ, All, List, None, length, true, IfErr, IfOk, IfSome, Some, Err, if◌then◌else◌};
+ghost use Rattle.csv.specs.Reading.{default_config, error_kind, is_io, records, stops_reader, strip_bom};
+ghost use Rattle.csv.specs.Records.{fields_of};
+ghost use Rattle.mdb_records.specs.SetUp.{IsSetUp};
+
+mod limited;
+
+use csv::{ByteRecord, ErrorKind, Reader, ReaderBuilder};
+use limited::Limited;
+use std::alloc::Global;
+use std::io::Read;
+
+/// Why the next record could not be read.
+#[derive(Clone, Copy, PartialEq, Eq, Debug)]
+pub enum ReadFault {
+    /// The reader failed, or its text goes on behind the limit.
+    Read,
+    /// Memory ran out.
+    Memory,
+}
+
+/// The records of the text that a reader has left, one after the other.
+#[derive(Drop)]
+pub struct Records<R> {
+    reader: Reader<Limited<R>>,
+    // The record that was read last, whose memory the next one uses again.
+    row: ByteRecord,
+    // The fault that ended the reading.
+    fault: Option<ReadFault>,
+    ghost set_up: { fault ≡ None → IsSetUp reader },
+}
+
+impl<R: Read + Drop> Records<R> {
+    ghost use Rattle.mdb_records.specs.ToCome.{Advances, IsOverLimit, ToCome, current_fields, fault_of};
+
+    /// The records of the text that `reader` has left, which may be at most `limit` bytes long: past them one
+    /// more byte is asked for, to tell the end from a longer text. Fields are separated by commas and may be
+    /// quoted, lines end in LF, CR or both, and blank lines are no records.
+    ///
+    /// No clause says that a text within the limit is read to its end, since a reader may fail at any time.
+    pub fn new(alloc: Global, reader: R, limit: u64) -> Records<R>
+        ensures records { IfSome (R.remaining reader) (λ text.
+            ToCome R.remaining result (records default_config (strip_bom text))) }
+        ensures over { IfSome (R.remaining reader) (λ text.
+            limit < length text → IsOverLimit R.remaining result) }
+        ensures going { fault_of result ≡ None }
+    {
+        Records {
+            reader: ReaderBuilder::new()
+                .has_headers(false)
+                .flexible(true)
+                .from_reader(alloc, Limited::new(reader, limit)),
+            row: ByteRecord::new(alloc),
+            fault: None,
+        }
+    }
+
+    /// Reads the next record, and says whether there is one. Nothing is said of a call after the end.
+    pub fn advance(&mut self) -> Result<bool, ReadFault>
+        ensures next { IfOk result (λ found. (rows : List (List (List ℕ))) →
+            ToCome R.remaining self.old rows → Advances R.remaining self.new found rows) }
+
+        // Where the text goes on behind the limit, no end is told.
+        ensures endless { IfOk result (λ found.
+            IsOverLimit R.remaining self.old → (found ≡ true) × IsOverLimit R.remaining self.new) }
+
+        // A fault says nothing of the records to come, since the reader may stand inside one: each call from
+        // then on answers that fault again.
+        ensures failed { IfErr result (λ fault. fault_of self.new ≡ Some fault) }
+        ensures stays { IfSome (fault_of self.old) (λ fault. result ≡ Err fault) }
+    {
+        if let Some(fault) = self.fault {
+            return Err(fault);
+        }
+        match self.reader.read_byte_record(&mut self.row) {
+            Ok(found) => {
+                see_bytes(self.row.as_slice());
+                Ok(found)
+            }
+            Err(e) => {
+                let fault = fault_by(e);
+                self.fault = Some(fault);
+                Err(fault)
+            }
+        }
+    }
+
+    /// The record that the last `advance` read.
+    pub fn row(&self) -> &ByteRecord
+        ensures { fields_of result.now ≡ current_fields self.now }
+    {
+        &self.row
+    }
+}
+
+// Each element of the slice is a byte, as its type says.
+fn see_bytes(_bytes: &[u8])
+    ensures { All (λ b. b < 256) _bytes.now }
+{}
+
+// The fault that csv's error is, where it ends the reading.
+fn fault_by(error: csv::Error) -> ReadFault
+    requires { stops_reader (error_kind error) ≡ true }
+    ensures { result ≡ (if is_io (error_kind error) then ReadFault.Read else ReadFault.Memory) }
+{
+    match error.into_kind() {
+        ErrorKind::Io(_) => ReadFault::Read,
+        ErrorKind::OutOfMemory => ReadFault::Memory,
+        _ => unreachable!(),
+    }
+}
+
+#[cfg(test)]
+mod tests {
+    use super::*;
+    use std::alloc::AllocError;
+    use std::test::Fail;
+
+    // The second fields of the rows of a text under a limit, and how the reading ended.
+    fn second_fields(
+        rt: &HostRuntime,
+        text: &[u8],
+        limit: u64,
+    ) -> Result<(Vec<u8>, Result<bool, ReadFault>), AllocError> {
+        let mut fields = Vec::new(rt.alloc());
+        let mut rows = Records::new(rt.alloc(), text, limit);
+        for _ in 0..text.len() {
+            match rows.advance() {
+                Ok(true) => fields.extend_from_slice(rows.row().get(1).unwrap_or(b"-"))?,
+                end => return Ok((fields, end)),
+            }
+        }
+        Ok((fields, rows.advance()))
+    }
+
+    #[test]
+    fn gives_each_row(rt: HostRuntime) -> Result<(), Fail> {
+        let (fields, end) = second_fields(&rt, b"1,M\n\n2,\"a,b\",c\r\n3", 99)?;
+        assert_eq!(rt; fields.as_slice(), b"Ma,b-".as_slice());
+        assert_eq!(rt; end, Ok(false));
+        Ok(())
+    }
+
+    #[test]
+    fn a_longer_text_has_no_end(rt: HostRuntime) -> Result<(), Fail> {
+        // Eight bytes, and the last row ends with the text.
+        let text = b"1,M\n2,NO";
+        assert_eq!(rt; second_fields(&rt, text, 8)?.1, Ok(false));
+        let (fields, end) = second_fields(&rt, text, 7)?;
+        assert_eq!(rt; fields.as_slice(), b"M".as_slice());
+        assert_eq!(rt; end, Err(ReadFault::Read));
+        Ok(())
+    }
+}

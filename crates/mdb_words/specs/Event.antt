@@ -1,0 +1,18 @@
+-- When events start and end, and the gaps between them.
+use Rattle.std.specs.Prelude.{◌≡◌, ◌+◌, ℕ}
+use Rattle.mdb_words.specs.declared.event.Event.{Event}
+use Rattle.mdb_words.specs.declared.event.Event.TheVariants.{Word, Break}
+
+-- when an event starts
+abbrev pub start_of : Event → ℕ
+start_of (Word at line word) = at
+start_of (Break at length) = at
+
+-- from when the gap to the next event is counted: a word's start, a break's end
+abbrev pub end_of : Event → ℕ
+end_of (Word at line word) = at
+end_of (Break at length) = at + length
+
+-- the gap from one event to a later one
+abbrev pub IsGap : Event → Event → ℕ → Type 0
+IsGap earlier later gap = end_of earlier + gap ≡ start_of later

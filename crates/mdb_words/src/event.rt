@@ -1,0 +1,249 @@
+//! What a recorder saw: a word or a break, and the row that tells it.
+
+ghost use Rattle.std.specs.Prelude.{◌≡◌, ◌<◌, ◌≤◌, ◌∷◌, length, [], List, ℕ, All, map, IfSome, IfNone, IfOk, IfErr, Ok};
+ghost use Rattle.mdb_words.specs.Event.{IsGap, start_of, end_of};
+ghost use Rattle.mdb_words.specs.Row.{IsFieldByte, IsRefusal, IsRow, Tells, break_letter, joined_by_commas, letter_of, row_fields};
+ghost use Rattle.mdb_words.specs.Digits.{IsDecimal};
+
+use super::digits::{push_decimal, push_hex_word};
+use super::row::RowFault;
+use super::time::{Span, Time};
+use super::word::{Line, Word};
+use arrayvec::ArrayString;
+
+/// One row of a transcript (this profile).
+#[derive(Clone, Copy, PartialEq, Eq, Debug)]
+pub enum Event {
+    /// A word that started at a time on a line.
+    Word {
+        /// When its first bit started.
+        at: Time,
+        /// On which line.
+        line: Line,
+        /// Its nine bits.
+        word: Word,
+    },
+    /// A break: the controller held its line low from a time on, for a length of time.
+    Break {
+        /// When it started.
+        at: Time,
+        /// How long it lasted.
+        length: Span,
+    },
+}
+
+impl Event {
+    /// The event of a row's fields (this profile): the start in microseconds as 1 to 15 decimal digits; `M`, `S` or
+    /// `B`; a word of the controller (`M`) or a peripheral (`S`) as three hexadecimal digits up to 1FF, or the length of
+    /// a break (`B`) in microseconds as 1 to 9 decimal digits.
+    ///
+    /// Of several faults the first in the order of [`RowFault`] is told.
+    pub fn read(fields: &[&[u8]]) -> Result<Event, RowFault>
+        ensures ok { IfOk result (IsRow (map (λ f. f.now) fields.now)) }
+        ensures only { (event : Event) → IsRow (map (λ f. f.now) fields.now) event → result ≡ Ok event }
+        ensures err { IfErr result (IsRefusal (map (λ f. f.now) fields.now)) }
+    {
+        let &[time, letter, value] = fields else {
+            return Err(RowFault::FieldCount);
+        };
+        let at = Time::read(time).ok_or(RowFault::BadTime)?;
+        Event::read_at(at, letter, value)
+    }
+
+    /// The event that starts at a time, by the letter and the value of its row.
+    fn read_at(at: Time, letter: &[u8], value: &[u8]) -> Result<Event, RowFault>
+        ensures { (time : List ℕ) → IsDecimal 15 time at → Tells result (time ∷ letter.now ∷ value.now ∷ []) }
+    {
+        match letter {
+            [b'M'] => Event::read_word(at, Line::Controller, value),
+            [b'S'] => Event::read_word(at, Line::Peripheral, value),
+            [b'B'] => Event::read_break(at, value),
+            _ => Err(RowFault::BadLine),
+        }
+    }
+
+    /// The word that starts at a time on a line, by the value of its row.
+    fn read_word(at: Time, line: Line, value: &[u8]) -> Result<Event, RowFault>
+        ensures { (time : List ℕ) → IsDecimal 15 time at → Tells result (time ∷ (letter_of line ∷ []) ∷ value.now ∷ []) }
+    {
+        let word = Word::read(value).ok_or(RowFault::BadValue)?;
+        Ok(Event::Word { at, line, word })
+    }
+
+    /// The break that starts at a time, by the value of its row.
+    fn read_break(at: Time, value: &[u8]) -> Result<Event, RowFault>
+        ensures { (time : List ℕ) → IsDecimal 15 time at → Tells result (time ∷ (break_letter ∷ []) ∷ value.now ∷ []) }
+    {
+        let length = Span::read(value).ok_or(RowFault::BadValue)?;
+        Ok(Event::Break { at, length })
+    }
+
+    /// The row of the event (this profile), without line end: its start, its letter and its value, with commas between. Decimals have
+    /// no leading zeros, and a word has three upper case hexadecimal digits. Reading its fields gives the event.
+    pub fn row_text(&self) -> ArrayString<32>
+        ensures text { result.bytes ≡ joined_by_commas (row_fields self.now) }
+        ensures row { IsRow (row_fields self.now) self.now }
+        ensures apart { All (All IsFieldByte) (row_fields self.now) }
+        ensures short { length result.bytes ≤ 27 }
+    {
+        let mut text = ArrayString::new();
+        push_decimal(&mut text, self.start().value());
+        match *self {
+            Event::Word { line, word, .. } => {
+                text.push_str(match line {
+                    Line::Controller => ",M,",
+                    Line::Peripheral => ",S,",
+                });
+                push_hex_word(&mut text, word.value());
+            }
+            Event::Break { length, .. } => {
+                text.push_str(",B,");
+                push_decimal(&mut text, length.value());
+            }
+        }
+        text
+    }
+
+    /// When the event started.
+    pub fn start(&self) -> Time
+        ensures { result ≡ start_of self.now }
+    {
+        match *self {
+            Event::Word { at, .. } => at,
+            Event::Break { at, .. } => at,
+        }
+    }
+}
+
+/// The microseconds from one event to a later one: from the start of a word, or the end of a break, to the start of
+/// the later event. `None` where the later event starts before that (this profile).
+pub fn gap_of(earlier: &Event, later: &Event) -> Option<u64>
+    ensures some { IfSome result (λ gap. IsGap earlier.now later.now gap) }
+    ensures none { IfNone result (start_of later.now < end_of earlier.now) }
+{
+    let from = match *earlier {
+        Event::Word { at, .. } => at.value(),
+        Event::Break { at, length } => at.value() + length.value(),
+    };
+    later.start().value().checked_sub(from)
+}
+
+#[cfg(test)]
+mod tests {
+    use super::*;
+
+    fn read(time: &str, letter: &str, value: &str) -> Result<Event, RowFault> {
+        Event::read(&[time.as_bytes(), letter.as_bytes(), value.as_bytes()])
+    }
+
+    fn word_at(at: u64, line: Line, value: u16) -> Option<Event> {
+        let at = Time::new(at)?;
+        let word = Word::new(value)?;
+        Some(Event::Word { at, line, word })
+    }
+
+    fn break_at(at: u64, length: u64) -> Option<Event> {
+        let at = Time::new(at)?;
+        let length = Span::new(length)?;
+        Some(Event::Break { at, length })
+    }
+
+    #[test]
+    fn rows_are_refused_for_their_first_fault(rt: HostRuntime) {
+        for (time, letter, value, fault) in [
+            ("12", "M", "200", RowFault::BadValue),
+            ("", "M", "108", RowFault::BadTime),
+            (" 1", "M", "108", RowFault::BadTime),
+            ("+1", "M", "108", RowFault::BadTime),
+            ("1234567890123456", "M", "108", RowFault::BadTime),
+            ("x", "m", "2", RowFault::BadTime),
+            ("1", "m", "108", RowFault::BadLine),
+            ("1", "MS", "2", RowFault::BadLine),
+            ("1", "", "108", RowFault::BadLine),
+            ("1", "M", "10", RowFault::BadValue),
+            ("1", "S", "0108", RowFault::BadValue),
+            ("1", "M", "10G", RowFault::BadValue),
+            ("1", "B", "", RowFault::BadValue),
+            ("1", "B", "1000000000", RowFault::BadValue),
+        ] {
+            assert_eq!(rt;
+                read(time, letter, value),
+                Err(fault),
+                "at {time},{letter},{value}"
+            );
+        }
+        assert_eq!(rt;
+            Event::read(&["1".as_bytes(), "M".as_bytes()]),
+            Err(RowFault::FieldCount)
+        );
+    }
+
+    #[test]
+    fn rows_are_read_and_written(rt: HostRuntime) {
+        for (time, letter, value, event, text) in [
+            (
+                "000000000000001",
+                "M",
+                "108",
+                word_at(1, Line::Controller, 0x108),
+                "1,M,108",
+            ),
+            (
+                "1",
+                "M",
+                "1ff",
+                word_at(1, Line::Controller, 0x1FF),
+                "1,M,1FF",
+            ),
+            (
+                "1000",
+                "M",
+                "108",
+                word_at(1000, Line::Controller, 0x108),
+                "1000,M,108",
+            ),
+            (
+                "2146",
+                "S",
+                "00a",
+                word_at(2146, Line::Peripheral, 10),
+                "2146,S,00A",
+            ),
+            ("0", "B", "100000", break_at(0, 100_000), "0,B,100000"),
+            (
+                "999999999999999",
+                "B",
+                "999999999",
+                break_at(999_999_999_999_999, 999_999_999),
+                "999999999999999,B,999999999",
+            ),
+        ] {
+            let found = read(time, letter, value).ok();
+            assert_eq!(rt; found, event);
+            let is_written = found.is_some_and(|event| event.row_text().as_str() == text);
+            assert!(rt; is_written);
+        }
+    }
+
+    #[test]
+    fn gaps_count_from_the_start_of_a_word_and_the_end_of_a_break(rt: HostRuntime) {
+        for (earlier, later, gap) in [
+            (
+                word_at(1000, Line::Controller, 0x108),
+                word_at(2146, Line::Controller, 0x008),
+                Some(1146),
+            ),
+            (
+                break_at(0, 100_000),
+                word_at(300_000, Line::Controller, 0x108),
+                Some(200_000),
+            ),
+            (break_at(0, 100_000), break_at(99_999, 100_000), None),
+        ] {
+            let found = earlier.and_then(|earlier| later.and_then(|later| gap_of(
+                &earlier, &later,
+            )));
+            assert_eq!(rt; found, gap);
+        }
+    }
+}

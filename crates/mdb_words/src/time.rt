@@ -1,0 +1,106 @@
+//! Times and lengths of time, in microseconds.
+
+ghost use Rattle.std.specs.Prelude.{◌≡◌, ◌^◌, ◌<◌, ℕ, IfSome, IfNone};
+ghost use Rattle.std.specs.Option.{SomeIff};
+ghost use Rattle.mdb_words.specs.Digits.{IsDecimal};
+
+use super::digits::read_decimal;
+use std::marker::Model;
+
+/// When an event started: microseconds since the recorder's zero, below 10^15.
+///
+/// A clause sees it as that number.
+#[derive(Clone, Copy, PartialEq, Eq, PartialOrd, Ord, Debug)]
+pub struct Time {
+    micros: u64,
+}
+
+impl Model for Time {
+    ghost use Rattle.std.specs.Prelude.{ℕ, ◌<◌, ◌^◌};
+
+    ghost Value = { ℕ };
+
+    ghost view = { λ t. t.micros };
+
+    ghost invariant = { λ t. t.micros < 10 ^ 15 };
+
+    ghost inverse = { λ n. record { micros = n } };
+}
+
+impl Time {
+    /// The time of this many microseconds, which are below 10^15; else `None`.
+    pub fn new(micros: u64) -> Option<Time>
+        ensures { SomeIff result (micros < 10 ^ 15) micros }
+    {
+        if micros < 1_000_000_000_000_000 {
+            Some(Time { micros })
+        } else {
+            None
+        }
+    }
+
+    /// The time that a field of exactly 1 to 15 ASCII digits tells, leading zeros allowed; else `None` (this profile).
+    pub fn read(field: &[u8]) -> Option<Time>
+        ensures some { IfSome result (IsDecimal 15 field.now) }
+        ensures none { IfNone result ((n : ℕ) → IsDecimal 15 field.now n → ⊥) }
+    {
+        Time::new(read_decimal(field, 15)?)
+    }
+
+    /// The microseconds.
+    pub fn value(self) -> u64
+        ensures value { result ≡ self }
+        ensures range { self < 10 ^ 15 }
+    {
+        self.micros
+    }
+}
+
+/// How long a break lasted: microseconds, below 10^9.
+///
+/// A clause sees it as that number.
+#[derive(Clone, Copy, PartialEq, Eq, PartialOrd, Ord, Debug)]
+pub struct Span {
+    micros: u64,
+}
+
+impl Model for Span {
+    ghost use Rattle.std.specs.Prelude.{ℕ, ◌<◌, ◌^◌};
+
+    ghost Value = { ℕ };
+
+    ghost view = { λ s. s.micros };
+
+    ghost invariant = { λ s. s.micros < 10 ^ 9 };
+
+    ghost inverse = { λ n. record { micros = n } };
+}
+
+impl Span {
+    /// The length of this many microseconds, which are below 10^9; else `None`.
+    pub fn new(micros: u64) -> Option<Span>
+        ensures { SomeIff result (micros < 10 ^ 9) micros }
+    {
+        if micros < 1_000_000_000 {
+            Some(Span { micros })
+        } else {
+            None
+        }
+    }
+
+    /// The length that a field of exactly 1 to 9 ASCII digits tells, leading zeros allowed; else `None`.
+    pub(crate) fn read(field: &[u8]) -> Option<Span>
+        ensures some { IfSome result (IsDecimal 9 field.now) }
+        ensures none { IfNone result ((n : ℕ) → IsDecimal 9 field.now n → ⊥) }
+    {
+        Span::new(read_decimal(field, 9)?)
+    }
+
+    /// The microseconds.
+    pub fn value(self) -> u64
+        ensures value { result ≡ self }
+        ensures range { self < 10 ^ 9 }
+    {
+        self.micros
+    }
+}
