@@ -134,3 +134,7 @@ tells (Err fault) fields ok err = err
 pub refused_read : (records : List (List (List ℕ))) (fault : ReadFault) → IsAnswer records (Err (run_fault_of fault))
 refused_read records reading.Read = tt
 refused_read records reading.Memory = tt
+
+-- a text that goes on behind the limit has no end
+pub not_ended : (found : Bool) → found ≡ false → found ≡ true → ⊥
+not_ended found ends goes = cc

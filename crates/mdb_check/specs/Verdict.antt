@@ -90,6 +90,12 @@ IsAnswer records (Err Read) = ⊤
 IsAnswer records (Err Write) = ⊤
 IsAnswer records (Err Memory) = ⊤
 
+-- an answer that isn't yes
+abbrev pub IsNoYes : Result Outcome RunFault → Type 0
+IsNoYes (Ok (Yes report)) = ⊥
+IsNoYes (Ok (No offence)) = ⊤
+IsNoYes (Err fault) = ⊤
+
 -- the fault of a run whose reading failed
 abbrev pub run_fault_of : ReadFault → RunFault
 run_fault_of reading.Read = Read

@@ -4,9 +4,9 @@ ghost use Rattle.std.specs.Prelude.{◌≡◌, ◌≢◌, ◌<◌, List, ℕ, If
 ghost use Rattle.std.specs.Io.KnownBytes.{Appends};
 ghost use Rattle.csv.specs.Reading.{default_config, records, strip_bom};
 ghost use Rattle.csv.specs.Records.{field_at, fields_of};
-ghost use Rattle.mdb_records.specs.ToCome.{ToCome};
+ghost use Rattle.mdb_records.specs.ToCome.{IsOverLimit, ToCome};
 ghost use Rattle.mdb_check.specs.Text.{text_of};
-ghost use Rattle.mdb_check.specs.Verdict.{IsAnswer, run_fault_of};
+ghost use Rattle.mdb_check.specs.Verdict.{IsAnswer, IsNoYes, run_fault_of};
 ghost use Rattle.mdb_words.specs.Row.{Tells};
 
 use super::bus::Bus;
@@ -43,6 +43,7 @@ pub fn check<R: Read + Drop, W: Write>(
     writer: &mut W,
 ) -> Result<Outcome, RunFault>
     ensures answer { IfSome (R.remaining reader) (λ text. IsAnswer (records default_config (strip_bom text)) result) }
+    ensures whole { IfSome (R.remaining reader) (λ text. BYTES_MAX < length text → IsNoYes result) }
     ensures written { IfOk result (λ outcome. Appends (W.contents writer.old) (W.contents writer.new) (text_of outcome)) }
     ensures nothing_written { IfErr result (λ fault. fault ≢ RunFault.Write → W.contents writer.new ≡ W.contents writer.old) }
 {
@@ -60,6 +61,7 @@ pub fn check<R: Read + Drop, W: Write>(
 /// The verdict on the records that are still to come.
 fn judge<R: Read + Drop>(records: &mut Records<R>) -> Result<Outcome, RunFault>
     ensures answer { (all : List (List (List ℕ))) → ToCome R.remaining records.old all → IsAnswer all result }
+    ensures whole { IsOverLimit R.remaining records.old → IsNoYes result }
     ensures not_write { IfErr result (λ fault. fault ≢ RunFault.Write) }
 {
     let mut bus = Bus::new();

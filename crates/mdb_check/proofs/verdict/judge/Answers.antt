@@ -7,17 +7,20 @@ use Rattle.mdb_check.proofs.Reading as reading
 use Rattle.mdb_check.proofs.verdict.judge.Goals as goal
 
 pub loop-row-init : goal.loop-row-init
-loop-row-init g c all to_come = reading.begins g.R.Read.remaining all _ c.new-bus.result to_come c.new-bus.ensures
+loop-row-init g c = record {
+  taken = λ all to_come. reading.begins g.R.Read.remaining all _ c.new-bus.result to_come c.new-bus.ensures;
+  over = λ over. over;
+}
 
 pub returns-then-not-found-clause-answer : goal.returns-then-not-found-clause-answer
 returns-then-not-found-clause-answer g c all to_come =
-    reading.ended g.R.Read.remaining all c.loop-row.records c.advance.new.self c.loop-row.bus c.loop-row.row (c.loop-row.invariant all to_come) c.in-Ok.found c.if-not-found.true c.in-Ok.ensures.next
+    reading.ended g.R.Read.remaining all c.loop-row.records c.advance.new.self c.loop-row.bus c.loop-row.row (c.loop-row.invariant.taken all to_come) c.in-Ok.found c.if-not-found.true c.in-Ok.ensures.next
     (omega arith) c.of_rows.result c.of_rows.ensures
 
 pub returns-in-Err-event_of-clause-answer : goal.returns-in-Err-event_of-clause-answer
 returns-in-Err-event_of-clause-answer g c all to_come =
     let Refused : List (List ℕ) → Type 0 = λ fields. IsRefusal fields c.in-Err-event_of.fault in
-    reading.bad_row g.R.Read.remaining all c.loop-row.records c.advance.new.self c.loop-row.bus c.loop-row.row (c.loop-row.row + 1) c.in-Err-event_of.fault (c.loop-row.invariant all to_come) c.in-Ok.found
+    reading.bad_row g.R.Read.remaining all c.loop-row.records c.advance.new.self c.loop-row.bus c.loop-row.row (c.loop-row.row + 1) c.in-Err-event_of.fault (c.loop-row.invariant.taken all to_come) c.in-Ok.found
     c.if-not-found.false c.in-Ok.ensures.next (omega arith) refl (subst Refused c.row.ensures c.in-Err-event_of.ensures)
 
 pub returns-in-Err-feed-clause-answer : goal.returns-in-Err-feed-clause-answer
@@ -25,22 +28,31 @@ returns-in-Err-feed-clause-answer g c all to_come =
     let Row : List (List ℕ) → Type 0 = λ fields. IsRow fields c.in-Ok-event_of.event in
     let Told : Offence → Type 0 = λ offence. IsOffence all offence in
     subst Told (sym c.offence_at.ensures)
-    (reading.offence_at g.R.Read.remaining all c.loop-row.records c.advance.new.self c.loop-row.bus c.loop-row.row c.in-Ok-event_of.event _ (c.loop-row.invariant all to_come) c.in-Ok.found
+    (reading.offence_at g.R.Read.remaining all c.loop-row.records c.advance.new.self c.loop-row.bus c.loop-row.row c.in-Ok-event_of.event _ (c.loop-row.invariant.taken all to_come) c.in-Ok.found
     c.if-not-found.false c.in-Ok.ensures.next (omega arith) refl (subst Row c.row.ensures c.in-Ok-event_of.ensures) c.in-Err-feed.ensures.faults)
 
 pub loop-row-preserved : goal.loop-row-preserved
-loop-row-preserved g c all to_come =
+loop-row-preserved g c =
     let Row : List (List ℕ) → Type 0 = λ fields. IsRow fields c.in-Ok-event_of.event in
-    reading.goes_on g.R.Read.remaining all c.loop-row.records c.advance.new.self c.loop-row.bus c.feed.new.self c.loop-row.row c.in-Ok-event_of.event (c.loop-row.invariant all to_come) c.in-Ok.found
-    c.if-not-found.false c.in-Ok.ensures.next (subst Row c.row.ensures c.in-Ok-event_of.ensures) c.in-Ok-feed.ensures.goes_on
+    record {
+      taken = λ all to_come. reading.goes_on g.R.Read.remaining all c.loop-row.records c.advance.new.self c.loop-row.bus c.feed.new.self c.loop-row.row c.in-Ok-event_of.event (c.loop-row.invariant.taken all to_come) c.in-Ok.found
+    c.if-not-found.false c.in-Ok.ensures.next (subst Row c.row.ensures c.in-Ok-event_of.ensures) c.in-Ok-feed.ensures.goes_on;
+      over = λ over. (c.in-Ok.ensures.endless (c.loop-row.invariant.over over)).1;
+    }
 
 pub returns-in-Ok-advance-clause-answer : goal.returns-in-Ok-advance-clause-answer
 returns-in-Ok-advance-clause-answer g c all to_come =
-    reading.too_long g.R.Read.remaining all c.loop-row.records c.advance-2.new.self c.loop-row.bus c.loop-row.row (c.loop-row.invariant all to_come) c.in-Ok-advance.found c.if-found.true c.in-Ok-advance.ensures.next
+    reading.too_long g.R.Read.remaining all c.loop-row.records c.advance-2.new.self c.loop-row.bus c.loop-row.row (c.loop-row.invariant.taken all to_come) c.in-Ok-advance.found c.if-found.true c.in-Ok-advance.ensures.next
     (omega arith)
 
 pub returns-in-Ok-2-clause-answer : goal.returns-in-Ok-2-clause-answer
 returns-in-Ok-2-clause-answer g c all to_come =
     let full : c.loop-row.row ≡ ROWS_MAX = omega arith in
-    reading.ended g.R.Read.remaining all c.loop-row.records c.advance-2.new.self c.loop-row.bus c.loop-row.row (c.loop-row.invariant all to_come) c.in-Ok-advance.found c.if-found.false c.in-Ok-advance.ensures.next
+    reading.ended g.R.Read.remaining all c.loop-row.records c.advance-2.new.self c.loop-row.bus c.loop-row.row (c.loop-row.invariant.taken all to_come) c.in-Ok-advance.found c.if-found.false c.in-Ok-advance.ensures.next
     (omega arith) c.of_rows-in-Ok-2.result (c.of_rows-in-Ok-2.ensures ∙ ap report_of (sym full))
+
+pub returns-then-not-found-clause-whole : goal.returns-then-not-found-clause-whole
+returns-then-not-found-clause-whole g c over = reading.not_ended c.in-Ok.found c.if-not-found.true (c.in-Ok.ensures.endless (c.loop-row.invariant.over over)).0
+
+pub returns-in-Ok-2-clause-whole : goal.returns-in-Ok-2-clause-whole
+returns-in-Ok-2-clause-whole g c over = reading.not_ended c.in-Ok-advance.found c.if-found.false (c.in-Ok-advance.ensures.endless (c.loop-row.invariant.over over)).0
