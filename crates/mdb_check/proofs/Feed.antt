@@ -81,7 +81,7 @@ stands_on old new rows event line word gap next stood said since goes went =
     }
 
 -- a row that breaks a rule leads nowhere
-impossible : (row : Event) (broken : Rule) (line : Line) (word : ℕ) (last : Option Event) (at next : BusPosition) → said_by row ≡ Some (line, word) → RowBreaks at last row broken
+pub impossible : (row : Event) (broken : Rule) (line : Line) (word : ℕ) (last : Option Event) (at next : BusPosition) → said_by row ≡ Some (line, word) → RowBreaks at last row broken
     → (OutOfOrder last row → ⊥) → Goes at (gap_since last row) line word next → ⊥
 impossible (Break start long) broken line word last at next said breaks in_order goes = cc
 impossible (Word start l w) rule.Order line word last at next said breaks in_order goes = in_order breaks

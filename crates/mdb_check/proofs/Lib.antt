@@ -1,10 +1,13 @@
 pub mod Backward
 pub mod Feed
+pub mod FirstRule
 pub mod Forward
 pub mod Judge
 pub mod Lists
 pub mod OneActList
+pub mod OneAnswer
 pub mod Pieces
+pub mod SomeRule
 pub mod Stops
 pub mod Fields
 pub mod Reading

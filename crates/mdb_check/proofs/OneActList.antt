@@ -89,7 +89,7 @@ one_more rows event one p q first second =
     a.extension ∙ (ap (λ n. extended a.before event n) next ∙ (ap (λ ps. extended ps event (position_of q)) before ∙ sym b.extension))
 
 -- a list, its last element first
-by_last : (P : List Event → Type 0) → P [] → ((rows : List Event) (event : Event) → P rows → P (rows ++ event ∷ [])) → (rows : List Event) → P rows
+pub by_last : (P : List Event → Type 0) → P [] → ((rows : List Event) (event : Event) → P rows → P (rows ++ event ∷ [])) → (rows : List Event) → P rows
 by_last P none more rows = all rows [] none
   where
     all : (rest done : List Event) → P done → P (done ++ rest)

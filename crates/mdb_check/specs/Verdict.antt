@@ -90,6 +90,15 @@ IsAnswer records (Err Read) = ⊤
 IsAnswer records (Err Write) = ⊤
 IsAnswer records (Err Memory) = ⊤
 
+-- an answer that the records themselves have: every one but a refused read, write or memory
+abbrev pub IsTold : Result Outcome RunFault → Type 0
+IsTold (Ok outcome) = ⊤
+IsTold (Err (BadRow row fault)) = ⊤
+IsTold (Err TooLong) = ⊤
+IsTold (Err Read) = ⊥
+IsTold (Err Write) = ⊥
+IsTold (Err Memory) = ⊥
+
 -- an answer that isn't yes
 abbrev pub IsNoYes : Result Outcome RunFault → Type 0
 IsNoYes (Ok (Yes report)) = ⊥

@@ -3,6 +3,7 @@
 #![tactic(auto)]
 
 mod bus;
+pub mod laws;
 mod offence;
 mod outcome;
 mod program;

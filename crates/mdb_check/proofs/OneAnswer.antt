@@ -1,0 +1,278 @@
+-- Fronts of act lists, rows that break a rule, and the one answer to the records of a text.
+use Rattle.std.proofs.Common.{arith, refl, ap, sym, subst, ◌∙◌, ◌≡◌, ◌+◌, ◌<◌, ◌≤◌, ℕ, List, [], ◌∷◌, ◌++◌, Result, Ok, Err, inl, inr, ◌⊎◌, length, length-append, append_assoc}
+use Rattle.std.proofs.lemmas.List.{append-nil}
+use Rattle.std.proofs.lemmas.Grind.{common_steps}
+use Rattle.mdb_words.specs.declared.event.Event.{Event}
+use Rattle.mdb_words.specs.declared.row.RowFault.{RowFault}
+use Rattle.mdb_words.specs.Row.{IsRow, IsRefusal}
+use Rattle.mdb_check.specs.declared.offence.Blame.{Blame}
+use Rattle.mdb_check.specs.declared.offence.Offence.{Offence}
+use Rattle.mdb_check.specs.declared.offence.Rule.{Rule}
+use Rattle.mdb_check.specs.declared.outcome.Outcome.{Outcome}
+use Rattle.mdb_check.specs.declared.outcome.Outcome.TheVariants.{Yes, No}
+use Rattle.mdb_check.specs.declared.outcome.Report.{Report}
+use Rattle.mdb_check.specs.declared.outcome.RunFault.{RunFault}
+use Rattle.mdb_check.specs.declared.outcome.RunFault.TheVariants.{BadRow, TooLong, Read, Write, Memory}
+use Rattle.mdb_check.specs.declared.verdict.TheConstants.{ROWS_MAX}
+use Rattle.mdb_check.specs.ActLists.{Piece, IsActList, HasActList}
+use Rattle.mdb_check.specs.LinkFaults.{blame_of, RowBreaks, IsFirstBroken, IsLinkFault, position_of, last_of}
+use Rattle.mdb_check.specs.Verdict.{AreRows, IsAnswer, IsTold, IsBadRow, IsOffence, IsPossible, IsTooLong, report_of}
+use Rattle.mdb_check.proofs.OneActList.{one_act_list, shorter, by_last}
+use Rattle.mdb_check.proofs.Backward.{backward}
+use Rattle.mdb_check.proofs.Feed.{impossible}
+use Rattle.mdb_check.proofs.FirstRule.{no_device_rule, one_first}
+
+-- each front of a transcript with an act list has one
+pub fronts : (rows more : List Event) → HasActList (rows ++ more) → HasActList rows
+fronts rows more = by_last (λ es. HasActList (rows ++ es) → HasActList rows)
+    (λ list. subst HasActList (append-nil rows) list)
+    (λ es event before list. before (shorter (rows ++ es) event (subst HasActList (sym (append_assoc rows es (event ∷ []))) list)))
+    more
+
+-- behind rows with an act list, none goes on with a row that breaks a rule
+pub breaking_ends : (rows : List Event) (pieces : List Piece) (event : Event) (broken : Rule) → IsActList pieces rows → RowBreaks (position_of pieces) (last_of rows) event broken
+    → HasActList (rows ++ event ∷ []) → ⊥
+breaking_ends rows pieces event broken act_list breaks list =
+    let b = backward list.0 rows event list.1 in
+    let same : pieces ≡ b.before = one_act_list rows pieces b.before act_list b.act_list in
+    let P : List Piece → Type 0 = λ ps. RowBreaks (position_of ps) (last_of rows) event broken in
+    impossible event broken b.line b.word (last_of rows) (position_of b.before) (position_of list.0) b.said (subst P same breaks) b.in_order b.goes
+
+-- fields are a row of one event at most, and a row is never refused
+row_one : (fields : List (List ℕ)) (a b : Event) → IsRow fields a → IsRow fields b → a ≡ b
+row_one fields a b p q = grind (arith, common_steps)
+
+row_not_refused : (fields : List (List ℕ)) (event : Event) (fault : RowFault) → IsRow fields event → IsRefusal fields fault → ⊥
+row_not_refused fields event fault row refused = grind (arith, common_steps)
+
+
+-- a record has one refusal
+one_refusal : (fields : List (List ℕ)) (a b : RowFault) → IsRefusal fields a → IsRefusal fields b → a ≡ b
+one_refusal fields a b p q = grind (arith, common_steps)
+
+-- the fault of a row is one
+one_fault : (rows : List Event) (event : Event) (r s : Rule) (a b : Blame) → IsLinkFault rows event r a → IsLinkFault rows event s b → (r ≡ s) × (a ≡ b)
+one_fault rows event r s a b first second =
+    let same : second.pieces ≡ first.pieces = one_act_list rows second.pieces first.pieces second.act_list first.act_list in
+    let P : List Piece → Type 0 = λ ps. IsFirstBroken (RowBreaks (position_of ps) (last_of rows) event) s in
+    let none = no_device_rule (position_of first.pieces) (last_of rows) event in
+    let rules_same : r ≡ s = one_first (RowBreaks (position_of first.pieces) (last_of rows) event) none.0 none.1 none.2 r s first.rule (subst P same second.rule) in (
+      rules_same,
+      first.blame ∙ (ap (blame_of first.pieces event) rules_same ∙ (ap (λ ps. blame_of ps event s) (sym same) ∙ sym second.blame)),
+    )
+
+-- The rows at the front of the records that have an act list, where no more row goes on: there is no record behind them, it is
+-- no row, no act list goes on with it, or it is one too many.
+record Front (records : List (List (List ℕ))) (rows : List Event) (rest : List (List (List ℕ))) : Type 0 where
+  done : List (List (List ℕ))
+  split : records ≡ done ++ rest
+  told : AreRows done rows
+  possible : HasActList rows
+  few : length rows ≤ ROWS_MAX
+  ends : (fields : List (List ℕ)) (more : List (List (List ℕ))) (event : Event) → rest ≡ fields ∷ more → IsRow fields event → HasActList (rows ++ event ∷ []) → length rows < ROWS_MAX → ⊥
+
+-- of two fronts of rows the longer one goes on behind the shorter one, with a record that is a row
+record GoesOn (rows longer : List Event) (rest : List (List (List ℕ))) : Type 0 where
+  fields : List (List ℕ)
+  behind : List (List (List ℕ))
+  event : Event
+  more : List Event
+  record_is : rest ≡ fields ∷ behind
+  row : IsRow fields event
+  longer_is : longer ≡ rows ++ event ∷ more
+
+-- the same with one row more in front
+one_more_in_front : (rows longer : List Event) (rest : List (List (List ℕ))) (event other : Event) → event ≡ other → GoesOn rows longer rest → GoesOn (event ∷ rows) (other ∷ longer) rest
+one_more_in_front rows longer rest event other one on = record {
+  fields = on.fields;
+  behind = on.behind;
+  event = on.event;
+  more = on.more;
+  record_is = on.record_is;
+  row = on.row;
+  longer_is = ap (λ e. e ∷ longer) (sym one) ∙ ap (λ es. event ∷ es) on.longer_is;
+}
+
+-- of two fronts of rows of the same records, either both are one, or one goes on behind the other
+compared : (done others rest left : List (List (List ℕ))) (rows events : List Event) → AreRows done rows → AreRows others events → done ++ rest ≡ others ++ left
+    → ((rows ≡ events) × (rest ≡ left)) ⊎ (GoesOn rows events rest ⊎ GoesOn events rows left)
+compared [] [] rest left [] [] told heard same = inl (refl, same)
+compared [] (fields ∷ others) rest left [] (event ∷ events) told heard same =
+    inr (inl (record { fields = fields; behind = others ++ left; event = event; more = events; record_is = same; row = heard.0; longer_is = refl }))
+compared (fields ∷ done) [] rest left (event ∷ rows) [] told heard same =
+    inr (inr (record { fields = fields; behind = done ++ rest; event = event; more = rows; record_is = sym same; row = told.0; longer_is = refl }))
+compared (fields ∷ done) (first ∷ others) rest left (event ∷ rows) (other ∷ events) told heard same =
+    let here : first ≡ fields = cc in
+    let P : List (List ℕ) → Type 0 = λ f. IsRow f other in
+    let one : event ≡ other = row_one fields event other told.0 (subst P here heard.0) in
+    joined one (compared done others rest left rows events told.1 heard.1 (cc))
+  where
+    joined : event ≡ other → ((rows ≡ events) × (rest ≡ left)) ⊎ (GoesOn rows events rest ⊎ GoesOn events rows left)
+        → ((event ∷ rows ≡ other ∷ events) × (rest ≡ left)) ⊎ (GoesOn (event ∷ rows) (other ∷ events) rest ⊎ GoesOn (other ∷ events) (event ∷ rows) left)
+    joined one (inl both) = inl (ap (λ e. e ∷ rows) one ∙ ap (λ es. other ∷ es) both.0, both.1)
+    joined one (inr (inl on)) = inr (inl (one_more_in_front rows events rest event other one on))
+    joined one (inr (inr on)) = inr (inr (one_more_in_front events rows left other event (sym one) on))
+compared [] others rest left (event ∷ rows) events told heard same = absurd told
+compared (fields ∷ done) others rest left [] events told heard same = absurd told
+compared done [] rest left rows (event ∷ events) told heard same = absurd heard
+compared done (fields ∷ others) rest left rows [] told heard same = absurd heard
+
+-- no such front is longer than another one
+no_longer : (records : List (List (List ℕ))) (rows events : List Event) (rest left : List (List (List ℕ))) → Front records rows rest → Front records events left → GoesOn rows events rest → ⊥
+no_longer records rows events rest left first second on =
+    let split : events ≡ (rows ++ on.event ∷ []) ++ on.more = on.longer_is ∙ sym (append_assoc rows (on.event ∷ []) on.more) in
+    let long : length events ≡ length rows + length (on.event ∷ on.more) = ap length on.longer_is ∙ length-append rows (on.event ∷ on.more) in
+    first.ends on.fields on.behind on.event on.record_is on.row (fronts (rows ++ on.event ∷ []) on.more (subst HasActList split second.possible)) (omega (arith, second.few, long))
+
+-- such a front of the records is one, and so is what stands behind it
+one_front : (records : List (List (List ℕ))) (rows events : List Event) (rest left : List (List (List ℕ))) → Front records rows rest → Front records events left → (rows ≡ events) × (rest ≡ left)
+one_front records rows events rest left first second = by_case (compared first.done second.done rest left rows events first.told second.told (sym first.split ∙ second.split))
+  where
+    by_case : ((rows ≡ events) × (rest ≡ left)) ⊎ (GoesOn rows events rest ⊎ GoesOn events rows left) → (rows ≡ events) × (rest ≡ left)
+    by_case (inl same) = same
+    by_case (inr (inl on)) = absurd (no_longer records rows events rest left first second on)
+    by_case (inr (inr on)) = absurd (no_longer records events rows left rest second first on)
+
+-- the front of each answer
+yes_front : (records : List (List (List ℕ))) (report : Report) (is : IsPossible records report) → Front records is.rows []
+yes_front records report is = record {
+  done = records;
+  split = sym (append-nil records);
+  told = is.told;
+  possible = is.possible;
+  few = is.few;
+  ends = λ fields more event none row list below. cc;
+}
+
+no_front : (records : List (List (List ℕ))) (offence : Offence) (is : IsOffence records offence) → Front records is.rows (is.fields ∷ is.stops.rest)
+no_front records offence is = record {
+  done = is.stops.done;
+  split = is.stops.split;
+  told = is.stops.told;
+  possible = is.stops.possible;
+  few = omega (arith, is.few);
+  ends = λ fields more event same row list below. impossible_row fields event (cc) row list;
+}
+  where
+    impossible_row : (fields : List (List ℕ)) (event : Event) → fields ≡ is.fields → IsRow fields event → HasActList (is.rows ++ event ∷ []) → ⊥
+    impossible_row fields event same row list =
+        let P : List (List ℕ) → Type 0 = λ f. IsRow f event in
+        let one : event ≡ is.row = row_one is.fields event is.row (subst P same row) is.told in
+        let Q : Event → Type 0 = λ e. HasActList (is.rows ++ e ∷ []) in
+        is.impossible (subst Q one list)
+
+bad_front : (records : List (List (List ℕ))) (row : ℕ) (fault : RowFault) (is : IsBadRow records row fault) → Front records is.rows (is.fields ∷ is.stops.rest)
+bad_front records row fault is = record {
+  done = is.stops.done;
+  split = is.stops.split;
+  told = is.stops.told;
+  possible = is.stops.possible;
+  few = omega (arith, is.few);
+  ends = λ fields more event same told list below. no_row fields event (cc) told;
+}
+  where
+    no_row : (fields : List (List ℕ)) (event : Event) → fields ≡ is.fields → IsRow fields event → ⊥
+    no_row fields event same told = let P : List (List ℕ) → Type 0 = λ f. IsRow f event in row_not_refused is.fields event fault (subst P same told) is.refused
+
+long_front : (records : List (List (List ℕ))) (is : IsTooLong records) → Front records is.rows (is.fields ∷ is.stops.rest)
+long_front records is = record {
+  done = is.stops.done;
+  split = is.stops.split;
+  told = is.stops.told;
+  possible = is.stops.possible;
+  few = omega (arith, is.full);
+  ends = λ fields more event same told list below. omega (arith, is.full, below);
+}
+
+-- the offence behind a front is one
+one_offence : (records : List (List (List ℕ))) (a b : Offence) → IsOffence records a → IsOffence records b → a ≡ b
+one_offence records a b first second =
+    let same = one_front records _ _ _ _ (no_front records a first) (no_front records b second) in
+    let tails : first.fields ∷ first.stops.rest ≡ second.fields ∷ second.stops.rest = same.1 in
+    let fields : second.fields ≡ first.fields = cc in
+    let P : List (List ℕ) → Type 0 = λ f. IsRow f second.row in
+    let event : second.row ≡ first.row = row_one first.fields second.row first.row (subst P fields second.told) first.told in
+    let InRows : List Event → Type 0 = λ rs. IsLinkFault rs second.row b.rule b.blame in
+    let OfRow : Event → Type 0 = λ e. IsLinkFault first.rows e b.rule b.blame in
+    let fault = one_fault first.rows first.row a.rule b.rule a.blame b.blame first.fault (subst OfRow event (subst InRows (sym same.0) second.fault)) in
+    let number : a.row ≡ b.row = first.number ∙ (ap (λ rs. length rs + 1) same.0 ∙ sym second.number) in
+    let made : ℕ → Rule → Blame → Offence = λ n r w. record { row = n; rule = r; blame = w } in
+    ap (λ n. made n a.rule a.blame) number ∙ (ap (λ r. made b.row r a.blame) fault.0 ∙ ap (λ w. made b.row b.rule w) fault.1)
+
+-- the record that is no row is one, and so is its refusal
+one_bad_row : (records : List (List (List ℕ))) (m n : ℕ) (a b : RowFault) → IsBadRow records m a → IsBadRow records n b → (m ≡ n) × (a ≡ b)
+one_bad_row records m n a b first second =
+    let same = one_front records _ _ _ _ (bad_front records m a first) (bad_front records n b second) in
+    let tails : first.fields ∷ first.stops.rest ≡ second.fields ∷ second.stops.rest = same.1 in
+    let fields : second.fields ≡ first.fields = cc in
+    let P : List (List ℕ) → Type 0 = λ f. IsRefusal f b in (
+      first.number ∙ (ap (λ rs. length rs + 1) same.0 ∙ sym second.number),
+      one_refusal first.fields a b first.refused (subst P fields second.refused),
+    )
+
+-- two answers of different kinds
+yes_or_no : (records : List (List (List ℕ))) (report : Report) (offence : Offence) → IsPossible records report → IsOffence records offence → ⊥
+yes_or_no records report offence first second =
+    let same = one_front records _ _ _ _ (yes_front records report first) (no_front records offence second) in
+    let clash : [] ≡ second.fields ∷ second.stops.rest = same.1 in cc
+
+yes_or_bad : (records : List (List (List ℕ))) (report : Report) (row : ℕ) (fault : RowFault) → IsPossible records report → IsBadRow records row fault → ⊥
+yes_or_bad records report row fault first second =
+    let same = one_front records _ _ _ _ (yes_front records report first) (bad_front records row fault second) in
+    let clash : [] ≡ second.fields ∷ second.stops.rest = same.1 in cc
+
+yes_or_long : (records : List (List (List ℕ))) (report : Report) → IsPossible records report → IsTooLong records → ⊥
+yes_or_long records report first second =
+    let same = one_front records _ _ _ _ (yes_front records report first) (long_front records second) in
+    let clash : [] ≡ second.fields ∷ second.stops.rest = same.1 in cc
+
+no_or_bad : (records : List (List (List ℕ))) (offence : Offence) (row : ℕ) (fault : RowFault) → IsOffence records offence → IsBadRow records row fault → ⊥
+no_or_bad records offence row fault first second =
+    let same = one_front records _ _ _ _ (no_front records offence first) (bad_front records row fault second) in
+    let tails : first.fields ∷ first.stops.rest ≡ second.fields ∷ second.stops.rest = same.1 in
+    let fields : second.fields ≡ first.fields = cc in
+    let P : List (List ℕ) → Type 0 = λ f. IsRefusal f fault in
+    row_not_refused first.fields first.row fault first.told (subst P fields second.refused)
+
+no_or_long : (records : List (List (List ℕ))) (offence : Offence) → IsOffence records offence → IsTooLong records → ⊥
+no_or_long records offence first second =
+    let same = one_front records _ _ _ _ (no_front records offence first) (long_front records second) in
+    omega (arith, ap length same.0, first.few, second.full)
+
+bad_or_long : (records : List (List (List ℕ))) (row : ℕ) (fault : RowFault) → IsBadRow records row fault → IsTooLong records → ⊥
+bad_or_long records row fault first second =
+    let same = one_front records _ _ _ _ (bad_front records row fault first) (long_front records second) in
+    omega (arith, ap length same.0, first.few, second.full)
+
+-- the report is one
+one_yes : (records : List (List (List ℕ))) (a b : Report) → IsPossible records a → IsPossible records b → a ≡ b
+one_yes records a b first second =
+    let same = one_front records _ _ _ _ (yes_front records a first) (yes_front records b second) in
+    first.telling ∙ (ap (λ rs. report_of (length rs)) same.0 ∙ sym second.telling)
+
+-- the answer to the records of a text is one
+pub one_answer : (records : List (List (List ℕ))) (a b : Result Outcome RunFault) → IsAnswer records a → IsAnswer records b → IsTold a → IsTold b → a ≡ b
+one_answer records (Ok (Yes a)) (Ok (Yes b)) p q s t = ap (λ report. Ok (Yes report)) (one_yes records a b p q)
+one_answer records (Ok (Yes a)) (Ok (No b)) p q s t = absurd (yes_or_no records a b p q)
+one_answer records (Ok (Yes a)) (Err (BadRow n b)) p q s t = absurd (yes_or_bad records a n b p q)
+one_answer records (Ok (Yes a)) (Err TooLong) p q s t = absurd (yes_or_long records a p q)
+one_answer records (Ok (No a)) (Ok (Yes b)) p q s t = absurd (yes_or_no records b a q p)
+one_answer records (Ok (No a)) (Ok (No b)) p q s t = ap (λ offence. Ok (No offence)) (one_offence records a b p q)
+one_answer records (Ok (No a)) (Err (BadRow n b)) p q s t = absurd (no_or_bad records a n b p q)
+one_answer records (Ok (No a)) (Err TooLong) p q s t = absurd (no_or_long records a p q)
+one_answer records (Err (BadRow m a)) (Ok (Yes b)) p q s t = absurd (yes_or_bad records b m a q p)
+one_answer records (Err (BadRow m a)) (Ok (No b)) p q s t = absurd (no_or_bad records b m a q p)
+one_answer records (Err (BadRow m a)) (Err (BadRow n b)) p q s t =
+    let same = one_bad_row records m n a b p q in
+    ap (λ row. Err (BadRow row a)) same.0 ∙ ap (λ fault. Err (BadRow n fault)) same.1
+one_answer records (Err (BadRow m a)) (Err TooLong) p q s t = absurd (bad_or_long records m a p q)
+one_answer records (Err TooLong) (Ok (Yes b)) p q s t = absurd (yes_or_long records b q p)
+one_answer records (Err TooLong) (Ok (No b)) p q s t = absurd (no_or_long records b q p)
+one_answer records (Err TooLong) (Err (BadRow n b)) p q s t = absurd (bad_or_long records n b q p)
+one_answer records (Err TooLong) (Err TooLong) p q s t = refl
+one_answer records (Err Read) b p q s t = absurd s
+one_answer records (Err Write) b p q s t = absurd s
+one_answer records (Err Memory) b p q s t = absurd s
+one_answer records a (Err Read) p q s t = absurd t
+one_answer records a (Err Write) p q s t = absurd t
+one_answer records a (Err Memory) p q s t = absurd t

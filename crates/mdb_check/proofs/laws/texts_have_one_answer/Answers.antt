@@ -1,0 +1,5 @@
+use Rattle.mdb_check.proofs.OneAnswer.{one_answer}
+use Rattle.mdb_check.proofs.laws.texts_have_one_answer.Goals as goal
+
+pub returns : goal.returns
+returns c = one_answer
