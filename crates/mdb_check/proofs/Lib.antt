@@ -8,6 +8,7 @@ pub mod OneActList
 pub mod OneAnswer
 pub mod Pieces
 pub mod SomeRule
+pub mod Status
 pub mod Stops
 pub mod Fields
 pub mod Reading

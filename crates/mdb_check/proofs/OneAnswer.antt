@@ -45,7 +45,6 @@ row_one fields a b p q = grind (arith, common_steps)
 row_not_refused : (fields : List (List ℕ)) (event : Event) (fault : RowFault) → IsRow fields event → IsRefusal fields fault → ⊥
 row_not_refused fields event fault row refused = grind (arith, common_steps)
 
-
 -- a record has one refusal
 one_refusal : (fields : List (List ℕ)) (a b : RowFault) → IsRefusal fields a → IsRefusal fields b → a ≡ b
 one_refusal fields a b p q = grind (arith, common_steps)

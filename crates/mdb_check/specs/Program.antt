@@ -1,5 +1,10 @@
 -- What the program's exit status says.
-use Rattle.std.specs.Prelude.{ℕ, Result, Ok, Err}
+use Rattle.std.specs.Prelude.{◌≡◌, ℕ, List, Option, Result, Ok, Err}
+use Rattle.std.specs.Io.KnownBytes.{Appends}
+use Rattle.mdb_check.specs.declared.offence.Offence.{Offence}
+use Rattle.mdb_check.specs.declared.outcome.Report.{Report}
+use Rattle.mdb_check.specs.Text.{text_of}
+use Rattle.mdb_check.specs.Verdict.{IsOffence, IsPossible}
 use Rattle.mdb_check.specs.declared.outcome.Outcome.{Outcome}
 use Rattle.mdb_check.specs.declared.outcome.Outcome.TheVariants.{Yes, No}
 use Rattle.mdb_check.specs.declared.outcome.RunFault.{RunFault}
@@ -9,3 +14,9 @@ abbrev pub status_of : Result Outcome RunFault → ℕ
 status_of (Ok (Yes report)) = 0
 status_of (Ok (No offence)) = 1
 status_of (Err fault) = 2
+
+-- What the statuses 0 and 1 say of the records of a text, and of the bytes that the writer held before and after.
+abbrev pub Says : List (List (List ℕ)) → Option (List ℕ) → Option (List ℕ) → ℕ → Type 0
+Says records before after status =
+    (status ≡ 0 → (report : Report) × IsPossible records report × Appends before after (text_of (Yes report)))
+    × (status ≡ 1 → (offence : Offence) × IsOffence records offence × Appends before after (text_of (No offence)))

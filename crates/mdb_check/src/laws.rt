@@ -3,6 +3,7 @@
 ghost use Rattle.std.specs.Prelude.{◌≡◌, ℕ, List, [], ◌∷◌, ◌++◌, Result};
 ghost use Rattle.mdb_words.specs.declared.event.Event.{Event};
 ghost use Rattle.mdb_check.specs.declared.offence.Rule.{Rule};
+ghost use Rattle.mdb_check.specs.declared.verdict.TheConstants.{BYTES_MAX, ROWS_MAX};
 ghost use Rattle.mdb_check.specs.declared.outcome.Outcome.{Outcome};
 ghost use Rattle.mdb_check.specs.declared.outcome.RunFault.{RunFault};
 ghost use Rattle.mdb_check.specs.ActLists.{Piece, IsActList, HasActList};
@@ -37,4 +38,10 @@ pub fn rows_that_end_the_act_list_break_a_rule()
 /// So where one of these is the answer, no other one would be right.
 pub fn texts_have_one_answer()
     ensures { (records : List (List (List ℕ))) (a b : Result Outcome RunFault) → IsAnswer records a → IsAnswer records b → IsTold a → IsTold b → a ≡ b }
+{}
+
+/// The limits of a transcript (this profile).
+pub fn limits_are_those_of_this_profile()
+    ensures rows { ROWS_MAX ≡ 100000000 }
+    ensures bytes { BYTES_MAX ≡ 6400000000 }
 {}

@@ -1,7 +1,8 @@
 //! The program over its words.
 
-ghost use Rattle.std.specs.Prelude.{◌≡◌, ◌<◌};
-ghost use Rattle.mdb_check.specs.Program.{status_of};
+ghost use Rattle.std.specs.Prelude.{◌≡◌, ◌<◌, IfSome};
+ghost use Rattle.mdb_check.specs.Program.{Says, status_of};
+ghost use Rattle.csv.specs.Reading.{default_config, records, strip_bom};
 
 use super::outcome::{Outcome, RunFault};
 use super::verdict::check;
@@ -47,6 +48,7 @@ pub fn run<R: Read + Drop, W: Write, E: Write>(
     err: &mut E,
 ) -> u8
     ensures status { result < 3 }
+    ensures says { IfSome (R.remaining reader) (λ text. Says (records default_config (strip_bom text)) (W.contents out.old) (W.contents out.new) result) }
     ensures silent { result < 2 → err.new ≡ err.old }
 {
     match task_of(alloc, words.as_slice()) {

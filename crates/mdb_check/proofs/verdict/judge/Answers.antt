@@ -36,7 +36,7 @@ loop-row-preserved g c =
     let Row : List (List ℕ) → Type 0 = λ fields. IsRow fields c.in-Ok-event_of.event in
     record {
       taken = λ all to_come. reading.goes_on g.R.Read.remaining all c.loop-row.records c.advance.new.self c.loop-row.bus c.feed.new.self c.loop-row.row c.in-Ok-event_of.event (c.loop-row.invariant.taken all to_come) c.in-Ok.found
-    c.if-not-found.false c.in-Ok.ensures.next (subst Row c.row.ensures c.in-Ok-event_of.ensures) c.in-Ok-feed.ensures.goes_on;
+          c.if-not-found.false c.in-Ok.ensures.next (subst Row c.row.ensures c.in-Ok-event_of.ensures) c.in-Ok-feed.ensures.goes_on;
       over = λ over. (c.in-Ok.ensures.endless (c.loop-row.invariant.over over)).1;
     }
 
