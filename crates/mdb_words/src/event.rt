@@ -78,8 +78,9 @@ impl Event {
         Ok(Event::Break { at, length })
     }
 
-    /// The row of the event (this profile), without line end: its start, its letter and its value, with commas between. Decimals have
-    /// no leading zeros, and a word has three upper case hexadecimal digits. Reading its fields gives the event.
+    /// The event as the text of a row (this profile): start, letter and value between commas, and no line feed. Numbers
+    /// are as short as they can be, a word is always three hexadecimal digits, in capitals. [`Event::read`] reads the
+    /// fields of this text as the same event.
     pub fn row_text(&self) -> ArrayString<32>
         ensures text { result.bytes ≡ joined_by_commas (row_fields self.now) }
         ensures row { IsRow (row_fields self.now) self.now }
