@@ -5,7 +5,7 @@ use std::io::Write;
 use std::{fs, io};
 
 /// The transcripts, in the order of `README`, which says of each what is wanted and why.
-const TRANSCRIPTS: [&str; 76] = [
+const TRANSCRIPTS: [&str; 79] = [
     "nothing.csv",
     "reset-and-poll.csv",
     "cut-inside-a-command.csv",
@@ -64,6 +64,9 @@ const TRANSCRIPTS: [&str; 76] = [
     "message-1b-before-60.csv",
     "message-60-before-1b.csv",
     "deposit.csv",
+    "deposit-of-one-byte.csv",
+    "deposit-with-1b.csv",
+    "deposit-cut-by-the-length.csv",
     "rejected-coin-before-60.csv",
     "dispensed-by-hand.csv",
     "outside-the-profile.csv",

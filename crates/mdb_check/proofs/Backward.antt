@@ -5,13 +5,14 @@ use Rattle.mdb_words.specs.declared.limits.TheConstants.{WORD_GAP_MIN, BLOCK_GAP
 use Rattle.mdb_words.specs.declared.event.Event.{Event}
 use Rattle.mdb_words.specs.declared.word.Line.{Line}
 use Rattle.mdb_words.specs.declared.word.Line.TheVariants.{Controller, Peripheral}
-use Rattle.mdb_check.specs.declared.bus.Command.{Command}
-use Rattle.mdb_check.specs.declared.bus.Command.TheVariants.{Reset, Poll}
-use Rattle.mdb_check.specs.Acts.{Act, Ask, Ack, Reply, VmcAck, HasDataAnswer, IsAct, AreMessages, said_by, Say, words_of, block_of, peripheral_words}
+use Rattle.mdb_check.specs.declared.bus.Followed.{Followed}
+use Rattle.mdb_check.specs.declared.bus.Followed.TheVariants.{Reset, Poll}
+use Rattle.mdb_check.specs.Acts.{Act, Ask, Ack, Reply, VmcAck, HasDataAnswer, IsAct, IsReply, said_by, Say, words_of}
+use Rattle.mdb_check.proofs.Replies.{counted, reply_length}
 use Rattle.mdb_check.specs.ActLists.{Piece, Whole, AskTail, ReplyTail, AtLeast, AtMost, AreSpaced, AreUnmarked, piece_events, IsPiece, Begins, InTime, MayBegin, MayFollow, MayStand, ArePieces, events_of, IsActList, least_before_block}
 use Rattle.mdb_check.specs.LinkFaults.{BusPosition, Quiet, InAsk, Asked, InReply, Replied, OutOfOrder, word_of, position_of, last_of, gap_since, asked_device, IsAddress, IsBelow, IsAbove}
 use Rattle.mdb_check.specs.Bus.{Goes, IsEnough, IsAnswerGap, IsBlockGap}
-use Rattle.mdb_check.proofs.Lists.{enough, not_above, in_order, first_stays, messages_unmarked, not_empty, say_last, spaced_front, unmarked_front, peripheral_push, word_said, words_said, front_and_last, last_push}
+use Rattle.mdb_check.proofs.Lists.{enough, not_above, in_order, first_stays, bytes_unmarked, not_empty, say_last, spaced_front, unmarked_front, peripheral_push, word_said, words_said, front_and_last, last_push}
 use Rattle.mdb_check.proofs.Pieces.{extended, words_some, piece_some}
 
 -- the act list before the last row, and how that row led on
@@ -68,7 +69,7 @@ inside rest front event some spaced =
     }
 
 -- a whole ask ends
-back_ask : (command : Command) (rest : List Piece) (front : List Event) (event : Event) → IsPiece (Whole (Ask command) (front ++ event ∷ []))
+back_ask : (command : Followed) (rest : List Piece) (front : List Event) (event : Event) → IsPiece (Whole (Ask command) (front ++ event ∷ []))
     → MayStand rest (Whole (Ask command) (front ++ event ∷ [])) → ArePieces rest → Before (Whole (Ask command) (front ++ event ∷ []) ∷ rest) (events_of rest ++ front) event
 back_ask command rest front event right stands behind =
     let ends = say_last Controller (words_of (Ask command)) front event right.1 in
@@ -89,7 +90,7 @@ back_ask command rest front event right stands behind =
       extension = refl;
     }
   where
-    two : (c : Command) (ws : List ℕ) (w : ℕ) → words_of (Ask c) ≡ ws ++ w ∷ [] → ws ≢ []
+    two : (c : Followed) (ws : List ℕ) (w : ℕ) → words_of (Ask c) ≡ ws ++ w ∷ [] → ws ≢ []
     two Reset [] w is none = cc
     two Reset (x ∷ ws) w is none = cc
     two Poll [] w is none = cc
@@ -101,7 +102,7 @@ back_ask command rest front event right stands behind =
     events_some (e ∷ es) ws says some none = cc
 
 -- a whole reply ends
-back_reply : (command : Command) (bytes : List ℕ) (rest : List Piece) (front : List Event) (event : Event) → IsPiece (Whole (Reply command bytes) (front ++ event ∷ []))
+back_reply : (command : Followed) (bytes : List ℕ) (rest : List Piece) (front : List Event) (event : Event) → IsPiece (Whole (Reply command bytes) (front ++ event ∷ []))
     → MayStand rest (Whole (Reply command bytes) (front ++ event ∷ [])) → ArePieces rest → Before (Whole (Reply command bytes) (front ++ event ∷ []) ∷ rest) (events_of rest ++ front) event
 back_reply command bytes rest front event right stands behind =
     let last = 256 + sum bytes % 256 in
@@ -110,13 +111,14 @@ back_reply command bytes rest front event right stands behind =
     let same = same_from_push bytes ends.0 last ends.1 ends.2 in
     let Spoken : List ℕ → Type 0 = λ ws. Say Peripheral ws front in
     let says : Say Peripheral bytes front = subst Spoken (sym same.0) ends.3 in
-    let count = counted command (length bytes) right.0.0 in
+    let has = reply_length command bytes right.0 in
+    let count = counted command (length bytes) has in
     let some : front ≢ [] = events_some front bytes says count.0 in
     let here = inside rest front event some right.2 in
     let told : bytes ≡ map word_of front = sym (words_said Peripheral bytes front says) in
-    let tail : IsPiece (ReplyTail command front) = (bytes, count.0, count.1, messages_unmarked bytes right.0.1, says, here.spaced) in
+    let tail : IsPiece (ReplyTail command front) = (bytes, count.0, count.1, bytes_unmarked bytes right.0.0.in_range, says, here.spaced) in
     let stood : MayStand rest (ReplyTail command front) = stand_shorter rest (ReplyTail command front) (Whole (Reply command bytes) (front ++ event ∷ [])) event
-    (λ act begins. (act, (length bytes, right.0.0, bytes, begins), (λ may. may), (λ earlier from to follows. follows))) some refl stands in
+    (λ act begins. (act, (length bytes, has, bytes, begins), (λ may. may), (λ earlier from to follows. follows))) some refl stands in
     let Total : List ℕ → Type 0 = λ bs. ends.1 ≡ 256 + sum bs % 256 in
     let Content : List ℕ → Type 0 = λ bs. IsAct (Reply command bs) in
     record {
@@ -130,10 +132,6 @@ back_reply command bytes rest front event right stands behind =
       extension = ap (λ bs. Whole (Reply command bs) (front ++ event ∷ []) ∷ rest) told;
     }
   where
-    counted : (c : Command) (n : ℕ) → HasDataAnswer c n → (1 ≤ n) × (n ≤ 35)
-    counted Reset n has = absurd has
-    counted Poll n has = (has.0, omega (arith, has.1))
-
     events_some : (es : List Event) (ws : List ℕ) → Say Peripheral ws es → 1 ≤ length ws → es ≢ []
     events_some [] [] says some none = absurd (omega (arith, some))
     events_some [] (w ∷ ws) says some none = cc
@@ -175,7 +173,7 @@ answer_order : (rows : List Event) (from event : Event) → last_of rows ≡ Som
 answer_order rows from event last time = in_order WORD_GAP_MIN (last_of rows) from event last (omega arith) time.0
 
 -- the peripheral's ACK
-alone_ack : (command : Command) (rest : List Piece) (event : Event) → said_by event ≡ Some (Peripheral, 0x100)
+alone_ack : (command : Followed) (rest : List Piece) (event : Event) → said_by event ≡ Some (Peripheral, 0x100)
     → MayStand rest (Whole (Ack command) (event ∷ [])) → ArePieces rest → Before (Whole (Ack command) (event ∷ []) ∷ rest) (events_of rest) event
 alone_ack command [] event said stands behind = absurd (let P : Act → Type 0 = λ a. MayBegin a in subst P stands.1 stands.2)
 alone_ack command (Whole (Ask asked) events ∷ pieces) event said stands behind =
@@ -213,7 +211,7 @@ alone_ack command (Whole (VmcAck other bytes) events ∷ pieces) event said stan
 alone_ack command (AskTail events ∷ pieces) event said stands behind = absurd stands
 alone_ack command (ReplyTail other events ∷ pieces) event said stands behind = absurd stands
 
-back_ack : (command : Command) (rest : List Piece) (front : List Event) (event : Event) → IsPiece (Whole (Ack command) (front ++ event ∷ []))
+back_ack : (command : Followed) (rest : List Piece) (front : List Event) (event : Event) → IsPiece (Whole (Ack command) (front ++ event ∷ []))
     → MayStand rest (Whole (Ack command) (front ++ event ∷ [])) → ArePieces rest → Before (Whole (Ack command) (front ++ event ∷ []) ∷ rest) (events_of rest ++ front) event
 back_ack command rest [] event right stands behind =
     let P : List Event → Type 0 = λ rows. Before (Whole (Ack command) (event ∷ []) ∷ rest) rows event in
@@ -222,7 +220,7 @@ back_ack command rest (f ∷ front) event right stands behind =
     let none : f ∷ front ≡ [] = (one_alone Peripheral 0x100 (f ∷ front) event right.1).0 in cc
 
 -- the controller's ACK
-alone_vmc_ack : (command : Command) (bytes : List ℕ) (rest : List Piece) (event : Event) → said_by event ≡ Some (Controller, 0x000)
+alone_vmc_ack : (command : Followed) (bytes : List ℕ) (rest : List Piece) (event : Event) → said_by event ≡ Some (Controller, 0x000)
     → MayStand rest (Whole (VmcAck command bytes) (event ∷ [])) → ArePieces rest → Before (Whole (VmcAck command bytes) (event ∷ []) ∷ rest) (events_of rest) event
 alone_vmc_ack command bytes [] event said stands behind = absurd (let P : Act → Type 0 = λ a. MayBegin a in subst P stands.1 stands.2)
 alone_vmc_ack command bytes (Whole (Reply asked told) events ∷ pieces) event said stands behind =
@@ -262,7 +260,7 @@ alone_vmc_ack command bytes (Whole (VmcAck other told) events ∷ pieces) event 
 alone_vmc_ack command bytes (AskTail events ∷ pieces) event said stands behind = absurd stands
 alone_vmc_ack command bytes (ReplyTail other events ∷ pieces) event said stands behind = absurd stands
 
-back_vmc_ack : (command : Command) (bytes : List ℕ) (rest : List Piece) (front : List Event) (event : Event) → IsPiece (Whole (VmcAck command bytes) (front ++ event ∷ []))
+back_vmc_ack : (command : Followed) (bytes : List ℕ) (rest : List Piece) (front : List Event) (event : Event) → IsPiece (Whole (VmcAck command bytes) (front ++ event ∷ []))
     → MayStand rest (Whole (VmcAck command bytes) (front ++ event ∷ [])) → ArePieces rest → Before (Whole (VmcAck command bytes) (front ++ event ∷ []) ∷ rest) (events_of rest ++ front) event
 back_vmc_ack command bytes rest [] event right stands behind =
     let P : List Event → Type 0 = λ rows. Before (Whole (VmcAck command bytes) (event ∷ []) ∷ rest) rows event in
@@ -271,7 +269,7 @@ back_vmc_ack command bytes rest (f ∷ front) event right stands behind =
     let none : f ∷ front ≡ [] = (one_alone Controller 0x000 (f ∷ front) event right.1).0 in cc
 
 -- the first word of an ask
-first_word : (command : Command) (words rest : List ℕ) → words ≢ [] → rest ≢ [] → words ++ rest ≡ words_of (Ask command) → (word : ℕ) × (words ≡ word ∷ []) × IsAddress word
+first_word : (command : Followed) (words rest : List ℕ) → words ≢ [] → rest ≢ [] → words ++ rest ≡ words_of (Ask command) → (word : ℕ) × (words ≡ word ∷ []) × IsAddress word
 first_word command [] rest some more is = absurd (some refl)
 first_word command (w ∷ []) rest some more is = (w, refl, (command, rest, sym is))
 first_word Reset (w ∷ v ∷ ws) rest some more is = absurd (more (no_more ws rest (cc)))
@@ -349,7 +347,7 @@ back_ask_tail rest (f ∷ front) event right stands behind =
     let none : f ∷ front ≡ [] = (one_alone Controller first.0 (f ∷ front) event (subst Spoken first.1 right.6)).0 in cc
 
 -- a reply begins
-alone_reply : (command : Command) (rest : List Piece) (event : Event) (word : ℕ) → said_by event ≡ Some (Peripheral, word) → word < 256
+alone_reply : (command : Followed) (rest : List Piece) (event : Event) (word : ℕ) → said_by event ≡ Some (Peripheral, word) → word < 256
     → MayStand rest (ReplyTail command (event ∷ [])) → ArePieces rest → Before (ReplyTail command (event ∷ []) ∷ rest) (events_of rest) event
 alone_reply command [] event word said below stands behind = absurd (let P : Act → Type 0 = λ a. MayBegin a in subst P stands.1.3 stands.2)
 alone_reply command (Whole (Ask asked) events ∷ pieces) event word said below stands behind =
@@ -359,7 +357,7 @@ alone_reply command (Whole (Ask asked) events ∷ pieces) event word said below 
     let meant : Ask asked ≡ Ask command = follows.0 in
     let same : command ≡ asked = cc in
     let rows = events_of pieces ++ events in
-    let Has : Command → Type 0 = λ c. HasDataAnswer c b.begins.0 in
+    let Has : Followed → Type 0 = λ c. HasDataAnswer c b.begins.0 in
     record {
       before = Whole (Ask asked) events ∷ pieces;
       act_list = record { in_order = behind; whole = refl };
@@ -388,7 +386,7 @@ alone_reply command (Whole (VmcAck other bytes) events ∷ pieces) event word sa
 alone_reply command (AskTail events ∷ pieces) event word said below stands behind = absurd stands
 alone_reply command (ReplyTail other events ∷ pieces) event word said below stands behind = absurd stands
 
-back_reply_tail : (command : Command) (rest : List Piece) (front : List Event) (event : Event) → IsPiece (ReplyTail command (front ++ event ∷ []))
+back_reply_tail : (command : Followed) (rest : List Piece) (front : List Event) (event : Event) → IsPiece (ReplyTail command (front ++ event ∷ []))
     → MayStand rest (ReplyTail command (front ++ event ∷ [])) → ArePieces rest → Before (ReplyTail command (front ++ event ∷ []) ∷ rest) (events_of rest ++ front) event
 back_reply_tail command rest [] event right stands behind =
     let ends = say_last Peripheral right.0 [] event right.4 in

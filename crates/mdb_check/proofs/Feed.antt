@@ -4,8 +4,9 @@ use Rattle.mdb_words.specs.declared.event.Event.{Event}
 use Rattle.mdb_words.specs.declared.event.Event.TheVariants.{Word, Break}
 use Rattle.mdb_words.specs.declared.word.Line.{Line}
 use Rattle.mdb_words.specs.declared.word.Line.TheVariants.{Controller, Peripheral}
+use Rattle.mdb_msgs.specs.Laws.{ReplyHasNoFault}
 use Rattle.mdb_check.specs.declared.bus.Bus.{Bus}
-use Rattle.mdb_check.specs.declared.bus.Command.{Command}
+use Rattle.mdb_check.specs.declared.bus.Followed.{Followed}
 use Rattle.mdb_check.specs.declared.bus.Phase.{Phase}
 use Rattle.mdb_check.specs.declared.bus.Phase.TheVariants as phase
 use Rattle.mdb_check.specs.declared.offence.Blame.{Blame}
@@ -81,26 +82,26 @@ stands_on old new rows event line word gap next stood said since goes went =
     }
 
 -- a row that breaks a rule leads nowhere
-pub impossible : (row : Event) (broken : Rule) (line : Line) (word : ℕ) (last : Option Event) (at next : BusPosition) → said_by row ≡ Some (line, word) → RowBreaks at last row broken
+pub impossible : ReplyHasNoFault → (row : Event) (broken : Rule) (line : Line) (word : ℕ) (last : Option Event) (at next : BusPosition) → said_by row ≡ Some (line, word) → RowBreaks at last row broken
     → (OutOfOrder last row → ⊥) → Goes at (gap_since last row) line word next → ⊥
-impossible (Break start long) broken line word last at next said breaks in_order goes = cc
-impossible (Word start l w) rule.Order line word last at next said breaks in_order goes = in_order breaks
-impossible (Word start l w) broken line word last at next said breaks in_order goes =
+impossible law (Break start long) broken line word last at next said breaks in_order goes = cc
+impossible law (Word start l w) rule.Order line word last at next said breaks in_order goes = in_order breaks
+impossible law (Word start l w) broken line word last at next said breaks in_order goes =
     let told : (line, word) ≡ (l, w) = cc in
     let P : Line × ℕ → Type 0 = λ x. Goes at (gap_since last (Word start l w)) x.0 x.1 next in
-    stops at (gap_since last (Word start l w)) l w next broken breaks (subst P told goes)
+    stops law at (gap_since last (Word start l w)) l w next broken breaks (subst P told goes)
 
 -- where a bus faults, no act list goes on
-pub no_act_list : (bus : Bus) (rows : List Event) (event : Event) (broken : Rule) → StandsFor bus rows
+pub no_act_list : ReplyHasNoFault → (bus : Bus) (rows : List Event) (event : Event) (broken : Rule) → StandsFor bus rows
     → RowBreaks (position_at bus.phase (words_so_far bus.phase bus.reply.items)) bus.last event broken → HasActList (rows ++ event ∷ []) → ⊥
-no_act_list bus rows event broken stood breaks list =
+no_act_list law bus rows event broken stood breaks list =
     let b = backward list.0 rows event list.1 in
     let same : b.before ≡ stood.pieces = one_act_list rows b.before stood.pieces b.act_list stood.act_list in
     let place : position_at bus.phase (words_so_far bus.phase bus.reply.items) ≡ position_of b.before =
     same_place bus.phase bus.reply.items ∙ (sym stood.position ∙ ap position_of (sym same)) in
     let At : BusPosition → Type 0 = λ p. RowBreaks p bus.last event broken in
     let After : Option Event → Type 0 = λ l. RowBreaks (position_of b.before) l event broken in
-    impossible event broken b.line b.word (last_of rows) (position_of b.before) (position_of list.0) b.said (subst After stood.last (subst At place breaks)) b.in_order b.goes
+    impossible law event broken b.line b.word (last_of rows) (position_of b.before) (position_of list.0) b.said (subst After stood.last (subst At place breaks)) b.in_order b.goes
 
 -- who is to blame for a row of the controller
 abbrev pub controller_blame : BusPosition → Blame → Rule → Blame
@@ -144,15 +145,15 @@ blame_same at reply asked pieces (Word start Controller word) broken place last 
 blame_same at reply asked pieces (Break start long) broken place last breaks position device = break_blame at asked broken place last start long breaks
 
 -- the fault of a bus is that of its rows
-pub link_fault : (bus : Bus) (rows : List Event) (event : Event) (broken : Rule) (blamed : Blame) → StandsFor bus rows
+pub link_fault : ReplyHasNoFault → (bus : Bus) (rows : List Event) (event : Event) (broken : Rule) (blamed : Blame) → StandsFor bus rows
     → IsFirstBroken (RowBreaks (position_at bus.phase (words_so_far bus.phase bus.reply.items)) bus.last event) broken
     → blamed ≡ blamed_for bus.phase (sender_of event) bus.asked broken
     → (HasActList (rows ++ event ∷ []) → ⊥) × IsLinkFault rows event broken blamed
-link_fault bus rows event broken blamed stood first blames =
+link_fault law bus rows event broken blamed stood first blames =
     let place : position_at bus.phase (words_so_far bus.phase bus.reply.items) ≡ position_of stood.pieces = same_place bus.phase bus.reply.items ∙ sym stood.position in
     let At : BusPosition → Type 0 = λ p. IsFirstBroken (RowBreaks p bus.last event) broken in
     let After : Option Event → Type 0 = λ l. IsFirstBroken (RowBreaks (position_of stood.pieces) l event) broken in (
-      no_act_list bus rows event broken stood first.0,
+      no_act_list law bus rows event broken stood first.0,
       record {
         pieces = stood.pieces;
         act_list = stood.act_list;
@@ -182,34 +183,34 @@ word_first place last start line word gap broken in_order first =
     with_order r h = (h.0, (in_order.0, h.1.1))
 
 -- the fault that a bus tells is that of its rows
-told_fault : (bus : Bus) (rows : List Event) (event : Event) (broken : Rule) (line : Line) (told : LinkFault) → StandsFor bus rows
+told_fault : ReplyHasNoFault → (bus : Bus) (rows : List Event) (event : Event) (broken : Rule) (line : Line) (told : LinkFault) → StandsFor bus rows
     → IsFirstBroken (RowBreaks (position_at bus.phase (words_so_far bus.phase bus.reply.items)) bus.last event) broken
     → line ≡ sender_of event → told.rule ≡ broken → told.blame ≡ blamed_for bus.phase line bus.asked broken
     → (HasActList (rows ++ event ∷ []) → ⊥) × IsLinkFault rows event told.rule told.blame
-told_fault bus rows event broken line told stood first sender is blames =
+told_fault law bus rows event broken line told stood first sender is blames =
     let P : Rule → Type 0 = λ r. (HasActList (rows ++ event ∷ []) → ⊥) × IsLinkFault rows event r told.blame in
-    subst P (sym is) (link_fault bus rows event broken told.blame stood first (blames ∙ ap (λ l. blamed_for bus.phase l bus.asked broken) sender))
+    subst P (sym is) (link_fault law bus rows event broken told.blame stood first (blames ∙ ap (λ l. blamed_for bus.phase l bus.asked broken) sender))
 
-pub order_fault : (bus : Bus) (rows : List Event) (event : Event) (broken : Rule) (line : Line) (told : LinkFault) → StandsFor bus rows → IsGapTo bus.last event (Err broken)
+pub order_fault : ReplyHasNoFault → (bus : Bus) (rows : List Event) (event : Event) (broken : Rule) (line : Line) (told : LinkFault) → StandsFor bus rows → IsGapTo bus.last event (Err broken)
     → line ≡ sender_of event → told.rule ≡ broken → told.blame ≡ blamed_for bus.phase line bus.asked broken
     → (HasActList (rows ++ event ∷ []) → ⊥) × IsLinkFault rows event told.rule told.blame
-order_fault bus rows event broken line told stood late = told_fault bus rows event broken line told stood (order_first _ bus.last event broken late)
+order_fault law bus rows event broken line told stood late = told_fault law bus rows event broken line told stood (order_first _ bus.last event broken late)
 
-pub break_fault : (bus : Bus) (rows : List Event) (event : Event) (gap : Option ℕ) (told : LinkFault) → StandsFor bus rows → IsGapTo bus.last event (Ok gap)
+pub break_fault : ReplyHasNoFault → (bus : Bus) (rows : List Event) (event : Event) (gap : Option ℕ) (told : LinkFault) → StandsFor bus rows → IsGapTo bus.last event (Ok gap)
     → ((start : ℕ) (line : Line) (word : ℕ) → event ≡ Word start line word → ⊥) → told.rule ≡ rule.Profile → told.blame ≡ blamed_for bus.phase Controller bus.asked rule.Profile
     → (HasActList (rows ++ event ∷ []) → ⊥) × IsLinkFault rows event told.rule told.blame
-break_fault bus rows (Word start line word) gap told stood in_order no_word is blames = absurd (no_word start line word refl)
-break_fault bus rows (Break start long) gap told stood in_order no_word is blames =
-    told_fault bus rows (Break start long) rule.Profile Controller told stood (break_first (position_at bus.phase (words_so_far bus.phase bus.reply.items)) bus.last start long in_order.0) refl is blames
+break_fault law bus rows (Word start line word) gap told stood in_order no_word is blames = absurd (no_word start line word refl)
+break_fault law bus rows (Break start long) gap told stood in_order no_word is blames =
+    told_fault law bus rows (Break start long) rule.Profile Controller told stood (break_first (position_at bus.phase (words_so_far bus.phase bus.reply.items)) bus.last start long in_order.0) refl is blames
 
-pub word_fault : (bus : Bus) (rows : List Event) (event : Event) (start : ℕ) (line : Line) (word : ℕ) (gap : Option ℕ) (broken : Rule) (told : LinkFault) → event ≡ Word start line word
+pub word_fault : ReplyHasNoFault → (bus : Bus) (rows : List Event) (event : Event) (start : ℕ) (line : Line) (word : ℕ) (gap : Option ℕ) (broken : Rule) (told : LinkFault) → event ≡ Word start line word
     → StandsFor bus rows → IsGapTo bus.last event (Ok gap) → IsFirstBroken (WordBreaks (position_at bus.phase (words_so_far bus.phase bus.reply.items)) gap line word) broken
     → told.rule ≡ broken → told.blame ≡ blamed_for bus.phase line bus.asked broken
     → (HasActList (rows ++ event ∷ []) → ⊥) × IsLinkFault rows event told.rule told.blame
-word_fault bus rows event start line word gap broken told is stood in_order first =
+word_fault law bus rows event start line word gap broken told is stood in_order first =
     let P : Event → Type 0 = λ e. IsGapTo bus.last e (Ok gap) → told.rule ≡ broken → told.blame ≡ blamed_for bus.phase line bus.asked broken
     → (HasActList (rows ++ e ∷ []) → ⊥) × IsLinkFault rows e told.rule told.blame in
-    subst P (sym is) (λ here. told_fault bus rows (Word start line word) broken line told stood (word_first _ bus.last start line word gap broken here first) refl) in_order
+    subst P (sym is) (λ here. told_fault law bus rows (Word start line word) broken line told stood (word_first _ bus.last start line word gap broken here first) refl) in_order
 
 pub word_taken : (old new : Bus) (rows : List Event) (event : Event) (start : ℕ) (line : Line) (word byte : ℕ) (gap : Option ℕ) (next : Phase) → event ≡ Word start line word
     → StandsFor old rows → IsGapTo old.last event (Ok gap)

@@ -5,9 +5,9 @@ use Rattle.mdb_words.specs.declared.limits.TheConstants.{WORD_GAP_MIN, BLOCK_GAP
 use Rattle.mdb_words.specs.declared.event.Event.{Event}
 use Rattle.mdb_words.specs.declared.word.Line.{Line}
 use Rattle.mdb_words.specs.declared.word.Line.TheVariants.{Controller, Peripheral}
-use Rattle.mdb_check.specs.declared.bus.Command.{Command}
-use Rattle.mdb_check.specs.declared.bus.Command.TheVariants.{Reset, Poll}
-use Rattle.mdb_check.specs.Acts.{Act, Ask, Ack, Reply, VmcAck, HasDataAnswer, IsAct, said_by, Say, words_of, block_of, peripheral_words}
+use Rattle.mdb_check.specs.declared.bus.Followed.{Followed}
+use Rattle.mdb_check.specs.declared.bus.Followed.TheVariants.{Reset, Poll}
+use Rattle.mdb_check.specs.Acts.{Act, Ask, Ack, Reply, VmcAck, HasDataAnswer, IsAct, said_by, Say, words_of}
 use Rattle.mdb_check.specs.ActLists.{Piece, Whole, AskTail, ReplyTail, AtLeast, AtMost, AreSpaced, AreUnmarked, piece_events, IsPiece, Begins, InTime, MayBegin, MayFollow, MayStand, ArePieces, events_of, IsActList, least_before_block}
 use Rattle.mdb_check.specs.LinkFaults.{BusPosition, Quiet, InAsk, Asked, InReply, Replied, word_of, position_of, last_of, gap_since, asked_device, IsAddress, IsBelow, IsAbove}
 use Rattle.mdb_check.specs.Bus.{Goes, IsEnough, IsAnswerGap, IsBlockGap}
@@ -19,7 +19,7 @@ pub ask_begun : (event : Event) (word : ℕ) → said_by event ≡ Some (Control
 ask_begun event word said address =
     (address.0, word ∷ [], address.1, (λ none. cc), more address.0 address.1 address.2, sym address.2, ap (λ x. x ∷ []) said, tt)
   where
-    more : (command : Command) (rest : List ℕ) → words_of (Ask command) ≡ word ∷ rest → rest ≢ []
+    more : (command : Followed) (rest : List ℕ) → words_of (Ask command) ≡ word ∷ rest → rest ≢ []
     more Reset rest is none = cc
     more Poll rest is none = cc
 
@@ -120,7 +120,7 @@ forward (AskTail events ∷ pieces) rows event line word (Asked command) list sa
     (λ act begins. (Ask command, refl, (λ may. tt), ask_follows command act begins)) refl list.in_order.1 in
     record { act_list = grown pieces rows (AskTail events) (Whole (Ask command) (events ++ event ∷ [])) event list right stands refl; position = refl; asked = refl }
   where
-    ask_follows : (command : Command) (act : Act) → Begins (AskTail events) act → (earlier : Act) (from to : Event) → MayFollow earlier act from to → MayFollow earlier (Ask command) from to
+    ask_follows : (command : Followed) (act : Act) → Begins (AskTail events) act → (earlier : Act) (from to : Event) → MayFollow earlier act from to → MayFollow earlier (Ask command) from to
     ask_follows command act begins earlier from to follows =
         let P : Act → Type 0 = λ a. MayFollow earlier a from to in
         subst P begins.1 follows

@@ -7,8 +7,10 @@ pub mod Lists
 pub mod OneActList
 pub mod OneAnswer
 pub mod Pieces
+pub mod PollReading
 pub mod SomeRule
 pub mod Status
 pub mod Stops
 pub mod Fields
 pub mod Reading
+pub mod Replies

@@ -6,7 +6,10 @@ use Rattle.mdb_words.specs.declared.event.Event.{Event}
 use Rattle.mdb_words.specs.declared.event.Event.TheVariants.{Word, Break}
 use Rattle.mdb_words.specs.declared.word.Line.{Line}
 use Rattle.mdb_words.specs.Event.{start_of, end_of}
-use Rattle.mdb_check.specs.Acts.{IsMessage, AreMessages, peripheral_words, said_by, Say}
+use Rattle.mdb_blocks.specs.Block.{peripheral_words}
+use Rattle.std.proofs.lemmas.List.Elements.{recursion_from_All, All-from_recursion}
+use Rattle.std.specs.List.{All, AllByRecursion}
+use Rattle.mdb_check.specs.Acts.{said_by, Say}
 use Rattle.mdb_check.specs.ActLists.{AtLeast, AtMost, AreSpaced, AreUnmarked}
 use Rattle.mdb_check.specs.LinkFaults.{word_of, last_of, gap_since, OutOfOrder, IsBelow, IsAbove}
 use Rattle.mdb_check.specs.Bus.{IsEnough}
@@ -93,13 +96,13 @@ pub unmarked_front : (words : List ℕ) (word : ℕ) → AreUnmarked (words ++ w
 unmarked_front [] word all = (tt, all.0)
 unmarked_front (w ∷ words) word all = let rest = unmarked_front words word all.1 in ((all.0, rest.0), rest.1)
 
-pub messages_unmarked : (bytes : List ℕ) → AreMessages bytes → AreUnmarked bytes
-messages_unmarked [] all = tt
-messages_unmarked (byte ∷ bytes) all = (below all.0, messages_unmarked bytes all.1)
-  where
-    below : IsMessage byte → byte < 256
-    below (inl low) = omega arith
-    below (inr high) = omega (arith, high.1)
+-- bytes are unmarked words
+unmarked : (bytes : List ℕ) → AllByRecursion (λ byte. byte < 256) bytes → AreUnmarked bytes
+unmarked [] all = tt
+unmarked (byte ∷ bytes) all = (all.0, unmarked bytes all.1)
+
+pub bytes_unmarked : (bytes : List ℕ) → All (λ byte. byte < 256) bytes → AreUnmarked bytes
+bytes_unmarked bytes all = unmarked bytes (recursion_from_All (λ byte. byte < 256) bytes all)
 
 pub peripheral_push : (bytes : List ℕ) (byte : ℕ) → peripheral_words (bytes ++ byte ∷ []) ≡ bytes ++ (256 + byte) ∷ []
 peripheral_push [] byte = refl

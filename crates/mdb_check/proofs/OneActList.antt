@@ -5,13 +5,13 @@ use Rattle.mdb_words.specs.declared.event.Event.{Event}
 use Rattle.mdb_words.specs.declared.event.Event.TheVariants.{Word, Break}
 use Rattle.mdb_words.specs.declared.word.Line.{Line}
 use Rattle.mdb_words.specs.declared.word.Line.TheVariants.{Controller, Peripheral}
-use Rattle.mdb_check.specs.declared.bus.Command.{Command}
-use Rattle.mdb_check.specs.declared.bus.Command.TheVariants.{Reset, Poll}
+use Rattle.mdb_check.specs.declared.bus.Followed.{Followed}
+use Rattle.mdb_check.specs.declared.bus.Followed.TheVariants.{Reset, Poll}
 use Rattle.mdb_check.specs.declared.offence.Rule.{Rule}
 use Rattle.mdb_check.specs.declared.offence.Rule.TheVariants as rule
-use Rattle.mdb_check.specs.Acts.{Ask, Reply, IsMessage, AreMessages, HasDataAnswer, said_by, words_of}
+use Rattle.mdb_check.specs.Acts.{Ask, Reply, HasDataAnswer, said_by, words_of}
 use Rattle.mdb_check.specs.ActLists.{Piece, piece_events, events_of, IsActList, HasActList}
-use Rattle.mdb_check.specs.LinkFaults.{BusPosition, Quiet, InAsk, Asked, InReply, Replied, IsAddress, IsBelow, IsAbove, FirstBad, IsUnreadable, IsOutside, WordBreaks, RowBreaks, position_of, last_of, gap_since}
+use Rattle.mdb_check.specs.LinkFaults.{BusPosition, Quiet, InAsk, Asked, InReply, Replied, IsAddress, IsBelow, IsAbove, WordBreaks, RowBreaks, position_of, last_of, gap_since}
 use Rattle.mdb_check.specs.Bus.{Goes}
 use Rattle.std.proofs.lemmas.List.{append-nil}
 use Rattle.mdb_check.proofs.Lists.{front_and_last, not_empty}
@@ -22,11 +22,11 @@ use Rattle.mdb_check.proofs.Backward.{Before, backward}
 pub address_marked : (word : ℕ) → IsAddress word → 256 ≤ word
 address_marked word address = by_command address.0 address.1 address.2
   where
-    by_command : (command : Command) (rest : List ℕ) → words_of (Ask command) ≡ word ∷ rest → 256 ≤ word
+    by_command : (command : Followed) (rest : List ℕ) → words_of (Ask command) ≡ word ∷ rest → 256 ≤ word
     by_command Reset rest is = let head : 0x108 ≡ word = cc in omega arith
     by_command Poll rest is = let head : 0x10B ≡ word = cc in omega arith
 
-one_command : (x y : Command) → words_of (Ask x) ≡ words_of (Ask y) → x ≡ y
+one_command : (x y : Followed) → words_of (Ask x) ≡ words_of (Ask y) → x ≡ y
 one_command Reset Reset e = refl
 one_command Reset Poll e = cc
 one_command Poll Reset e = cc

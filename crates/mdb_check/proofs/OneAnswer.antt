@@ -19,6 +19,7 @@ use Rattle.mdb_check.specs.LinkFaults.{blame_of, RowBreaks, IsFirstBroken, IsLin
 use Rattle.mdb_check.specs.Verdict.{AreRows, IsAnswer, IsTold, IsBadRow, IsOffence, IsPossible, IsTooLong, report_of}
 use Rattle.mdb_check.proofs.OneActList.{one_act_list, shorter, by_last}
 use Rattle.mdb_check.proofs.Backward.{backward}
+use Rattle.mdb_msgs.specs.Laws.{ReplyHasNoFault}
 use Rattle.mdb_check.proofs.Feed.{impossible}
 use Rattle.mdb_check.proofs.FirstRule.{no_device_rule, one_first}
 
@@ -30,13 +31,13 @@ fronts rows more = by_last (λ es. HasActList (rows ++ es) → HasActList rows)
     more
 
 -- behind rows with an act list, none goes on with a row that breaks a rule
-pub breaking_ends : (rows : List Event) (pieces : List Piece) (event : Event) (broken : Rule) → IsActList pieces rows → RowBreaks (position_of pieces) (last_of rows) event broken
+pub breaking_ends : ReplyHasNoFault → (rows : List Event) (pieces : List Piece) (event : Event) (broken : Rule) → IsActList pieces rows → RowBreaks (position_of pieces) (last_of rows) event broken
     → HasActList (rows ++ event ∷ []) → ⊥
-breaking_ends rows pieces event broken act_list breaks list =
+breaking_ends law rows pieces event broken act_list breaks list =
     let b = backward list.0 rows event list.1 in
     let same : pieces ≡ b.before = one_act_list rows pieces b.before act_list b.act_list in
     let P : List Piece → Type 0 = λ ps. RowBreaks (position_of ps) (last_of rows) event broken in
-    impossible event broken b.line b.word (last_of rows) (position_of b.before) (position_of list.0) b.said (subst P same breaks) b.in_order b.goes
+    impossible law event broken b.line b.word (last_of rows) (position_of b.before) (position_of list.0) b.said (subst P same breaks) b.in_order b.goes
 
 -- fields are a row of one event at most, and a row is never refused
 row_one : (fields : List (List ℕ)) (a b : Event) → IsRow fields a → IsRow fields b → a ≡ b

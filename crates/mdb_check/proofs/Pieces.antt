@@ -5,9 +5,9 @@ use Rattle.mdb_words.specs.declared.word.Line.{Line}
 use Rattle.mdb_words.specs.declared.word.Line.TheVariants.{Controller, Peripheral}
 use Rattle.mdb_check.specs.declared.offence.Blame.{Blame}
 use Rattle.mdb_check.specs.declared.offence.Blame.TheVariants as blame
-use Rattle.mdb_check.specs.declared.bus.Command.{Command}
-use Rattle.mdb_check.specs.declared.bus.Command.TheVariants.{Reset, Poll}
-use Rattle.mdb_check.specs.Acts.{Act, Ask, Ack, Reply, VmcAck, said_by, Say, words_of, block_of, peripheral_words}
+use Rattle.mdb_check.specs.declared.bus.Followed.{Followed}
+use Rattle.mdb_check.specs.declared.bus.Followed.TheVariants.{Reset, Poll}
+use Rattle.mdb_check.specs.Acts.{Act, Ask, Ack, Reply, VmcAck, said_by, Say, words_of}
 use Rattle.mdb_check.specs.ActLists.{Piece, Whole, AskTail, ReplyTail, piece_events, IsPiece, Begins, MayBegin, MayFollow, MayStand, ArePieces, events_of, IsActList}
 use Rattle.mdb_check.specs.LinkFaults.{BusPosition, Quiet, InAsk, Asked, InReply, Replied, word_of, position_of, last_of, asked_device, IsAddress}
 use Rattle.mdb_check.proofs.Lists.{front_and_last, not_empty, last_push, say_empty, peripheral_push}

@@ -1,18 +1,24 @@
 -- Where no act list goes on, some rule is broken: a word that breaks none leads on.
-use Rattle.std.proofs.Common.{arith, refl, ap, subst, ◌∙◌, ◌≡◌, ◌≢◌, ◌+◌, ◌%◌, ◌<◌, ◌≤◌, ℕ, zero, suc, List, [], ◌∷◌, ◌++◌, Option, Some, None, ◌⊎◌, inl, inr, length, map, sum}
+use Rattle.std.proofs.Common.{arith, refl, ap, sym, subst, ◌∙◌, ◌≡◌, ◌≢◌, ◌+◌, ◌%◌, ◌<◌, ◌≤◌, ℕ, zero, suc, List, [], ◌∷◌, ◌++◌, Option, Some, None, ◌⊎◌, inl, inr, length, map, sum}
 use Rattle.mdb_words.specs.declared.limits.TheConstants.{WORD_GAP_MIN, BLOCK_GAP_MAX, ANSWER_GAP_MAX, NEW_BLOCK_GAP_MIN}
 use Rattle.mdb_words.specs.declared.event.Event.{Event}
 use Rattle.mdb_words.specs.declared.event.Event.TheVariants.{Word, Break}
 use Rattle.mdb_words.specs.declared.word.Line.{Line}
 use Rattle.mdb_words.specs.declared.word.Line.TheVariants.{Controller, Peripheral}
 use Rattle.mdb_words.specs.Event.{start_of}
-use Rattle.mdb_check.specs.declared.bus.Command.{Command}
-use Rattle.mdb_check.specs.declared.bus.Command.TheVariants.{Reset, Poll}
+use Rattle.mdb_check.specs.declared.bus.Followed.{Followed}
+use Rattle.mdb_check.specs.declared.bus.Followed.TheVariants.{Reset, Poll}
 use Rattle.mdb_check.specs.declared.offence.Rule.{Rule}
 use Rattle.mdb_check.specs.declared.offence.Rule.TheVariants as rule
-use Rattle.mdb_check.specs.Acts.{Ask, Ack, Reply, VmcAck, IsMessage, AreMessages, HasDataAnswer, words_of}
-use Rattle.mdb_check.specs.ActLists.{Piece, Whole, AskTail, ReplyTail, IsPiece, IsActList, HasActList}
-use Rattle.mdb_check.specs.LinkFaults.{BusPosition, Quiet, InAsk, Asked, InReply, Replied, WrongSpeaker, WrongMode, TooEarly, TooLate, TooFarApart, WrongLength, WrongSum, WrongAnswer, HasBadMessage, IsLeftOut, IsBelow, IsAbove, FirstBad, IsUnreadable, IsOutside, IsAddress, IsFirstBroken, NoneBroken, OutOfOrder, RowBreaks, WordBreaks, rules_in_order, position_of, last_of, gap_since, word_of}
+use Rattle.mdb_msgs.specs.declared.answer.AnswerForm.{AnswerForm}
+use Rattle.mdb_msgs.specs.declared.fault.MsgFault.{MsgFault}
+use Rattle.mdb_msgs.specs.declared.fault.MsgFault.TheVariants as reading
+use Rattle.mdb_msgs.specs.Laws.{BytesHaveOneFault, ReplyHasNoFault}
+use Rattle.mdb_msgs.specs.Replies.{IsReadFault}
+use Rattle.mdb_check.specs.Acts.{Ask, Ack, Reply, VmcAck, HasDataAnswer, HasLength, IsReply, command_of, words_of}
+use Rattle.mdb_check.proofs.PollReading.{Data, Good, Unreadable, Outside, data_bytes}
+use Rattle.mdb_check.specs.ActLists.{Piece, Whole, AskTail, ReplyTail, AreUnmarked, IsPiece, IsActList, HasActList}
+use Rattle.mdb_check.specs.LinkFaults.{BusPosition, Quiet, InAsk, Asked, InReply, Replied, WrongSpeaker, WrongMode, TooEarly, TooLate, TooFarApart, WrongLength, WrongSum, WrongAnswer, HasBadMessage, IsLeftOut, IsBelow, IsAbove, IsAddress, IsFirstBroken, NoneBroken, OutOfOrder, RowBreaks, WordBreaks, rules_in_order, position_of, last_of, gap_since, word_of}
 use Rattle.mdb_check.specs.Bus.{Goes, address_of}
 use Rattle.mdb_check.proofs.FirstRule.{Decided, first_or_none, no_device_rule, none_at_all}
 use Rattle.mdb_check.proofs.Forward.{forward}
@@ -78,30 +84,66 @@ address word = either_of (same 0x108 word) (same 0x10B word)
     either_of (inr not_reset) (inl is) = inl (subst IsAddress is (address_is Poll))
     either_of (inr not_reset) (inr not_poll) = inr (λ a. by_command a.0 a.1 a.2)
       where
-        by_command : (command : Command) (rest : List ℕ) → words_of (Ask command) ≡ word ∷ rest → ⊥
+        by_command : (command : Followed) (rest : List ℕ) → words_of (Ask command) ≡ word ∷ rest → ⊥
         by_command Reset rest is = not_reset (cc)
         by_command Poll rest is = not_poll (cc)
 
-data_answer : (command : Command) (count : ℕ) → Decided (HasDataAnswer command count)
+data_answer : (command : Followed) (count : ℕ) → Decided (HasDataAnswer command count)
 data_answer Reset count = never (λ h. h)
 data_answer Poll count = both (within 1 count) (within count 16)
 
-no_data_answer : (command : Command) → Decided ((count : ℕ) → HasDataAnswer command count → ⊥)
+no_data_answer : (command : Followed) → Decided ((count : ℕ) → HasDataAnswer command count → ⊥)
 no_data_answer Reset = inl (λ count h. h)
 no_data_answer Poll = inr (λ none. none 1 (omega arith, omega arith))
 
-message : (byte : ℕ) → Decided (IsMessage byte)
-message byte = either (within byte 0x1A) (both (within 0x20 byte) (within byte 0x3F))
+-- the two laws of the replies
+abbrev Laws : Type 0
+Laws = ReplyHasNoFault × BytesHaveOneFault
 
-first_bad : (Meets : ℕ → Type 0) → ((byte : ℕ) → Decided (Meets byte)) → (bytes : List ℕ) → Decided (FirstBad Meets bytes)
-first_bad Meets meets [] = never (λ h. h)
-first_bad Meets meets (byte ∷ bytes) = either (both (denied (message byte)) (meets byte)) (both (message byte) (first_bad Meets meets bytes))
+-- bytes of a number that the command hasn't have no fault of a message
+counts : (command : Followed) (words : List ℕ) (fault : MsgFault) → (fault ≡ reading.Message) ⊎ (fault ≡ reading.Profile) → IsReadFault (command_of command) words fault → HasDataAnswer command (length words)
+counts command words fault (inl is) bad = by (let P : MsgFault → Type 0 = λ f. IsReadFault (command_of command) words f in subst P is bad)
+  where
+    by : IsReadFault (command_of command) words reading.Message → HasDataAnswer command (length words)
+    by told = let P : Option AnswerForm → Type 0 = λ form. HasLength form (length words) in subst P (sym told.1) told.2
+counts command words fault (inr is) bad = by (let P : MsgFault → Type 0 = λ f. IsReadFault (command_of command) words f in subst P is bad)
+  where
+    by : IsReadFault (command_of command) words reading.Profile → HasDataAnswer command (length words)
+    by told = let P : Option AnswerForm → Type 0 = λ form. HasLength form (length words) in subst P (sym told.1) told.2
 
-unreadable : (byte : ℕ) → Decided (IsUnreadable byte)
-unreadable byte = both (within 0x60 byte) (within byte 0x6F)
+-- a reply has no fault
+sound : Laws → (command : Followed) (words : List ℕ) (fault : MsgFault) → IsReply command words → IsReadFault (command_of command) words fault → ⊥
+sound laws command words fault good bad = laws.0 (command_of command) good.1 fault good.2 (let P : List ℕ → Type 0 = λ bytes. IsReadFault (command_of command) bytes fault in subst P good.3 bad)
 
-outside : (byte : ℕ) → Decided (IsOutside byte)
-outside byte = either (both (within 0x1B byte) (within byte 0x1F)) (either (both (within 0x40 byte) (within byte 0x5F)) (within 0x70 byte))
+unreadable : Laws → (command : Followed) (words : List ℕ) → AreUnmarked words → Decided (IsReadFault (command_of command) words reading.Message)
+unreadable laws command words low = by (data_answer command (length words))
+  where
+    of_data : Data command words → Decided (IsReadFault (command_of command) words reading.Message)
+    of_data (Good good) = never (sound laws command words reading.Message good)
+    of_data (Unreadable bad) = inl bad
+    of_data (Outside bad) = never (λ other. (let clash : reading.Message ≡ reading.Profile = laws.1 (command_of command) words reading.Message reading.Profile other bad in cc))
+
+    by : Decided (HasDataAnswer command (length words)) → Decided (IsReadFault (command_of command) words reading.Message)
+    by (inl count) = of_data (data_bytes command words low count)
+    by (inr none) = never (λ bad. none (counts command words reading.Message (inl refl) bad))
+
+outside : Laws → (command : Followed) (words : List ℕ) → AreUnmarked words → Decided (IsReadFault (command_of command) words reading.Profile)
+outside laws command words low = by (data_answer command (length words))
+  where
+    of_data : Data command words → Decided (IsReadFault (command_of command) words reading.Profile)
+    of_data (Good good) = never (sound laws command words reading.Profile good)
+    of_data (Unreadable bad) = never (λ other. (let clash : reading.Message ≡ reading.Profile = laws.1 (command_of command) words reading.Message reading.Profile bad other in cc))
+    of_data (Outside bad) = inl bad
+
+    by : Decided (HasDataAnswer command (length words)) → Decided (IsReadFault (command_of command) words reading.Profile)
+    by (inl count) = of_data (data_bytes command words low count)
+    by (inr none) = never (λ bad. none (counts command words reading.Profile (inr refl) bad))
+
+-- where the bus can be: an ask that has begun is one address, a reply that has begun is of unmarked words
+abbrev CanBe : BusPosition → Type 0
+CanBe (InAsk words) = (command : Followed) × (words ≡ (256 + address_of command) ∷ [])
+CanBe (InReply command words) = AreUnmarked words
+CanBe at = Unit {0}
 
 -- each rule of the link is broken or isn't
 
@@ -149,48 +191,43 @@ wrong_answer (Replied command) Controller word = meant (λ h. (h.0, h.1.0, h.1.1
     (both (less word 256) (both (denied (same word 0x000)) (both (denied (same word 0x0FF)) (denied (same word 0x0AA)))))
 wrong_answer at line word = never (λ h. h)
 
-bad_message : (at : BusPosition) (line : Line) (word : ℕ) → Decided (HasBadMessage at line word)
-bad_message (InReply command words) Peripheral word = both (within 256 word) (first_bad IsUnreadable unreadable words)
-bad_message at line word = never (λ h. h)
+bad_message : Laws → (at : BusPosition) (line : Line) (word : ℕ) → CanBe at → Decided (HasBadMessage at line word)
+bad_message laws (InReply command words) Peripheral word fits = both (within 256 word) (unreadable laws command words fits)
+bad_message laws at line word fits = never (λ h. h)
 
-left_out : (at : BusPosition) (line : Line) (word : ℕ) → Decided (IsLeftOut at line word)
-left_out Quiet Controller word = denied (address word)
-left_out (Asked command) Controller word = denied (address word)
-left_out (Asked command) Peripheral word = same word 0x1FF
-left_out (Replied command) Controller word = either (both (within 256 word) (denied (address word))) (either (same word 0x0FF) (same word 0x0AA))
-left_out (InReply command words) Peripheral word = both (within 256 word) (first_bad IsOutside outside words)
-left_out at line word = never (λ h. h)
+left_out : Laws → (at : BusPosition) (line : Line) (word : ℕ) → CanBe at → Decided (IsLeftOut at line word)
+left_out laws Quiet Controller word fits = denied (address word)
+left_out laws (Asked command) Controller word fits = denied (address word)
+left_out laws (Asked command) Peripheral word fits = same word 0x1FF
+left_out laws (Replied command) Controller word fits = either (both (within 256 word) (denied (address word))) (either (same word 0x0FF) (same word 0x0AA))
+left_out laws (InReply command words) Peripheral word fits = both (within 256 word) (outside laws command words fits)
+left_out laws at line word fits = never (λ h. h)
 
-word_breaks : (at : BusPosition) (gap : Option ℕ) (line : Line) (word : ℕ) (r : Rule) → Decided (WordBreaks at gap line word r)
-word_breaks at gap line word rule.Speaker = wrong_speaker at gap line word
-word_breaks at gap line word rule.Mode = wrong_mode at line word
-word_breaks at gap line word rule.Early = too_early at gap line word
-word_breaks at gap line word rule.Late = too_late at gap line word
-word_breaks at gap line word rule.Spacing = too_far_apart at gap line
-word_breaks at gap line word rule.Length = wrong_length at line word
-word_breaks at gap line word rule.Sum = wrong_sum at line word
-word_breaks at gap line word rule.Answer = wrong_answer at line word
-word_breaks at gap line word rule.Message = bad_message at line word
-word_breaks at gap line word rule.Profile = left_out at line word
-word_breaks at gap line word other = never (λ h. h)
+word_breaks : Laws → (at : BusPosition) (gap : Option ℕ) (line : Line) (word : ℕ) → CanBe at → (r : Rule) → Decided (WordBreaks at gap line word r)
+word_breaks laws at gap line word fits rule.Speaker = wrong_speaker at gap line word
+word_breaks laws at gap line word fits rule.Mode = wrong_mode at line word
+word_breaks laws at gap line word fits rule.Early = too_early at gap line word
+word_breaks laws at gap line word fits rule.Late = too_late at gap line word
+word_breaks laws at gap line word fits rule.Spacing = too_far_apart at gap line
+word_breaks laws at gap line word fits rule.Length = wrong_length at line word
+word_breaks laws at gap line word fits rule.Sum = wrong_sum at line word
+word_breaks laws at gap line word fits rule.Answer = wrong_answer at line word
+word_breaks laws at gap line word fits rule.Message = bad_message laws at line word fits
+word_breaks laws at gap line word fits rule.Profile = left_out laws at line word fits
+word_breaks laws at gap line word fits other = never (λ h. h)
 
 out_of_order : (last : Option Event) (event : Event) → Decided (OutOfOrder last event)
 out_of_order None event = never (λ h. h)
 out_of_order (Some before) event = within (start_of event) (start_of before)
 
-row_breaks : (at : BusPosition) (last : Option Event) (event : Event) (r : Rule) → Decided (RowBreaks at last event r)
-row_breaks at last event rule.Order = out_of_order last event
-row_breaks at last (Word start line word) r = word_breaks at (gap_since last (Word start line word)) line word r
-row_breaks at last (Break start long) rule.Profile = inl tt
-row_breaks at last (Break start long) other = never (λ h. h)
-
--- where the bus can be: an ask that has begun is one address
-abbrev CanBe : BusPosition → Type 0
-CanBe (InAsk words) = (command : Command) × (words ≡ (256 + address_of command) ∷ [])
-CanBe at = Unit {0}
+row_breaks : Laws → (at : BusPosition) (last : Option Event) (event : Event) → CanBe at → (r : Rule) → Decided (RowBreaks at last event r)
+row_breaks laws at last event fits rule.Order = out_of_order last event
+row_breaks laws at last (Word start line word) fits r = word_breaks laws at (gap_since last (Word start line word)) line word fits r
+row_breaks laws at last (Break start long) fits rule.Profile = inl tt
+row_breaks laws at last (Break start long) fits other = never (λ h. h)
 
 -- a front of an ask's words that isn't the whole ask is its address
-ask_front : (command : Command) (words rest : List ℕ) → words ≢ [] → rest ≢ [] → words ++ rest ≡ words_of (Ask command) → words ≡ (256 + address_of command) ∷ []
+ask_front : (command : Followed) (words rest : List ℕ) → words ≢ [] → rest ≢ [] → words ++ rest ≡ words_of (Ask command) → words ≡ (256 + address_of command) ∷ []
 ask_front command [] rest some more is = absurd (some refl)
 ask_front Reset (w ∷ []) rest some more is = let first : w ≡ 0x108 = cc in ap (λ x. x ∷ []) first
 ask_front Poll (w ∷ []) rest some more is = let first : w ≡ 0x10B = cc in ap (λ x. x ∷ []) first
@@ -211,10 +248,13 @@ can_be (AskTail events ∷ pieces) rows list = told list.in_order.0
   where
     told : IsPiece (AskTail events) → CanBe (InAsk (map word_of events))
     told right = (right.0, words_said Controller right.1 events right.6 ∙ ask_front right.0 right.1 right.2 right.3 right.4 right.5)
-can_be (ReplyTail command events ∷ pieces) rows list = tt
+can_be (ReplyTail command events ∷ pieces) rows list = told list.in_order.0
+  where
+    told : IsPiece (ReplyTail command events) → AreUnmarked (map word_of events)
+    told right = let P : List ℕ → Type 0 = λ words. AreUnmarked words in subst P (sym (words_said Peripheral right.0 events right.4)) right.3
 
 -- the last word of an ask is its sum
-ask_whole : (command : Command) (words : List ℕ) (word : ℕ) → words ≡ (256 + address_of command) ∷ [] → word ≡ sum words % 256 → words ++ word ∷ [] ≡ words_of (Ask command)
+ask_whole : (command : Followed) (words : List ℕ) (word : ℕ) → words ≡ (256 + address_of command) ∷ [] → word ≡ sum words % 256 → words ++ word ∷ [] ≡ words_of (Ask command)
 ask_whole Reset words word is total =
     let low : word ≡ 0x08 = total ∙ ap (λ ws. sum ws % 256) is in
     ap (λ ws. ws ++ word ∷ []) is ∙ ap (λ w. 0x108 ∷ w ∷ []) low
@@ -223,35 +263,9 @@ ask_whole Poll words word is total =
     ap (λ ws. ws ++ word ∷ []) is ∙ ap (λ w. 0x10B ∷ w ∷ []) low
 
 -- a command that isn't without a data answer has one
-data_of : (command : Command) → (((count : ℕ) → HasDataAnswer command count → ⊥) → ⊥) → (count : ℕ) × HasDataAnswer command count
+data_of : (command : Followed) → (((count : ℕ) → HasDataAnswer command count → ⊥) → ⊥) → (count : ℕ) × HasDataAnswer command count
 data_of Reset some = absurd (some (λ count has. has))
 data_of Poll some = (1, (omega arith, omega arith))
-
--- why a byte is no message
-bad_byte : (byte : ℕ) → (IsMessage byte → ⊥) → IsUnreadable byte ⊎ IsOutside byte
-bad_byte byte none = by_case (unreadable byte) (outside byte)
-  where
-    by_case : Decided (IsUnreadable byte) → Decided (IsOutside byte) → IsUnreadable byte ⊎ IsOutside byte
-    by_case (inl bad) other = inl bad
-    by_case (inr readable) (inl bad) = inr bad
-    by_case (inr readable) (inr inside) =
-        let past : 0x1A < byte = held (less 0x1A byte) (λ no. none (inl (omega (arith, no)))) in
-        let past_statuses : 0x1F < byte = held (less 0x1F byte) (λ no. inside (inl (omega (arith, past), omega (arith, no)))) in
-        let past_slugs : 0x3F < byte = held (less 0x3F byte) (λ no. none (inr (omega (arith, past_statuses), omega (arith, no)))) in
-        let past_outside : 0x5F < byte = held (less 0x5F byte) (λ no. inside (inr (inl (omega (arith, past_slugs), omega (arith, no))))) in
-        let past_unreadable : 0x6F < byte = held (less 0x6F byte) (λ no. readable (omega (arith, past_outside), omega (arith, no))) in
-        absurd (inside (inr (inr (omega (arith, past_unreadable)))))
-
--- bytes of which none is bad are messages
-all_messages : (bytes : List ℕ) → (FirstBad IsUnreadable bytes → ⊥) → (FirstBad IsOutside bytes → ⊥) → AreMessages bytes
-all_messages [] readable inside = tt
-all_messages (byte ∷ bytes) readable inside =
-    let here : IsMessage byte = held (message byte) (λ none. refused none (bad_byte byte none)) in
-    (here, all_messages bytes (λ bad. readable (inr (here, bad))) (λ bad. inside (inr (here, bad))))
-  where
-    refused : (IsMessage byte → ⊥) → IsUnreadable byte ⊎ IsOutside byte → ⊥
-    refused none (inl bad) = readable (inl (none, bad))
-    refused none (inr bad) = inside (inl (none, bad))
 
 -- a word that breaks no rule leads on
 leads : (at : BusPosition) (gap : Option ℕ) (line : Line) (word : ℕ) → CanBe at → ((r : Rule) → WordBreaks at gap line word r → ⊥) → (next : BusPosition) × Goes at gap line word next
@@ -273,6 +287,11 @@ leads (Asked command) gap Peripheral word fits none = by_mark (less word 256)
 leads (InReply command words) gap Controller word fits none = absurd (none rule.Speaker (none rule.Spacing))
 leads (InReply command words) gap Peripheral word fits none = by_mark (less word 256)
   where
+    read : 256 ≤ word → Data command words → IsReply command words
+    read marked (Good good) = good
+    read marked (Unreadable bad) = absurd (none rule.Message (marked, bad))
+    read marked (Outside bad) = absurd (none rule.Profile (marked, bad))
+
     by_mark : Decided (word < 256) → (next : BusPosition) × Goes (InReply command words) gap Peripheral word next
     by_mark (inl low) =
         let short : length words < 35 = held (less (length words) 35) (λ long. none rule.Length (inl (low, omega (arith, long)))) in
@@ -281,8 +300,7 @@ leads (InReply command words) gap Peripheral word fits none = by_mark (less word
         let marked : 256 ≤ word = omega (arith, high) in
         let total : word ≡ 256 + sum words % 256 = held (same word (256 + sum words % 256)) (λ wrong. none rule.Sum (marked, wrong)) in
         let count : HasDataAnswer command (length words) = held (data_answer command (length words)) (λ no. none rule.Length (inr (marked, no))) in
-        let messages : AreMessages words = all_messages words (λ bad. none rule.Message (marked, bad)) (λ bad. none rule.Profile (marked, bad)) in
-        (Replied command, (refl, total, (count, messages), (none rule.Early, none rule.Spacing), refl))
+        (Replied command, (refl, total, read marked (data_bytes command words fits count), (none rule.Early, none rule.Spacing), refl))
 leads (Replied command) gap Controller word fits none = by_mark (less word 256)
   where
     by_mark : Decided (word < 256) → (next : BusPosition) × Goes (Replied command) gap Controller word next
@@ -308,9 +326,9 @@ goes_on rows pieces (Word start line word) list none =
 goes_on rows pieces (Break start long) list none = absurd (none rule.Profile tt)
 
 -- where no act list goes on, some rule is the first that the row breaks
-pub some_rule : (rows : List Event) (pieces : List Piece) (event : Event) → IsActList pieces rows → (HasActList (rows ++ event ∷ []) → ⊥)
+pub some_rule : Laws → (rows : List Event) (pieces : List Piece) (event : Event) → IsActList pieces rows → (HasActList (rows ++ event ∷ []) → ⊥)
     → (broken : Rule) × IsFirstBroken (RowBreaks (position_of pieces) (last_of rows) event) broken
-some_rule rows pieces event list ends = told (first_or_none (RowBreaks (position_of pieces) (last_of rows) event) (row_breaks (position_of pieces) (last_of rows) event))
+some_rule laws rows pieces event list ends = told (first_or_none (RowBreaks (position_of pieces) (last_of rows) event) (row_breaks laws (position_of pieces) (last_of rows) event (can_be pieces rows list)))
   where
     told : ((r : Rule) × IsFirstBroken (RowBreaks (position_of pieces) (last_of rows) event) r) ⊎ NoneBroken (RowBreaks (position_of pieces) (last_of rows) event) rules_in_order
         → (broken : Rule) × IsFirstBroken (RowBreaks (position_of pieces) (last_of rows) event) broken

@@ -4,14 +4,19 @@ use Rattle.std.proofs.lemmas.List.{same_from_push}
 use Rattle.mdb_words.specs.declared.limits.TheConstants.{WORD_GAP_MIN, BLOCK_GAP_MAX, ANSWER_GAP_MAX, NEW_BLOCK_GAP_MIN}
 use Rattle.mdb_words.specs.declared.word.Line.{Line}
 use Rattle.mdb_words.specs.declared.word.Line.TheVariants.{Controller, Peripheral}
-use Rattle.mdb_check.specs.declared.bus.Command.{Command}
-use Rattle.mdb_check.specs.declared.bus.Command.TheVariants.{Reset, Poll}
+use Rattle.mdb_check.specs.declared.bus.Followed.{Followed}
+use Rattle.mdb_check.specs.declared.bus.Followed.TheVariants.{Reset, Poll}
 use Rattle.mdb_check.specs.declared.offence.Rule.{Rule}
 use Rattle.mdb_check.specs.declared.offence.Rule.TheVariants as rule
-use Rattle.mdb_check.specs.Acts.{Ask, Reply, IsAct, IsMessage, AreMessages, HasDataAnswer, words_of}
-use Rattle.mdb_check.specs.LinkFaults.{BusPosition, Quiet, InAsk, Asked, InReply, Replied, IsAddress, IsBelow, IsAbove, FirstBad, IsUnreadable, IsOutside, WordBreaks, WrongSum}
+use Rattle.mdb_msgs.specs.declared.fault.MsgFault.{MsgFault}
+use Rattle.mdb_msgs.specs.declared.fault.MsgFault.TheVariants as reading
+use Rattle.mdb_msgs.specs.Laws.{ReplyHasNoFault}
+use Rattle.mdb_msgs.specs.Replies.{IsReadFault}
+use Rattle.mdb_check.specs.Acts.{Ask, Reply, IsAct, HasDataAnswer, command_of, words_of}
+use Rattle.mdb_check.specs.LinkFaults.{BusPosition, Quiet, InAsk, Asked, InReply, Replied, IsAddress, IsBelow, IsAbove, WordBreaks, WrongSum}
 use Rattle.mdb_check.specs.Bus.{Goes, IsEnough, IsAnswerGap, IsBlockGap}
 use Rattle.mdb_check.proofs.OneActList.{address_marked}
+use Rattle.mdb_check.proofs.Replies.{reply_length}
 
 ask_when_quiet : (gap : Option ℕ) (word : ℕ) (broken : Rule) → WordBreaks Quiet gap Controller word broken → IsAddress word → IsEnough WORD_GAP_MIN gap → ⊥
 ask_when_quiet gap word rule.Mode breaks address enough = absurd (omega (arith, breaks, address_marked word address))
@@ -19,13 +24,13 @@ ask_when_quiet gap word rule.Early breaks address enough = enough breaks
 ask_when_quiet gap word rule.Profile breaks address enough = breaks address
 ask_when_quiet gap word other breaks address enough = breaks
 
-ask_when_asked : (command : Command) (gap : Option ℕ) (word : ℕ) (broken : Rule) → WordBreaks (Asked command) gap Controller word broken → IsAddress word → IsEnough NEW_BLOCK_GAP_MIN gap → ⊥
+ask_when_asked : (command : Followed) (gap : Option ℕ) (word : ℕ) (broken : Rule) → WordBreaks (Asked command) gap Controller word broken → IsAddress word → IsEnough NEW_BLOCK_GAP_MIN gap → ⊥
 ask_when_asked command gap word rule.Mode breaks address enough = absurd (omega (arith, breaks, address_marked word address))
 ask_when_asked command gap word rule.Early breaks address enough = enough breaks
 ask_when_asked command gap word rule.Profile breaks address enough = breaks address
 ask_when_asked command gap word other breaks address enough = breaks
 
-ask_when_replied : (command : Command) (gap : Option ℕ) (word : ℕ) (broken : Rule) → WordBreaks (Replied command) gap Controller word broken → IsAddress word → IsEnough NEW_BLOCK_GAP_MIN gap → ⊥
+ask_when_replied : (command : Followed) (gap : Option ℕ) (word : ℕ) (broken : Rule) → WordBreaks (Replied command) gap Controller word broken → IsAddress word → IsEnough NEW_BLOCK_GAP_MIN gap → ⊥
 ask_when_replied command gap word rule.Early (inl breaks) address enough = absurd (omega (arith, breaks.0, address_marked word address))
 ask_when_replied command gap word rule.Early (inr breaks) address enough = enough breaks.1
 ask_when_replied command gap word rule.Late breaks address enough = absurd (omega (arith, breaks.0, address_marked word address))
@@ -40,7 +45,7 @@ record AskWords (words : List ℕ) (word : ℕ) : Type 0 where
   unmarked : word < 256
   total : word ≡ sum words % 256
 
-ask_words : (command : Command) (words : List ℕ) (word : ℕ) → words ++ word ∷ [] ≡ words_of (Ask command) → AskWords words word
+ask_words : (command : Followed) (words : List ℕ) (word : ℕ) → words ++ word ∷ [] ≡ words_of (Ask command) → AskWords words word
 ask_words Reset words word is =
     let same = same_from_push words (0x108 ∷ []) word 0x08 is in
     record { unmarked = omega (arith, same.1); total = same.1 ∙ ap (λ ws. sum ws % 256) (sym same.0) }
@@ -55,7 +60,7 @@ ask_ends words gap word rule.Spacing breaks right near = near.1 breaks
 ask_ends words gap word rule.Sum breaks right near = breaks right.total
 ask_ends words gap word other breaks right near = breaks
 
-ack_comes : (command : Command) (gap : Option ℕ) (word : ℕ) (broken : Rule) → WordBreaks (Asked command) gap Peripheral word broken → word ≡ 0x100 → IsAnswerGap gap → ⊥
+ack_comes : (command : Followed) (gap : Option ℕ) (word : ℕ) (broken : Rule) → WordBreaks (Asked command) gap Peripheral word broken → word ≡ 0x100 → IsAnswerGap gap → ⊥
 ack_comes command gap word rule.Early breaks is near = near.0 breaks
 ack_comes command gap word rule.Late breaks is near = near.1 breaks
 ack_comes command gap word rule.Answer (inl breaks) is near = breaks.1 is
@@ -63,7 +68,7 @@ ack_comes command gap word rule.Answer (inr breaks) is near = absurd (omega (ari
 ack_comes command gap word rule.Profile breaks is near = absurd (omega (arith, breaks, is))
 ack_comes command gap word other breaks is near = breaks
 
-reply_begins : (command : Command) (gap : Option ℕ) (word : ℕ) (broken : Rule) → WordBreaks (Asked command) gap Peripheral word broken → word < 256 → (count : ℕ) → HasDataAnswer command count → IsAnswerGap gap → ⊥
+reply_begins : (command : Followed) (gap : Option ℕ) (word : ℕ) (broken : Rule) → WordBreaks (Asked command) gap Peripheral word broken → word < 256 → (count : ℕ) → HasDataAnswer command count → IsAnswerGap gap → ⊥
 reply_begins command gap word rule.Early breaks below count has near = near.0 breaks
 reply_begins command gap word rule.Late breaks below count has near = near.1 breaks
 reply_begins command gap word rule.Answer (inl breaks) below count has near = absurd (omega (arith, breaks.0, below))
@@ -71,7 +76,7 @@ reply_begins command gap word rule.Answer (inr breaks) below count has near = br
 reply_begins command gap word rule.Profile breaks below count has near = absurd (omega (arith, breaks, below))
 reply_begins command gap word other breaks below count has near = breaks
 
-reply_goes_on : (command : Command) (words : List ℕ) (gap : Option ℕ) (word : ℕ) (broken : Rule) → WordBreaks (InReply command words) gap Peripheral word broken → word < 256 → length words < 35 → IsBlockGap gap → ⊥
+reply_goes_on : (command : Followed) (words : List ℕ) (gap : Option ℕ) (word : ℕ) (broken : Rule) → WordBreaks (InReply command words) gap Peripheral word broken → word < 256 → length words < 35 → IsBlockGap gap → ⊥
 reply_goes_on command words gap word rule.Early breaks below short near = near.0 breaks
 reply_goes_on command words gap word rule.Spacing breaks below short near = near.1 breaks
 reply_goes_on command words gap word rule.Length (inl breaks) below short near = absurd (omega (arith, breaks.1, short))
@@ -81,23 +86,23 @@ reply_goes_on command words gap word rule.Message breaks below short near = absu
 reply_goes_on command words gap word rule.Profile breaks below short near = absurd (omega (arith, breaks.0, below))
 reply_goes_on command words gap word other breaks below short near = breaks
 
-none_bad : (Meets : ℕ → Type 0) (bytes : List ℕ) → AreMessages bytes → FirstBad Meets bytes → ⊥
-none_bad Meets [] all bad = bad
-none_bad Meets (byte ∷ bytes) all (inl bad) = bad.0 all.0
-none_bad Meets (byte ∷ bytes) all (inr bad) = none_bad Meets bytes all.1 bad.1
+none_bad : ReplyHasNoFault → (command : Followed) (words : List ℕ) (fault : MsgFault) → IsAct (Reply command words) → IsReadFault (command_of command) words fault → ⊥
+none_bad law command words fault right bad =
+    let P : List ℕ → Type 0 = λ bytes. IsReadFault (command_of command) bytes fault in
+    law (command_of command) right.1 fault right.2 (subst P right.3 bad)
 
-reply_ends : (command : Command) (words : List ℕ) (gap : Option ℕ) (word : ℕ) (broken : Rule) → WordBreaks (InReply command words) gap Peripheral word broken
+reply_ends : ReplyHasNoFault → (command : Followed) (words : List ℕ) (gap : Option ℕ) (word : ℕ) (broken : Rule) → WordBreaks (InReply command words) gap Peripheral word broken
     → word ≡ 256 + sum words % 256 → IsAct (Reply command words) → IsBlockGap gap → ⊥
-reply_ends command words gap word rule.Early breaks is right near = near.0 breaks
-reply_ends command words gap word rule.Spacing breaks is right near = near.1 breaks
-reply_ends command words gap word rule.Length (inl breaks) is right near = absurd (omega (arith, breaks.0, is))
-reply_ends command words gap word rule.Length (inr breaks) is right near = breaks.1 right.0
-reply_ends command words gap word rule.Sum breaks is right near = breaks.1 is
-reply_ends command words gap word rule.Message breaks is right near = none_bad IsUnreadable words right.1 breaks.1
-reply_ends command words gap word rule.Profile breaks is right near = none_bad IsOutside words right.1 breaks.1
-reply_ends command words gap word other breaks is right near = breaks
+reply_ends law command words gap word rule.Early breaks is right near = near.0 breaks
+reply_ends law command words gap word rule.Spacing breaks is right near = near.1 breaks
+reply_ends law command words gap word rule.Length (inl breaks) is right near = absurd (omega (arith, breaks.0, is))
+reply_ends law command words gap word rule.Length (inr breaks) is right near = breaks.1 (reply_length command words right)
+reply_ends law command words gap word rule.Sum breaks is right near = breaks.1 is
+reply_ends law command words gap word rule.Message breaks is right near = none_bad law command words reading.Message right breaks.1
+reply_ends law command words gap word rule.Profile breaks is right near = none_bad law command words reading.Profile right breaks.1
+reply_ends law command words gap word other breaks is right near = breaks
 
-vmc_ack_comes : (command : Command) (gap : Option ℕ) (word : ℕ) (broken : Rule) → WordBreaks (Replied command) gap Controller word broken → word ≡ 0x000 → IsAnswerGap gap → ⊥
+vmc_ack_comes : (command : Followed) (gap : Option ℕ) (word : ℕ) (broken : Rule) → WordBreaks (Replied command) gap Controller word broken → word ≡ 0x000 → IsAnswerGap gap → ⊥
 vmc_ack_comes command gap word rule.Early (inl breaks) is near = near.0 breaks.1
 vmc_ack_comes command gap word rule.Early (inr breaks) is near = absurd (omega (arith, breaks.0, is))
 vmc_ack_comes command gap word rule.Late breaks is near = near.1 breaks.1
@@ -112,18 +117,18 @@ on : (at : BusPosition) (gap : Option ℕ) (line sender : Line) (word : ℕ) (br
 on at gap line sender word broken same breaks = let P : Line → Type 0 = λ l. WordBreaks at gap l word broken in subst P same breaks
 
 -- a word that breaks a rule leads nowhere
-pub stops : (at : BusPosition) (gap : Option ℕ) (line : Line) (word : ℕ) (next : BusPosition) (broken : Rule) → WordBreaks at gap line word broken → Goes at gap line word next → ⊥
-stops Quiet gap line word (InAsk words) broken breaks goes = ask_when_quiet gap word broken (on Quiet gap line Controller word broken goes.0 breaks) goes.1 goes.2
-stops Quiet gap line word next broken breaks goes = goes
-stops (InAsk words) gap line word (Asked command) broken breaks goes = ask_ends words gap word broken (on (InAsk words) gap line Controller word broken goes.0 breaks) (ask_words command words word goes.1) goes.2
-stops (InAsk words) gap line word next broken breaks goes = goes
-stops (Asked command) gap line word Quiet broken breaks goes = ack_comes command gap word broken (on (Asked command) gap line Peripheral word broken goes.0 breaks) goes.1 goes.2
-stops (Asked command) gap line word (InReply answered words) broken breaks goes = reply_begins command gap word broken (on (Asked command) gap line Peripheral word broken goes.0 breaks) goes.1 goes.2 goes.3 goes.4
-stops (Asked command) gap line word (InAsk words) broken breaks goes = ask_when_asked command gap word broken (on (Asked command) gap line Controller word broken goes.0 breaks) goes.1 goes.2
-stops (Asked command) gap line word next broken breaks goes = goes
-stops (InReply command words) gap line word (InReply answered longer) broken breaks goes = reply_goes_on command words gap word broken (on (InReply command words) gap line Peripheral word broken goes.0 breaks) goes.1 goes.2 goes.3
-stops (InReply command words) gap line word (Replied answered) broken breaks goes = reply_ends command words gap word broken (on (InReply command words) gap line Peripheral word broken goes.0 breaks) goes.1 goes.2 goes.3
-stops (InReply command words) gap line word next broken breaks goes = goes
-stops (Replied command) gap line word Quiet broken breaks goes = vmc_ack_comes command gap word broken (on (Replied command) gap line Controller word broken goes.0 breaks) goes.1 goes.2
-stops (Replied command) gap line word (InAsk words) broken breaks goes = ask_when_replied command gap word broken (on (Replied command) gap line Controller word broken goes.0 breaks) goes.1 goes.2
-stops (Replied command) gap line word next broken breaks goes = goes
+pub stops : ReplyHasNoFault → (at : BusPosition) (gap : Option ℕ) (line : Line) (word : ℕ) (next : BusPosition) (broken : Rule) → WordBreaks at gap line word broken → Goes at gap line word next → ⊥
+stops law Quiet gap line word (InAsk words) broken breaks goes = ask_when_quiet gap word broken (on Quiet gap line Controller word broken goes.0 breaks) goes.1 goes.2
+stops law Quiet gap line word next broken breaks goes = goes
+stops law (InAsk words) gap line word (Asked command) broken breaks goes = ask_ends words gap word broken (on (InAsk words) gap line Controller word broken goes.0 breaks) (ask_words command words word goes.1) goes.2
+stops law (InAsk words) gap line word next broken breaks goes = goes
+stops law (Asked command) gap line word Quiet broken breaks goes = ack_comes command gap word broken (on (Asked command) gap line Peripheral word broken goes.0 breaks) goes.1 goes.2
+stops law (Asked command) gap line word (InReply answered words) broken breaks goes = reply_begins command gap word broken (on (Asked command) gap line Peripheral word broken goes.0 breaks) goes.1 goes.2 goes.3 goes.4
+stops law (Asked command) gap line word (InAsk words) broken breaks goes = ask_when_asked command gap word broken (on (Asked command) gap line Controller word broken goes.0 breaks) goes.1 goes.2
+stops law (Asked command) gap line word next broken breaks goes = goes
+stops law (InReply command words) gap line word (InReply answered longer) broken breaks goes = reply_goes_on command words gap word broken (on (InReply command words) gap line Peripheral word broken goes.0 breaks) goes.1 goes.2 goes.3
+stops law (InReply command words) gap line word (Replied answered) broken breaks goes = reply_ends law command words gap word broken (on (InReply command words) gap line Peripheral word broken goes.0 breaks) goes.1 goes.2 goes.3
+stops law (InReply command words) gap line word next broken breaks goes = goes
+stops law (Replied command) gap line word Quiet broken breaks goes = vmc_ack_comes command gap word broken (on (Replied command) gap line Controller word broken goes.0 breaks) goes.1 goes.2
+stops law (Replied command) gap line word (InAsk words) broken breaks goes = ask_when_replied command gap word broken (on (Replied command) gap line Controller word broken goes.0 breaks) goes.1 goes.2
+stops law (Replied command) gap line word next broken breaks goes = goes

@@ -1,17 +1,18 @@
--- Act lists: how a transcript divides into acts, and what may follow what.
+-- Act lists: how a transcript divides into acts, and what may follow what (MDB/ICP 4.3, timing; the numbers are this
+-- profile's).
 use Rattle.std.specs.Prelude.{◌≡◌, ◌≢◌, ◌+◌, ◌<◌, ◌≤◌, ℕ, List, [], ◌∷◌, ◌++◌, length, ⊤}
 use Rattle.mdb_words.specs.declared.limits.TheConstants.{WORD_GAP_MIN, BLOCK_GAP_MAX, ANSWER_GAP_MAX, NEW_BLOCK_GAP_MIN}
 use Rattle.mdb_words.specs.declared.event.Event.{Event}
 use Rattle.mdb_words.specs.declared.word.Line.TheVariants.{Controller, Peripheral}
 use Rattle.mdb_words.specs.Event.{start_of, end_of}
-use Rattle.mdb_check.specs.declared.bus.Command.{Command}
-use Rattle.mdb_check.specs.Acts.{Act, Ask, Ack, Reply, VmcAck, IsAct, HasDataAnswer, command_bytes, block_of, controller_words, line_of, words_of, Say}
+use Rattle.mdb_check.specs.declared.bus.Followed.{Followed}
+use Rattle.mdb_check.specs.Acts.{Act, Ask, Ack, Reply, VmcAck, IsAct, HasDataAnswer, line_of, words_of, Say}
 
 -- A piece of a transcript with its events: a whole act, or the tail of an ask or of a reply that has begun and not ended.
 pub data Piece : Type 0 where
   Whole : Act → List Event → Piece
   AskTail : List Event → Piece
-  ReplyTail : Command → List Event → Piece
+  ReplyTail : Followed → List Event → Piece
 
 -- the events of a piece
 abbrev pub piece_events : Piece → List Event
@@ -41,7 +42,7 @@ AreUnmarked (word ∷ words) = (word < 256) × AreUnmarked words
 -- reply says is judged at its marked word.
 abbrev pub IsPiece : Piece → Type 0
 IsPiece (Whole act events) = IsAct act × Say (line_of act) (words_of act) events × AreSpaced events
-IsPiece (AskTail events) = (command : Command) × (words rest : List ℕ) × (words ≢ []) × (rest ≢ [])
+IsPiece (AskTail events) = (command : Followed) × (words rest : List ℕ) × (words ≢ []) × (rest ≢ [])
     × (words ++ rest ≡ words_of (Ask command)) × Say Controller words events × AreSpaced events
 IsPiece (ReplyTail command events) = (words : List ℕ) × (1 ≤ length words) × (length words ≤ 35) × AreUnmarked words
     × Say Peripheral words events × AreSpaced events
@@ -49,7 +50,7 @@ IsPiece (ReplyTail command events) = (words : List ℕ) × (1 ≤ length words) 
 -- the act that a piece is, or that it begins
 abbrev pub Begins : Piece → Act → Type 0
 Begins (Whole act events) begun = begun ≡ act
-Begins (AskTail events) begun = (command : Command) × (begun ≡ Ask command)
+Begins (AskTail events) begun = (command : Followed) × (begun ≡ Ask command)
 Begins (ReplyTail command events) begun = (count : ℕ) × HasDataAnswer command count × (bytes : List ℕ) × (begun ≡ Reply command bytes)
 
 -- How long the controller waits with a new block: longer where an answer may still come.
@@ -95,7 +96,7 @@ abbrev pub events_of : List Piece → List Event
 events_of [] = []
 events_of (piece ∷ pieces) = events_of pieces ++ piece_events piece
 
--- an act list of a transcript: pieces, the newest first, whose events put end to end are the transcript
+-- an act list of a transcript: pieces in order which together have all its rows and no others
 pub record IsActList (pieces : List Piece) (events : List Event) : Type 0 where
   pub in_order : ArePieces pieces
   pub whole : events_of pieces ≡ events

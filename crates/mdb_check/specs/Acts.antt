@@ -1,74 +1,67 @@
--- The acts of the bus and their words.
-use Rattle.std.specs.Prelude.{◌≡◌, ◌+◌, ◌%◌, ◌≤◌, ◌⊎◌, ℕ, List, [], ◌∷◌, ◌++◌, length, map, sum, ⊤, Option, Some, None}
+-- What is done on the bus, and in which words (MDB/ICP 4.3, bus format). Of all acts these four are followed yet.
+use Rattle.std.specs.Prelude.{◌≡◌, ℕ, List, [], ◌∷◌, map, ⊤, Option, Some, None}
 use Rattle.mdb_words.specs.declared.event.Event.{Event}
 use Rattle.mdb_words.specs.declared.event.Event.TheVariants.{Word, Break}
 use Rattle.mdb_words.specs.declared.word.Line.{Line}
 use Rattle.mdb_words.specs.declared.word.Line.TheVariants.{Controller, Peripheral}
-use Rattle.mdb_check.specs.declared.bus.Command.{Command}
-use Rattle.mdb_check.specs.declared.bus.Command.TheVariants.{Reset, Poll}
+use Rattle.mdb_blocks.specs.Block.{IsContent, block_of, controller_words, peripheral_words}
+use Rattle.mdb_msgs.specs.declared.answer.AnswerForm.{AnswerForm}
+use Rattle.mdb_msgs.specs.declared.command.ChangerCommand.TheVariants as changers
+use Rattle.mdb_msgs.specs.declared.command.Command.{Command}
+use Rattle.mdb_msgs.specs.declared.command.Command.TheVariants as commands
+use Rattle.mdb_msgs.specs.declared.reply.Reply as replies
+use Rattle.mdb_msgs.specs.Answers.{form_of, IsDataLength}
+use Rattle.mdb_msgs.specs.Commands.{command_bytes}
+use Rattle.mdb_msgs.specs.Replies.{IsReplyTo, reply_bytes}
+use Rattle.mdb_check.specs.declared.bus.Followed.{Followed}
+use Rattle.mdb_check.specs.declared.bus.Followed.TheVariants.{Reset, Poll}
 
--- What happens on the bus. An answer names the command, and a controller's answer the reply, that it belongs to.
+-- an act, with the command that it asks or answers, and with the data of the reply that it is or acknowledges
 pub data Act : Type 0 where
   -- the controller's whole block of a command
-  Ask : Command → Act
+  Ask : Followed → Act
   -- the peripheral's ACK
-  Ack : Command → Act
+  Ack : Followed → Act
   -- the peripheral's data block: its data bytes, without the sum
-  Reply : Command → List ℕ → Act
+  Reply : Followed → List ℕ → Act
   -- the controller's ACK of a reply
-  VmcAck : Command → List ℕ → Act
+  VmcAck : Followed → List ℕ → Act
 
--- the data bytes of a command: the address byte, which is all there is of these
-abbrev pub command_bytes : Command → List ℕ
-command_bytes Reset = 0x08 ∷ []
-command_bytes Poll = 0x0B ∷ []
+-- the command that is meant (MDB/ICP 4.3, coin changer)
+abbrev pub command_of : Followed → Command
+command_of Reset = commands.Changer changers.Reset
+command_of Poll = commands.Changer changers.Poll
 
--- A POLL is answered by 1 to 16 data bytes, a RESET by none.
-abbrev pub HasDataAnswer : Command → ℕ → Type 0
-HasDataAnswer Reset count = ⊥
-HasDataAnswer Poll count = (1 ≤ count) × (count ≤ 16)
+-- so many data bytes may answer, if an answer has a form
+abbrev pub HasLength : Option AnswerForm → ℕ → Type 0
+HasLength None count = ⊥
+HasLength (Some form) count = IsDataLength form count
 
--- the changer's messages of one byte: statuses and "was reset" (00 to 1A), slugs (20 to 3F)
-abbrev pub IsMessage : ℕ → Type 0
-IsMessage byte = (byte ≤ 0x1A) ⊎ ((0x20 ≤ byte) × (byte ≤ 0x3F))
+-- a command may be answered by so many data bytes (this profile in the lower ends)
+abbrev pub HasDataAnswer : Followed → ℕ → Type 0
+HasDataAnswer followed count = HasLength (form_of (command_of followed)) count
 
--- each byte is a message
-abbrev pub AreMessages : List ℕ → Type 0
-AreMessages [] = ⊤
-AreMessages (byte ∷ bytes) = IsMessage byte × AreMessages bytes
+-- data bytes of a reply to a command
+abbrev pub IsReply : Followed → List ℕ → Type 0
+IsReply followed bytes = IsContent bytes × (reply : replies.Reply) × IsReplyTo (command_of followed) reply × (bytes ≡ reply_bytes reply)
 
 -- an act whose content is right
 abbrev pub IsAct : Act → Type 0
-IsAct (Ask command) = ⊤
-IsAct (Ack command) = ⊤
-IsAct (Reply command bytes) = HasDataAnswer command (length bytes) × AreMessages bytes
-IsAct (VmcAck command bytes) = ⊤
+IsAct (Ask followed) = ⊤
+IsAct (Ack followed) = ⊤
+IsAct (Reply followed bytes) = IsReply followed bytes
+IsAct (VmcAck followed bytes) = ⊤
 
--- a block: bytes, and their sum modulo 256 (MDB/ICP 4.3, block format)
-abbrev pub block_of : List ℕ → List ℕ
-block_of bytes = bytes ++ (sum bytes % 256) ∷ []
-
--- the words of a controller's block: the first alone is marked
-abbrev pub controller_words : List ℕ → List ℕ
-controller_words [] = []
-controller_words (byte ∷ bytes) = (256 + byte) ∷ bytes
-
--- the words of a peripheral's block: the last alone is marked
-abbrev pub peripheral_words : List ℕ → List ℕ
-peripheral_words [] = []
-peripheral_words (byte ∷ []) = (256 + byte) ∷ []
-peripheral_words (byte ∷ next ∷ bytes) = byte ∷ peripheral_words (next ∷ bytes)
-
--- who sends an act
+-- on whose line an act is sent (MDB/ICP 4.3, bus format)
 abbrev pub line_of : Act → Line
 line_of (Ask command) = Controller
 line_of (Ack command) = Peripheral
 line_of (Reply command bytes) = Peripheral
 line_of (VmcAck command bytes) = Controller
 
--- the words of an act
+-- the words of an act: blocks, and the single words ACK of each side (MDB/ICP 4.3, bus format)
 abbrev pub words_of : Act → List ℕ
-words_of (Ask command) = controller_words (block_of (command_bytes command))
+words_of (Ask command) = controller_words (block_of (command_bytes (command_of command)))
 words_of (Ack command) = 0x100 ∷ []
 words_of (Reply command bytes) = peripheral_words (block_of bytes)
 words_of (VmcAck command bytes) = 0x000 ∷ []

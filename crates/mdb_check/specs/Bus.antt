@@ -1,25 +1,27 @@
--- What a bus stands for, and how it goes from row to row.
+-- What a bus stands for. The rest of this file serves the private functions of the bus: how a word leads it on.
 use Rattle.std.specs.Prelude.{◌≡◌, ◌+◌, ◌%◌, ◌<◌, ◌≤◌, ◌⊎◌, ℕ, List, [], ◌∷◌, ◌++◌, length, sum, ⊤, Option, Some, None, Result, Ok, Err}
 use Rattle.mdb_words.specs.declared.limits.TheConstants.{WORD_GAP_MIN, BLOCK_GAP_MAX, ANSWER_GAP_MAX, NEW_BLOCK_GAP_MIN}
 use Rattle.mdb_words.specs.declared.event.Event.{Event}
 use Rattle.mdb_words.specs.declared.event.Event.TheVariants.{Word, Break}
 use Rattle.mdb_words.specs.declared.word.Line.{Line}
 use Rattle.mdb_words.specs.declared.word.Line.TheVariants.{Controller, Peripheral}
+use Rattle.mdb_msgs.specs.declared.fault.MsgFault.{MsgFault}
+use Rattle.mdb_msgs.specs.declared.fault.MsgFault.TheVariants as reading
 use Rattle.mdb_check.specs.declared.bus.Bus.{Bus}
-use Rattle.mdb_check.specs.declared.bus.Command.{Command}
-use Rattle.mdb_check.specs.declared.bus.Command.TheVariants.{Reset, Poll}
+use Rattle.mdb_check.specs.declared.bus.Followed.{Followed}
+use Rattle.mdb_check.specs.declared.bus.Followed.TheVariants.{Reset, Poll}
 use Rattle.mdb_check.specs.declared.bus.Phase.{Phase}
 use Rattle.mdb_check.specs.declared.bus.Phase.TheVariants as phase
 use Rattle.mdb_check.specs.declared.offence.Blame.{Blame}
 use Rattle.mdb_check.specs.declared.offence.Blame.TheVariants as blame
 use Rattle.mdb_check.specs.declared.offence.Rule.{Rule}
 use Rattle.mdb_check.specs.declared.offence.Rule.TheVariants as rule
-use Rattle.mdb_check.specs.Acts.{Act, Ask, Reply, IsAct, AreMessages, HasDataAnswer, words_of}
+use Rattle.mdb_check.specs.Acts.{Act, Ask, Reply, IsAct, HasDataAnswer, words_of}
 use Rattle.mdb_check.specs.ActLists.{Piece, IsActList}
-use Rattle.mdb_check.specs.LinkFaults.{BusPosition, Quiet, InAsk, Asked, InReply, Replied, IsBelow, IsAbove, IsAddress, IsFirstBroken, WordBreaks, RowBreaks, OutOfOrder, FirstBad, IsUnreadable, IsOutside, gap_since, position_of, last_of, asked_device}
+use Rattle.mdb_check.specs.LinkFaults.{BusPosition, Quiet, InAsk, Asked, InReply, Replied, IsBelow, IsAbove, IsAddress, IsFirstBroken, WordBreaks, RowBreaks, OutOfOrder, gap_since, position_of, last_of, asked_device}
 
 -- the address byte of a command
-abbrev pub address_of : Command → ℕ
+abbrev pub address_of : Followed → ℕ
 address_of Reset = 0x08
 address_of Poll = 0x0B
 
@@ -101,13 +103,6 @@ IsNewBlock least gap word (Err rule.Early) = IsBelow least gap
 IsNewBlock least gap word (Err rule.Profile) = IsEnough least gap × (IsAddress word → ⊥)
 IsNewBlock least gap word (Err other) = ⊥
 
--- what is made of the bytes of a reply: all are messages, or why the first that is none isn't
-abbrev pub AreRead : List ℕ → Result (Unit {0}) Rule → Type 0
-AreRead bytes (Ok done) = AreMessages bytes
-AreRead bytes (Err rule.Message) = FirstBad IsUnreadable bytes
-AreRead bytes (Err rule.Profile) = FirstBad IsOutside bytes
-AreRead bytes (Err other) = ⊥
-
 -- the gap to a row, or that the row doesn't start after the last one
 abbrev pub IsGapTo : Option Event → Event → Result (Option ℕ) Rule → Type 0
 IsGapTo last event (Ok gap) = (OutOfOrder last event → ⊥) × (gap ≡ gap_since last event)
@@ -141,3 +136,10 @@ pub record Went (old : Bus) (next : Phase) (event : Event) (byte : ℕ) (new : B
   pub last : new.last ≡ Some event
   pub asked : new.asked ≡ asked_after next old.asked
   pub reply : position_at next new.reply.items ≡ position_at next (reply_after next (words_so_far old.phase old.reply.items) byte)
+
+-- the rule that a reply breaks whose content can't be read
+abbrev pub rule_of : MsgFault → Rule
+rule_of reading.Length = rule.Length
+rule_of reading.Message = rule.Message
+rule_of reading.Profile = rule.Profile
+rule_of reading.Answer = rule.Answer

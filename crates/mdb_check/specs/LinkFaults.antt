@@ -1,4 +1,4 @@
--- Which rule of the link a row breaks, and who is to blame.
+-- Which rule of the link a row breaks, and who is to blame (this profile, by the format and timing of MDB/ICP 4.3).
 use Rattle.std.specs.Prelude.{◌≡◌, ◌≢◌, ◌+◌, ◌-◌, ◌%◌, ◌<◌, ◌≤◌, ◌⊎◌, ℕ, List, [], ◌∷◌, ◌++◌, length, take, map, sum, ⊤, Option, Some, None}
 use Rattle.mdb_words.specs.declared.limits.TheConstants.{WORD_GAP_MIN, BLOCK_GAP_MAX, ANSWER_GAP_MAX, NEW_BLOCK_GAP_MIN}
 use Rattle.mdb_words.specs.declared.event.Event.{Event}
@@ -6,13 +6,15 @@ use Rattle.mdb_words.specs.declared.event.Event.TheVariants.{Word, Break}
 use Rattle.mdb_words.specs.declared.word.Line.{Line}
 use Rattle.mdb_words.specs.declared.word.Line.TheVariants.{Controller, Peripheral}
 use Rattle.mdb_words.specs.Event.{start_of, end_of}
-use Rattle.mdb_check.specs.declared.bus.Command.{Command}
-use Rattle.mdb_check.specs.declared.bus.Command.TheVariants.{Reset, Poll}
+use Rattle.mdb_check.specs.declared.bus.Followed.{Followed}
+use Rattle.mdb_check.specs.declared.bus.Followed.TheVariants.{Reset, Poll}
 use Rattle.mdb_check.specs.declared.offence.Rule.{Rule}
 use Rattle.mdb_check.specs.declared.offence.Rule.TheVariants as rule
 use Rattle.mdb_check.specs.declared.offence.Blame.{Blame}
 use Rattle.mdb_check.specs.declared.offence.Blame.TheVariants as blame
-use Rattle.mdb_check.specs.Acts.{Act, Ask, Ack, Reply, VmcAck, IsMessage, HasDataAnswer, command_bytes, words_of}
+use Rattle.mdb_check.specs.Acts.{Act, Ask, Ack, Reply, VmcAck, HasDataAnswer, command_of, words_of}
+use Rattle.mdb_msgs.specs.declared.fault.MsgFault.TheVariants as reading
+use Rattle.mdb_msgs.specs.Replies.{IsReadFault}
 use Rattle.mdb_check.specs.ActLists.{Piece, Whole, AskTail, ReplyTail, IsActList}
 
 -- where the bus is, with the words that were said since
@@ -22,11 +24,11 @@ pub data BusPosition : Type 0 where
   -- the words so far of an ask that has begun
   InAsk : List ℕ → BusPosition
   -- the command that may be answered
-  Asked : Command → BusPosition
+  Asked : Followed → BusPosition
   -- the command that is answered, and the words so far of its answer
-  InReply : Command → List ℕ → BusPosition
+  InReply : Followed → List ℕ → BusPosition
   -- the command whose reply the controller may answer
-  Replied : Command → BusPosition
+  Replied : Followed → BusPosition
 
 -- the word of an event
 abbrev pub word_of : Event → ℕ
@@ -106,34 +108,21 @@ WrongSum (InAsk words) Controller word = word ≢ sum words % 256
 WrongSum (InReply command words) Peripheral word = (256 ≤ word) × (word ≢ 256 + sum words % 256)
 WrongSum position line word = ⊥
 
--- Answer: an answer that the command, or a controller's answer that no reply, can have.
+-- Answer: an answer that the command cannot have, or a controller's answer that no reply can have.
 abbrev pub WrongAnswer : BusPosition → Line → ℕ → Type 0
 WrongAnswer (Asked command) Peripheral word = ((256 ≤ word) × (word ≢ 0x100) × (word ≢ 0x1FF))
     ⊎ ((word < 256) × ((count : ℕ) → HasDataAnswer command count → ⊥))
 WrongAnswer (Replied command) Controller word = (word < 256) × (word ≢ 0x000) × (word ≢ 0x0FF) × (word ≢ 0x0AA)
 WrongAnswer position line word = ⊥
 
--- the first byte of a reply that is no message meets this
-abbrev pub FirstBad : (ℕ → Type 0) → List ℕ → Type 0
-FirstBad Meets [] = ⊥
-FirstBad Meets (byte ∷ bytes) = ((IsMessage byte → ⊥) × Meets byte) ⊎ (IsMessage byte × FirstBad Meets bytes)
-
--- bytes that no message begins with
-abbrev pub IsUnreadable : ℕ → Type 0
-IsUnreadable byte = (0x60 ≤ byte) × (byte ≤ 0x6F)
-
--- bytes that begin a message outside of what is followed yet
-abbrev pub IsOutside : ℕ → Type 0
-IsOutside byte = ((0x1B ≤ byte) × (byte ≤ 0x1F)) ⊎ ((0x40 ≤ byte) × (byte ≤ 0x5F)) ⊎ (0x70 ≤ byte)
-
--- Message: a reply has a message that can't be read.
+-- Message: the leftmost message of a reply that can't be taken can't be read.
 abbrev pub HasBadMessage : BusPosition → Line → ℕ → Type 0
-HasBadMessage (InReply command words) Peripheral word = (256 ≤ word) × FirstBad IsUnreadable words
+HasBadMessage (InReply command words) Peripheral word = (256 ≤ word) × IsReadFault (command_of command) words reading.Message
 HasBadMessage position line word = ⊥
 
 -- an address that is followed
 abbrev pub IsAddress : ℕ → Type 0
-IsAddress word = (command : Command) × (rest : List ℕ) × (words_of (Ask command) ≡ word ∷ rest)
+IsAddress word = (command : Followed) × (rest : List ℕ) × (words_of (Ask command) ≡ word ∷ rest)
 
 -- Profile: what this profile leaves out, or doesn't follow yet: other commands and messages, NAK and RET.
 abbrev pub IsLeftOut : BusPosition → Line → ℕ → Type 0
@@ -141,7 +130,7 @@ IsLeftOut Quiet Controller word = IsAddress word → ⊥
 IsLeftOut (Asked command) Controller word = IsAddress word → ⊥
 IsLeftOut (Asked command) Peripheral word = word ≡ 0x1FF
 IsLeftOut (Replied command) Controller word = ((256 ≤ word) × (IsAddress word → ⊥)) ⊎ (word ≡ 0x0FF) ⊎ (word ≡ 0x0AA)
-IsLeftOut (InReply command words) Peripheral word = (256 ≤ word) × FirstBad IsOutside words
+IsLeftOut (InReply command words) Peripheral word = (256 ≤ word) × IsReadFault (command_of command) words reading.Profile
 IsLeftOut position line word = ⊥
 
 -- a word breaks a rule, each for itself; which of them counts their order decides
@@ -168,7 +157,7 @@ abbrev pub BreakBreaks : Rule → Type 0
 BreakBreaks rule.Profile = ⊤
 BreakBreaks other = ⊥
 
--- A row breaks a rule, behind the pieces of the rows so far and the last of those rows.
+-- A row breaks a rule: where the bus is, and behind the row before it.
 abbrev pub RowBreaks : BusPosition → Option Event → Event → Rule → Type 0
 RowBreaks position before event rule.Order = OutOfOrder before event
 RowBreaks position before (Word at line word) broken = WordBreaks position (gap_since before (Word at line word)) line word broken
@@ -223,8 +212,8 @@ asked_device (Whole (VmcAck command bytes) events ∷ pieces) = asked_device pie
 asked_device (AskTail events ∷ pieces) = asked_device pieces
 asked_device (ReplyTail command events ∷ pieces) = asked_device pieces
 
--- Who is to blame: the sender of the row. But where the controller had to cut a reply that didn't go on, it is the
--- device whose reply that is.
+-- Who is to blame: whoever sent the row. Where the controller had to cut a reply that stood still for too long, though,
+-- it is the device that was asked.
 abbrev pub blame_of : List Piece → Event → Rule → Blame
 blame_of pieces (Word at Peripheral word) broken = asked_device pieces
 blame_of (ReplyTail command events ∷ pieces) (Word at Controller word) rule.Spacing = asked_device pieces

@@ -3,32 +3,44 @@
 ghost use Rattle.std.specs.Prelude.{◌≡◌, ◌+◌, ◌<◌, ◌≤◌, ◌↔◌, IsTrue, [], ◌∷◌, ◌++◌, List, ℕ, IfSome, IfNone, IfErr, OnOk, OnErr, length, sum, ◌%◌};
 ghost use Rattle.std.specs.Bool.{OnTrue, OnFalse};
 ghost use Rattle.mdb_check.specs.LinkFaults as faults;
-ghost use Rattle.mdb_check.specs.Acts.{HasDataAnswer};
-ghost use Rattle.mdb_check.specs.Bus.{AreRead, IsGapTo, IsJudged, IsNewBlock, address_of, blamed_for, position_at, sender_of as sender_of_lem, words_so_far};
+ghost use Rattle.mdb_check.specs.Acts.{HasDataAnswer, command_of};
+ghost use Rattle.mdb_check.specs.Bus.{IsGapTo, IsJudged, IsNewBlock, address_of, blamed_for, position_at, rule_of as rule_of_lem, sender_of as sender_of_lem, words_so_far};
 
 use super::offence::{Blame, LinkFault, Rule};
 use arrayvec::ArrayVec;
+use mdb_blocks::seal;
+use mdb_msgs::{ChangerCommand, Command, MsgFault, laws, read_reply};
 use mdb_words::{
     ANSWER_GAP_MAX, BLOCK_GAP_MAX, Event, Line, NEW_BLOCK_GAP_MIN, WORD_GAP_MIN, Word, gap_of,
 };
 
-/// A command that the controller asks of the changer (MDB/ICP 4.3, coin changer).
+/// A command that is followed yet: these two of the changer (MDB/ICP 4.3, coin changer).
 #[derive(Clone, Copy, PartialEq, Eq, Debug)]
-pub enum Command {
+pub enum Followed {
     /// RESET, 08H.
     Reset,
     /// POLL, 0BH.
     Poll,
 }
 
-impl Command {
+impl Followed {
     /// The address byte.
     fn address(self) -> u8
         ensures { result ≡ address_of self }
     {
         match self {
-            Command::Reset => 0x08,
-            Command::Poll => 0x0B,
+            Followed::Reset => 0x08,
+            Followed::Poll => 0x0B,
+        }
+    }
+
+    /// The command that it is.
+    fn command(self) -> Command
+        ensures { result ≡ command_of self }
+    {
+        match self {
+            Followed::Reset => Command::Changer(ChangerCommand::Reset),
+            Followed::Poll => Command::Changer(ChangerCommand::Poll),
         }
     }
 
@@ -38,8 +50,8 @@ impl Command {
         ensures none { OnFalse result ((count : ℕ) → HasDataAnswer self count → ⊥) }
     {
         match self {
-            Command::Reset => false,
-            Command::Poll => true,
+            Followed::Reset => false,
+            Followed::Poll => true,
         }
     }
 }
@@ -50,13 +62,13 @@ pub enum Phase {
     /// No answer is open.
     Quiet,
     /// The address byte of a command was sent, and its sum is to come.
-    InAsk(Command),
+    InAsk(Followed),
     /// A command was asked, and may be answered.
-    Asked(Command),
+    Asked(Followed),
     /// A data block answers a command, and hasn't ended.
-    InReply(Command),
+    InReply(Followed),
     /// A data block answered a command, and the controller may answer it.
-    Replied(Command),
+    Replied(Followed),
 }
 
 /// The most words of a reply before its last.
@@ -100,6 +112,7 @@ impl Bus {
             (HasActList (rows ++ event ∷ []) → ⊥) × faults.IsLinkFault rows event fault.rule fault.blame) }
         ensures unchanged { OnErr result (self.new ≡ self.old) }
     {
+        laws::reply_has_no_fault();
         let gap = match gap_to(&self.last, &event) {
             Ok(gap) => gap,
             Err(rule) => return Err(self.fault(rule, sender_of(&event))),
@@ -213,14 +226,14 @@ fn is_above(gap: Option<u64>, limit: u64) -> bool
 }
 
 /// The command that a marked word begins, if it is one that is followed.
-fn command_of(word: Word) -> Option<Command>
+fn followed_by(word: Word) -> Option<Followed>
     requires { 256 ≤ word }
     ensures some { IfSome result (λ command. word ≡ 256 + address_of command) }
     ensures none { IfNone result (faults.IsAddress word → ⊥) }
 {
     match word.byte() {
-        0x08 => Some(Command::Reset),
-        0x0B => Some(Command::Poll),
+        0x08 => Some(Followed::Reset),
+        0x0B => Some(Followed::Poll),
         _ => None,
     }
 }
@@ -233,45 +246,20 @@ fn new_block(gap: Option<u64>, least: u64, word: Word) -> Result<Phase, Rule>
     if is_below(gap, least) {
         return Err(Rule::Early);
     }
-    match command_of(word) {
+    match followed_by(word) {
         Some(command) => Ok(Phase::InAsk(command)),
         None => Err(Rule::Profile),
     }
 }
 
 /// Whether a command is answered by so many data bytes.
-fn has_data_answer(command: Command, count: usize) -> bool
+fn has_data_answer(command: Followed, count: usize) -> bool
     ensures { IsTrue result ↔ HasDataAnswer command count }
 {
     match command {
-        Command::Reset => false,
-        Command::Poll => (1..=16).contains(&count),
+        Followed::Reset => false,
+        Followed::Poll => (1..=16).contains(&count),
     }
-}
-
-/// The sum of a block's bytes.
-fn sum_of(bytes: &[u8]) -> u8
-    ensures { result ≡ sum bytes.now % 256 }
-{
-    let mut total = 0u8;
-    for byte in bytes {
-        total = total.wrapping_add(*byte);
-    }
-    total
-}
-
-/// Reads the messages of a reply to POLL, all of one byte.
-fn read_messages(bytes: &[u8]) -> Result<(), Rule>
-    ensures { AreRead bytes.now result }
-{
-    for byte in bytes {
-        match *byte {
-            0x00..=0x1A | 0x20..=0x3F => {}
-            0x60..=0x6F => return Err(Rule::Message),
-            _ => return Err(Rule::Profile),
-        }
-    }
-    Ok(())
 }
 
 /// A word where no answer is open.
@@ -286,7 +274,7 @@ fn judge_quiet(gap: Option<u64>, line: Line, word: Word) -> Result<Phase, Rule>
 }
 
 /// The word behind the address byte of a command.
-fn judge_in_ask(command: Command, gap: Option<u64>, line: Line, word: Word) -> Result<Phase, Rule>
+fn judge_in_ask(command: Followed, gap: Option<u64>, line: Line, word: Word) -> Result<Phase, Rule>
     ensures { IsJudged (faults.InAsk ((256 + address_of command) ∷ [])) [] gap line word result }
 {
     match line {
@@ -300,7 +288,7 @@ fn judge_in_ask(command: Command, gap: Option<u64>, line: Line, word: Word) -> R
 }
 
 /// A word where a command may be answered.
-fn judge_asked(command: Command, gap: Option<u64>, line: Line, word: Word) -> Result<Phase, Rule>
+fn judge_asked(command: Followed, gap: Option<u64>, line: Line, word: Word) -> Result<Phase, Rule>
     ensures { IsJudged (faults.Asked command) [] gap line word result }
 {
     match line {
@@ -311,7 +299,7 @@ fn judge_asked(command: Command, gap: Option<u64>, line: Line, word: Word) -> Re
 }
 
 /// The peripheral's first word in answer to a command.
-fn judge_answer(command: Command, gap: Option<u64>, word: Word) -> Result<Phase, Rule>
+fn judge_answer(command: Followed, gap: Option<u64>, word: Word) -> Result<Phase, Rule>
     ensures { IsJudged (faults.Asked command) [] gap Line.Peripheral word result }
 {
     if is_below(gap, WORD_GAP_MIN) {
@@ -331,7 +319,7 @@ fn judge_answer(command: Command, gap: Option<u64>, word: Word) -> Result<Phase,
 
 /// A word in a reply, behind these bytes of it.
 fn judge_in_reply(
-    command: Command,
+    command: Followed,
     reply: &[u8],
     gap: Option<u64>,
     line: Line,
@@ -351,7 +339,7 @@ fn judge_in_reply(
 }
 
 /// The marked word of a reply, which comes in time.
-fn end_reply(command: Command, reply: &[u8], gap: Option<u64>, word: Word) -> Result<Phase, Rule>
+fn end_reply(command: Followed, reply: &[u8], gap: Option<u64>, word: Word) -> Result<Phase, Rule>
     requires marked { 256 ≤ word }
     requires early { faults.IsBelow WORD_GAP_MIN gap → ⊥ }
     requires spacing { faults.IsAbove BLOCK_GAP_MAX gap → ⊥ }
@@ -360,17 +348,34 @@ fn end_reply(command: Command, reply: &[u8], gap: Option<u64>, word: Word) -> Re
     if !has_data_answer(command, reply.len()) {
         return Err(Rule::Length);
     }
-    if word.byte() != sum_of(reply) {
+    let Ok(block) = seal(reply) else {
+        return Err(Rule::Length);
+    };
+    let last = block.word(Line::Peripheral, reply.len());
+    if word != last {
         return Err(Rule::Sum);
     }
-    match read_messages(reply) {
-        Ok(()) => Ok(Phase::Replied(command)),
-        Err(rule) => Err(rule),
+    laws::bytes_have_one_fault();
+    match read_reply(&command.command(), &block) {
+        Ok(_) => Ok(Phase::Replied(command)),
+        Err(fault) => Err(rule_of(fault)),
+    }
+}
+
+/// The rule that a reply breaks whose content can't be read.
+fn rule_of(fault: MsgFault) -> Rule
+    ensures { result ≡ rule_of_lem fault }
+{
+    match fault {
+        MsgFault::Length => Rule::Length,
+        MsgFault::Message => Rule::Message,
+        MsgFault::Profile => Rule::Profile,
+        MsgFault::Answer => Rule::Answer,
     }
 }
 
 /// A word where the controller may answer a reply.
-fn judge_replied(command: Command, gap: Option<u64>, line: Line, word: Word) -> Result<Phase, Rule>
+fn judge_replied(command: Followed, gap: Option<u64>, line: Line, word: Word) -> Result<Phase, Rule>
     ensures { IsJudged (faults.Replied command) [] gap line word result }
 {
     match line {
@@ -381,7 +386,7 @@ fn judge_replied(command: Command, gap: Option<u64>, line: Line, word: Word) -> 
 }
 
 /// The controller's answer to a reply.
-fn judge_vmc_answer(command: Command, gap: Option<u64>, word: Word) -> Result<Phase, Rule>
+fn judge_vmc_answer(command: Followed, gap: Option<u64>, word: Word) -> Result<Phase, Rule>
     requires { word < 256 }
     ensures { IsJudged (faults.Replied command) [] gap Line.Controller word result }
 {

@@ -56,6 +56,7 @@ pub(crate) fn write_outcome<W: Write>(writer: &mut W, outcome: &Outcome) -> io::
     }
 }
 
+/// Writes the two lines of a yes.
 fn write_report<W: Write>(writer: &mut W, report: &Report) -> io::Result<()>
     ensures { OnOk result (Appends (W.contents writer.old) (W.contents writer.new) (text_of (Outcome.Yes report.now))) }
 {
@@ -63,6 +64,7 @@ fn write_report<W: Write>(writer: &mut W, report: &Report) -> io::Result<()>
     write!(writer, "verdict yes\nrows {rows}\n")
 }
 
+/// Writes the four lines of a no.
 fn write_offence<W: Write>(writer: &mut W, offence: &Offence) -> io::Result<()>
     ensures { OnOk result (Appends (W.contents writer.old) (W.contents writer.new) (text_of (Outcome.No offence.now))) }
 {

@@ -19,10 +19,10 @@ use mdb_words::{Event, RowFault};
 use std::alloc::Global;
 use std::io::{Read, Write};
 
-/// The most rows of a transcript.
+/// The most rows of a transcript (this profile).
 pub const ROWS_MAX: u64 = 100_000_000;
 
-/// The most bytes of an input.
+/// The most bytes of an input (this profile).
 pub const BYTES_MAX: u64 = 6_400_000_000;
 
 /// Reads a transcript, writes the text of its verdict, and answers it.
@@ -45,7 +45,7 @@ pub fn check<R: Read + Drop, W: Write>(
     ensures answer { IfSome (R.remaining reader) (λ text. IsAnswer (records default_config (strip_bom text)) result) }
     ensures whole { IfSome (R.remaining reader) (λ text. BYTES_MAX < length text → IsNoYes result) }
     ensures written { IfOk result (λ outcome. Appends (W.contents writer.old) (W.contents writer.new) (text_of outcome)) }
-    ensures nothing_written { IfErr result (λ fault. fault ≢ RunFault.Write → W.contents writer.new ≡ W.contents writer.old) }
+    ensures nothing_written { IfErr result (λ fault. fault ≢ RunFault.Write → writer.new ≡ writer.old) }
 {
     let mut records = Records::new(alloc, reader, BYTES_MAX);
     let outcome = match judge(&mut records) {

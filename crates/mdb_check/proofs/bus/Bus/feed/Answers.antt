@@ -4,11 +4,11 @@ use Rattle.mdb_check.proofs.bus.Bus.feed.Goals as goal
 
 pub returns-in-Err-clause-faults : goal.returns-in-Err-clause-faults
 returns-in-Err-clause-faults c rows stood =
-    order_fault c.args.self.now rows c.args.event c.in-Err.rule c.sender_of.result c.fault.result stood c.in-Err.ensures c.sender_of.ensures c.fault.ensures.rule c.fault.ensures.blame
+    order_fault c.reply_has_no_fault.ensures c.args.self.now rows c.args.event c.in-Err.rule c.sender_of.result c.fault.result stood c.in-Err.ensures c.sender_of.ensures c.fault.ensures.rule c.fault.ensures.blame
 
 pub returns-in_default-clause-faults : goal.returns-in_default-clause-faults
 returns-in_default-clause-faults c rows stood =
-    break_fault c.args.self.now rows c.args.event c.in-Ok.gap c.fault-in_default.result stood c.in-Ok.ensures c.in_default.not-Word c.fault-in_default.ensures.rule c.fault-in_default.ensures.blame
+    break_fault c.reply_has_no_fault.ensures c.args.self.now rows c.args.event c.in-Ok.gap c.fault-in_default.result stood c.in-Ok.ensures c.in_default.not-Word c.fault-in_default.ensures.rule c.fault-in_default.ensures.blame
 
 pub returns-in-Ok-judge-clause-goes_on : goal.returns-in-Ok-judge-clause-goes_on
 returns-in-Ok-judge-clause-goes_on c rows stood =
@@ -17,5 +17,5 @@ returns-in-Ok-judge-clause-goes_on c rows stood =
 
 pub returns-in-Err-judge-clause-faults : goal.returns-in-Err-judge-clause-faults
 returns-in-Err-judge-clause-faults c rows stood =
-    word_fault c.args.self.now rows c.args.event c.in-Word.at c.in-Word.line c.in-Word.word c.in-Ok.gap c.in-Err-judge.rule c.fault-in-Err-judge.result c.in-Word.is stood c.in-Ok.ensures c.in-Err-judge.ensures
+    word_fault c.reply_has_no_fault.ensures c.args.self.now rows c.args.event c.in-Word.at c.in-Word.line c.in-Word.word c.in-Ok.gap c.in-Err-judge.rule c.fault-in-Err-judge.result c.in-Word.is stood c.in-Ok.ensures c.in-Err-judge.ensures
     c.fault-in-Err-judge.ensures.rule c.fault-in-Err-judge.ensures.blame

@@ -1,0 +1,9 @@
+pub mod Addresses
+pub mod Contents
+pub mod OneReader
+pub mod OneReading
+pub mod OneReply
+pub mod Prefixes
+pub mod ReaderReading
+pub mod ReaderWriting
+pub mod Reading

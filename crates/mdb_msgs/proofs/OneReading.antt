@@ -1,0 +1,219 @@
+-- Bytes have one reading as a list of messages.
+use Rattle.std.proofs.Common.{◌≡◌, ℕ, ◌+◌, ◌*◌, ◌-◌, ◌/◌, ◌%◌, ◌<◌, ◌≤◌, ◌⊎◌, inl, inr, nat_lt, nat_eq, if◌then◌else◌, List, [], ◌∷◌, ◌++◌, length, refl, sym, ap, ◌∙◌, arith, append_assoc, append-nil, subst}
+use Rattle.std.specs.List.{flat_map, AllByRecursion}
+use Rattle.std.proofs.lemmas.List.{append_cancel_left}
+use Rattle.std.proofs.lemmas.Bool.Decides.{nat_tests}
+use Rattle.mdb_msgs.specs.declared.fault.MsgFault.{MsgFault}
+use Rattle.mdb_msgs.specs.declared.fault.MsgFault.TheVariants as faults
+use Rattle.mdb_msgs.specs.declared.reply.bill.BillMsg.{BillMsg}
+use Rattle.mdb_msgs.specs.declared.reply.bill.BillMsg.TheVariants as bill
+use Rattle.mdb_msgs.specs.declared.reply.changer.ChangerMsg.{ChangerMsg}
+use Rattle.mdb_msgs.specs.declared.reply.changer.ChangerMsg.TheVariants as changer
+use Rattle.mdb_msgs.specs.Bill.{bill_msg_bytes, IsBillMsg, NoBillMsg}
+use Rattle.mdb_msgs.specs.Changer.{changer_msg_bytes, IsChangerMsg, NoChangerMsg}
+use Rattle.mdb_msgs.specs.Lists.{StopsAt}
+
+-- where messages end: nothing is left, or no message stands there
+abbrev pub Ends : (List ℕ → MsgFault → Type 0) → List ℕ → Type 0
+Ends No rest = (rest ≡ []) ⊎ ((fault : MsgFault) × No rest fault)
+
+-- two messages at the front of the same bytes are one, also where one is spelled by f and the other by g
+abbrev pub OneFront : {M : Type 0} → (M → List ℕ) → (M → List ℕ) → (M → Type 0) → Type 0
+OneFront {M} f g Is = (a b : M) (x y : List ℕ) → Is a → Is b → f a ++ x ≡ g b ++ y → (a ≡ b) × (x ≡ y)
+
+-- where a message stands, messages don't end
+abbrev pub NoEnd : {M : Type 0} → (M → List ℕ) → (M → Type 0) → (List ℕ → Type 0) → Type 0
+NoEnd {M} f Is End = (a : M) (x : List ℕ) → Is a → End (f a ++ x) → ⊥
+
+-- so two lists of messages of the same bytes that both end are one
+pub one_list : {M : Type 0} (f g : M → List ℕ) (Is : M → Type 0) (End : List ℕ → Type 0) → OneFront f g Is → NoEnd f Is End → NoEnd g Is End → (xs ys : List M) (p q : List ℕ) → AllByRecursion Is xs → AllByRecursion Is ys → flat_map f xs ++ p ≡ flat_map g ys ++ q → End p → End q → (xs ≡ ys) × (p ≡ q)
+one_list f g Is End one on_f on_g [] [] p q hs ks e hp hq = (refl, e)
+one_list f g Is End one on_f on_g [] (y ∷ ys) p q hs ks e hp hq =
+    absurd (on_g y (flat_map g ys ++ q) ks.0 (subst End (e ∙ append_assoc (g y) (flat_map g ys) q) hp))
+one_list f g Is End one on_f on_g (x ∷ xs) [] p q hs ks e hp hq =
+    absurd (on_f x (flat_map f xs ++ p) hs.0 (subst End (sym e ∙ append_assoc (f x) (flat_map f xs) p) hq))
+one_list f g Is End one on_f on_g (x ∷ xs) (y ∷ ys) p q hs ks e hp hq =
+    let front = one x y (flat_map f xs ++ p) (flat_map g ys ++ q) hs.0 ks.0 (sym (append_assoc (f x) (flat_map f xs) p) ∙ e ∙ append_assoc (g y) (flat_map g ys) q) in
+    let back = one_list f g Is End one on_f on_g xs ys p q hs.1 ks.1 front.1 hp hq in
+    (cc, back.1)
+
+-- a function that finds the message at the front shows that there is one at most
+pub one_front : {M : Type 0} (f : M → List ℕ) (Is : M → Type 0) (find : List ℕ → M) → ((a : M) (x : List ℕ) → Is a → find (f a ++ x) ≡ a) → OneFront f f Is
+one_front f Is find found a b x y ha hb e =
+    let same : a ≡ b = sym (found a x ha) ∙ ap find e ∙ found b y hb in
+    (same, append_cancel_left (f a) x y (e ∙ ap (λ m. f m ++ y) (sym same)))
+
+-- the changer's message that begins with these two bytes, if one does
+changer_front : ℕ → ℕ → ChangerMsg
+changer_front b c =
+    if nat_lt b 27 then (if nat_eq b 11 then changer.Reset else changer.Status b)
+    else (if nat_lt b 64 then changer.Slugs (b - 32)
+    else (if nat_lt b 80 then changer.CashBox (b - 64) c
+    else (if nat_lt b 96 then changer.Tube (b - 80) c
+    else (if nat_lt b 128 then changer.Rejected (b - 112) c
+    else changer.ManualDispense ((b - 128) / 16) (b % 16) c))))
+
+changer_find : List ℕ → ChangerMsg
+changer_find [] = changer.Reset
+changer_find (b ∷ []) = changer_front b 0
+changer_find (b ∷ c ∷ x) = changer_front b c
+
+changer_found : (m : ChangerMsg) (x : List ℕ) → IsChangerMsg m → changer_find (changer_msg_bytes m ++ x) ≡ m
+unfolding changer_find changer_front
+changer_found (changer.ManualDispense count coin in_tube) x h = grind (arith, nat_tests)
+changer_found (changer.CashBox coin in_tube) x h = grind (arith, nat_tests)
+changer_found (changer.Tube coin in_tube) x h = grind (arith, nat_tests)
+changer_found (changer.Rejected coin second) x h = grind (arith, nat_tests)
+changer_found (changer.Slugs count) [] h = grind (arith, nat_tests)
+changer_found (changer.Slugs count) (c ∷ x) h = grind (arith, nat_tests)
+changer_found changer.Reset [] h = refl
+changer_found changer.Reset (c ∷ x) h = refl
+changer_found (changer.Status byte) [] h = grind (arith, nat_tests)
+changer_found (changer.Status byte) (c ∷ x) h = grind (arith, nat_tests)
+
+pub one_changer : OneFront changer_msg_bytes changer_msg_bytes IsChangerMsg
+one_changer = one_front changer_msg_bytes IsChangerMsg changer_find changer_found
+
+-- what a message of the changer begins with
+changer_class : (first : ℕ) (behind : List ℕ) (fault : MsgFault) → ((first < 27) ⊎ ((32 ≤ first) × (first < 64))) ⊎ (((first < 96) ⊎ (112 ≤ first)) × (27 < first) × (32 ≤ first) × (0 < length behind)) → NoChangerMsg (first ∷ behind) fault → ⊥
+changer_class first [] faults.Message h none = omega (arith, h, none)
+changer_class first (b ∷ behind) faults.Message h (inl none) = omega (arith, h, none)
+changer_class first (b ∷ behind) faults.Message h (inr none) = cc (none.1)
+changer_class first behind faults.Profile h none = omega (arith, h, none)
+changer_class first behind faults.Length h none = none
+changer_class first behind faults.Answer h none = none
+
+changer_goes_on : NoEnd changer_msg_bytes IsChangerMsg (Ends NoChangerMsg)
+changer_goes_on m x h (inl e) = not_empty m e
+  where
+    not_empty : (m : ChangerMsg) → changer_msg_bytes m ++ x ≡ [] → ⊥
+    not_empty changer.Reset e = cc
+    not_empty _ e = cc
+changer_goes_on (changer.ManualDispense count coin in_tube) x h (inr none) = changer_class (128 + 16 * count + coin) (in_tube ∷ x) none.0 (inr (inr (omega arith), omega arith, omega arith, omega arith)) none.1
+changer_goes_on (changer.CashBox coin in_tube) x h (inr none) = changer_class (64 + coin) (in_tube ∷ x) none.0 (inr (inl (omega arith), omega arith, omega arith, omega arith)) none.1
+changer_goes_on (changer.Tube coin in_tube) x h (inr none) = changer_class (80 + coin) (in_tube ∷ x) none.0 (inr (inl (omega arith), omega arith, omega arith, omega arith)) none.1
+changer_goes_on (changer.Rejected coin second) x h (inr none) = changer_class (112 + coin) (second ∷ x) none.0 (inr (inr (omega arith), omega arith, omega arith, omega arith)) none.1
+changer_goes_on (changer.Slugs count) x h (inr none) = changer_class (32 + count) x none.0 (inl (inr (omega arith, omega arith))) none.1
+changer_goes_on changer.Reset x h (inr none) = changer_class 11 x none.0 (inl (inl (omega arith))) none.1
+changer_goes_on (changer.Status byte) x h (inr none) = changer_class byte x none.0 (inl (inl h.0)) none.1
+
+-- the validator's message that is this byte, if one is
+bill_find : List ℕ → BillMsg
+bill_find [] = bill.Reset
+bill_find (b ∷ x) =
+    if nat_lt b 64 then (if nat_eq b 6 then bill.Reset else bill.Status b)
+    else (if nat_lt b 96 then bill.Attempts (b - 64)
+    else (if nat_lt b 144 then bill.Stacked (b - 128)
+    else (if nat_lt b 160 then bill.Escrow (b - 144)
+    else (if nat_lt b 192 then bill.Returned (b - 160)
+    else bill.Rejected (b - 192)))))
+
+bill_found : (m : BillMsg) (x : List ℕ) → IsBillMsg m → bill_find (bill_msg_bytes m ++ x) ≡ m
+unfolding bill_find
+bill_found (bill.Stacked b) x h = grind (arith, nat_tests)
+bill_found (bill.Escrow b) x h = grind (arith, nat_tests)
+bill_found (bill.Returned b) x h = grind (arith, nat_tests)
+bill_found (bill.Rejected b) x h = grind (arith, nat_tests)
+bill_found (bill.Attempts count) x h = grind (arith, nat_tests)
+bill_found bill.Reset x h = refl
+bill_found (bill.Status byte) x h = grind (arith, nat_tests)
+
+pub one_bill : OneFront bill_msg_bytes bill_msg_bytes IsBillMsg
+one_bill = one_front bill_msg_bytes IsBillMsg bill_find bill_found
+
+-- what a message of the validator begins with
+bill_class : (first : ℕ) (behind : List ℕ) (fault : MsgFault) → ((first < 27) ⊎ ((32 ≤ first) × (first < 96))) ⊎ (((128 ≤ first) × (first < 176)) ⊎ ((192 ≤ first) × (first < 208))) → NoBillMsg (first ∷ behind) fault → ⊥
+bill_class first behind faults.Message h none = omega (arith, h, none)
+bill_class first behind faults.Profile h none = omega (arith, h, none)
+bill_class first behind faults.Length h none = none
+bill_class first behind faults.Answer h none = none
+
+bill_goes_on : NoEnd bill_msg_bytes IsBillMsg (Ends NoBillMsg)
+bill_goes_on m x h (inl e) = not_empty m e
+  where
+    not_empty : (m : BillMsg) → bill_msg_bytes m ++ x ≡ [] → ⊥
+    not_empty bill.Reset e = cc
+    not_empty _ e = cc
+bill_goes_on (bill.Stacked b) x h (inr none) = bill_class (128 + b) x none.0 (inr (inl (omega arith, omega arith))) none.1
+bill_goes_on (bill.Escrow b) x h (inr none) = bill_class (144 + b) x none.0 (inr (inl (omega arith, omega arith))) none.1
+bill_goes_on (bill.Returned b) x h (inr none) = bill_class (160 + b) x none.0 (inr (inl (omega arith, omega arith))) none.1
+bill_goes_on (bill.Rejected b) x h (inr none) = bill_class (192 + b) x none.0 (inr (inr (omega arith, omega arith))) none.1
+bill_goes_on (bill.Attempts count) x h (inr none) = bill_class (64 + count) x none.0 (inl (inr (omega arith, omega arith))) none.1
+bill_goes_on bill.Reset x h (inr none) = bill_class 6 x none.0 (inl (inl (omega arith))) none.1
+bill_goes_on (bill.Status byte) x h (inr none) = bill_class byte x none.0 (inl (elim h.1 [ inl low ↦ inl low | inr high ↦ inr (high.0, omega (arith, high.1)) ])) none.1
+
+-- two lists of messages with the same bytes are one, and so is where reading stops
+pub one_changer_list : (xs ys : List ChangerMsg) (p q : List ℕ) → AllByRecursion IsChangerMsg xs → AllByRecursion IsChangerMsg ys → flat_map changer_msg_bytes xs ++ p ≡ flat_map changer_msg_bytes ys ++ q → Ends NoChangerMsg p → Ends NoChangerMsg q → (xs ≡ ys) × (p ≡ q)
+one_changer_list = one_list changer_msg_bytes changer_msg_bytes IsChangerMsg (Ends NoChangerMsg) one_changer changer_goes_on changer_goes_on
+
+pub one_bill_list : (xs ys : List BillMsg) (p q : List ℕ) → AllByRecursion IsBillMsg xs → AllByRecursion IsBillMsg ys → flat_map bill_msg_bytes xs ++ p ≡ flat_map bill_msg_bytes ys ++ q → Ends NoBillMsg p → Ends NoBillMsg q → (xs ≡ ys) × (p ≡ q)
+one_bill_list = one_list bill_msg_bytes bill_msg_bytes IsBillMsg (Ends NoBillMsg) one_bill bill_goes_on bill_goes_on
+
+-- where only Message and Profile may hold, and not both, one fault does
+pub same_fault : (No : MsgFault → Type 0) → (No faults.Length → ⊥) → (No faults.Answer → ⊥) → (No faults.Message → No faults.Profile → ⊥) → (a b : MsgFault) → No a → No b → a ≡ b
+same_fault No l n both faults.Message faults.Message h k = refl
+same_fault No l n both faults.Message faults.Profile h k = absurd (both h k)
+same_fault No l n both faults.Profile faults.Message h k = absurd (both k h)
+same_fault No l n both faults.Profile faults.Profile h k = refl
+same_fault No l n both faults.Length b h k = absurd (l h)
+same_fault No l n both faults.Answer b h k = absurd (n h)
+same_fault No l n both a faults.Length h k = absurd (l k)
+same_fault No l n both a faults.Answer h k = absurd (n k)
+
+-- a list of messages isn't one where reading stops, and reading stops with one fault
+changer_none : (fault : MsgFault) → NoChangerMsg [] fault → ⊥
+changer_none faults.Message h = h
+changer_none faults.Profile h = h
+changer_none faults.Length h = h
+changer_none faults.Answer h = h
+
+bill_none : (fault : MsgFault) → NoBillMsg [] fault → ⊥
+bill_none faults.Message h = h
+bill_none faults.Profile h = h
+bill_none faults.Length h = h
+bill_none faults.Answer h = h
+
+pub changer_no_stop : (xs : List ChangerMsg) (fault : MsgFault) → AllByRecursion IsChangerMsg xs → StopsAt changer_msg_bytes IsChangerMsg NoChangerMsg (flat_map changer_msg_bytes xs) fault → ⊥
+changer_no_stop xs fault h stop =
+    let one = one_changer_list xs stop.0 [] stop.1 h stop.2 (append-nil (flat_map changer_msg_bytes xs) ∙ stop.3) (inl refl) (inr (fault, stop.4)) in
+    changer_none fault (subst (λ x. NoChangerMsg x fault) (sym one.1) stop.4)
+
+pub bill_no_stop : (xs : List BillMsg) (fault : MsgFault) → AllByRecursion IsBillMsg xs → StopsAt bill_msg_bytes IsBillMsg NoBillMsg (flat_map bill_msg_bytes xs) fault → ⊥
+bill_no_stop xs fault h stop =
+    let one = one_bill_list xs stop.0 [] stop.1 h stop.2 (append-nil (flat_map bill_msg_bytes xs) ∙ stop.3) (inl refl) (inr (fault, stop.4)) in
+    bill_none fault (subst (λ x. NoBillMsg x fault) (sym one.1) stop.4)
+
+changer_no_length : (rest : List ℕ) → NoChangerMsg rest faults.Length → ⊥
+changer_no_length [] h = h
+changer_no_length (first ∷ behind) h = h
+
+changer_no_answer : (rest : List ℕ) → NoChangerMsg rest faults.Answer → ⊥
+changer_no_answer [] h = h
+changer_no_answer (first ∷ behind) h = h
+
+changer_not_both : (rest : List ℕ) → NoChangerMsg rest faults.Message → NoChangerMsg rest faults.Profile → ⊥
+changer_not_both [] h k = h
+changer_not_both (first ∷ behind) (inl none) k = omega (arith, none.0, k)
+changer_not_both (first ∷ behind) (inr none) k = omega (arith, none.0, k)
+
+bill_no_length : (rest : List ℕ) → NoBillMsg rest faults.Length → ⊥
+bill_no_length [] h = h
+bill_no_length (first ∷ behind) h = h
+
+bill_no_answer : (rest : List ℕ) → NoBillMsg rest faults.Answer → ⊥
+bill_no_answer [] h = h
+bill_no_answer (first ∷ behind) h = h
+
+bill_not_both : (rest : List ℕ) → NoBillMsg rest faults.Message → NoBillMsg rest faults.Profile → ⊥
+bill_not_both [] h k = h
+bill_not_both (first ∷ behind) h k = omega (arith, h, k)
+
+pub one_changer_stop : (bytes : List ℕ) (a b : MsgFault) → StopsAt changer_msg_bytes IsChangerMsg NoChangerMsg bytes a → StopsAt changer_msg_bytes IsChangerMsg NoChangerMsg bytes b → a ≡ b
+one_changer_stop bytes a b h k =
+    let one = one_changer_list h.0 k.0 h.1 k.1 h.2 k.2 (sym h.3 ∙ k.3) (inr (a, h.4)) (inr (b, k.4)) in
+    same_fault (NoChangerMsg k.1) (changer_no_length k.1) (changer_no_answer k.1) (changer_not_both k.1) a b (subst (λ x. NoChangerMsg x a) one.1 h.4) k.4
+
+pub one_bill_stop : (bytes : List ℕ) (a b : MsgFault) → StopsAt bill_msg_bytes IsBillMsg NoBillMsg bytes a → StopsAt bill_msg_bytes IsBillMsg NoBillMsg bytes b → a ≡ b
+one_bill_stop bytes a b h k =
+    let one = one_bill_list h.0 k.0 h.1 k.1 h.2 k.2 (sym h.3 ∙ k.3) (inr (a, h.4)) (inr (b, k.4)) in
+    same_fault (NoBillMsg k.1) (bill_no_length k.1) (bill_no_answer k.1) (bill_not_both k.1) a b (subst (λ x. NoBillMsg x a) one.1 h.4) k.4

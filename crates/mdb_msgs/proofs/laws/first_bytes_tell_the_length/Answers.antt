@@ -1,0 +1,5 @@
+use Rattle.mdb_msgs.proofs.Prefixes.{first_bytes}
+use Rattle.mdb_msgs.proofs.laws.first_bytes_tell_the_length.Goals as goal
+
+pub returns : goal.returns
+returns c = first_bytes

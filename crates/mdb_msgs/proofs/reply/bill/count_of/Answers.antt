@@ -1,0 +1,18 @@
+use Rattle.std.proofs.Common.{◌≡◌, List, [], ◌∷◌, length, refl, arith, length-append}
+use Rattle.std.specs.List.{flat_map}
+use Rattle.mdb_msgs.specs.declared.reply.bill.BillMsg.{BillMsg}
+use Rattle.mdb_msgs.specs.declared.reply.bill.BillMsg.TheVariants.{Reset}
+use Rattle.mdb_msgs.specs.Bill.{bill_msg_bytes}
+use Rattle.mdb_msgs.proofs.reply.bill.count_of.Goals as goal
+
+one_byte : (message : BillMsg) → length (bill_msg_bytes message) ≡ 1
+one_byte Reset = refl
+one_byte _ = refl
+
+as_many : (messages : List BillMsg) → length messages ≡ length (flat_map bill_msg_bytes messages)
+as_many [] = refl
+as_many (message ∷ messages) =
+    omega (arith, as_many messages, one_byte message, length-append (bill_msg_bytes message) (flat_map bill_msg_bytes messages))
+
+pub returns : goal.returns
+returns c = as_many c.args.messages.now

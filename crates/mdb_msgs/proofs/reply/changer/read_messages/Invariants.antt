@@ -1,0 +1,10 @@
+use Rattle.std.proofs.Common.{length}
+use Rattle.mdb_msgs.specs.Changer.{changer_msg_bytes, IsChangerMsg}
+use Rattle.mdb_msgs.proofs.Reading.{Going}
+use Rattle.mdb_msgs.proofs.reply.changer.read_messages.Given as goal
+
+abbrev pub invariant-loop-first : goal.invariant-loop-first
+invariant-loop-first l = Going changer_msg_bytes IsChangerMsg l.bytes l.messages.items l.rest
+
+abbrev pub decreases-loop-first : goal.decreases-loop-first
+decreases-loop-first l = length l.rest

@@ -1,0 +1,9 @@
+use Rattle.std.proofs.Common.{length}
+use Rattle.mdb_msgs.proofs.ReaderReading.{Taken}
+use Rattle.mdb_msgs.proofs.reply.reader.read_messages.Given as goal
+
+abbrev pub invariant-loop-first : goal.invariant-loop-first
+invariant-loop-first l = Taken l.bytes l.list l.rest
+
+abbrev pub decreases-loop-first : goal.decreases-loop-first
+decreases-loop-first l = length l.rest

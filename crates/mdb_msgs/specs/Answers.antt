@@ -1,0 +1,70 @@
+-- What a command may be answered with, beside ACK: the form of the data and its number of bytes.
+use Rattle.std.specs.Prelude.{ℕ, ◌≤◌, Bool, true, false, Option, Some, None, option_map}
+use Rattle.mdb_msgs.specs.declared.answer.AnswerForm.{AnswerForm}
+use Rattle.mdb_msgs.specs.declared.answer.AnswerForm.TheVariants as form
+use Rattle.mdb_msgs.specs.declared.command.Command.{Command}
+use Rattle.mdb_msgs.specs.declared.command.Command.TheVariants as command
+use Rattle.mdb_msgs.specs.declared.command.ChangerCommand.{ChangerCommand}
+use Rattle.mdb_msgs.specs.declared.command.ChangerCommand.TheVariants as changer
+use Rattle.mdb_msgs.specs.declared.command.BillCommand.{BillCommand}
+use Rattle.mdb_msgs.specs.declared.command.BillCommand.TheVariants as bill
+use Rattle.mdb_msgs.specs.declared.command.ReaderCommand.{ReaderCommand}
+use Rattle.mdb_msgs.specs.declared.command.ReaderCommand.TheVariants as reader
+
+-- the data answers of the changer (MDB/ICP 4.3, coin changer)
+abbrev pub changer_form_of : ChangerCommand → Option AnswerForm
+changer_form_of changer.Setup = Some form.ChangerSetup
+changer_form_of changer.TubeStatus = Some form.TubeStatus
+changer_form_of changer.Poll = Some form.ChangerPoll
+changer_form_of changer.Identification = Some form.ChangerIdentification
+changer_form_of _ = None
+
+-- those of the validator (MDB/ICP 4.3, bill validator)
+abbrev pub bill_form_of : BillCommand → Option AnswerForm
+bill_form_of bill.Setup = Some form.BillSetup
+bill_form_of bill.Poll = Some form.BillPoll
+bill_form_of bill.Stacker = Some form.Stacker
+bill_form_of bill.Identification = Some form.BillIdentification
+bill_form_of bill.IdentificationWithOptions = Some form.BillIdentificationWithOptions
+bill_form_of _ = None
+
+-- a reader may answer every command with a list of messages (MDB/ICP 4.3, cashless device)
+abbrev pub form_of : Command → Option AnswerForm
+form_of (command.Changer c) = changer_form_of c
+form_of (command.Bill c) = bill_form_of c
+form_of (command.Reader c) = Some form.Reader
+
+-- the least and the greatest number of data bytes, without the sum
+abbrev pub lengths_of : AnswerForm → ℕ × ℕ
+lengths_of form.ChangerSetup = (7, 23)
+lengths_of form.TubeStatus = (2, 18)
+lengths_of form.ChangerPoll = (1, 16)
+lengths_of form.ChangerIdentification = (33, 33)
+lengths_of form.BillSetup = (11, 27)
+lengths_of form.BillPoll = (1, 16)
+lengths_of form.Stacker = (2, 2)
+lengths_of form.BillIdentification = (29, 29)
+lengths_of form.BillIdentificationWithOptions = (33, 33)
+lengths_of form.Reader = (1, 35)
+
+-- the same of a command, or None where it may have no data answer
+abbrev pub data_lengths : Command → Option (ℕ × ℕ)
+data_lengths command = option_map lengths_of (form_of command)
+
+-- an answer of this form may have so many data bytes
+abbrev pub IsDataLength : AnswerForm → ℕ → Type 0
+IsDataLength form count = ((lengths_of form).0 ≤ count) × (count ≤ (lengths_of form).1)
+
+-- whether answers to the command may tell of sessions and sales: POLL and 13 00 to 13 04 alone
+abbrev pub reader_may_keep : ReaderCommand → Bool
+reader_may_keep reader.Poll = true
+reader_may_keep (reader.VendRequest price item) = true
+reader_may_keep reader.VendCancel = true
+reader_may_keep (reader.VendSuccess item) = true
+reader_may_keep reader.VendFailure = true
+reader_may_keep reader.SessionComplete = true
+reader_may_keep _ = false
+
+abbrev pub may_keep : Command → Bool
+may_keep (command.Reader c) = reader_may_keep c
+may_keep _ = false

@@ -1,0 +1,12 @@
+pub mod Answers
+pub mod Bill
+pub mod Changer
+pub mod CommandFaults
+pub mod Commands
+pub mod Laws
+pub mod Lists
+pub mod Needs
+pub mod Reader
+pub mod ReaderSteps
+pub mod Replies
+pub mod Setup

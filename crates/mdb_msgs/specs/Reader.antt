@@ -1,0 +1,92 @@
+-- The messages of a reader's answer, byte by byte (MDB/ICP 4.3, cashless device).
+use Rattle.std.specs.Prelude.{◌≡◌, ℕ, ◌<◌, ◌≤◌, ◌⊎◌, Bool, true, false, List, [], ◌∷◌, ◌++◌, length, replicate}
+use Rattle.std.specs.List.{flat_map, list_any}
+use Rattle.mdb_msgs.specs.declared.fault.MsgFault.{MsgFault}
+use Rattle.mdb_msgs.specs.declared.fault.MsgFault.TheVariants.{Message, Profile}
+use Rattle.mdb_msgs.specs.declared.reply.reader.ReaderMsg.{ReaderMsg}
+use Rattle.mdb_msgs.specs.declared.reply.reader.ReaderMsg.TheVariants.{JustReset, Config, Display, BeginSession, CancelRequest, VendApproved, VendDenied, EndSession, Cancelled, PeripheralId, Malfunction, OutOfSequence}
+use Rattle.mdb_msgs.specs.declared.reply.reader.ReaderList.{ReaderList}
+use Rattle.mdb_msgs.specs.Lists.{StopsAt}
+use Rattle.mdb_msgs.specs.Setup.{two_bytes}
+
+-- the bytes of a message, but for its text
+abbrev pub head_bytes : ReaderMsg → List ℕ
+head_bytes JustReset = 0 ∷ []
+head_bytes (Config level code scale decimals response options) =
+    1 ∷ level ∷ two_bytes code ++ (scale ∷ decimals ∷ response ∷ options ∷ [])
+head_bytes (Display time) = 2 ∷ time ∷ []
+head_bytes (BeginSession funds) = 3 ∷ two_bytes funds
+head_bytes CancelRequest = 4 ∷ []
+head_bytes (VendApproved amount) = 5 ∷ two_bytes amount
+head_bytes VendDenied = 6 ∷ []
+head_bytes EndSession = 7 ∷ []
+head_bytes Cancelled = 8 ∷ []
+head_bytes PeripheralId = 9 ∷ []
+head_bytes (Malfunction code) = 10 ∷ code ∷ []
+head_bytes OutOfSequence = 11 ∷ []
+
+-- whether a message is a display request, or an identification
+abbrev pub is_display : ReaderMsg → Bool
+is_display (Display time) = true
+is_display _ = false
+
+abbrev pub is_id : ReaderMsg → Bool
+is_id PeripheralId = true
+is_id _ = false
+
+-- whether a message may stand in answers to POLL and 13 00 to 13 04 alone (this profile)
+abbrev pub is_kept : ReaderMsg → Bool
+is_kept (BeginSession funds) = true
+is_kept (VendApproved amount) = true
+is_kept VendDenied = true
+is_kept EndSession = true
+is_kept _ = false
+
+-- the text of a message, where the list's identification and display text are these
+abbrev pub text_of : List ℕ → List ℕ → ReaderMsg → List ℕ
+text_of id text PeripheralId = id
+text_of id text (Display time) = text
+text_of id text _ = []
+
+-- the bytes of a message
+abbrev pub reader_msg_bytes : List ℕ → List ℕ → ReaderMsg → List ℕ
+reader_msg_bytes id text message = head_bytes message ++ text_of id text message
+
+-- the bytes of a list: its messages put end to end
+abbrev pub reader_list_bytes : ReaderList → List ℕ
+reader_list_bytes list = flat_map (reader_msg_bytes list.id list.text.items) list.messages.items
+
+-- no display request stands before another message
+abbrev pub IsDisplayLast : List ReaderMsg → Type 0
+IsDisplayLast [] = Unit {0}
+IsDisplayLast (message ∷ []) = Unit {0}
+IsDisplayLast (message ∷ next ∷ messages) = (is_display message ≡ false) × IsDisplayLast (next ∷ messages)
+
+-- the texts have their lengths, and are blank where no message has them; a display request is last (this profile)
+pub record IsReaderList (list : ReaderList) : Type 0 where
+  pub id_length : length list.id ≡ 29
+  pub text_length : length list.text.items ≤ 32
+  pub last : IsDisplayLast list.messages.items
+  pub no_id : list_any is_id list.messages.items ≡ false → list.id ≡ replicate 29 0
+  pub no_text : list_any is_display list.messages.items ≡ false → list.text.items ≡ []
+
+-- a message that isn't a display request may have messages behind it
+abbrev pub NotDisplay : ReaderMsg → Type 0
+NotDisplay message = is_display message ≡ false
+
+-- no message stands at the front of these bytes: they are too few for it, or too many for a display request, which
+-- takes them all; from 0C on the messages are left out of this profile
+abbrev pub NoReaderMsg : List ℕ → MsgFault → Type 0
+NoReaderMsg (first ∷ behind) Message =
+    ((first ≡ 1) × (length behind < 7))
+    ⊎ (((first ≡ 2) × ((behind ≡ []) ⊎ (33 < length behind)))
+    ⊎ ((((first ≡ 3) ⊎ (first ≡ 5)) × (length behind < 2))
+    ⊎ (((first ≡ 9) × (length behind < 29))
+    ⊎ ((first ≡ 10) × (behind ≡ [])))))
+NoReaderMsg (first ∷ behind) Profile = 12 ≤ first
+NoReaderMsg _ _ = ⊥
+
+-- in front stand messages, and where they end no message stands, for this reason
+abbrev pub ReaderStopsAt : List ℕ → MsgFault → Type 0
+ReaderStopsAt bytes fault =
+    (id : List ℕ) × (length id ≡ 29) × StopsAt (reader_msg_bytes id []) NotDisplay NoReaderMsg bytes fault

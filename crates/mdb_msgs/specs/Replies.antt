@@ -1,0 +1,106 @@
+-- Replies: what they spell, and which of them may answer a command.
+use Rattle.std.specs.Prelude.{◌≡◌, ◌≢◌, ℕ, ◌⊎◌, Bool, true, false, List, length, Some, None, slice_index}
+use Rattle.std.specs.List.{flat_map, list_any, AllByRecursion}
+use Rattle.mdb_msgs.specs.declared.answer.AnswerForm.{AnswerForm}
+use Rattle.mdb_msgs.specs.declared.answer.AnswerForm.TheVariants as form
+use Rattle.mdb_msgs.specs.declared.command.Command.{Command}
+use Rattle.mdb_msgs.specs.declared.fault.MsgFault.{MsgFault}
+use Rattle.mdb_msgs.specs.declared.fault.MsgFault.TheVariants as faults
+use Rattle.mdb_msgs.specs.declared.reply.Reply.{Reply}
+use Rattle.mdb_msgs.specs.declared.reply.Reply.TheVariants as reply
+use Rattle.mdb_msgs.specs.Answers.{form_of, IsDataLength, may_keep}
+use Rattle.mdb_msgs.specs.Bill.{bill_msg_bytes, IsBillMsg, NoBillMsg}
+use Rattle.mdb_msgs.specs.Changer.{changer_msg_bytes, IsChangerMsg, NoChangerMsg}
+use Rattle.mdb_msgs.specs.Lists.{StopsAt}
+use Rattle.mdb_msgs.specs.Reader.{is_kept, reader_list_bytes, IsReaderList, ReaderStopsAt}
+use Rattle.mdb_msgs.specs.Setup.{changer_setup_bytes, tube_status_bytes, bill_setup_bytes, stacker_bytes, IsStacker}
+
+-- the form of a reply
+abbrev pub form_of_reply : Reply → AnswerForm
+form_of_reply (reply.ChangerSetup setup) = form.ChangerSetup
+form_of_reply (reply.TubeStatus status) = form.TubeStatus
+form_of_reply (reply.ChangerPoll list) = form.ChangerPoll
+form_of_reply (reply.ChangerIdentification id) = form.ChangerIdentification
+form_of_reply (reply.BillSetup setup) = form.BillSetup
+form_of_reply (reply.BillPoll list) = form.BillPoll
+form_of_reply (reply.Stacker stacker) = form.Stacker
+form_of_reply (reply.BillIdentification id) = form.BillIdentification
+form_of_reply (reply.BillIdentificationWithOptions id) = form.BillIdentificationWithOptions
+form_of_reply (reply.Reader list) = form.Reader
+
+-- the data bytes of a reply: its fields in order, or its messages put end to end
+abbrev pub reply_bytes : Reply → List ℕ
+reply_bytes (reply.ChangerSetup setup) = changer_setup_bytes setup
+reply_bytes (reply.TubeStatus status) = tube_status_bytes status
+reply_bytes (reply.ChangerPoll list) = flat_map changer_msg_bytes list.items
+reply_bytes (reply.ChangerIdentification id) = id
+reply_bytes (reply.BillSetup setup) = bill_setup_bytes setup
+reply_bytes (reply.BillPoll list) = flat_map bill_msg_bytes list.items
+reply_bytes (reply.Stacker stacker) = stacker_bytes stacker
+reply_bytes (reply.BillIdentification id) = id
+reply_bytes (reply.BillIdentificationWithOptions id) = id
+reply_bytes (reply.Reader list) = reader_list_bytes list
+
+-- its fields are in their ranges, and a display request is last
+abbrev pub HasFields : Reply → Type 0
+HasFields (reply.ChangerPoll list) = AllByRecursion IsChangerMsg list.items
+HasFields (reply.BillPoll list) = AllByRecursion IsBillMsg list.items
+HasFields (reply.Stacker stacker) = IsStacker stacker
+HasFields (reply.Reader list) = IsReaderList list
+HasFields _ = Unit {0}
+
+-- whether it tells of sessions and sales
+abbrev pub has_kept : Reply → Bool
+has_kept (reply.Reader list) = list_any is_kept list.messages.items
+has_kept _ = false
+
+-- a reply of the form that the command asks for, of an allowed number of bytes
+pub record IsAnswerTo (command : Command) (reply : Reply) : Type 0 where
+  pub form : form_of command ≡ Some (form_of_reply reply)
+  pub count : IsDataLength (form_of_reply reply) (length (reply_bytes reply))
+  pub fields : HasFields reply
+
+-- a reply that may answer the command
+pub record IsReplyTo (command : Command) (reply : Reply) : Type 0 where
+  pub answer : IsAnswerTo command reply
+  pub kept : may_keep command ≡ false → has_kept reply ≡ false
+
+-- why bytes of an allowed number are no reply of this form: the leftmost message that can't be taken, or a byte for
+-- the escrow that is neither FF nor 00
+abbrev pub NoReply : AnswerForm → List ℕ → MsgFault → Type 0
+NoReply form.ChangerPoll bytes fault = StopsAt changer_msg_bytes IsChangerMsg NoChangerMsg bytes fault
+NoReply form.BillPoll bytes fault = StopsAt bill_msg_bytes IsBillMsg NoBillMsg bytes fault
+NoReply form.Reader bytes fault = ReaderStopsAt bytes fault
+NoReply form.BillSetup bytes fault =
+    (fault ≡ faults.Message) × (slice_index bytes 10 ≢ 0) × (slice_index bytes 10 ≢ 255)
+NoReply _ bytes fault = ⊥
+
+-- no reply of the command's form has these bytes, though their number is allowed
+abbrev pub IsNoReplyTo : Command → List ℕ → MsgFault → Type 0
+IsNoReplyTo command bytes fault =
+    (form : AnswerForm) × (form_of command ≡ Some form) × IsDataLength form (length bytes) × NoReply form bytes fault
+
+-- they are a reply of the command's form, which tells of sessions and sales though the command may not have that
+abbrev pub IsKeptFault : Command → List ℕ → Type 0
+IsKeptFault command bytes =
+    (reply : Reply) × IsAnswerTo command reply × (bytes ≡ reply_bytes reply) × (has_kept reply ≡ true) × (may_keep command ≡ false)
+
+-- why data bytes are no reply to a command, in the order in which the checks are made
+abbrev pub IsReadFault : Command → List ℕ → MsgFault → Type 0
+IsReadFault command bytes faults.Length =
+    (form : AnswerForm) × (form_of command ≡ Some form) × (IsDataLength form (length bytes) → ⊥)
+IsReadFault command bytes faults.Message = IsNoReplyTo command bytes faults.Message
+IsReadFault command bytes faults.Profile = IsNoReplyTo command bytes faults.Profile
+IsReadFault command bytes faults.Answer =
+    (form_of command ≡ None) ⊎ IsKeptFault command bytes
+
+-- why a reply to a command has no block, in the order in which the checks are made
+abbrev pub IsWriteFault : Command → Reply → MsgFault → Type 0
+IsWriteFault command reply faults.Length =
+    (form : AnswerForm) × (form_of command ≡ Some form) × (IsDataLength form (length (reply_bytes reply)) → ⊥)
+IsWriteFault command reply faults.Message =
+    (form : AnswerForm) × (form_of command ≡ Some form) × IsDataLength form (length (reply_bytes reply))
+    × ((form_of_reply reply ≢ form) ⊎ (HasFields reply → ⊥))
+IsWriteFault command reply faults.Profile = ⊥
+IsWriteFault command reply faults.Answer =
+    (form_of command ≡ None) ⊎ (IsAnswerTo command reply × (has_kept reply ≡ true) × (may_keep command ≡ false))

@@ -1,0 +1,33 @@
+-- The setup tables and statuses of changer and validator, byte by byte (MDB/ICP 4.3, coin changer and bill validator).
+use Rattle.std.specs.Prelude.{ℕ, ◌+◌, ◌/◌, ◌%◌, ◌<◌, List, [], ◌∷◌, ◌++◌, if◌then◌else◌}
+use Rattle.mdb_msgs.specs.declared.reply.setup.ChangerSetup.{ChangerSetup}
+use Rattle.mdb_msgs.specs.declared.reply.setup.TubeStatus.{TubeStatus}
+use Rattle.mdb_msgs.specs.declared.reply.setup.BillSetup.{BillSetup}
+use Rattle.mdb_msgs.specs.declared.reply.setup.Stacker.{Stacker}
+
+-- a number of two bytes, the high byte first
+abbrev pub two_bytes : ℕ → List ℕ
+two_bytes number = (number / 256) ∷ (number % 256) ∷ []
+
+-- Z1 to Z7, and the credits that are sent
+abbrev pub changer_setup_bytes : ChangerSetup → List ℕ
+changer_setup_bytes s =
+    s.level ∷ two_bytes s.code ++ (s.scaling ∷ s.decimals ∷ two_bytes s.routing) ++ s.credits.items
+
+-- Z1 to Z2, and the counts that are sent
+abbrev pub tube_status_bytes : TubeStatus → List ℕ
+tube_status_bytes s = two_bytes s.full ++ s.counts.items
+
+-- Z1 to Z11, and the credits that are sent; Z11 is FF where there is an escrow, and else 00
+abbrev pub bill_setup_bytes : BillSetup → List ℕ
+bill_setup_bytes s =
+    s.level ∷ two_bytes s.code ++ two_bytes s.scaling ++ (s.decimals ∷ two_bytes s.capacity) ++ two_bytes s.security
+    ++ ((if s.escrow then 255 else 0) ∷ s.credits.items)
+
+-- the top bit says full, the other 15 are the count
+abbrev pub stacker_bytes : Stacker → List ℕ
+stacker_bytes s = two_bytes ((if s.full then 32768 else 0) + s.count)
+
+-- the count is in its range
+abbrev pub IsStacker : Stacker → Type 0
+IsStacker s = s.count < 32768

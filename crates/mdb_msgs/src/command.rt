@@ -1,0 +1,162 @@
+//! Commands of the controller, device by device.
+
+ghost use Rattle.std.specs.Prelude.{◌≡◌};
+ghost use Rattle.mdb_msgs.specs.Commands.{device_of};
+
+/// A peripheral that this profile follows (MDB/ICP 4.3: changer at 08H, cashless reader at 10H, validator at 30H).
+#[derive(Clone, Copy, PartialEq, Eq, Debug)]
+pub enum Device {
+    /// The coin changer, 08H.
+    Changer,
+    /// The bill validator, 30H.
+    Bill,
+    /// The cashless reader, 10H.
+    Cashless,
+}
+
+/// A command of the controller. Its fields are whole bytes and two-byte numbers, so every command has a block.
+#[derive(Clone, Copy, PartialEq, Eq, Debug)]
+pub enum Command {
+    /// To the coin changer.
+    Changer(ChangerCommand),
+    /// To the bill validator.
+    Bill(BillCommand),
+    /// To the cashless reader.
+    Reader(ReaderCommand),
+}
+
+impl Command {
+    /// Whose command it is.
+    pub fn device(&self) -> Device
+        ensures { result ≡ device_of self.now }
+    {
+        match *self {
+            Command::Changer(_) => Device::Changer,
+            Command::Bill(_) => Device::Bill,
+            Command::Reader(_) => Device::Cashless,
+        }
+    }
+
+    /// The same command once more.
+    pub fn copy(&self) -> Command
+        ensures { result ≡ self.now }
+    {
+        *self
+    }
+}
+
+/// A command to the coin changer (MDB/ICP 4.3, coin changer).
+#[derive(Clone, Copy, PartialEq, Eq, Debug)]
+pub enum ChangerCommand {
+    /// RESET, 08.
+    Reset,
+    /// SETUP, 09.
+    Setup,
+    /// TUBE STATUS, 0A.
+    TubeStatus,
+    /// POLL, 0B.
+    Poll,
+    /// COIN TYPE, 0C.
+    CoinType {
+        /// Y1-Y2: the coin types that are enabled, the lowest bit type 0.
+        enable: u16,
+        /// Y3-Y4: the coin types that may be dispensed manually.
+        manual: u16,
+    },
+    /// DISPENSE, 0D: Y1, the count in the high half and the coin type in the low half.
+    Dispense(u8),
+    /// EXPANSION identification, 0F 00.
+    Identification,
+    /// EXPANSION feature enable, 0F 01, with its four bytes.
+    Features([u8; 4]),
+}
+
+/// A command to the bill validator (MDB/ICP 4.3, bill validator).
+#[derive(Clone, Copy, PartialEq, Eq, Debug)]
+pub enum BillCommand {
+    /// RESET, 30.
+    Reset,
+    /// SETUP, 31.
+    Setup,
+    /// SECURITY, 32, with its two bytes.
+    Security([u8; 2]),
+    /// POLL, 33.
+    Poll,
+    /// BILL TYPE, 34.
+    BillType {
+        /// Y1-Y2: the bill types that are enabled, the lowest bit type 0.
+        enable: u16,
+        /// Y3-Y4: the bill types that are held in escrow.
+        escrow: u16,
+    },
+    /// ESCROW, 35: Y1, 0 returns the bill, its lowest bit stacks it.
+    Escrow(u8),
+    /// STACKER, 36.
+    Stacker,
+    /// EXPANSION identification, 37 00.
+    Identification,
+    /// EXPANSION feature enable, 37 01, with its four bytes.
+    Features([u8; 4]),
+    /// EXPANSION identification with options, 37 02.
+    IdentificationWithOptions,
+}
+
+/// A command to a cashless reader (MDB/ICP 4.3, cashless device).
+#[derive(Clone, Copy, PartialEq, Eq, Debug)]
+pub enum ReaderCommand {
+    /// RESET, 10.
+    Reset,
+    /// SETUP config, 11 00: Y2 level, Y3 columns, Y4 rows, Y5 display.
+    SetupConfig {
+        /// Y2.
+        level: u8,
+        /// Y3.
+        columns: u8,
+        /// Y4.
+        rows: u8,
+        /// Y5.
+        display: u8,
+    },
+    /// SETUP prices, 11 01.
+    SetupPrices {
+        /// The greatest price.
+        maximum: u16,
+        /// The least price.
+        minimum: u16,
+    },
+    /// POLL, 12.
+    Poll,
+    /// VEND REQUEST, 13 00.
+    VendRequest {
+        /// The price.
+        price: u16,
+        /// The item.
+        item: u16,
+    },
+    /// VEND CANCEL, 13 01.
+    VendCancel,
+    /// VEND SUCCESS, 13 02.
+    VendSuccess {
+        /// The item.
+        item: u16,
+    },
+    /// VEND FAILURE, 13 03.
+    VendFailure,
+    /// SESSION COMPLETE, 13 04.
+    SessionComplete,
+    /// CASH SALE, 13 05.
+    CashSale {
+        /// The price.
+        price: u16,
+        /// The item.
+        item: u16,
+    },
+    /// READER DISABLE, 14 00.
+    Disable,
+    /// READER ENABLE, 14 01.
+    Enable,
+    /// READER CANCEL, 14 02.
+    Cancel,
+    /// EXPANSION REQUEST ID, 17 00, with its 29 bytes.
+    RequestId([u8; 29]),
+}

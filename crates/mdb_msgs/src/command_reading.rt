@@ -1,0 +1,144 @@
+//! Blocks of the controller as commands.
+
+ghost use Rattle.std.specs.Prelude.{◌≡◌, ◌<◌, ◌≤◌, ◌+◌, ◌-◌, ◌*◌, length, slice_get, slice_index, IfOk, IfErr, MatchOption, OnErr, ◌≢◌};
+ghost use Rattle.mdb_msgs.specs.Commands.{HasBillFields, HasChangerFields, HasReaderFields, Spells, bill_bytes, changer_bytes, reader_bytes};
+ghost use Rattle.mdb_msgs.specs.CommandFaults.{IsCommandFault, IsRefused};
+ghost use Rattle.mdb_msgs.specs.Needs.{reader_need};
+ghost use Rattle.mdb_blocks.specs.Block.{block_of};
+
+use super::command::{BillCommand, ChangerCommand, Command, ReaderCommand};
+use super::fault::MsgFault;
+use mdb_blocks::Block;
+
+/// The command of a block. `Profile` where the first two bytes tell that the block is foreign or outside of this
+/// profile, `Length` where they tell another length.
+pub fn read_command(block: &Block) -> Result<Command, MsgFault>
+    ensures command { IfOk result (λ command. Spells command block.now) }
+    ensures none { OnErr result ((command : Command) → ¬ Spells command block.now) }
+    ensures fault { IfErr result (IsCommandFault block.now) }
+{
+    let content = block.content();
+    match content {
+        [0x08..=0x0F, ..] => Ok(Command::Changer(changer_command(content)?)),
+        [0x10..=0x17, ..] => Ok(Command::Reader(reader_command(0x10, content)?)),
+        [0x30..=0x37, ..] => Ok(Command::Bill(bill_command(content)?)),
+        _ => Err(MsgFault::Profile),
+    }
+}
+
+/// A command to the coin changer.
+fn changer_command(content: &[u8]) -> Result<ChangerCommand, MsgFault>
+    requires some { 0 < length content.now }
+    requires least { 0x08 ≤ slice_index content.now 0 }
+    requires most { slice_index content.now 0 ≤ 0x0F }
+    ensures command { IfOk result (λ command. HasChangerFields command × (content.now ≡ changer_bytes command)) }
+    ensures fault { IfErr result (IsCommandFault (block_of content.now)) }
+{
+    match content {
+        [0x08] => Ok(ChangerCommand::Reset),
+        [0x09] => Ok(ChangerCommand::Setup),
+        [0x0A] => Ok(ChangerCommand::TubeStatus),
+        [0x0B] => Ok(ChangerCommand::Poll),
+        [0x0C, enable_high, enable_low, manual_high, manual_low] => Ok(ChangerCommand::CoinType {
+            enable: number(*enable_high, *enable_low),
+            manual: number(*manual_high, *manual_low),
+        }),
+        [0x0D, coins] => Ok(ChangerCommand::Dispense(*coins)),
+        [0x0F, 0x00] => Ok(ChangerCommand::Identification),
+        [0x0F, 0x01, a, b, c, d] => Ok(ChangerCommand::Features([*a, *b, *c, *d])),
+        [0x08..=0x0D, ..] | [0x0F, 0x00..=0x01, ..] => Err(MsgFault::Length),
+        _ => Err(MsgFault::Profile),
+    }
+}
+
+/// A command to the bill validator.
+fn bill_command(content: &[u8]) -> Result<BillCommand, MsgFault>
+    requires some { 0 < length content.now }
+    requires least { 0x30 ≤ slice_index content.now 0 }
+    requires most { slice_index content.now 0 ≤ 0x37 }
+    ensures command { IfOk result (λ command. HasBillFields command × (content.now ≡ bill_bytes command)) }
+    ensures fault { IfErr result (IsCommandFault (block_of content.now)) }
+{
+    match content {
+        [0x30] => Ok(BillCommand::Reset),
+        [0x31] => Ok(BillCommand::Setup),
+        [0x32, a, b] => Ok(BillCommand::Security([*a, *b])),
+        [0x33] => Ok(BillCommand::Poll),
+        [0x34, enable_high, enable_low, escrow_high, escrow_low] => Ok(BillCommand::BillType {
+            enable: number(*enable_high, *enable_low),
+            escrow: number(*escrow_high, *escrow_low),
+        }),
+        [0x35, order] => Ok(BillCommand::Escrow(*order)),
+        [0x36] => Ok(BillCommand::Stacker),
+        [0x37, 0x00] => Ok(BillCommand::Identification),
+        [0x37, 0x01, a, b, c, d] => Ok(BillCommand::Features([*a, *b, *c, *d])),
+        [0x37, 0x02] => Ok(BillCommand::IdentificationWithOptions),
+        [0x30..=0x36, ..] | [0x37, 0x00..=0x02, ..] => Err(MsgFault::Length),
+        _ => Err(MsgFault::Profile),
+    }
+}
+
+/// A command to the cashless reader at an address.
+fn reader_command(address: u8, content: &[u8]) -> Result<ReaderCommand, MsgFault>
+    requires address { 0x08 ≤ address }
+    requires some { 0 < length content.now }
+    requires least { address ≤ slice_index content.now 0 }
+    requires most { slice_index content.now 0 ≤ address + 7 }
+    ensures command { IfOk result (λ command. HasReaderFields command × (content.now ≡ reader_bytes address command)) }
+    ensures fault { IfErr result (IsRefused (reader_need (slice_index content.now 0 - address) (slice_get (block_of content.now) 1)) (length content.now + 1)) }
+{
+    match (content[0] - address, &content[1..]) {
+        (0, []) => Ok(ReaderCommand::Reset),
+        (1, [0x00, level, columns, rows, display]) => Ok(ReaderCommand::SetupConfig {
+            level: *level,
+            columns: *columns,
+            rows: *rows,
+            display: *display,
+        }),
+        (1, [0x01, maximum_high, maximum_low, minimum_high, minimum_low]) => Ok(
+            ReaderCommand::SetupPrices {
+                maximum: number(*maximum_high, *maximum_low),
+                minimum: number(*minimum_high, *minimum_low),
+            },
+        ),
+        (2, []) => Ok(ReaderCommand::Poll),
+        (3, [0x00, price_high, price_low, item_high, item_low]) => Ok(ReaderCommand::VendRequest {
+            price: number(*price_high, *price_low),
+            item: number(*item_high, *item_low),
+        }),
+        (3, [0x01]) => Ok(ReaderCommand::VendCancel),
+        (3, [0x02, item_high, item_low]) => Ok(ReaderCommand::VendSuccess {
+            item: number(*item_high, *item_low),
+        }),
+        (3, [0x03]) => Ok(ReaderCommand::VendFailure),
+        (3, [0x04]) => Ok(ReaderCommand::SessionComplete),
+        (3, [0x05, price_high, price_low, item_high, item_low]) => Ok(ReaderCommand::CashSale {
+            price: number(*price_high, *price_low),
+            item: number(*item_high, *item_low),
+        }),
+        (4, [0x00]) => Ok(ReaderCommand::Disable),
+        (4, [0x01]) => Ok(ReaderCommand::Enable),
+        (4, [0x02]) => Ok(ReaderCommand::Cancel),
+        (7, [0x00, identity @ ..]) => identity_of(identity)
+            .map(ReaderCommand::RequestId)
+            .ok_or(MsgFault::Length),
+        (0 | 2, _) | (1, [0x00..=0x01, ..]) | (3, [0x00..=0x05, ..]) | (4, [0x00..=0x02, ..]) => {
+            Err(MsgFault::Length)
+        }
+        _ => Err(MsgFault::Profile),
+    }
+}
+
+/// The bytes of an identity, where they are 29.
+fn identity_of(bytes: &[u8]) -> Option<[u8; 29]>
+    ensures { MatchOption result (length bytes.now ≢ 29) (λ identity. identity ≡ bytes.now) }
+{
+    bytes.as_array().copied()
+}
+
+/// A two-byte number, its high byte first.
+fn number(high: u8, low: u8) -> u16
+    ensures { result ≡ 256 * high + low }
+{
+    u16::from_be_bytes([high, low])
+}

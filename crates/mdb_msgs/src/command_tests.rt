@@ -1,0 +1,39 @@
+use super::{
+    ChangerCommand, Command, Device, MsgFault, Need, ReaderCommand, need_of, read_command,
+    write_command,
+};
+use mdb_blocks::unseal;
+
+const REQUEST: Command = Command::Reader(ReaderCommand::VendRequest { price: 10, item: 5 });
+
+const REQUEST_BLOCK: [u8; 7] = [0x13, 0x00, 0x00, 0x0A, 0x00, 0x05, 0x22];
+
+#[test]
+fn first_bytes_tell_the_need(rt: HostRuntime) {
+    assert_eq!(rt; need_of(&[0x13]), Need::More);
+    assert_eq!(rt; need_of(&[0x13, 0x00]), Need::Exactly(7));
+    assert_eq!(rt; need_of(&[0x0F, 0x05]), Need::Foreign);
+    assert_eq!(rt; need_of(&[0x0F, 0x02]), Need::Outside);
+    assert_eq!(rt; need_of(&[0x0E]), Need::Outside);
+}
+
+#[test]
+fn reads_whole_commands_alone(rt: HostRuntime) {
+    let cases: [(&[u8], Result<Command, MsgFault>); 5] = [
+        (&[0x08, 0x08], Ok(Command::Changer(ChangerCommand::Reset))),
+        (&REQUEST_BLOCK, Ok(REQUEST)),
+        (&[0x08, 0x00, 0x08], Err(MsgFault::Length)),
+        (&[0x0E, 0x0E], Err(MsgFault::Profile)),
+        (&[0x0F, 0x05, 0x14], Err(MsgFault::Profile)),
+    ];
+    for (bytes, command) in &cases {
+        let block = unseal(bytes).expect(&rt, "a block");
+        assert_eq!(rt; read_command(&block), *command);
+    }
+}
+
+#[test]
+fn writes_the_block_of_a_command(rt: HostRuntime) {
+    assert_eq!(rt; write_command(&REQUEST.copy()).bytes(), &REQUEST_BLOCK[..]);
+    assert_eq!(rt; REQUEST.device(), Device::Cashless);
+}

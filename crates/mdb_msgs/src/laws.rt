@@ -1,0 +1,55 @@
+//! What follows from the grammars of commands and replies alone.
+
+ghost use Rattle.std.specs.Prelude.{◌≡◌, ◌<◌, ◌+◌, ◌++◌, List, ℕ, length, All};
+ghost use Rattle.mdb_blocks.specs.Block.{block_of};
+ghost use Rattle.mdb_msgs.specs.declared.command.Command.{Command};
+ghost use Rattle.mdb_msgs.specs.declared.needs.Need.TheVariants.{Exactly};
+ghost use Rattle.mdb_msgs.specs.Commands.{IsByte, Spells};
+ghost use Rattle.mdb_msgs.specs.Needs.{TellsLength, needed};
+ghost use Rattle.mdb_msgs.specs.Laws.{BlockHasOneReply, ReplyHasNoFault, BytesHaveOneFault, ReplyHasOneWriteFault, WrittenHasNoFault};
+
+/// A block has at most one command.
+pub fn block_has_one_command()
+    ensures { (block : List ℕ) (one other : Command) → Spells one block → Spells other block → one ≡ other }
+{}
+
+/// What the first two bytes of a command's block need is the length of the block.
+pub fn command_has_what_it_needs()
+    ensures { (block : List ℕ) (command : Command) → Spells command block → needed block ≡ Exactly (length block) }
+{}
+
+/// The first byte of a command's block tells the length of the block or leaves it to the second, and the first two
+/// bytes tell it.
+pub fn first_bytes_tell_the_length()
+    ensures { (prefix rest : List ℕ) (command : Command) → 0 < length prefix → Spells command (prefix ++ rest) → TellsLength prefix (length (prefix ++ rest)) }
+{}
+
+/// Bytes that are as long as they need to be are those of a command.
+pub fn what_it_needs_is_a_command()
+    ensures { (content : List ℕ) → All IsByte content → needed content ≡ Exactly (length content + 1) → (command : Command) × Spells command (block_of content) }
+{}
+
+/// For a command, a block has at most one reply.
+pub fn block_has_one_reply()
+    ensures { BlockHasOneReply }
+{}
+
+/// Data bytes that are a reply to a command have no fault.
+pub fn reply_has_no_fault()
+    ensures { ReplyHasNoFault }
+{}
+
+/// For a command, data bytes have at most one fault.
+pub fn bytes_have_one_fault()
+    ensures { BytesHaveOneFault }
+{}
+
+/// For a command, a reply has at most one fault in writing.
+pub fn reply_has_one_write_fault()
+    ensures { ReplyHasOneWriteFault }
+{}
+
+/// A reply that may answer a command has no fault in writing.
+pub fn written_has_no_fault()
+    ensures { WrittenHasNoFault }
+{}

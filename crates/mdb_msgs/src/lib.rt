@@ -1,0 +1,25 @@
+//! Commands of the controller and replies of the peripherals, as blocks of the bus.
+#![tactic(auto)]
+
+mod answer;
+mod command;
+mod command_reading;
+#[cfg(test)]
+mod command_tests;
+mod command_writing;
+mod fault;
+pub mod laws;
+mod needs;
+mod reply;
+
+pub use answer::AnswerForm;
+pub use command::{BillCommand, ChangerCommand, Command, Device, ReaderCommand};
+pub use command_reading::read_command;
+pub use command_writing::write_command;
+pub use fault::MsgFault;
+pub use needs::{Need, need_of};
+pub use reply::bill::BillMsg;
+pub use reply::changer::ChangerMsg;
+pub use reply::reader::{ReaderList, ReaderMsg};
+pub use reply::setup::{BillSetup, ChangerSetup, Stacker, TubeStatus};
+pub use reply::{Reply, read_reply, write_reply};

@@ -1,0 +1,102 @@
+//! How many bytes a block of the controller needs, told from its first bytes.
+
+ghost use Rattle.std.specs.Prelude.{◌≡◌, ◌<◌, ◌≤◌, length};
+ghost use Rattle.mdb_msgs.specs.Needs.{bill_need, changer_need, needed, reader_need};
+
+/// What the first bytes of a block of the controller tell of the rest of it.
+#[derive(Clone, Copy, PartialEq, Eq, Debug)]
+pub enum Need {
+    /// The subcommand, the second byte, decides.
+    More,
+    /// The block has this many bytes, its sum included.
+    Exactly(usize),
+    /// It is for another device, or one of an EXPANSION that this profile does not know.
+    Foreign,
+    /// It is for a device of this profile, which leaves it out.
+    Outside,
+}
+
+/// What a block that begins with these bytes needs. At most the first two bytes count (MDB/ICP 4.3, commands of the
+/// coin changer, the bill validator and the cashless device, as far as this profile goes).
+pub fn need_of(prefix: &[u8]) -> Need
+    requires { 0 < length prefix.now }
+    ensures { result ≡ needed prefix.now }
+{
+    let second = prefix.get(1).copied();
+    match prefix[0] {
+        first @ 0x08..=0x0F => changer_need(first, second),
+        first @ 0x10..=0x17 => reader_need(first % 8, second),
+        first @ 0x30..=0x37 => bill_need(first, second),
+        _ => Need::Foreign,
+    }
+}
+
+/// What a block to the coin changer needs.
+fn changer_need(first: u8, second: Option<u8>) -> Need
+    ensures { result ≡ changer_need first second }
+{
+    match (first, second) {
+        (0x08, _) => Need::Exactly(2),
+        (0x09, _) => Need::Exactly(2),
+        (0x0A, _) => Need::Exactly(2),
+        (0x0B, _) => Need::Exactly(2),
+        (0x0C, _) => Need::Exactly(6),
+        (0x0D, _) => Need::Exactly(3),
+        (0x0F, None) => Need::More,
+        (0x0F, Some(0x00)) => Need::Exactly(3),
+        (0x0F, Some(0x01)) => Need::Exactly(7),
+        (0x0F, Some(0x02..=0x04)) => Need::Outside,
+        (0x0E, _) => Need::Outside,
+        _ => Need::Foreign,
+    }
+}
+
+/// What a block to the bill validator needs.
+fn bill_need(first: u8, second: Option<u8>) -> Need
+    ensures { result ≡ bill_need first second }
+{
+    match (first, second) {
+        (0x30, _) => Need::Exactly(2),
+        (0x31, _) => Need::Exactly(2),
+        (0x32, _) => Need::Exactly(4),
+        (0x33, _) => Need::Exactly(2),
+        (0x34, _) => Need::Exactly(6),
+        (0x35, _) => Need::Exactly(3),
+        (0x36, _) => Need::Exactly(2),
+        (0x37, None) => Need::More,
+        (0x37, Some(0x00)) => Need::Exactly(3),
+        (0x37, Some(0x01)) => Need::Exactly(7),
+        (0x37, Some(0x02)) => Need::Exactly(3),
+        _ => Need::Foreign,
+    }
+}
+
+/// What a block to a cashless reader needs, by the lower three bits of its address byte.
+fn reader_need(command: u8, second: Option<u8>) -> Need
+    ensures { result ≡ reader_need command second }
+{
+    match (command, second) {
+        (0, _) => Need::Exactly(2),
+        (1, None) => Need::More,
+        (1, Some(0x00)) => Need::Exactly(7),
+        (1, Some(0x01)) => Need::Exactly(7),
+        (2, _) => Need::Exactly(2),
+        (3, None) => Need::More,
+        (3, Some(0x00)) => Need::Exactly(7),
+        (3, Some(0x01)) => Need::Exactly(3),
+        (3, Some(0x02)) => Need::Exactly(5),
+        (3, Some(0x03)) => Need::Exactly(3),
+        (3, Some(0x04)) => Need::Exactly(3),
+        (3, Some(0x05)) => Need::Exactly(7),
+        (4, None) => Need::More,
+        (4, Some(0x00)) => Need::Exactly(3),
+        (4, Some(0x01)) => Need::Exactly(3),
+        (4, Some(0x02)) => Need::Exactly(3),
+        (7, None) => Need::More,
+        (7, Some(0x00)) => Need::Exactly(32),
+        (1 | 3 | 4, Some(_)) => Need::Outside,
+        (5, _) => Need::Outside,
+        (6, _) => Need::Outside,
+        _ => Need::Foreign,
+    }
+}

@@ -1,0 +1,257 @@
+//! Replies of the peripherals.
+
+ghost use Rattle.std.specs.Prelude.{◌≡◌, ℕ, List, ◌≤◌, ◌↔◌, length, IsTrue, IsOk, IfOk, IfErr};
+ghost use Rattle.mdb_blocks.specs.Block.{block_of, IsBlock};
+ghost use Rattle.mdb_msgs.specs.Answers.{IsDataLength};
+ghost use Rattle.mdb_msgs.specs.declared.reply.Reply.{Reply};
+ghost use Rattle.mdb_msgs.specs.Replies.{form_of_reply, reply_bytes, has_kept, HasFields, IsReplyTo, NoReply, IsReadFault, IsWriteFault};
+
+pub mod bill;
+pub mod changer;
+mod list;
+pub mod reader;
+pub mod setup;
+
+use crate::answer::{AnswerForm, may_keep};
+use crate::command::Command;
+use crate::fault::MsgFault;
+use arrayvec::ArrayVec;
+use bill::BillMsg;
+use changer::ChangerMsg;
+use list::{Bytes, list_of};
+use mdb_blocks::{Block, seal};
+use reader::ReaderList;
+use setup::{BillSetup, ChangerSetup, Stacker, TubeStatus};
+
+/// A data answer of a peripheral (MDB/ICP 4.3, coin changer, bill validator and cashless device).
+#[derive(PartialEq, Eq, Debug, Drop)]
+pub enum Reply {
+    /// To the changer's SETUP.
+    ChangerSetup(ChangerSetup),
+    /// To TUBE STATUS.
+    TubeStatus(TubeStatus),
+    /// To the changer's POLL: its messages in order.
+    ChangerPoll(ArrayVec<ChangerMsg, 16>),
+    /// To the changer's identification: its bytes.
+    ChangerIdentification([u8; 33]),
+    /// To the validator's SETUP.
+    BillSetup(BillSetup),
+    /// To the validator's POLL: its messages in order.
+    BillPoll(ArrayVec<BillMsg, 16>),
+    /// To STACKER.
+    Stacker(Stacker),
+    /// To the validator's identification: its bytes.
+    BillIdentification([u8; 29]),
+    /// To the validator's identification with options: its bytes.
+    BillIdentificationWithOptions([u8; 33]),
+    /// To a reader's command: its messages in order.
+    Reader(ReaderList),
+}
+
+impl Reply {
+    /// The same reply again.
+    pub fn copy(&self) -> Self
+        ensures { result ≡ self.now }
+    {
+        match self {
+            Reply::ChangerSetup(setup) => Reply::ChangerSetup(setup.copy()),
+            Reply::TubeStatus(status) => Reply::TubeStatus(status.copy()),
+            Reply::ChangerPoll(list) => Reply::ChangerPoll(list_of(list.as_slice())),
+            Reply::ChangerIdentification(id) => Reply::ChangerIdentification(*id),
+            Reply::BillSetup(setup) => Reply::BillSetup(setup.copy()),
+            Reply::BillPoll(list) => Reply::BillPoll(list_of(list.as_slice())),
+            Reply::Stacker(stacker) => Reply::Stacker(*stacker),
+            Reply::BillIdentification(id) => Reply::BillIdentification(*id),
+            Reply::BillIdentificationWithOptions(id) => Reply::BillIdentificationWithOptions(*id),
+            Reply::Reader(list) => Reply::Reader(list.copy()),
+        }
+    }
+
+    /// The form of answer that it is.
+    fn form(&self) -> AnswerForm
+        ensures { result ≡ form_of_reply self.now }
+    {
+        match self {
+            Reply::ChangerSetup(_) => AnswerForm::ChangerSetup,
+            Reply::TubeStatus(_) => AnswerForm::TubeStatus,
+            Reply::ChangerPoll(_) => AnswerForm::ChangerPoll,
+            Reply::ChangerIdentification(_) => AnswerForm::ChangerIdentification,
+            Reply::BillSetup(_) => AnswerForm::BillSetup,
+            Reply::BillPoll(_) => AnswerForm::BillPoll,
+            Reply::Stacker(_) => AnswerForm::Stacker,
+            Reply::BillIdentification(_) => AnswerForm::BillIdentification,
+            Reply::BillIdentificationWithOptions(_) => AnswerForm::BillIdentificationWithOptions,
+            Reply::Reader(_) => AnswerForm::Reader,
+        }
+    }
+
+    /// How many data bytes it has, whether or not its fields are in their ranges.
+    fn count(&self) -> usize
+        ensures { result ≡ length (reply_bytes self.now) }
+    {
+        match self {
+            Reply::ChangerSetup(setup) => setup.count(),
+            Reply::TubeStatus(status) => status.count(),
+            Reply::ChangerPoll(list) => changer::count_of(list.as_slice()),
+            Reply::ChangerIdentification(id) => id.as_slice().len(),
+            Reply::BillSetup(setup) => setup.count(),
+            Reply::BillPoll(list) => bill::count_of(list.as_slice()),
+            Reply::Stacker(_) => 2,
+            Reply::BillIdentification(id) => id.as_slice().len(),
+            Reply::BillIdentificationWithOptions(id) => id.as_slice().len(),
+            Reply::Reader(list) => list.count(),
+        }
+    }
+
+    /// Whether its fields are in their ranges, and a display request is last.
+    fn is_valid(&self) -> bool
+        ensures { IsTrue result ↔ HasFields self.now }
+    {
+        match self {
+            Reply::ChangerPoll(list) => changer::are_valid(list.as_slice()),
+            Reply::BillPoll(list) => bill::are_valid(list.as_slice()),
+            Reply::Stacker(stacker) => stacker.is_valid(),
+            Reply::Reader(list) => list.is_valid(),
+            _ => true,
+        }
+    }
+
+    /// Its data bytes.
+    fn bytes(&self) -> Bytes
+        requires fields { HasFields self.now }
+        requires room { length (reply_bytes self.now) ≤ 35 }
+        ensures { result.items ≡ reply_bytes self.now }
+    {
+        match self {
+            Reply::ChangerSetup(setup) => setup.bytes(),
+            Reply::TubeStatus(status) => status.bytes(),
+            Reply::ChangerPoll(list) => changer::bytes_of(list.as_slice()),
+            Reply::ChangerIdentification(id) => list_of(id),
+            Reply::BillSetup(setup) => setup.bytes(),
+            Reply::BillPoll(list) => bill::bytes_of(list.as_slice()),
+            Reply::Stacker(stacker) => stacker.bytes(),
+            Reply::BillIdentification(id) => list_of(id),
+            Reply::BillIdentificationWithOptions(id) => list_of(id),
+            Reply::Reader(list) => list.bytes(),
+        }
+    }
+
+    /// Whether it tells of sessions and sales.
+    fn has_kept(&self) -> bool
+        ensures { result ≡ has_kept self.now }
+    {
+        match self {
+            Reply::Reader(list) => list.has_kept(),
+            _ => false,
+        }
+    }
+}
+
+/// The bytes as an array.
+fn array_of<const N: usize>(bytes: &[u8]) -> [u8; N]
+    requires { length bytes.now ≡ N }
+    ensures { result ≡ bytes.now }
+{
+    let mut array = [0; N];
+    array.copy_from_slice(bytes);
+    array
+}
+
+/// The reply of this form that these bytes are.
+fn read_form(form: AnswerForm, bytes: &[u8]) -> Result<Reply, MsgFault>
+    requires { IsDataLength form (length bytes.now) }
+    ensures form { IfOk result (λ reply. form_of_reply reply ≡ form) }
+    ensures fields { IfOk result HasFields }
+    ensures bytes { IfOk result (λ reply. bytes.now ≡ reply_bytes reply) }
+    ensures err { IfErr result (NoReply form bytes.now) }
+{
+    Ok(match form {
+        AnswerForm::ChangerSetup => Reply::ChangerSetup(setup::read_changer_setup(bytes)),
+        AnswerForm::TubeStatus => Reply::TubeStatus(setup::read_tube_status(bytes)),
+        AnswerForm::ChangerPoll => Reply::ChangerPoll(changer::read_messages(bytes)?),
+        AnswerForm::ChangerIdentification => Reply::ChangerIdentification(array_of(bytes)),
+        AnswerForm::BillSetup => Reply::BillSetup(setup::read_bill_setup(bytes)?),
+        AnswerForm::BillPoll => Reply::BillPoll(bill::read_messages(bytes)?),
+        AnswerForm::Stacker => Reply::Stacker(setup::read_stacker(bytes)),
+        AnswerForm::BillIdentification => Reply::BillIdentification(array_of(bytes)),
+        AnswerForm::BillIdentificationWithOptions => {
+            Reply::BillIdentificationWithOptions(array_of(bytes))
+        }
+        AnswerForm::Reader => Reply::Reader(reader::read_messages(bytes)?),
+    })
+}
+
+/// The reply to a command that these data bytes are.
+fn read_content(command: &Command, content: &[u8]) -> Result<Reply, MsgFault>
+    ensures found { IfOk result (IsReplyTo command.now) }
+    ensures spelled { IfOk result (λ reply. content.now ≡ reply_bytes reply) }
+    ensures fault { IfErr result (IsReadFault command.now content.now) }
+{
+    let form = AnswerForm::of(command).ok_or(MsgFault::Answer)?;
+    if !form.allows(content.len()) {
+        return Err(MsgFault::Length);
+    }
+    let reply = read_form(form, content)?;
+    if reply.has_kept() && !may_keep(command) {
+        return Err(MsgFault::Answer);
+    }
+    Ok(reply)
+}
+
+/// The reply to a command that a block spells.
+///
+/// # Errors
+///
+/// The first of these: `Answer` where the command may have no data answer; `Length` where the number of data bytes
+/// isn't the command's; `Message` or `Profile` for the leftmost message that can't be taken, or `Message` for a
+/// validator's SETUP whose byte for the escrow is neither FF nor 00; `Answer` for a reader's message of a session or
+/// a sale (03, 05, 06, 07) in an answer to another command than POLL and 13 00 to 13 04 (this profile).
+pub fn read_reply(command: &Command, block: &Block) -> Result<Reply, MsgFault>
+    // What is read may answer the command, and the block is its block.
+    ensures found { IfOk result (IsReplyTo command.now) }
+    ensures spelled { IfOk result (λ reply. block.now ≡ block_of (reply_bytes reply)) }
+    // What may answer the command, and has this block, is read.
+    ensures only { (reply : Reply) → IsReplyTo command.now reply → block.now ≡ block_of (reply_bytes reply) → result ≡ Ok reply }
+    ensures fault { IfErr result (λ fault. (content : List ℕ) × (block.now ≡ block_of content) × IsReadFault command.now content fault) }
+{
+    read_content(command, block.content())
+}
+
+/// The block that carries bytes, of which there are 1 to 35.
+fn block_with(bytes: &[u8]) -> Block
+    requires at_least { 1 ≤ length bytes.now }
+    requires at_most { length bytes.now ≤ 35 }
+    ensures { result ≡ block_of bytes.now }
+{
+    seal(bytes).unwrap()
+}
+
+/// The block of a reply to a command.
+///
+/// # Errors
+///
+/// The first of these, and none where the command has a block of this reply: `Answer` where the command may have no
+/// data answer; `Length` where the bytes of the reply, whatever its form, aren't as many as the command allows;
+/// `Message` where the reply is of another command's form, a display request in it isn't last, a field is outside its
+/// range, or a text stands beside the list without its message; `Answer` for a reader's message of a session or a
+/// sale (03, 05, 06, 07) in an answer to another command than POLL and 13 00 to 13 04 (this profile).
+pub fn write_reply(command: &Command, reply: &Reply) -> Result<Block, MsgFault>
+    ensures exactly { IsOk result ↔ IsReplyTo command.now reply.now }
+    ensures spelled { IfOk result (λ block. block ≡ block_of (reply_bytes reply.now)) }
+    ensures fault { IfErr result (IsWriteFault command.now reply.now) }
+{
+    let form = AnswerForm::of(command).ok_or(MsgFault::Answer)?;
+    if !form.allows(reply.count()) {
+        return Err(MsgFault::Length);
+    }
+    if reply.form() != form || !reply.is_valid() {
+        return Err(MsgFault::Message);
+    }
+    if reply.has_kept() && !may_keep(command) {
+        return Err(MsgFault::Answer);
+    }
+    Ok(block_with(reply.bytes().as_slice()))
+}
+
+#[cfg(test)]
+mod tests;

@@ -1,0 +1,228 @@
+use super::{BillMsg, ChangerMsg, ChangerSetup, Reply, read_reply, write_reply};
+use crate::{BillCommand, ChangerCommand, Command, MsgFault, ReaderCommand, ReaderMsg};
+use arrayvec::ArrayVec;
+use mdb_blocks::seal;
+
+const CHANGER_SETUP: Command = Command::Changer(ChangerCommand::Setup);
+
+const CHANGER_POLL: Command = Command::Changer(ChangerCommand::Poll);
+
+const COIN_TYPE: Command = Command::Changer(ChangerCommand::CoinType {
+    enable: 7,
+    manual: 7,
+});
+
+const BILL_SETUP: Command = Command::Bill(BillCommand::Setup);
+
+const BILL_POLL: Command = Command::Bill(BillCommand::Poll);
+
+const READER_POLL: Command = Command::Reader(ReaderCommand::Poll);
+
+const READER_ENABLE: Command = Command::Reader(ReaderCommand::Enable);
+
+/// What the reading of data bytes answers, without the reply.
+fn fault_of(command: &Command, bytes: &[u8]) -> Option<MsgFault> {
+    let block = seal(bytes).ok()?;
+    read_reply(command, &block).err()
+}
+
+/// Whether data bytes are read, and written again as the same block.
+fn is_kept(command: &Command, bytes: &[u8]) -> bool {
+    let Ok(block) = seal(bytes) else {
+        return false;
+    };
+    let Ok(reply) = read_reply(command, &block) else {
+        return false;
+    };
+    match write_reply(command, &reply.copy()) {
+        Ok(again) => again.bytes() == block.bytes(),
+        Err(_) => false,
+    }
+}
+
+#[test]
+fn reading_refuses_the_first_fault(rt: HostRuntime) {
+    let cases: [(&Command, &[u8], MsgFault); 16] = [
+        (&CHANGER_POLL, &[0x52], MsgFault::Message),
+        (&CHANGER_POLL, &[0x60], MsgFault::Message),
+        (&CHANGER_POLL, &[0x00; 17], MsgFault::Length),
+        (&CHANGER_POLL, &[0x1B], MsgFault::Profile),
+        (&CHANGER_SETUP, &[0x00; 6], MsgFault::Length),
+        (&COIN_TYPE, &[0x00; 6], MsgFault::Answer),
+        (&COIN_TYPE, &[0x1B], MsgFault::Answer),
+        (&BILL_POLL, &[0xB0], MsgFault::Profile),
+        (&BILL_POLL, &[0xB0, 0x60], MsgFault::Profile),
+        (&BILL_POLL, &[0x60, 0xB0], MsgFault::Message),
+        (&BILL_SETUP, &[0x01; 11], MsgFault::Message),
+        (&READER_ENABLE, &[0x05, 0x00, 0x0A], MsgFault::Answer),
+        (&READER_ENABLE, &[0x05, 0x00, 0x0A, 0x0C], MsgFault::Profile),
+        (&READER_POLL, &[0x0C], MsgFault::Profile),
+        (&READER_POLL, &[0x02], MsgFault::Message),
+        (&READER_POLL, &[0x02; 35], MsgFault::Message),
+    ];
+    for (command, bytes, fault) in &cases {
+        assert_eq!(rt;
+            fault_of(command, bytes),
+            Some(*fault),
+            "{command:?}, {bytes:?}"
+        );
+    }
+}
+
+#[test]
+fn what_was_read_is_written_again(rt: HostRuntime) {
+    let cases: [(&Command, &[u8]); 13] = [
+        (&CHANGER_SETUP, &[0x02, 0x00, 0x01, 0x05, 0x02, 0x00, 0x07]),
+        (
+            &CHANGER_SETUP,
+            &[0x02, 0x18, 0x40, 0x05, 0x02, 0x00, 0x07, 0x01, 0x02, 0xFF],
+        ),
+        (
+            &Command::Changer(ChangerCommand::TubeStatus),
+            &[0x00, 0x01, 0x09, 0x08],
+        ),
+        (
+            &CHANGER_POLL,
+            &[
+                0xF2, 0x07, 0x4F, 0x00, 0x52, 0x09, 0x73, 0x01, 0x21, 0x0B, 0x1A,
+            ],
+        ),
+        (
+            &Command::Changer(ChangerCommand::Identification),
+            &[0x41; 33],
+        ),
+        (
+            &BILL_SETUP,
+            &[1, 0, 1, 0, 0x64, 2, 0, 0xC8, 0, 0, 0xFF, 1, 5],
+        ),
+        (&BILL_POLL, &[0x8F, 0x90, 0xA1, 0xC2, 0x45, 0x06, 0x3F]),
+        (&Command::Bill(BillCommand::Stacker), &[0x80, 0x05]),
+        (&Command::Bill(BillCommand::Identification), &[0x42; 29]),
+        (
+            &Command::Bill(BillCommand::IdentificationWithOptions),
+            &[0x43; 33],
+        ),
+        (
+            &READER_POLL,
+            &[
+                0, 1, 2, 0x18, 0x40, 1, 2, 5, 0, 3, 0, 100, 4, 5, 0, 10, 6, 7, 8, 10, 1, 11, 2, 9,
+                65,
+            ],
+        ),
+        (&READER_POLL, &[0x09; 30]),
+        (&READER_POLL, &[0x02, 0x05]),
+    ];
+    for (command, bytes) in &cases {
+        assert!(rt; is_kept(command, bytes), "{command:?}, {bytes:?}");
+    }
+}
+
+/// A changer's SETUP with these credits.
+fn setup_with(credits: &[u8]) -> Reply {
+    let mut list = ArrayVec::new();
+    let _ = list.try_extend_from_slice(credits);
+    Reply::ChangerSetup(ChangerSetup {
+        level: 2,
+        code: 1,
+        scaling: 5,
+        decimals: 2,
+        routing: 7,
+        credits: list,
+    })
+}
+
+#[test]
+fn a_shortened_setup_is_another_reply(rt: HostRuntime) {
+    let short = [2, 0, 1, 5, 2, 0, 7];
+    let mut full = [0; 23];
+    full[..7].copy_from_slice(&short);
+    let short = seal(&short).expect(&rt, "a block");
+    let full = seal(&full).expect(&rt, "a block");
+    assert_eq!(rt; read_reply(&CHANGER_SETUP, &short), Ok(setup_with(&[])));
+    assert_eq!(rt; read_reply(&CHANGER_SETUP, &full), Ok(setup_with(&[0; 16])));
+    assert!(rt; setup_with(&[]) != setup_with(&[0; 16]));
+    let written = write_reply(&CHANGER_SETUP, &setup_with(&[])).expect(&rt, "a block");
+    assert_eq!(rt; written.bytes(), short.bytes());
+    let written = write_reply(&CHANGER_SETUP, &setup_with(&[0; 16])).expect(&rt, "a block");
+    assert_eq!(rt; written.bytes(), full.bytes());
+}
+
+/// A reader's answer of these messages, with a text.
+fn list_with(messages: &[ReaderMsg], text: &[u8]) -> Reply {
+    let mut list = super::ReaderList {
+        messages: ArrayVec::new(),
+        id: [0; 29],
+        text: ArrayVec::new(),
+    };
+    let _ = list.messages.try_extend_from_slice(messages);
+    let _ = list.text.try_extend_from_slice(text);
+    Reply::Reader(list)
+}
+
+#[test]
+fn a_display_request_needs_no_text(rt: HostRuntime) {
+    let block = seal(&[0x02, 0x05]).expect(&rt, "a block");
+    let shown = ReaderMsg::Display { time: 5 };
+    assert_eq!(rt;
+        read_reply(&READER_POLL, &block),
+        Ok(list_with(&[shown], &[]))
+    );
+}
+
+/// A validator's POLL answer of one message.
+fn bill_poll(message: BillMsg) -> Reply {
+    let mut list = ArrayVec::new();
+    list.push(message);
+    Reply::BillPoll(list)
+}
+
+#[test]
+fn writing_refuses_the_first_fault(rt: HostRuntime) {
+    let shown = ReaderMsg::Display { time: 5 };
+    let cases = [
+        (&COIN_TYPE, setup_with(&[]), MsgFault::Answer),
+        (
+            &CHANGER_POLL,
+            Reply::ChangerPoll(ArrayVec::new()),
+            MsgFault::Length,
+        ),
+        (&CHANGER_POLL, setup_with(&[0; 16]), MsgFault::Length),
+        (&CHANGER_POLL, bill_poll(BillMsg::Reset), MsgFault::Message),
+        (
+            &BILL_POLL,
+            bill_poll(BillMsg::Stacked(16)),
+            MsgFault::Message,
+        ),
+        (
+            &BILL_POLL,
+            bill_poll(BillMsg::Status(0x1B)),
+            MsgFault::Message,
+        ),
+        (
+            &READER_POLL,
+            list_with(&[shown, ReaderMsg::JustReset], &[]),
+            MsgFault::Message,
+        ),
+        (
+            &READER_POLL,
+            list_with(&[ReaderMsg::JustReset], &[65]),
+            MsgFault::Message,
+        ),
+        (
+            &READER_ENABLE,
+            list_with(&[ReaderMsg::VendDenied], &[]),
+            MsgFault::Answer,
+        ),
+    ];
+    for (command, reply, fault) in &cases {
+        assert_eq!(rt;
+            write_reply(command, reply).err(),
+            Some(*fault),
+            "{command:?}, {reply:?}"
+        );
+    }
+    let slugs = ChangerMsg::Slugs(31);
+    let mut list = ArrayVec::new();
+    list.push(slugs);
+    assert!(rt; write_reply(&CHANGER_POLL, &Reply::ChangerPoll(list)).is_ok());
+}
