@@ -1,5 +1,5 @@
 -- The commands of the controller as bytes (MDB/ICP 4.3, coin changer, bill validator, cashless device).
-use Rattle.std.specs.Prelude.{◌≡◌, ℕ, ◌+◌, ◌/◌, ◌%◌, ◌<◌, List, [], ◌∷◌, ◌++◌, length, All}
+use Rattle.std.specs.Prelude.{◌≡◌, ℕ, ◌+◌, ◌<◌, List, [], ◌∷◌, ◌++◌, length, All}
 use Rattle.mdb_blocks.specs.Block.{block_of}
 use Rattle.mdb_msgs.specs.declared.command.Device.{Device}
 use Rattle.mdb_msgs.specs.declared.command.Device.TheVariants as device
@@ -11,16 +11,13 @@ use Rattle.mdb_msgs.specs.declared.command.BillCommand.{BillCommand}
 use Rattle.mdb_msgs.specs.declared.command.BillCommand.TheVariants as bill
 use Rattle.mdb_msgs.specs.declared.command.ReaderCommand.{ReaderCommand}
 use Rattle.mdb_msgs.specs.declared.command.ReaderCommand.TheVariants as reader
+use Rattle.mdb_msgs.specs.TwoBytes.{two_bytes}
 
 -- whose command it is
 abbrev pub device_of : Command → Device
 device_of (Changer command) = device.Changer
 device_of (Bill command) = device.Bill
 device_of (Reader command) = device.Cashless
-
--- a two-byte number, the high byte first
-abbrev pub two_bytes : ℕ → List ℕ
-two_bytes n = (n / 256) ∷ (n % 256) ∷ []
 
 -- to the coin changer, 08
 abbrev pub changer_bytes : ChangerCommand → List ℕ

@@ -10,3 +10,4 @@ pub mod Reader
 pub mod ReaderSteps
 pub mod Replies
 pub mod Setup
+pub mod TwoBytes

@@ -7,7 +7,7 @@ use Rattle.mdb_msgs.specs.declared.reply.reader.ReaderMsg.{ReaderMsg}
 use Rattle.mdb_msgs.specs.declared.reply.reader.ReaderMsg.TheVariants.{JustReset, Config, Display, BeginSession, CancelRequest, VendApproved, VendDenied, EndSession, Cancelled, PeripheralId, Malfunction, OutOfSequence}
 use Rattle.mdb_msgs.specs.declared.reply.reader.ReaderList.{ReaderList}
 use Rattle.mdb_msgs.specs.Lists.{StopsAt}
-use Rattle.mdb_msgs.specs.Setup.{two_bytes}
+use Rattle.mdb_msgs.specs.TwoBytes.{two_bytes}
 
 -- the bytes of a message, but for its text
 abbrev pub head_bytes : ReaderMsg → List ℕ

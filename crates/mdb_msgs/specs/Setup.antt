@@ -1,13 +1,10 @@
 -- The setup tables and statuses of changer and validator, byte by byte (MDB/ICP 4.3, coin changer and bill validator).
-use Rattle.std.specs.Prelude.{ℕ, ◌+◌, ◌/◌, ◌%◌, ◌<◌, List, [], ◌∷◌, ◌++◌, if◌then◌else◌}
+use Rattle.std.specs.Prelude.{ℕ, ◌+◌, ◌<◌, List, ◌∷◌, ◌++◌, if◌then◌else◌}
 use Rattle.mdb_msgs.specs.declared.reply.setup.ChangerSetup.{ChangerSetup}
 use Rattle.mdb_msgs.specs.declared.reply.setup.TubeStatus.{TubeStatus}
 use Rattle.mdb_msgs.specs.declared.reply.setup.BillSetup.{BillSetup}
 use Rattle.mdb_msgs.specs.declared.reply.setup.Stacker.{Stacker}
-
--- a number of two bytes, the high byte first
-abbrev pub two_bytes : ℕ → List ℕ
-two_bytes number = (number / 256) ∷ (number % 256) ∷ []
+use Rattle.mdb_msgs.specs.TwoBytes.{two_bytes}
 
 -- Z1 to Z7, and the credits that are sent
 abbrev pub changer_setup_bytes : ChangerSetup → List ℕ

@@ -1,6 +1,6 @@
 //! Blocks of the controller as commands.
 
-ghost use Rattle.std.specs.Prelude.{◌≡◌, ◌<◌, ◌≤◌, ◌+◌, ◌-◌, ◌*◌, length, slice_get, slice_index, IfOk, IfErr, MatchOption, OnErr, ◌≢◌};
+ghost use Rattle.std.specs.Prelude.{◌≡◌, ◌<◌, ◌≤◌, ◌+◌, ◌-◌, length, slice_get, slice_index, IfOk, IfErr, MatchOption, OnErr, ◌≢◌};
 ghost use Rattle.mdb_msgs.specs.Commands.{HasBillFields, HasChangerFields, HasReaderFields, Spells, bill_bytes, changer_bytes, reader_bytes};
 ghost use Rattle.mdb_msgs.specs.CommandFaults.{IsCommandFault, IsRefused};
 ghost use Rattle.mdb_msgs.specs.Needs.{reader_need};
@@ -8,6 +8,7 @@ ghost use Rattle.mdb_blocks.specs.Block.{block_of};
 
 use super::command::{BillCommand, ChangerCommand, Command, ReaderCommand};
 use super::fault::MsgFault;
+use super::two_bytes::number;
 use mdb_blocks::Block;
 
 /// The command of a block. `Profile` where the first two bytes tell that the block is foreign or outside of this
@@ -134,11 +135,4 @@ fn identity_of(bytes: &[u8]) -> Option<[u8; 29]>
     ensures { MatchOption result (length bytes.now ≢ 29) (λ identity. identity ≡ bytes.now) }
 {
     bytes.as_array().copied()
-}
-
-/// A two-byte number, its high byte first.
-fn number(high: u8, low: u8) -> u16
-    ensures { result ≡ 256 * high + low }
-{
-    u16::from_be_bytes([high, low])
 }

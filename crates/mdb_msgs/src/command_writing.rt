@@ -2,7 +2,8 @@
 
 ghost use Rattle.std.specs.Prelude.{◌≡◌, ◌<◌, ◌≤◌, ◌+◌, ◌/◌, ◌%◌, ◌∷◌, ◌++◌, [], length};
 ghost use Rattle.mdb_blocks.specs.Block.{block_of};
-ghost use Rattle.mdb_msgs.specs.Commands.{AreBytes, HasBillFields, HasChangerFields, HasReaderFields, Spells, bill_bytes, changer_bytes, reader_bytes, two_bytes};
+ghost use Rattle.mdb_msgs.specs.Commands.{AreBytes, HasBillFields, HasChangerFields, HasReaderFields, Spells, bill_bytes, changer_bytes, reader_bytes};
+ghost use Rattle.mdb_msgs.specs.TwoBytes.{two_bytes};
 
 use super::command::{BillCommand, ChangerCommand, Command, ReaderCommand};
 use arrayvec::ArrayVec;

@@ -11,6 +11,7 @@ mod fault;
 pub mod laws;
 mod needs;
 mod reply;
+mod two_bytes;
 
 pub use answer::AnswerForm;
 pub use command::{BillCommand, ChangerCommand, Command, Device, ReaderCommand};

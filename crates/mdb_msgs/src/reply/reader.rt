@@ -4,12 +4,13 @@ ghost use Rattle.std.specs.Prelude.{◌≡◌, ◌+◌, ◌≢◌, ◌≤◌, �
 ghost use Rattle.std.specs.List.{list_any};
 ghost use Rattle.arrayvec.specs.ArrayVec.{array_vec_len};
 ghost use Rattle.mdb_msgs.specs.declared.fault.MsgFault.TheVariants.{Message};
-ghost use Rattle.mdb_msgs.specs.Setup.{two_bytes};
+ghost use Rattle.mdb_msgs.specs.TwoBytes.{two_bytes};
 ghost use Rattle.mdb_msgs.specs.Reader.{head_bytes, reader_msg_bytes, reader_list_bytes, is_display, is_id, is_kept, text_of, IsDisplayLast, IsReaderList, NoReaderMsg, ReaderStopsAt};
 ghost use Rattle.mdb_msgs.specs.ReaderSteps.{IsTextOf, with_message};
 
-use super::list::{Bytes, append, high, list_of, low, number};
+use super::list::{Bytes, append, list_of};
 use crate::fault::MsgFault;
+use crate::two_bytes::{high, low, number};
 use arrayvec::ArrayVec;
 
 /// A message of a reader's answer.

@@ -4,8 +4,9 @@ ghost use Rattle.std.specs.Prelude.{◌≡◌, ◌≢◌, ◌≤◌, ◌↔◌, 
 ghost use Rattle.mdb_msgs.specs.Setup.{changer_setup_bytes, tube_status_bytes, bill_setup_bytes, stacker_bytes, IsStacker};
 ghost use Rattle.mdb_msgs.specs.declared.fault.MsgFault.TheVariants.{Message};
 
-use super::list::{Bytes, append, high, list_of, low, number};
+use super::list::{Bytes, append, list_of};
 use crate::fault::MsgFault;
+use crate::two_bytes::{high, low, number};
 use arrayvec::ArrayVec;
 
 /// The answer to the changer's SETUP.
