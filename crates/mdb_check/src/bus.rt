@@ -9,7 +9,7 @@ ghost use Rattle.mdb_check.specs.Bus.{IsGapTo, IsJudged, IsNewBlock, address_of,
 use super::offence::{Blame, LinkFault, Rule};
 use arrayvec::ArrayVec;
 use mdb_blocks::seal;
-use mdb_msgs::{ChangerCommand, Command, MsgFault, laws, read_reply};
+use mdb_msgs::{AnswerForm, ChangerCommand, Command, MsgFault, laws, read_reply};
 use mdb_words::{
     ANSWER_GAP_MAX, BLOCK_GAP_MAX, Event, Line, NEW_BLOCK_GAP_MIN, WORD_GAP_MIN, Word, gap_of,
 };
@@ -256,9 +256,9 @@ fn new_block(gap: Option<u64>, least: u64, word: Word) -> Result<Phase, Rule>
 fn has_data_answer(command: Followed, count: usize) -> bool
     ensures { IsTrue result ↔ HasDataAnswer command count }
 {
-    match command {
-        Followed::Reset => false,
-        Followed::Poll => (1..=16).contains(&count),
+    match AnswerForm::of(&command.command()) {
+        Some(form) => form.allows(count),
+        None => false,
     }
 }
 

@@ -106,38 +106,38 @@ pub enum BillCommand {
 pub enum ReaderCommand {
     /// RESET, 10.
     Reset,
-    /// SETUP config, 11 00: Y2 level, Y3 columns, Y4 rows, Y5 display.
+    /// SETUP config data, 11 00: what the controller is and shows.
     SetupConfig {
-        /// Y2.
+        /// Y2: its feature level.
         level: u8,
-        /// Y3.
+        /// Y3: the columns of its display.
         columns: u8,
-        /// Y4.
+        /// Y4: the rows of its display.
         rows: u8,
-        /// Y5.
+        /// Y5: the kind of its display.
         display: u8,
     },
     /// SETUP prices, 11 01.
     SetupPrices {
-        /// The greatest price.
+        /// The greatest price, in units of the scale factor.
         maximum: u16,
-        /// The least price.
+        /// The least price, in units of the scale factor.
         minimum: u16,
     },
     /// POLL, 12.
     Poll,
     /// VEND REQUEST, 13 00.
     VendRequest {
-        /// The price.
+        /// The price, in units of the scale factor.
         price: u16,
-        /// The item.
+        /// The number of the item.
         item: u16,
     },
     /// VEND CANCEL, 13 01.
     VendCancel,
     /// VEND SUCCESS, 13 02.
     VendSuccess {
-        /// The item.
+        /// The number of the item.
         item: u16,
     },
     /// VEND FAILURE, 13 03.
@@ -146,9 +146,9 @@ pub enum ReaderCommand {
     SessionComplete,
     /// CASH SALE, 13 05.
     CashSale {
-        /// The price.
+        /// The price, in units of the scale factor.
         price: u16,
-        /// The item.
+        /// The number of the item.
         item: u16,
     },
     /// READER DISABLE, 14 00.
