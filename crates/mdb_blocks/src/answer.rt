@@ -1,6 +1,7 @@
 //! Answers of one byte.
 
-ghost use Rattle.std.specs.Prelude.{◌≡◌};
+ghost use Rattle.std.specs.Prelude.{◌≡◌, ◌≢◌, IfSome, IfNone};
+ghost use Rattle.mdb_blocks.specs.declared.answer.Answer.{Answer};
 ghost use Rattle.mdb_blocks.specs.Answer.{answer_byte};
 
 /// An answer of one byte (MDB/ICP 4.3, response codes).
@@ -23,6 +24,19 @@ impl Answer {
             Answer::Ack => 0x00,
             Answer::Nak => 0xFF,
             Answer::Ret => 0xAA,
+        }
+    }
+
+    /// The answer of a byte, `None` where it is no answer's.
+    pub fn of(byte: u8) -> Option<Answer>
+        ensures some { IfSome result (λ answer. answer_byte answer ≡ byte) }
+        ensures none { IfNone result ((answer : Answer) → answer_byte answer ≢ byte) }
+    {
+        match byte {
+            0x00 => Some(Answer::Ack),
+            0xFF => Some(Answer::Nak),
+            0xAA => Some(Answer::Ret),
+            _ => None,
         }
     }
 }

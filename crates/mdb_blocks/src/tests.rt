@@ -55,4 +55,13 @@ fn answers_are_one_byte(rt: HostRuntime) {
         [Answer::Ack, Answer::Nak, Answer::Ret].map(Answer::byte),
         [0x00, 0xFF, 0xAA]
     );
+    assert_eq!(rt;
+        [0x00, 0xFF, 0xAA, 0x01].map(Answer::of),
+        [
+            Some(Answer::Ack),
+            Some(Answer::Nak),
+            Some(Answer::Ret),
+            None
+        ]
+    );
 }

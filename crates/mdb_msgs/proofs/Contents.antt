@@ -12,15 +12,17 @@ use Rattle.mdb_msgs.specs.declared.command.BillCommand.{BillCommand}
 use Rattle.mdb_msgs.specs.declared.command.BillCommand.TheVariants as bill
 use Rattle.mdb_msgs.specs.declared.command.ReaderCommand.{ReaderCommand}
 use Rattle.mdb_msgs.specs.declared.command.ReaderCommand.TheVariants as reader
+use Rattle.mdb_msgs.specs.declared.command.ReaderUnit.{ReaderUnit}
+use Rattle.mdb_msgs.specs.declared.command.ReaderUnit.TheVariants.{First, Second}
 use Rattle.mdb_msgs.specs.declared.needs.Need.TheVariants.{Exactly, Foreign}
-use Rattle.mdb_msgs.specs.Commands.{IsByte, HasBillFields, HasChangerFields, HasReaderFields, Spells, bill_bytes, changer_bytes, reader_bytes}
+use Rattle.mdb_msgs.specs.Commands.{IsByte, HasBillFields, HasChangerFields, HasReaderFields, Spells, bill_bytes, changer_bytes, reader_address, reader_bytes}
 use Rattle.mdb_msgs.specs.Needs.{bill_need, changer_need, is_for, needed, reader_need}
 
 -- the two-byte number at an index
-abbrev number_at : List ℕ → ℕ → ℕ
+abbrev pub number_at : List ℕ → ℕ → ℕ
 number_at bytes i = 256 * slice_index bytes i + slice_index bytes (i + 1)
 
-abbrev changer_at : List ℕ → ChangerCommand
+abbrev pub changer_at : List ℕ → ChangerCommand
 changer_at content =
     if slice_index content 0 == 0x08 then changer.Reset
     else if slice_index content 0 == 0x09 then changer.Setup
@@ -46,7 +48,7 @@ changer_spelled (a ∷ b ∷ c ∷ d ∷ e ∷ []) bytes told =
 changer_spelled (a ∷ b ∷ c ∷ d ∷ e ∷ f ∷ []) bytes told = let features : All IsByte (c ∷ d ∷ e ∷ f ∷ []) = All-drop IsByte 2 (a ∷ b ∷ c ∷ d ∷ e ∷ f ∷ []) bytes in grind (arith, common_steps)
 changer_spelled (a ∷ b ∷ c ∷ d ∷ e ∷ f ∷ g ∷ rest) bytes told = grind (arith, common_steps)
 
-abbrev bill_at : List ℕ → BillCommand
+abbrev pub bill_at : List ℕ → BillCommand
 bill_at content =
     if slice_index content 0 == 0x30 then bill.Reset
     else if slice_index content 0 == 0x31 then bill.Setup
@@ -75,7 +77,7 @@ bill_spelled (a ∷ b ∷ c ∷ d ∷ e ∷ f ∷ []) bytes told = let features 
 bill_spelled (a ∷ b ∷ c ∷ d ∷ e ∷ f ∷ g ∷ rest) bytes told = grind (arith, common_steps)
 
 -- by the lower three bits of the first byte, and the bytes after it
-abbrev reader_at : ℕ → List ℕ → ReaderCommand
+abbrev pub reader_at : ℕ → List ℕ → ReaderCommand
 reader_at command fields =
     if command == 0 then reader.Reset
     else if command == 1 then (if slice_index fields 0 == 0x00 then reader.SetupConfig (slice_index fields 1) (slice_index fields 2) (slice_index fields 3) (slice_index fields 4) else reader.SetupPrices (number_at fields 1) (number_at fields 3))
@@ -93,33 +95,42 @@ reader_at command fields =
     else reader.Cancel)
     else reader.RequestId (drop 1 fields)
 
-reader_spelled : (command : ℕ) (fields : List ℕ) → All IsByte fields → reader_need command (slice_get fields 0) ≡ Exactly (length fields + 2) → HasReaderFields (reader_at command fields) × ((0x10 + command) ∷ fields ≡ reader_bytes 0x10 (reader_at command fields))
-reader_spelled command [] bytes told = grind (arith, common_steps)
-reader_spelled command (a ∷ []) bytes told = grind (arith, common_steps)
-reader_spelled command (a ∷ b ∷ []) bytes told = grind (arith, common_steps)
-reader_spelled command (a ∷ b ∷ c ∷ []) bytes told =
+reader_spelled : (address command : ℕ) (fields : List ℕ) → All IsByte fields → reader_need command (slice_get fields 0) ≡ Exactly (length fields + 2) → HasReaderFields (reader_at command fields) × ((address + command) ∷ fields ≡ reader_bytes address (reader_at command fields))
+reader_spelled address command [] bytes told = grind (arith, common_steps)
+reader_spelled address command (a ∷ []) bytes told = grind (arith, common_steps)
+reader_spelled address command (a ∷ b ∷ []) bytes told = grind (arith, common_steps)
+reader_spelled address command (a ∷ b ∷ c ∷ []) bytes told =
     let second : b < 256 = bytes 1 0 (omega arith) in
     let third : c < 256 = bytes 2 0 (omega arith) in
     grind (arith, common_steps)
-reader_spelled command (a ∷ b ∷ c ∷ d ∷ []) bytes told = grind (arith, common_steps)
-reader_spelled command (a ∷ b ∷ c ∷ d ∷ e ∷ []) bytes told =
+reader_spelled address command (a ∷ b ∷ c ∷ d ∷ []) bytes told = grind (arith, common_steps)
+reader_spelled address command (a ∷ b ∷ c ∷ d ∷ e ∷ []) bytes told =
     let second : b < 256 = bytes 1 0 (omega arith) in
     let third : c < 256 = bytes 2 0 (omega arith) in
     let fourth : d < 256 = bytes 3 0 (omega arith) in
     let fifth : e < 256 = bytes 4 0 (omega arith) in
     grind (arith, common_steps)
-reader_spelled command (a ∷ b ∷ c ∷ d ∷ e ∷ f ∷ rest) bytes told = let identity : All IsByte (b ∷ c ∷ d ∷ e ∷ f ∷ rest) = All-drop IsByte 1 (a ∷ b ∷ c ∷ d ∷ e ∷ f ∷ rest) bytes in grind (arith, common_steps)
+reader_spelled address command (a ∷ b ∷ c ∷ d ∷ e ∷ f ∷ rest) bytes told = let identity : All IsByte (b ∷ c ∷ d ∷ e ∷ f ∷ rest) = All-drop IsByte 1 (a ∷ b ∷ c ∷ d ∷ e ∷ f ∷ rest) bytes in grind (arith, common_steps)
+
+-- the command to a reader
+to_reader : (unit : ReaderUnit) (first : ℕ) (rest : List ℕ) → first ≡ reader_address unit + first % 8 → All IsByte (first ∷ rest) → reader_need (first % 8) (slice_get (first ∷ rest) 1) ≡ Exactly (length (first ∷ rest) + 1) → (command : Command) × Spells command (block_of (first ∷ rest))
+to_reader unit first rest address bytes told =
+    let found = reader_spelled (reader_address unit) (first % 8) rest (All-drop IsByte 1 (first ∷ rest) bytes) (told ∙ ap Exactly (omega arith)) in
+    (Reader unit (reader_at (first % 8) rest), record { fields = found.0; bytes = ap (λ byte. block_of (byte ∷ rest)) address ∙ ap block_of found.1 })
 
 -- for which device they are
-by_device : (first : ℕ) (rest : List ℕ) (changer bill reader : Bool) → is_for 0x08 first ≡ changer → is_for 0x10 first ≡ reader → is_for 0x30 first ≡ bill → All IsByte (first ∷ rest) → (if changer then changer_need first (slice_get (first ∷ rest) 1) else if reader then reader_need (first % 8) (slice_get (first ∷ rest) 1) else if bill then bill_need first (slice_get (first ∷ rest) 1) else Foreign) ≡ Exactly (length (first ∷ rest) + 1) → (command : Command) × Spells command (block_of (first ∷ rest))
-by_device first rest true bill reader for_changer for_reader for_bill bytes told = let found = changer_spelled (first ∷ rest) bytes told in (Changer (changer_at (first ∷ rest)), record { fields = found.0; bytes = ap block_of found.1 })
-by_device first rest false bill true for_changer for_reader for_bill bytes told =
+by_device : (first : ℕ) (rest : List ℕ) (changer reader bill second : Bool) → is_for 0x08 first ≡ changer → is_for 0x10 first ≡ reader → is_for 0x30 first ≡ bill → is_for 0x60 first ≡ second → All IsByte (first ∷ rest) → (if changer then changer_need first (slice_get (first ∷ rest) 1) else if reader then reader_need (first % 8) (slice_get (first ∷ rest) 1) else if bill then bill_need first (slice_get (first ∷ rest) 1) else if second then reader_need (first % 8) (slice_get (first ∷ rest) 1) else Foreign) ≡ Exactly (length (first ∷ rest) + 1) → (command : Command) × Spells command (block_of (first ∷ rest))
+by_device first rest true reader bill second for_changer for_reader for_bill for_second bytes told = let found = changer_spelled (first ∷ rest) bytes told in (Changer (changer_at (first ∷ rest)), record { fields = found.0; bytes = ap block_of found.1 })
+by_device first rest false true bill second for_changer for_reader for_bill for_second bytes told =
     let address : first ≡ 0x10 + first % 8 = grind (arith, nat_tests) in
-    let found = reader_spelled (first % 8) rest (All-drop IsByte 1 (first ∷ rest) bytes) (told ∙ ap Exactly (omega arith)) in
-    (Reader (reader_at (first % 8) rest), record { fields = found.0; bytes = ap (λ byte. block_of (byte ∷ rest)) address ∙ ap block_of found.1 })
-by_device first rest false true false for_changer for_reader for_bill bytes told = let found = bill_spelled (first ∷ rest) bytes told in (Bill (bill_at (first ∷ rest)), record { fields = found.0; bytes = ap block_of found.1 })
-by_device first rest false false false for_changer for_reader for_bill bytes told = cc
+    to_reader First first rest address bytes told
+by_device first rest false false true second for_changer for_reader for_bill for_second bytes told = let found = bill_spelled (first ∷ rest) bytes told in (Bill (bill_at (first ∷ rest)), record { fields = found.0; bytes = ap block_of found.1 })
+by_device first rest false false false true for_changer for_reader for_bill for_second bytes told =
+    let address : first ≡ 0x60 + first % 8 = grind (arith, nat_tests) in
+    to_reader Second first rest address bytes told
+by_device first rest false false false false for_changer for_reader for_bill for_second bytes told = cc
 
 pub spelled : (content : List ℕ) → All IsByte content → needed content ≡ Exactly (length content + 1) → (command : Command) × Spells command (block_of content)
 spelled [] bytes told = cc
-spelled (first ∷ rest) bytes told = by_device first rest (is_for 0x08 first) (is_for 0x30 first) (is_for 0x10 first) refl refl refl bytes told
+spelled (first ∷ rest) bytes told =
+    by_device first rest (is_for 0x08 first) (is_for 0x10 first) (is_for 0x30 first) (is_for 0x60 first) refl refl refl refl bytes told

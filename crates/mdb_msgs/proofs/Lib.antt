@@ -3,6 +3,7 @@ pub mod Contents
 pub mod OneReader
 pub mod OneReading
 pub mod OneReply
+pub mod OneCommand
 pub mod Prefixes
 pub mod ReaderReading
 pub mod ReaderWriting

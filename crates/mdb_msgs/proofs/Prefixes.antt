@@ -5,6 +5,7 @@ use Rattle.mdb_msgs.specs.declared.command.Command.{Command}
 use Rattle.mdb_msgs.specs.declared.command.Command.TheVariants.{Changer, Bill, Reader}
 use Rattle.mdb_msgs.specs.declared.command.BillCommand.TheVariants as bill
 use Rattle.mdb_msgs.specs.declared.command.ReaderCommand.TheVariants as reader
+use Rattle.mdb_msgs.specs.declared.command.ReaderUnit.TheVariants.{First, Second}
 use Rattle.mdb_msgs.specs.declared.needs.Need.TheVariants.{Exactly}
 use Rattle.mdb_msgs.specs.Commands.{Spells}
 use Rattle.mdb_msgs.specs.Needs.{IsTold, TellsLength, need, needed}
@@ -16,8 +17,10 @@ whole block (Bill (bill.Security levels)) spelled = grind (arith, common_steps)
 whole block (Bill (bill.BillType enable escrow)) spelled = grind (arith, common_steps)
 whole block (Bill (bill.Features features)) spelled = grind (arith, common_steps)
 whole block (Bill command) spelled = grind (arith, common_steps)
-whole block (Reader (reader.RequestId identity)) spelled = grind (arith, common_steps)
-whole block (Reader command) spelled = search rules
+whole block (Reader First (reader.RequestId identity)) spelled = grind (arith, common_steps)
+whole block (Reader Second (reader.RequestId identity)) spelled = grind (arith, common_steps)
+whole block (Reader First command) spelled = search rules
+whole block (Reader Second command) spelled = search rules
 
 -- what two bytes tell, the first tells or leaves to the second
 first_byte : (first second n : ℕ) → need first (Some second) ≡ Exactly n → IsTold (need first None) 1 n

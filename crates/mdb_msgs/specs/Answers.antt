@@ -32,7 +32,7 @@ bill_form_of _ = None
 abbrev pub form_of : Command → Option AnswerForm
 form_of (command.Changer c) = changer_form_of c
 form_of (command.Bill c) = bill_form_of c
-form_of (command.Reader c) = Some form.Reader
+form_of (command.Reader unit c) = Some form.Reader
 
 -- the least and the greatest number of data bytes, without the sum
 abbrev pub lengths_of : AnswerForm → ℕ × ℕ
@@ -66,5 +66,5 @@ reader_may_keep reader.SessionComplete = true
 reader_may_keep _ = false
 
 abbrev pub may_keep : Command → Bool
-may_keep (command.Reader c) = reader_may_keep c
+may_keep (command.Reader unit c) = reader_may_keep c
 may_keep _ = false

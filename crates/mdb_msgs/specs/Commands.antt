@@ -9,6 +9,8 @@ use Rattle.mdb_msgs.specs.declared.command.ChangerCommand.{ChangerCommand}
 use Rattle.mdb_msgs.specs.declared.command.ChangerCommand.TheVariants as changer
 use Rattle.mdb_msgs.specs.declared.command.BillCommand.{BillCommand}
 use Rattle.mdb_msgs.specs.declared.command.BillCommand.TheVariants as bill
+use Rattle.mdb_msgs.specs.declared.command.ReaderUnit.{ReaderUnit}
+use Rattle.mdb_msgs.specs.declared.command.ReaderUnit.TheVariants.{First, Second}
 use Rattle.mdb_msgs.specs.declared.command.ReaderCommand.{ReaderCommand}
 use Rattle.mdb_msgs.specs.declared.command.ReaderCommand.TheVariants as reader
 use Rattle.mdb_msgs.specs.TwoBytes.{two_bytes}
@@ -17,7 +19,8 @@ use Rattle.mdb_msgs.specs.TwoBytes.{two_bytes}
 abbrev pub device_of : Command → Device
 device_of (Changer command) = device.Changer
 device_of (Bill command) = device.Bill
-device_of (Reader command) = device.Cashless
+device_of (Reader First command) = device.Cashless
+device_of (Reader Second command) = device.Cashless2
 
 -- to the coin changer, 08
 abbrev pub changer_bytes : ChangerCommand → List ℕ
@@ -43,6 +46,11 @@ bill_bytes bill.Identification = 0x37 ∷ 0x00 ∷ []
 bill_bytes (bill.Features features) = 0x37 ∷ 0x01 ∷ features
 bill_bytes bill.IdentificationWithOptions = 0x37 ∷ 0x02 ∷ []
 
+-- where a cashless reader is: cashless device #1 and cashless device #2
+abbrev pub reader_address : ReaderUnit → ℕ
+reader_address First = 0x10
+reader_address Second = 0x60
+
 -- to the cashless reader at an address
 abbrev pub reader_bytes : ℕ → ReaderCommand → List ℕ
 reader_bytes address reader.Reset = address ∷ []
@@ -64,7 +72,7 @@ reader_bytes address (reader.RequestId identity) = (address + 7) ∷ 0x00 ∷ id
 abbrev pub command_bytes : Command → List ℕ
 command_bytes (Changer command) = changer_bytes command
 command_bytes (Bill command) = bill_bytes command
-command_bytes (Reader command) = reader_bytes 0x10 command
+command_bytes (Reader unit command) = reader_bytes (reader_address unit) command
 
 -- a field that is one byte
 abbrev pub IsByte : ℕ → Type 0
@@ -107,7 +115,7 @@ HasReaderFields _ = Unit {0}
 abbrev pub HasFields : Command → Type 0
 HasFields (Changer command) = HasChangerFields command
 HasFields (Bill command) = HasBillFields command
-HasFields (Reader command) = HasReaderFields command
+HasFields (Reader unit command) = HasReaderFields command
 
 -- a command and its block
 pub record Spells (command : Command) (block : List ℕ) : Type 0 where

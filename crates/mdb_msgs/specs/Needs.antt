@@ -1,4 +1,4 @@
--- What the first bytes of a block of the controller tell (MDB/ICP 4.3, commands of the three devices; what is outside
+-- What the first bytes of a block of the controller tell (MDB/ICP 4.3, commands of the four devices; what is outside
 -- and what is foreign, this profile).
 use Rattle.std.specs.Prelude.{◌≡◌, ℕ, length, ◌/◌, ◌%◌, ◌==◌, Bool, List, Option, Some, None, slice_index, slice_get, if◌then◌else◌}
 use Rattle.mdb_msgs.specs.declared.needs.Need.{Need}
@@ -108,6 +108,7 @@ need first second =
     if is_for 0x08 first then changer_need first second
     else if is_for 0x10 first then reader_need (first % 8) second
     else if is_for 0x30 first then bill_need first second
+    else if is_for 0x60 first then reader_need (first % 8) second
     else Foreign
 
 -- what a block that begins with these bytes needs

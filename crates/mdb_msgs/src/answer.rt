@@ -38,7 +38,7 @@ impl AnswerForm {
         match command {
             Command::Changer(command) => AnswerForm::of_changer(command),
             Command::Bill(command) => AnswerForm::of_bill(command),
-            Command::Reader(_) => Some(AnswerForm::Reader),
+            Command::Reader(_, _) => Some(AnswerForm::Reader),
         }
     }
 
@@ -96,14 +96,15 @@ impl AnswerForm {
     }
 }
 
-/// Whether answers to this command may tell of sessions and sales: POLL and the commands of a session, 13 00 to 13 04
-/// (VEND REQUEST to SESSION COMPLETE; this profile).
+/// Whether answers to this command may tell of sessions and sales: to a reader, POLL and the commands of a session, 13 00
+/// to 13 04 (VEND REQUEST to SESSION COMPLETE; this profile).
 pub(crate) fn may_keep(command: &Command) -> bool
     ensures { result ≡ may_keep command.now }
 {
     matches!(
         command,
         Command::Reader(
+            _,
             ReaderCommand::Poll
                 | ReaderCommand::VendRequest { .. }
                 | ReaderCommand::VendCancel

@@ -1,17 +1,41 @@
 //! Commands of the controller, device by device.
 
 ghost use Rattle.std.specs.Prelude.{◌≡◌};
-ghost use Rattle.mdb_msgs.specs.Commands.{device_of};
+ghost use Rattle.mdb_msgs.specs.Commands.{device_of, reader_address};
 
-/// A peripheral that this profile follows (MDB/ICP 4.3: changer at 08H, cashless reader at 10H, validator at 30H).
+/// A peripheral that this profile follows (MDB/ICP 4.3: changer at 08H, cashless device #1 at 10H, validator at 30H,
+/// cashless device #2 at 60H).
 #[derive(Clone, Copy, PartialEq, Eq, Debug)]
 pub enum Device {
     /// The coin changer, 08H.
     Changer,
     /// The bill validator, 30H.
     Bill,
-    /// The cashless reader, 10H.
+    /// The first cashless reader, 10H.
     Cashless,
+    /// The second cashless reader, 60H.
+    Cashless2,
+}
+
+/// A cashless reader: MDB/ICP 4.3 has two, with the same commands and the same answers.
+#[derive(Clone, Copy, PartialEq, Eq, Debug)]
+pub enum ReaderUnit {
+    /// Cashless device #1, at 10H.
+    First,
+    /// Cashless device #2, at 60H.
+    Second,
+}
+
+impl ReaderUnit {
+    /// Its address, which is the first byte of its RESET.
+    pub fn address(self) -> u8
+        ensures { result ≡ reader_address self }
+    {
+        match self {
+            ReaderUnit::First => 0x10,
+            ReaderUnit::Second => 0x60,
+        }
+    }
 }
 
 /// A command of the controller. Its fields are whole bytes and two-byte numbers, so every command has a block.
@@ -21,8 +45,8 @@ pub enum Command {
     Changer(ChangerCommand),
     /// To the bill validator.
     Bill(BillCommand),
-    /// To the cashless reader.
-    Reader(ReaderCommand),
+    /// To a cashless reader.
+    Reader(ReaderUnit, ReaderCommand),
 }
 
 impl Command {
@@ -33,7 +57,8 @@ impl Command {
         match *self {
             Command::Changer(_) => Device::Changer,
             Command::Bill(_) => Device::Bill,
-            Command::Reader(_) => Device::Cashless,
+            Command::Reader(ReaderUnit::First, _) => Device::Cashless,
+            Command::Reader(ReaderUnit::Second, _) => Device::Cashless2,
         }
     }
 
@@ -101,7 +126,8 @@ pub enum BillCommand {
     IdentificationWithOptions,
 }
 
-/// A command to a cashless reader (MDB/ICP 4.3, cashless device).
+/// A command to a cashless reader (MDB/ICP 4.3, cashless device). The bytes are those to the first; to the second, the
+/// first byte is greater by 50 hexadecimal.
 #[derive(Clone, Copy, PartialEq, Eq, Debug)]
 pub enum ReaderCommand {
     /// RESET, 10.

@@ -1,12 +1,14 @@
 //! Blocks of the controller as commands.
 
-ghost use Rattle.std.specs.Prelude.{◌≡◌, ◌<◌, ◌≤◌, ◌+◌, ◌-◌, length, slice_get, slice_index, IfOk, IfErr, MatchOption, OnErr, ◌≢◌};
+ghost use Rattle.std.specs.Prelude.{◌≡◌, ◌≢◌, ◌<◌, ◌≤◌, ◌+◌, ◌-◌, length, slice_get, slice_index, Ok, Err, IfOk, IfErr, MatchOption};
+ghost use Rattle.mdb_msgs.specs.declared.command.Command.{Command};
+ghost use Rattle.mdb_msgs.specs.declared.fault.MsgFault.{MsgFault};
 ghost use Rattle.mdb_msgs.specs.Commands.{HasBillFields, HasChangerFields, HasReaderFields, Spells, bill_bytes, changer_bytes, reader_bytes};
 ghost use Rattle.mdb_msgs.specs.CommandFaults.{IsCommandFault, IsRefused};
 ghost use Rattle.mdb_msgs.specs.Needs.{reader_need};
 ghost use Rattle.mdb_blocks.specs.Block.{block_of};
 
-use super::command::{BillCommand, ChangerCommand, Command, ReaderCommand};
+use super::command::{BillCommand, ChangerCommand, Command, ReaderCommand, ReaderUnit};
 use super::fault::MsgFault;
 use super::two_bytes::number;
 use mdb_blocks::Block;
@@ -15,14 +17,27 @@ use mdb_blocks::Block;
 /// profile, `Length` where they tell another length.
 pub fn read_command(block: &Block) -> Result<Command, MsgFault>
     ensures command { IfOk result (λ command. Spells command block.now) }
-    ensures none { OnErr result ((command : Command) → ¬ Spells command block.now) }
+    ensures only { (command : Command) → Spells command block.now → result ≡ Ok command }
     ensures fault { IfErr result (IsCommandFault block.now) }
+    ensures refused { (fault : MsgFault) → IsCommandFault block.now fault → result ≡ Err fault }
 {
-    let content = block.content();
+    command_of(block.content())
+}
+
+/// The command whose bytes these are.
+fn command_of(content: &[u8]) -> Result<Command, MsgFault>
+    requires { 0 < length content.now }
+    ensures command { IfOk result (λ command. Spells command (block_of content.now)) }
+    ensures fault { IfErr result (IsCommandFault (block_of content.now)) }
+{
     match content {
         [0x08..=0x0F, ..] => Ok(Command::Changer(changer_command(content)?)),
-        [0x10..=0x17, ..] => Ok(Command::Reader(reader_command(0x10, content)?)),
+        [0x10..=0x17, ..] => Ok(Command::Reader(ReaderUnit::First, reader_command(0x10, content)?)),
         [0x30..=0x37, ..] => Ok(Command::Bill(bill_command(content)?)),
+        [0x60..=0x67, ..] => Ok(Command::Reader(
+            ReaderUnit::Second,
+            reader_command(0x60, content)?,
+        )),
         _ => Err(MsgFault::Profile),
     }
 }

@@ -16,7 +16,7 @@ pub fn write_command(command: &Command) -> Block
     match *command {
         Command::Changer(command) => changer_block(command),
         Command::Bill(command) => bill_block(command),
-        Command::Reader(command) => reader_block(0x10, command),
+        Command::Reader(unit, command) => reader_block(unit.address(), command),
     }
 }
 

@@ -14,7 +14,7 @@ mod reply;
 mod two_bytes;
 
 pub use answer::AnswerForm;
-pub use command::{BillCommand, ChangerCommand, Command, Device, ReaderCommand};
+pub use command::{BillCommand, ChangerCommand, Command, Device, ReaderCommand, ReaderUnit};
 pub use command_reading::read_command;
 pub use command_writing::write_command;
 pub use fault::MsgFault;

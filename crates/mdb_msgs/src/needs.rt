@@ -27,6 +27,7 @@ pub fn need_of(prefix: &[u8]) -> Need
         first @ 0x08..=0x0F => changer_need(first, second),
         first @ 0x10..=0x17 => reader_need(first % 8, second),
         first @ 0x30..=0x37 => bill_need(first, second),
+        first @ 0x60..=0x67 => reader_need(first % 8, second),
         _ => Need::Foreign,
     }
 }

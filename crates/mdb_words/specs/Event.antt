@@ -1,5 +1,5 @@
 -- When events start and end, and the gaps between them.
-use Rattle.std.specs.Prelude.{◌≡◌, ◌+◌, ℕ}
+use Rattle.std.specs.Prelude.{◌≡◌, ◌+◌, ◌≤◌, ℕ}
 use Rattle.mdb_words.specs.declared.event.Event.{Event}
 use Rattle.mdb_words.specs.declared.event.Event.TheVariants.{Word, Break}
 
@@ -16,3 +16,11 @@ end_of (Break at length) = at + length
 -- the gap from one event to a later one
 abbrev pub IsGap : Event → Event → ℕ → Type 0
 IsGap earlier later gap = end_of earlier + gap ≡ start_of later
+
+-- the later event starts at least so long after the earlier one, which for a break is after its end
+abbrev pub AtLeast : ℕ → Event → Event → Type 0
+AtLeast least earlier later = end_of earlier + least ≤ start_of later
+
+-- the later event starts at most so long after the earlier one
+abbrev pub AtMost : ℕ → Event → Event → Type 0
+AtMost most earlier later = start_of later ≤ end_of earlier + most

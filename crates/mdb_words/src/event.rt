@@ -1,7 +1,7 @@
 //! What a recorder saw: a word or a break, and the row that tells it.
 
-ghost use Rattle.std.specs.Prelude.{◌≡◌, ◌<◌, ◌≤◌, ◌∷◌, length, [], List, ℕ, All, map, IfSome, IfNone, IfOk, IfErr, Ok};
-ghost use Rattle.mdb_words.specs.Event.{IsGap, start_of, end_of};
+ghost use Rattle.std.specs.Prelude.{◌≡◌, ◌<◌, ◌≤◌, ◌^◌, ◌↔◌, ◌∷◌, length, [], List, ℕ, All, map, IfSome, IfNone, IfOk, IfErr, IsTrue, Ok};
+ghost use Rattle.mdb_words.specs.Event.{AtLeast, AtMost, IsGap, start_of, end_of};
 ghost use Rattle.mdb_words.specs.Row.{IsFieldByte, IsRefusal, IsRow, Tells, break_letter, joined_by_commas, letter_of, row_fields};
 ghost use Rattle.mdb_words.specs.Digits.{IsDecimal};
 
@@ -114,6 +114,17 @@ impl Event {
             Event::Break { at, .. } => at,
         }
     }
+
+    /// From when the gap to a later event is counted, in microseconds: the start of a word, the end of a break.
+    fn end(&self) -> u64
+        ensures value { result ≡ end_of self.now }
+        ensures range { result < 2 ^ 50 }
+    {
+        match *self {
+            Event::Word { at, .. } => at.value(),
+            Event::Break { at, length } => at.value() + length.value(),
+        }
+    }
 }
 
 /// The microseconds from one event to a later one: from the start of a word, or the end of a break, to the start of
@@ -122,11 +133,25 @@ pub fn gap_of(earlier: &Event, later: &Event) -> Option<u64>
     ensures some { IfSome result (λ gap. IsGap earlier.now later.now gap) }
     ensures none { IfNone result (start_of later.now < end_of earlier.now) }
 {
-    let from = match *earlier {
-        Event::Word { at, .. } => at.value(),
-        Event::Break { at, length } => at.value() + length.value(),
-    };
-    later.start().value().checked_sub(from)
+    later.start().value().checked_sub(earlier.end())
+}
+
+/// Whether the later event starts at least so many microseconds after the earlier one: after the start of a word, or
+/// the end of a break (this profile).
+pub fn is_at_least(earlier: &Event, later: &Event, least: u64) -> bool
+    requires { least < 2 ^ 32 }
+    ensures { IsTrue result ↔ AtLeast least earlier.now later.now }
+{
+    earlier.end() + least <= later.start().value()
+}
+
+/// Whether the later event starts at most so many microseconds after the earlier one: after the start of a word, or
+/// the end of a break (this profile). An event that starts before that does too.
+pub fn is_at_most(earlier: &Event, later: &Event, most: u64) -> bool
+    requires { most < 2 ^ 32 }
+    ensures { IsTrue result ↔ AtMost most earlier.now later.now }
+{
+    later.start().value() <= earlier.end() + most
 }
 
 #[cfg(test)]
@@ -246,5 +271,17 @@ mod tests {
             )));
             assert_eq!(rt; found, gap);
         }
+    }
+
+    #[test]
+    fn limits_hold_to_the_microsecond(rt: HostRuntime) {
+        let pause = break_at(0, 100_000).expect(&rt, "a break");
+        let word = word_at(300_000, Line::Controller, 0x108).expect(&rt, "a word");
+        assert!(rt; is_at_least(&pause, &word, 200_000));
+        assert!(rt; !is_at_least(&pause, &word, 200_001));
+        assert!(rt; is_at_most(&pause, &word, 200_000));
+        assert!(rt; !is_at_most(&pause, &word, 199_999));
+        assert!(rt; !is_at_least(&word, &pause, 0));
+        assert!(rt; is_at_most(&word, &pause, 0));
     }
 }

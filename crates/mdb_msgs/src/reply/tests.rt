@@ -1,5 +1,5 @@
 use super::{BillMsg, ChangerMsg, ChangerSetup, Reply, read_reply, write_reply};
-use crate::{BillCommand, ChangerCommand, Command, MsgFault, ReaderCommand, ReaderMsg};
+use crate::{BillCommand, ChangerCommand, Command, MsgFault, ReaderCommand, ReaderMsg, ReaderUnit};
 use arrayvec::ArrayVec;
 use mdb_blocks::seal;
 
@@ -16,9 +16,9 @@ const BILL_SETUP: Command = Command::Bill(BillCommand::Setup);
 
 const BILL_POLL: Command = Command::Bill(BillCommand::Poll);
 
-const READER_POLL: Command = Command::Reader(ReaderCommand::Poll);
+const READER_POLL: Command = Command::Reader(ReaderUnit::First, ReaderCommand::Poll);
 
-const READER_ENABLE: Command = Command::Reader(ReaderCommand::Enable);
+const READER_ENABLE: Command = Command::Reader(ReaderUnit::First, ReaderCommand::Enable);
 
 /// What the reading of data bytes answers, without the reply.
 fn fault_of(command: &Command, bytes: &[u8]) -> Option<MsgFault> {
