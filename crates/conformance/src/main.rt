@@ -1,121 +1,201 @@
-//! Runs `mdbcheck check` on the transcripts of its folder, and prints what each run answered and wrote.
+//! Runs the program `mdbcheck` on each worked case of its folder, prints each that doesn't come
+//! out as it is wanted, and at the end how many there are. `data/README` says how a case is
+//! written.
 #![tactic(auto)]
 
+use std::alloc::{AllocError, Global};
 use std::io::Write;
 use std::{fs, io};
 
-/// The transcripts, in the order of `README`, which says of each what is wanted and why.
-const TRANSCRIPTS: [&str; 79] = [
-    "nothing.csv",
-    "reset-and-poll.csv",
-    "cut-inside-a-command.csv",
-    "cut-inside-a-reply.csv",
-    "second-word-after-2296.csv",
-    "second-word-after-2297.csv",
-    "second-word-after-995.csv",
-    "second-word-after-996.csv",
-    "answer-after-6296.csv",
-    "answer-after-6297.csv",
-    "answer-after-996.csv",
-    "answer-after-995.csv",
-    "early-before-answer.csv",
-    "late-before-answer.csv",
-    "new-block-after-5996.csv",
-    "new-block-after-5995.csv",
-    "early-before-profile.csv",
-    "new-block-996-after-an-acknowledgement.csv",
-    "new-block-995-after-an-acknowledgement.csv",
-    "new-block-5996-after-a-reply.csv",
-    "new-block-5995-after-a-reply.csv",
-    "controllers-acknowledgement-after-6296.csv",
-    "controllers-acknowledgement-after-6297.csv",
-    "controllers-acknowledgement-after-995.csv",
-    "controllers-answer-01.csv",
-    "controllers-negative-acknowledgement.csv",
-    "controllers-retransmit.csv",
-    "time-goes-back.csv",
-    "equal-times.csv",
-    "order-before-speaker.csv",
-    "order-before-a-break.csv",
-    "answer-to-nothing.csv",
-    "peripheral-inside-a-command.csv",
-    "second-acknowledgement.csv",
-    "peripheral-behind-its-reply.csv",
-    "controller-2296-into-a-reply.csv",
-    "controller-2297-into-a-reply.csv",
-    "unmarked-word-at-the-start.csv",
-    "unmarked-word-for-an-answer.csv",
-    "marked-word-inside-a-command.csv",
-    "reply-word-after-995.csv",
-    "reply-word-after-2297.csv",
-    "wrong-sum-of-a-command.csv",
-    "data-answer-to-reset.csv",
-    "answer-of-one-marked-byte.csv",
-    "negative-acknowledgement.csv",
-    "reply-of-three-messages.csv",
-    "reply-of-16-messages.csv",
-    "reply-of-17-messages.csv",
-    "length-before-sum.csv",
-    "reply-without-an-end.csv",
-    "wrong-sum-of-a-reply.csv",
-    "sum-before-message.csv",
-    "message-60.csv",
-    "message-1b.csv",
-    "message-1b-before-60.csv",
-    "message-60-before-1b.csv",
-    "deposit.csv",
-    "deposit-of-one-byte.csv",
-    "deposit-with-1b.csv",
-    "deposit-cut-by-the-length.csv",
-    "rejected-coin-before-60.csv",
-    "dispensed-by-hand.csv",
-    "outside-the-profile.csv",
-    "setup-of-the-changer.csv",
-    "another-device.csv",
-    "break.csv",
-    "early-and-short-break.csv",
-    "value-above-1ff.csv",
-    "offence-before-a-bad-row.csv",
-    "bad-row-before-an-offence.csv",
-    "two-fields.csv",
-    "space-before-a-time.csv",
-    "lower-case-line.csv",
-    "leading-zeros.csv",
-    "quoted-fields.csv",
-    "carriage-returns.csv",
-    "lower-case-value.csv",
-    "greatest-time.csv",
+/// The files of cases, one for each subject.
+const FILES: [&str; 9] = [
+    "rows.cases",
+    "times.cases",
+    "commands.cases",
+    "answers.cases",
+    "positions.cases",
+    "breaks.cases",
+    "foreign.cases",
+    "order-of-rules.cases",
+    "worked.cases",
 ];
 
-/// Runs `mdbcheck check` on the transcript of this name, and prints its status, its standard output, and whether its
-/// standard error is empty or one line.
-fn print_run(rt: &HostRuntime, name: &str) -> io::Result<()> {
-    let transcript = fs::read(rt, name)?;
-    let words = vec![in rt.alloc();
-        String::from_str(rt.alloc(), "mdbcheck")?,
-        String::from_str(rt.alloc(), "check")?,
-    ]?;
-    let mut out = Vec::new(rt.alloc());
-    let mut err = Vec::new(rt.alloc());
-    let status = mdb_check::run(rt.alloc(), words, transcript.as_slice(), &mut out, &mut err);
-    println!(rt; "{name} status {status}")?;
-    io::writer(rt).write_all(out.as_slice())?;
-    let lines = lines_of(err.as_slice());
-    println!(rt; "standard error: {lines}")
+/// A transcript, and what the program has to make of it.
+#[derive(Drop)]
+struct Case {
+    name: String,
+    // The words behind the program's name; `check` where the case has none.
+    words: Vec<String>,
+    transcript: Vec<u8>,
+    // The exit status, as it is written.
+    status: String,
+    // Standard output and standard error, whole.
+    out: String,
+    err: String,
 }
 
-/// Whether a text is empty, or one whole line.
-fn lines_of(text: &[u8]) -> &'static str {
-    match text.iter().position(|byte| *byte == b'\n') {
-        None if text.is_empty() => "nothing",
-        Some(end) if end + 1 == text.len() => "one line",
-        _ => "not one line",
+/// How many cases there were, and how many of them came out otherwise than wanted.
+#[derive(Clone, Copy, Drop)]
+struct Tally {
+    cases: u64,
+    differing: u64,
+}
+
+impl Case {
+    /// A case of which only the name is known.
+    fn named(alloc: Global, name: &str) -> Result<Case, AllocError> {
+        Ok(Case {
+            name: String::from_str(alloc, name)?,
+            words: Vec::new(alloc),
+            transcript: Vec::new(alloc),
+            status: String::new(alloc),
+            out: String::new(alloc),
+            err: String::new(alloc),
+        })
     }
+
+    /// Takes a further line of the case, and answers whether it is one.
+    fn take(&mut self, alloc: Global, line: &str) -> Result<bool, AllocError> {
+        match line.split_once(' ') {
+            Some(("why", _)) => {}
+            Some(("words", words)) => add_words(alloc, &mut self.words, words)?,
+            Some(("rows", rows)) => add_rows(&mut self.transcript, rows)?,
+            Some(("text", text)) => add_text(&mut self.transcript, text.as_bytes())?,
+            Some(("status", status)) => self.status.push_str(status)?,
+            Some(("out", line)) => add_line(&mut self.out, line)?,
+            Some(("err", line)) => add_line(&mut self.err, line)?,
+            _ => return Ok(false),
+        }
+        Ok(true)
+    }
+
+    /// Runs the case, and answers whether it came out as wanted. Where it didn't, what came is
+    /// printed.
+    fn run(self, rt: &HostRuntime) -> io::Result<bool> {
+        let words = command_line(rt.alloc(), self.words.as_slice())?;
+        let mut out = Vec::new(rt.alloc());
+        let mut err = Vec::new(rt.alloc());
+        let transcript = self.transcript.as_slice();
+        let status = mdb_check::run(rt.alloc(), words, transcript, &mut out, &mut err);
+        let is_wanted = status.to_string(rt.alloc())?.as_str() == self.status.as_str()
+            && out.as_slice() == self.out.as_str().as_bytes()
+            && err.as_slice() == self.err.as_str().as_bytes();
+        if !is_wanted {
+            let name = self.name.as_str();
+            println!(rt; "{name}: status {status}")?;
+            io::writer(rt).write_all(out.as_slice())?;
+            io::writer(rt).write_all(err.as_slice())?;
+        }
+        Ok(is_wanted)
+    }
+}
+
+impl Tally {
+    /// Counts a case, if there is one, after running it.
+    fn count(&mut self, rt: &HostRuntime, case: Option<Case>) -> io::Result<()> {
+        if let Some(case) = case {
+            self.cases = self.cases.saturating_add(1);
+            if !case.run(rt)? {
+                self.differing = self.differing.saturating_add(1);
+            }
+        }
+        Ok(())
+    }
+}
+
+/// The words of the command line: the program's name, and these or `check`.
+fn command_line(alloc: Global, words: &[String]) -> Result<Vec<String>, AllocError> {
+    let mut line = Vec::new(alloc);
+    line.push(String::from_str(alloc, "mdbcheck")?)?;
+    if words.is_empty() {
+        line.push(String::from_str(alloc, "check")?)?;
+    }
+    for word in words {
+        line.push(word.clone()?)?;
+    }
+    Ok(line)
+}
+
+/// Adds a line and its end.
+fn add_line(text: &mut String, line: &str) -> Result<(), AllocError> {
+    text.push_str(line)?;
+    text.push_str("\n")
+}
+
+/// Adds the words of a line, which single blanks part.
+fn add_words(alloc: Global, words: &mut Vec<String>, line: &str) -> Result<(), AllocError> {
+    for word in line.split(' ') {
+        words.push(String::from_str(alloc, word)?)?;
+    }
+    Ok(())
+}
+
+/// Adds the rows of a line, which single blanks part, each with a line feed.
+fn add_rows(transcript: &mut Vec<u8>, line: &str) -> Result<(), AllocError> {
+    for row in line.split(' ') {
+        transcript.extend_from_slice(row.as_bytes())?;
+        transcript.push(b'\n')?;
+    }
+    Ok(())
+}
+
+/// Adds the bytes of a line as they stand, without a line feed: `\n` and `\r` are a line feed and a
+/// carriage return, `\m` a byte order mark, `\x` the byte FF, and `\\` a backslash.
+fn add_text(transcript: &mut Vec<u8>, line: &[u8]) -> Result<(), AllocError> {
+    let mut is_escaped = false;
+    for byte in line {
+        match *byte {
+            b'\\' if !is_escaped => is_escaped = true,
+            byte => {
+                let one = [byte];
+                let bytes: &[u8] = match byte {
+                    b'n' if is_escaped => b"\n",
+                    b'r' if is_escaped => b"\r",
+                    b'm' if is_escaped => b"\xEF\xBB\xBF",
+                    b'x' if is_escaped => b"\xFF",
+                    _ => &one,
+                };
+                transcript.extend_from_slice(bytes)?;
+                is_escaped = false;
+            }
+        }
+    }
+    Ok(())
+}
+
+/// Runs the cases of a file.
+fn run_file(rt: &HostRuntime, file: &str, tally: &mut Tally) -> io::Result<()> {
+    let text = fs::read_to_string(rt, file)?;
+    let mut case: Option<Case> = None;
+    for line in text.as_str().split('\n') {
+        if let Some(("case", name)) = line.split_once(' ') {
+            tally.count(rt, case.take())?;
+            case = Some(Case::named(rt.alloc(), name)?);
+        } else if !line.is_empty() && !line.starts_with('#') {
+            let is_known = match &mut case {
+                Some(case) => case.take(rt.alloc(), line)?,
+                None => false,
+            };
+            if !is_known {
+                println!(rt; "{file}: no line of a case: {line}")?;
+                tally.differing = tally.differing.saturating_add(1);
+            }
+        }
+    }
+    tally.count(rt, case)
 }
 
 fn main(rt: HostRuntime) -> io::Result<()> {
-    for name in TRANSCRIPTS {
-        print_run(&rt, name)?;
+    let mut tally = Tally {
+        cases: 0,
+        differing: 0,
+    };
+    for file in FILES {
+        run_file(&rt, file, &mut tally)?;
     }
-    Ok(())
+    let cases = tally.cases;
+    match tally.differing {
+        0 => println!(rt; "{cases} cases, each as wanted"),
+        differing => println!(rt; "{cases} cases, and {differing} that differ"),
+    }
 }

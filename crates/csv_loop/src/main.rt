@@ -1,4 +1,5 @@
-//! Counts the CSV records of its standard input. It does nothing else, so the benchmark compares the checker with it.
+//! Counts the CSV records of its standard input. It does nothing else, so the benchmark compares
+//! the checker with it.
 #![tactic(auto)]
 
 use csv::{ByteRecord, Error, ReaderBuilder};

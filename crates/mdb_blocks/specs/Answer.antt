@@ -11,7 +11,8 @@ answer_byte Ack = 0x00
 answer_byte Nak = 0xFF
 answer_byte Ret = 0xAA
 
--- its word on a line: a peripheral marks the last word of what it sends, the controller marks no answer
+-- its word on a line: a peripheral marks the last word of what it sends, the controller marks the
+-- first of a block alone, and so no answer
 abbrev pub answer_word : Line → Answer → ℕ
 answer_word Controller answer = answer_byte answer
 answer_word Peripheral answer = 256 + answer_byte answer

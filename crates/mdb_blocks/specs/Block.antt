@@ -1,5 +1,5 @@
 -- Blocks of the bus (MDB/ICP 4.3, block format), and their words on each line.
-use Rattle.std.specs.Prelude.{◌≡◌, ℕ, ◌+◌, ◌%◌, ◌<◌, ◌≤◌, List, [], ◌∷◌, ◌++◌, length, sum, All}
+use Rattle.std.specs.Prelude.{◌≡◌, ◌≢◌, ℕ, ◌+◌, ◌%◌, ◌<◌, ◌≤◌, List, [], ◌∷◌, ◌++◌, length, sum, All}
 use Rattle.mdb_words.specs.declared.word.Line.{Line}
 use Rattle.mdb_words.specs.declared.word.Line.TheVariants.{Controller, Peripheral}
 use Rattle.mdb_blocks.specs.declared.block.BlockFault.{BlockFault}
@@ -43,8 +43,11 @@ IsSealFault content Empty = content ≡ []
 IsSealFault content TooLong = 35 < length content
 IsSealFault content BadSum = ⊥
 
--- why bytes are no block, the first reason that applies
+-- why bytes are no block, the first reason that applies; with `BadSum` they are 2 to 36 bytes whose
+-- last isn't the sum of the others modulo 256
 abbrev pub IsUnsealFault : List ℕ → BlockFault → Type 0
 IsUnsealFault bytes Empty = length bytes < 2
 IsUnsealFault bytes TooLong = 36 < length bytes
-IsUnsealFault bytes BadSum = (2 ≤ length bytes) × (length bytes ≤ 36) × ¬ IsBlock bytes
+IsUnsealFault bytes BadSum =
+    (front : List ℕ) × (last : ℕ) × (bytes ≡ front ++ last ∷ [])
+    × (1 ≤ length front) × (length front ≤ 35) × (last ≢ sum front % 256)

@@ -10,7 +10,8 @@ use std::marker::Model;
 /// The most bytes of a block, its sum included (MDB/ICP 4.3, block format).
 const BLOCK_MAX: usize = 36;
 
-/// A block: 2 to 36 bytes, the last of them the sum of the others modulo 256 (MDB/ICP 4.3, block format).
+/// A block: 2 to 36 bytes, the last of them the sum of the others modulo 256 (MDB/ICP 4.3, block
+/// format).
 #[derive(Debug, Drop)]
 pub struct Block {
     bytes: ArrayVec<u8, BLOCK_MAX>,
@@ -56,7 +57,8 @@ impl Block {
         &bytes[..bytes.len() - 1]
     }
 
-    /// The `i`-th word of the block on a line. The controller marks the first word of a block, a peripheral the last.
+    /// The `i`-th word of the block on a line. The controller marks the first word of a block, a
+    /// peripheral the last.
     #[tactic(auto, using(crate::proofs::Words::peripheral_word))]
     pub fn word(&self, line: Line, i: usize) -> Word
         requires { i < length self.now }
@@ -79,8 +81,8 @@ impl Block {
     }
 }
 
-/// The block that carries these bytes: they, and their sum. `Empty` where there are none, `TooLong` where there are
-/// more than 35.
+/// The block that carries these bytes: they, and their sum. `Empty` where there are none, `TooLong`
+/// where there are more than 35.
 pub fn seal(content: &[u8]) -> Result<Block, BlockFault>
     ensures exactly { IsOk result ↔ IsContent content.now }
     ensures block { IfOk result (λ block. block ≡ block_of content.now) }
@@ -97,8 +99,8 @@ pub fn seal(content: &[u8]) -> Result<Block, BlockFault>
     }
 }
 
-/// These bytes as a block. `Empty` where there are fewer than two, else `TooLong` where there are more than 36, else
-/// `BadSum` where the last is not the sum of the others.
+/// These bytes as a block. `Empty` where there are fewer than two, else `TooLong` where there are
+/// more than 36, else `BadSum` where the last is not the sum of the others.
 pub fn unseal(bytes: &[u8]) -> Result<Block, BlockFault>
     ensures exactly { IsOk result ↔ IsBlock bytes.now }
     ensures block { IfOk result (λ block. block ≡ bytes.now) }

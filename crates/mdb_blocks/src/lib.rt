@@ -1,4 +1,5 @@
-//! Blocks of the MDB bus: 2 to 36 bytes of which the last is the sum of the others, and the one-byte answers.
+//! Blocks of the MDB bus: 2 to 36 bytes of which the last is the sum of the others, and the
+//! one-byte answers.
 #![tactic(auto)]
 
 mod answer;

@@ -1,5 +1,5 @@
 -- The fields of a record.
-use Rattle.std.proofs.Common.{rules, arith, refl, ap, sym, subst, ◌∙◌, ◌≡◌, ◌+◌, ◌<◌, ℕ, zero, suc, List, [], ◌∷◌, ◌++◌, Option, Some, None, length, append_assoc}
+use Rattle.std.proofs.Common.{arith, ◌≡◌, ◌<◌, ℕ, zero, suc, List, [], ◌∷◌, Some, None, length}
 use Rattle.csv.specs.Records.{field_at}
 
 -- a record has the fields below its length

@@ -1,43 +1,39 @@
--- Fronts of act lists, rows that break a rule, and the one answer to the records of a text.
+-- The records of a text have one answer of their own.
 use Rattle.std.proofs.Common.{arith, refl, ap, sym, subst, ◌∙◌, ◌≡◌, ◌+◌, ◌<◌, ◌≤◌, ℕ, List, [], ◌∷◌, ◌++◌, Result, Ok, Err, inl, inr, ◌⊎◌, length, length-append, append_assoc}
 use Rattle.std.proofs.lemmas.List.{append-nil}
 use Rattle.std.proofs.lemmas.Grind.{common_steps}
 use Rattle.mdb_words.specs.declared.event.Event.{Event}
 use Rattle.mdb_words.specs.declared.row.RowFault.{RowFault}
 use Rattle.mdb_words.specs.Row.{IsRow, IsRefusal}
-use Rattle.mdb_check.specs.declared.offence.Blame.{Blame}
+use Rattle.mdb_bus.specs.declared.fault.Blame.{Blame}
+use Rattle.mdb_bus.specs.declared.fault.Rule.{Rule}
+use Rattle.mdb_bus.specs.ActLists.{ArePieces, HasActList, IsActList, Piece}
+use Rattle.mdb_bus.specs.LinkFaults.{IsLinkFault}
+use Rattle.mdb_bus.specs.Loss.{IsExplained, Loss, LossFits}
 use Rattle.mdb_check.specs.declared.offence.Offence.{Offence}
-use Rattle.mdb_check.specs.declared.offence.Rule.{Rule}
 use Rattle.mdb_check.specs.declared.outcome.Outcome.{Outcome}
 use Rattle.mdb_check.specs.declared.outcome.Outcome.TheVariants.{Yes, No}
 use Rattle.mdb_check.specs.declared.outcome.Report.{Report}
 use Rattle.mdb_check.specs.declared.outcome.RunFault.{RunFault}
 use Rattle.mdb_check.specs.declared.outcome.RunFault.TheVariants.{BadRow, TooLong, Read, Write, Memory}
 use Rattle.mdb_check.specs.declared.verdict.TheConstants.{ROWS_MAX}
-use Rattle.mdb_check.specs.ActLists.{Piece, IsActList, HasActList}
-use Rattle.mdb_check.specs.LinkFaults.{blame_of, RowBreaks, IsFirstBroken, IsLinkFault, position_of, last_of}
-use Rattle.mdb_check.specs.Verdict.{AreRows, IsAnswer, IsTold, IsBadRow, IsOffence, IsPossible, IsTooLong, report_of}
-use Rattle.mdb_check.proofs.OneActList.{one_act_list, shorter, by_last}
-use Rattle.mdb_check.proofs.Backward.{backward}
-use Rattle.mdb_msgs.specs.Laws.{ReplyHasNoFault}
-use Rattle.mdb_check.proofs.Feed.{impossible}
-use Rattle.mdb_check.proofs.FirstRule.{no_device_rule, one_first}
+use Rattle.mdb_check.specs.Verdict.{AreRows, IsAnswer, IsOwnAnswer, IsBadRow, IsOffence, IsPossible, IsTooLong, report_of}
 
--- each front of a transcript with an act list has one
-pub fronts : (rows more : List Event) → HasActList (rows ++ more) → HasActList rows
-fronts rows more = by_last (λ es. HasActList (rows ++ es) → HasActList rows)
-    (λ list. subst HasActList (append-nil rows) list)
-    (λ es event before list. before (shorter (rows ++ es) event (subst HasActList (sym (append_assoc rows es (event ∷ []))) list)))
-    more
+-- what the laws of the bus say of act lists
+pub record BusLaws : Type 0 where
+  pub one : (rows : List Event) (one other : List Piece) → IsActList one rows → IsActList other rows → one ≡ other
+  pub fronts : (rows more : List Event) → HasActList (rows ++ more) → HasActList rows
+  pub fits : (pieces : List Piece) → ArePieces pieces → (loss : Loss) × LossFits loss pieces
+  pub one_fault : (pieces : List Piece) (row : Event) (r s : Rule) (a b : Blame) → IsLinkFault pieces row r a → IsLinkFault pieces row s b → (r ≡ s) × (a ≡ b)
 
--- behind rows with an act list, none goes on with a row that breaks a rule
-pub breaking_ends : ReplyHasNoFault → (rows : List Event) (pieces : List Piece) (event : Event) (broken : Rule) → IsActList pieces rows → RowBreaks (position_of pieces) (last_of rows) event broken
-    → HasActList (rows ++ event ∷ []) → ⊥
-breaking_ends law rows pieces event broken act_list breaks list =
-    let b = backward list.0 rows event list.1 in
-    let same : pieces ≡ b.before = one_act_list rows pieces b.before act_list b.act_list in
-    let P : List Piece → Type 0 = λ ps. RowBreaks (position_of ps) (last_of rows) event broken in
-    impossible law event broken b.line b.word (last_of rows) (position_of b.before) (position_of list.0) b.said (subst P same breaks) b.in_order b.goes
+-- rows are explained where they have an act list
+explained : BusLaws → (rows : List Event) → HasActList rows → IsExplained rows
+explained laws rows list =
+    let found = laws.fits list.0 list.1.in_order in
+    record { pieces = list.0; act_list = list.1; loss = found.0; fits = found.1 }
+
+listed : (rows : List Event) → IsExplained rows → HasActList rows
+listed rows is = (is.pieces, is.act_list)
 
 -- fields are a row of one event at most, and a row is never refused
 row_one : (fields : List (List ℕ)) (a b : Event) → IsRow fields a → IsRow fields b → a ≡ b
@@ -49,17 +45,6 @@ row_not_refused fields event fault row refused = grind (arith, common_steps)
 -- a record has one refusal
 one_refusal : (fields : List (List ℕ)) (a b : RowFault) → IsRefusal fields a → IsRefusal fields b → a ≡ b
 one_refusal fields a b p q = grind (arith, common_steps)
-
--- the fault of a row is one
-one_fault : (rows : List Event) (event : Event) (r s : Rule) (a b : Blame) → IsLinkFault rows event r a → IsLinkFault rows event s b → (r ≡ s) × (a ≡ b)
-one_fault rows event r s a b first second =
-    let same : second.pieces ≡ first.pieces = one_act_list rows second.pieces first.pieces second.act_list first.act_list in
-    let P : List Piece → Type 0 = λ ps. IsFirstBroken (RowBreaks (position_of ps) (last_of rows) event) s in
-    let none = no_device_rule (position_of first.pieces) (last_of rows) event in
-    let rules_same : r ≡ s = one_first (RowBreaks (position_of first.pieces) (last_of rows) event) none.0 none.1 none.2 r s first.rule (subst P same second.rule) in (
-      rules_same,
-      first.blame ∙ (ap (blame_of first.pieces event) rules_same ∙ (ap (λ ps. blame_of ps event s) (sym same) ∙ sym second.blame)),
-    )
 
 -- The rows at the front of the records that have an act list, where no more row goes on: there is no record behind them, it is
 -- no row, no act list goes on with it, or it is one too many.
@@ -118,20 +103,20 @@ compared done [] rest left rows (event ∷ events) told heard same = absurd hear
 compared done (fields ∷ others) rest left rows [] told heard same = absurd heard
 
 -- no such front is longer than another one
-no_longer : (records : List (List (List ℕ))) (rows events : List Event) (rest left : List (List (List ℕ))) → Front records rows rest → Front records events left → GoesOn rows events rest → ⊥
-no_longer records rows events rest left first second on =
+no_longer : BusLaws → (records : List (List (List ℕ))) (rows events : List Event) (rest left : List (List (List ℕ))) → Front records rows rest → Front records events left → GoesOn rows events rest → ⊥
+no_longer laws records rows events rest left first second on =
     let split : events ≡ (rows ++ on.event ∷ []) ++ on.more = on.longer_is ∙ sym (append_assoc rows (on.event ∷ []) on.more) in
     let long : length events ≡ length rows + length (on.event ∷ on.more) = ap length on.longer_is ∙ length-append rows (on.event ∷ on.more) in
-    first.ends on.fields on.behind on.event on.record_is on.row (fronts (rows ++ on.event ∷ []) on.more (subst HasActList split second.possible)) (omega (arith, second.few, long))
+    first.ends on.fields on.behind on.event on.record_is on.row (laws.fronts (rows ++ on.event ∷ []) on.more (subst HasActList split second.possible)) (omega (arith, second.few, long))
 
 -- such a front of the records is one, and so is what stands behind it
-one_front : (records : List (List (List ℕ))) (rows events : List Event) (rest left : List (List (List ℕ))) → Front records rows rest → Front records events left → (rows ≡ events) × (rest ≡ left)
-one_front records rows events rest left first second = by_case (compared first.done second.done rest left rows events first.told second.told (sym first.split ∙ second.split))
+one_front : BusLaws → (records : List (List (List ℕ))) (rows events : List Event) (rest left : List (List (List ℕ))) → Front records rows rest → Front records events left → (rows ≡ events) × (rest ≡ left)
+one_front laws records rows events rest left first second = by_case (compared first.done second.done rest left rows events first.told second.told (sym first.split ∙ second.split))
   where
     by_case : ((rows ≡ events) × (rest ≡ left)) ⊎ (GoesOn rows events rest ⊎ GoesOn events rows left) → (rows ≡ events) × (rest ≡ left)
     by_case (inl same) = same
-    by_case (inr (inl on)) = absurd (no_longer records rows events rest left first second on)
-    by_case (inr (inr on)) = absurd (no_longer records events rows left rest second first on)
+    by_case (inr (inl on)) = absurd (no_longer laws records rows events rest left first second on)
+    by_case (inr (inr on)) = absurd (no_longer laws records events rows left rest second first on)
 
 -- the front of each answer
 yes_front : (records : List (List (List ℕ))) (report : Report) (is : IsPossible records report) → Front records is.rows []
@@ -139,17 +124,17 @@ yes_front records report is = record {
   done = records;
   split = sym (append-nil records);
   told = is.told;
-  possible = is.possible;
+  possible = listed is.rows is.possible;
   few = is.few;
   ends = λ fields more event none row list below. cc;
 }
 
-no_front : (records : List (List (List ℕ))) (offence : Offence) (is : IsOffence records offence) → Front records is.rows (is.fields ∷ is.stops.rest)
-no_front records offence is = record {
+no_front : BusLaws → (records : List (List (List ℕ))) (offence : Offence) (is : IsOffence records offence) → Front records is.rows (is.fields ∷ is.stops.rest)
+no_front laws records offence is = record {
   done = is.stops.done;
   split = is.stops.split;
   told = is.stops.told;
-  possible = is.stops.possible;
+  possible = listed is.rows is.stops.possible;
   few = omega (arith, is.few);
   ends = λ fields more event same row list below. impossible_row fields event (cc) row list;
 }
@@ -159,14 +144,14 @@ no_front records offence is = record {
         let P : List (List ℕ) → Type 0 = λ f. IsRow f event in
         let one : event ≡ is.row = row_one is.fields event is.row (subst P same row) is.told in
         let Q : Event → Type 0 = λ e. HasActList (is.rows ++ e ∷ []) in
-        is.impossible (subst Q one list)
+        is.impossible (explained laws (is.rows ++ is.row ∷ []) (subst Q one list))
 
 bad_front : (records : List (List (List ℕ))) (row : ℕ) (fault : RowFault) (is : IsBadRow records row fault) → Front records is.rows (is.fields ∷ is.stops.rest)
 bad_front records row fault is = record {
   done = is.stops.done;
   split = is.stops.split;
   told = is.stops.told;
-  possible = is.stops.possible;
+  possible = listed is.rows is.stops.possible;
   few = omega (arith, is.few);
   ends = λ fields more event same told list below. no_row fields event (cc) told;
 }
@@ -179,30 +164,32 @@ long_front records is = record {
   done = is.stops.done;
   split = is.stops.split;
   told = is.stops.told;
-  possible = is.stops.possible;
+  possible = listed is.rows is.stops.possible;
   few = omega (arith, is.full);
   ends = λ fields more event same told list below. omega (arith, is.full, below);
 }
 
 -- the offence behind a front is one
-one_offence : (records : List (List (List ℕ))) (a b : Offence) → IsOffence records a → IsOffence records b → a ≡ b
-one_offence records a b first second =
-    let same = one_front records _ _ _ _ (no_front records a first) (no_front records b second) in
+one_offence : BusLaws → (records : List (List (List ℕ))) (a b : Offence) → IsOffence records a → IsOffence records b → a ≡ b
+one_offence laws records a b first second =
+    let same = one_front laws records _ _ _ _ (no_front laws records a first) (no_front laws records b second) in
     let tails : first.fields ∷ first.stops.rest ≡ second.fields ∷ second.stops.rest = same.1 in
     let fields : second.fields ≡ first.fields = cc in
     let P : List (List ℕ) → Type 0 = λ f. IsRow f second.row in
     let event : second.row ≡ first.row = row_one first.fields second.row first.row (subst P fields second.told) first.told in
-    let InRows : List Event → Type 0 = λ rs. IsLinkFault rs second.row b.rule b.blame in
-    let OfRow : Event → Type 0 = λ e. IsLinkFault first.rows e b.rule b.blame in
-    let fault = one_fault first.rows first.row a.rule b.rule a.blame b.blame first.fault (subst OfRow event (subst InRows (sym same.0) second.fault)) in
+    let OfRows : List Event → Type 0 = λ rs. IsActList second.pieces rs in
+    let pieces : second.pieces ≡ first.pieces = laws.one first.rows second.pieces first.pieces (subst OfRows (sym same.0) second.act_list) first.act_list in
+    let Behind : List Piece → Type 0 = λ ps. IsLinkFault ps second.row b.rule b.blame in
+    let OfRow : Event → Type 0 = λ e. IsLinkFault first.pieces e b.rule b.blame in
+    let fault = laws.one_fault first.pieces first.row a.rule b.rule a.blame b.blame first.fault (subst OfRow event (subst Behind pieces second.fault)) in
     let number : a.row ≡ b.row = first.number ∙ (ap (λ rs. length rs + 1) same.0 ∙ sym second.number) in
     let made : ℕ → Rule → Blame → Offence = λ n r w. record { row = n; rule = r; blame = w } in
     ap (λ n. made n a.rule a.blame) number ∙ (ap (λ r. made b.row r a.blame) fault.0 ∙ ap (λ w. made b.row b.rule w) fault.1)
 
 -- the record that is no row is one, and so is its refusal
-one_bad_row : (records : List (List (List ℕ))) (m n : ℕ) (a b : RowFault) → IsBadRow records m a → IsBadRow records n b → (m ≡ n) × (a ≡ b)
-one_bad_row records m n a b first second =
-    let same = one_front records _ _ _ _ (bad_front records m a first) (bad_front records n b second) in
+one_bad_row : BusLaws → (records : List (List (List ℕ))) (m n : ℕ) (a b : RowFault) → IsBadRow records m a → IsBadRow records n b → (m ≡ n) × (a ≡ b)
+one_bad_row laws records m n a b first second =
+    let same = one_front laws records _ _ _ _ (bad_front records m a first) (bad_front records n b second) in
     let tails : first.fields ∷ first.stops.rest ≡ second.fields ∷ second.stops.rest = same.1 in
     let fields : second.fields ≡ first.fields = cc in
     let P : List (List ℕ) → Type 0 = λ f. IsRefusal f b in (
@@ -211,68 +198,68 @@ one_bad_row records m n a b first second =
     )
 
 -- two answers of different kinds
-yes_or_no : (records : List (List (List ℕ))) (report : Report) (offence : Offence) → IsPossible records report → IsOffence records offence → ⊥
-yes_or_no records report offence first second =
-    let same = one_front records _ _ _ _ (yes_front records report first) (no_front records offence second) in
+yes_or_no : BusLaws → (records : List (List (List ℕ))) (report : Report) (offence : Offence) → IsPossible records report → IsOffence records offence → ⊥
+yes_or_no laws records report offence first second =
+    let same = one_front laws records _ _ _ _ (yes_front records report first) (no_front laws records offence second) in
     let clash : [] ≡ second.fields ∷ second.stops.rest = same.1 in cc
 
-yes_or_bad : (records : List (List (List ℕ))) (report : Report) (row : ℕ) (fault : RowFault) → IsPossible records report → IsBadRow records row fault → ⊥
-yes_or_bad records report row fault first second =
-    let same = one_front records _ _ _ _ (yes_front records report first) (bad_front records row fault second) in
+yes_or_bad : BusLaws → (records : List (List (List ℕ))) (report : Report) (row : ℕ) (fault : RowFault) → IsPossible records report → IsBadRow records row fault → ⊥
+yes_or_bad laws records report row fault first second =
+    let same = one_front laws records _ _ _ _ (yes_front records report first) (bad_front records row fault second) in
     let clash : [] ≡ second.fields ∷ second.stops.rest = same.1 in cc
 
-yes_or_long : (records : List (List (List ℕ))) (report : Report) → IsPossible records report → IsTooLong records → ⊥
-yes_or_long records report first second =
-    let same = one_front records _ _ _ _ (yes_front records report first) (long_front records second) in
+yes_or_long : BusLaws → (records : List (List (List ℕ))) (report : Report) → IsPossible records report → IsTooLong records → ⊥
+yes_or_long laws records report first second =
+    let same = one_front laws records _ _ _ _ (yes_front records report first) (long_front records second) in
     let clash : [] ≡ second.fields ∷ second.stops.rest = same.1 in cc
 
-no_or_bad : (records : List (List (List ℕ))) (offence : Offence) (row : ℕ) (fault : RowFault) → IsOffence records offence → IsBadRow records row fault → ⊥
-no_or_bad records offence row fault first second =
-    let same = one_front records _ _ _ _ (no_front records offence first) (bad_front records row fault second) in
+no_or_bad : BusLaws → (records : List (List (List ℕ))) (offence : Offence) (row : ℕ) (fault : RowFault) → IsOffence records offence → IsBadRow records row fault → ⊥
+no_or_bad laws records offence row fault first second =
+    let same = one_front laws records _ _ _ _ (no_front laws records offence first) (bad_front records row fault second) in
     let tails : first.fields ∷ first.stops.rest ≡ second.fields ∷ second.stops.rest = same.1 in
     let fields : second.fields ≡ first.fields = cc in
     let P : List (List ℕ) → Type 0 = λ f. IsRefusal f fault in
     row_not_refused first.fields first.row fault first.told (subst P fields second.refused)
 
-no_or_long : (records : List (List (List ℕ))) (offence : Offence) → IsOffence records offence → IsTooLong records → ⊥
-no_or_long records offence first second =
-    let same = one_front records _ _ _ _ (no_front records offence first) (long_front records second) in
+no_or_long : BusLaws → (records : List (List (List ℕ))) (offence : Offence) → IsOffence records offence → IsTooLong records → ⊥
+no_or_long laws records offence first second =
+    let same = one_front laws records _ _ _ _ (no_front laws records offence first) (long_front records second) in
     omega (arith, ap length same.0, first.few, second.full)
 
-bad_or_long : (records : List (List (List ℕ))) (row : ℕ) (fault : RowFault) → IsBadRow records row fault → IsTooLong records → ⊥
-bad_or_long records row fault first second =
-    let same = one_front records _ _ _ _ (bad_front records row fault first) (long_front records second) in
+bad_or_long : BusLaws → (records : List (List (List ℕ))) (row : ℕ) (fault : RowFault) → IsBadRow records row fault → IsTooLong records → ⊥
+bad_or_long laws records row fault first second =
+    let same = one_front laws records _ _ _ _ (bad_front records row fault first) (long_front records second) in
     omega (arith, ap length same.0, first.few, second.full)
 
 -- the report is one
-one_yes : (records : List (List (List ℕ))) (a b : Report) → IsPossible records a → IsPossible records b → a ≡ b
-one_yes records a b first second =
-    let same = one_front records _ _ _ _ (yes_front records a first) (yes_front records b second) in
+one_yes : BusLaws → (records : List (List (List ℕ))) (a b : Report) → IsPossible records a → IsPossible records b → a ≡ b
+one_yes laws records a b first second =
+    let same = one_front laws records _ _ _ _ (yes_front records a first) (yes_front records b second) in
     first.telling ∙ (ap (λ rs. report_of (length rs)) same.0 ∙ sym second.telling)
 
 -- the answer to the records of a text is one
-pub one_answer : (records : List (List (List ℕ))) (a b : Result Outcome RunFault) → IsAnswer records a → IsAnswer records b → IsTold a → IsTold b → a ≡ b
-one_answer records (Ok (Yes a)) (Ok (Yes b)) p q s t = ap (λ report. Ok (Yes report)) (one_yes records a b p q)
-one_answer records (Ok (Yes a)) (Ok (No b)) p q s t = absurd (yes_or_no records a b p q)
-one_answer records (Ok (Yes a)) (Err (BadRow n b)) p q s t = absurd (yes_or_bad records a n b p q)
-one_answer records (Ok (Yes a)) (Err TooLong) p q s t = absurd (yes_or_long records a p q)
-one_answer records (Ok (No a)) (Ok (Yes b)) p q s t = absurd (yes_or_no records b a q p)
-one_answer records (Ok (No a)) (Ok (No b)) p q s t = ap (λ offence. Ok (No offence)) (one_offence records a b p q)
-one_answer records (Ok (No a)) (Err (BadRow n b)) p q s t = absurd (no_or_bad records a n b p q)
-one_answer records (Ok (No a)) (Err TooLong) p q s t = absurd (no_or_long records a p q)
-one_answer records (Err (BadRow m a)) (Ok (Yes b)) p q s t = absurd (yes_or_bad records b m a q p)
-one_answer records (Err (BadRow m a)) (Ok (No b)) p q s t = absurd (no_or_bad records b m a q p)
-one_answer records (Err (BadRow m a)) (Err (BadRow n b)) p q s t =
-    let same = one_bad_row records m n a b p q in
+pub one_answer : BusLaws → (records : List (List (List ℕ))) (a b : Result Outcome RunFault) → IsAnswer records a → IsAnswer records b → IsOwnAnswer a → IsOwnAnswer b → a ≡ b
+one_answer laws records (Ok (Yes a)) (Ok (Yes b)) p q s t = ap (λ report. Ok (Yes report)) (one_yes laws records a b p q)
+one_answer laws records (Ok (Yes a)) (Ok (No b)) p q s t = absurd (yes_or_no laws records a b p q)
+one_answer laws records (Ok (Yes a)) (Err (BadRow n b)) p q s t = absurd (yes_or_bad laws records a n b p q)
+one_answer laws records (Ok (Yes a)) (Err TooLong) p q s t = absurd (yes_or_long laws records a p q)
+one_answer laws records (Ok (No a)) (Ok (Yes b)) p q s t = absurd (yes_or_no laws records b a q p)
+one_answer laws records (Ok (No a)) (Ok (No b)) p q s t = ap (λ offence. Ok (No offence)) (one_offence laws records a b p q)
+one_answer laws records (Ok (No a)) (Err (BadRow n b)) p q s t = absurd (no_or_bad laws records a n b p q)
+one_answer laws records (Ok (No a)) (Err TooLong) p q s t = absurd (no_or_long laws records a p q)
+one_answer laws records (Err (BadRow m a)) (Ok (Yes b)) p q s t = absurd (yes_or_bad laws records b m a q p)
+one_answer laws records (Err (BadRow m a)) (Ok (No b)) p q s t = absurd (no_or_bad laws records b m a q p)
+one_answer laws records (Err (BadRow m a)) (Err (BadRow n b)) p q s t =
+    let same = one_bad_row laws records m n a b p q in
     ap (λ row. Err (BadRow row a)) same.0 ∙ ap (λ fault. Err (BadRow n fault)) same.1
-one_answer records (Err (BadRow m a)) (Err TooLong) p q s t = absurd (bad_or_long records m a p q)
-one_answer records (Err TooLong) (Ok (Yes b)) p q s t = absurd (yes_or_long records b q p)
-one_answer records (Err TooLong) (Ok (No b)) p q s t = absurd (no_or_long records b q p)
-one_answer records (Err TooLong) (Err (BadRow n b)) p q s t = absurd (bad_or_long records n b q p)
-one_answer records (Err TooLong) (Err TooLong) p q s t = refl
-one_answer records (Err Read) b p q s t = absurd s
-one_answer records (Err Write) b p q s t = absurd s
-one_answer records (Err Memory) b p q s t = absurd s
-one_answer records a (Err Read) p q s t = absurd t
-one_answer records a (Err Write) p q s t = absurd t
-one_answer records a (Err Memory) p q s t = absurd t
+one_answer laws records (Err (BadRow m a)) (Err TooLong) p q s t = absurd (bad_or_long laws records m a p q)
+one_answer laws records (Err TooLong) (Ok (Yes b)) p q s t = absurd (yes_or_long laws records b q p)
+one_answer laws records (Err TooLong) (Ok (No b)) p q s t = absurd (no_or_long laws records b q p)
+one_answer laws records (Err TooLong) (Err (BadRow n b)) p q s t = absurd (bad_or_long laws records n b q p)
+one_answer laws records (Err TooLong) (Err TooLong) p q s t = refl
+one_answer laws records (Err Read) b p q s t = absurd s
+one_answer laws records (Err Write) b p q s t = absurd s
+one_answer laws records (Err Memory) b p q s t = absurd s
+one_answer laws records a (Err Read) p q s t = absurd t
+one_answer laws records a (Err Write) p q s t = absurd t
+one_answer laws records a (Err Memory) p q s t = absurd t

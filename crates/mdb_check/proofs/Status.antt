@@ -6,11 +6,11 @@ use Rattle.mdb_check.specs.declared.outcome.Outcome.{Outcome}
 use Rattle.mdb_check.specs.declared.outcome.Outcome.TheVariants.{Yes, No}
 use Rattle.mdb_check.specs.declared.outcome.RunFault.{RunFault}
 use Rattle.mdb_check.specs.Program.{Says, status_of}
-use Rattle.mdb_check.specs.Text.{text_of}
+use Rattle.mdb_check.specs.Text.{report_text}
 use Rattle.mdb_check.specs.Verdict.{IsAnswer}
 
 says : (all : List (List (List ℕ))) (before after : Option (List ℕ)) (answer : Result Outcome RunFault) → IsAnswer all answer
-    → IfOk answer (λ outcome. Appends before after (text_of outcome)) → Says all before after (status_of answer)
+    → IfOk answer (λ outcome. Appends before after (report_text outcome)) → Says all before after (status_of answer)
 says all before after (Ok (Yes report)) is written = ((λ e. (report, is, written)), (λ e. absurd (omega (arith, e))))
 says all before after (Ok (No offence)) is written = ((λ e. absurd (omega (arith, e))), (λ e. (offence, is, written)))
 says all before after (Err fault) is written = ((λ e. absurd (omega (arith, e))), (λ e. absurd (omega (arith, e))))
@@ -20,7 +20,7 @@ refused all before after = ((λ e. absurd (omega (arith, e))), (λ e. absurd (om
 
 -- what the status of a checked text says
 pub ran : (known before after : Option (List ℕ)) (answer : Result Outcome RunFault) (status : ℕ) → IfSome known (λ text. IsAnswer (records default_config (strip_bom text)) answer)
-    → IfOk answer (λ outcome. Appends before after (text_of outcome)) → status ≡ status_of answer → IfSome known (λ text. Says (records default_config (strip_bom text)) before after status)
+    → IfOk answer (λ outcome. Appends before after (report_text outcome)) → status ≡ status_of answer → IfSome known (λ text. Says (records default_config (strip_bom text)) before after status)
 ran None before after answer status is written same = tt
 ran (Some text) before after answer status is written same =
     let all : List (List (List ℕ)) = records default_config (strip_bom text) in

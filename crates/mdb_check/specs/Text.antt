@@ -1,10 +1,10 @@
 -- The text of an outcome.
 use Rattle.std.specs.Prelude.{ℕ, List, [], ◌∷◌, ◌++◌, codes}
 use Rattle.std.specs.Fmt.{decimal}
-use Rattle.mdb_check.specs.declared.offence.Rule.{Rule}
-use Rattle.mdb_check.specs.declared.offence.Rule.TheVariants as rule
-use Rattle.mdb_check.specs.declared.offence.Blame.{Blame}
-use Rattle.mdb_check.specs.declared.offence.Blame.TheVariants as blame
+use Rattle.mdb_bus.specs.declared.fault.Rule.{Rule}
+use Rattle.mdb_bus.specs.declared.fault.Rule.TheVariants as rule
+use Rattle.mdb_bus.specs.declared.fault.Blame.{Blame}
+use Rattle.mdb_bus.specs.declared.fault.Blame.TheVariants as blame
 use Rattle.mdb_check.specs.declared.outcome.Outcome.{Outcome}
 use Rattle.mdb_check.specs.declared.outcome.Outcome.TheVariants.{Yes, No}
 
@@ -33,6 +33,7 @@ blame_word blame.Controller = codes "controller"
 blame_word blame.Changer = codes "changer"
 blame_word blame.Bill = codes "bill"
 blame_word blame.Cashless = codes "cashless"
+blame_word blame.Cashless2 = codes "cashless-2"
 blame_word blame.Other = codes "other"
 
 -- a line of a text
@@ -40,7 +41,8 @@ abbrev pub line : List ℕ → List ℕ
 line words = words ++ 10 ∷ []
 
 -- what is written for an outcome
-abbrev pub text_of : Outcome → List ℕ
-text_of (Yes report) = line (codes "verdict yes") ++ line (codes "rows " ++ decimal report.rows)
-text_of (No offence) = line (codes "verdict no") ++ line (codes "row " ++ decimal offence.row) ++ line (codes "rule " ++ rule_word offence.rule)
-    ++ line (codes "blame " ++ blame_word offence.blame)
+abbrev pub report_text : Outcome → List ℕ
+report_text (Yes report) = line (codes "verdict yes") ++ line (codes "rows " ++ decimal report.rows)
+report_text (No offence) =
+    line (codes "verdict no") ++ line (codes "row " ++ decimal offence.row)
+    ++ line (codes "rule " ++ rule_word offence.rule) ++ line (codes "blame " ++ blame_word offence.blame)

@@ -1,12 +1,14 @@
 -- What is answered to the records of a text.
-use Rattle.std.specs.Prelude.{◌≡◌, ◌≢◌, ◌+◌, ◌<◌, ◌≤◌, ℕ, List, [], ◌∷◌, ◌++◌, length, ⊤, Option, Some, None, Result, Ok, Err, pos, replicate}
+use Rattle.std.specs.Prelude.{◌≡◌, ◌+◌, ◌<◌, ◌≤◌, ℕ, List, [], ◌∷◌, ◌++◌, length, ⊤, Option, Some, None, Result, Ok, Err, pos, replicate}
 use Rattle.mdb_words.specs.declared.event.Event.{Event}
 use Rattle.mdb_words.specs.declared.row.RowFault.{RowFault}
 use Rattle.mdb_words.specs.Row.{IsRow, IsRefusal}
+use Rattle.mdb_bus.specs.ActLists.{IsActList, Piece}
+use Rattle.mdb_bus.specs.LinkFaults.{IsLinkFault}
+use Rattle.mdb_bus.specs.Loss.{IsExplained}
 use Rattle.mdb_records.specs.declared.ReadFault.{ReadFault}
 use Rattle.mdb_records.specs.declared.ReadFault.TheVariants as reading
 use Rattle.mdb_check.specs.declared.offence.Offence.{Offence}
-use Rattle.mdb_check.specs.declared.outcome.Account.{Account}
 use Rattle.mdb_check.specs.declared.outcome.Range.{Range}
 use Rattle.mdb_check.specs.declared.outcome.Report.{Report}
 use Rattle.mdb_check.specs.declared.outcome.Outcome.{Outcome}
@@ -14,8 +16,6 @@ use Rattle.mdb_check.specs.declared.outcome.Outcome.TheVariants.{Yes, No}
 use Rattle.mdb_check.specs.declared.outcome.RunFault.{RunFault}
 use Rattle.mdb_check.specs.declared.outcome.RunFault.TheVariants.{BadRow, TooLong, Read, Write, Memory}
 use Rattle.mdb_check.specs.declared.verdict.TheConstants.{ROWS_MAX}
-use Rattle.mdb_check.specs.ActLists.{HasActList}
-use Rattle.mdb_check.specs.LinkFaults.{IsLinkFault}
 
 -- each record is a row, and these are their events
 abbrev pub AreRows : List (List (List ℕ)) → List Event → Type 0
@@ -31,44 +31,48 @@ no_range = record { least = pos 0; greatest = pos 0 }
 abbrev pub report_of : ℕ → Report
 report_of count = record {
   rows = count;
-  decimals = replicate 3 None;
-  accounts = replicate 5 (record { device = no_range; controller = no_range; difference = no_range });
-  silences = replicate 3 0;
+  decimals = replicate 4 None;
+  accounts = replicate 7 (record { device = no_range; controller = no_range; difference = no_range });
+  silences = replicate 4 0;
 }
 
--- All records are rows, and the controller and its peripherals can have said these words at these times.
+-- All records are rows, and the controller and its peripherals can have said these words at these
+-- times: the rows have an act list, and a loss fits it.
 pub record IsPossible (records : List (List (List ℕ))) (report : Report) : Type 0 where
   pub rows : List Event
   pub told : AreRows records rows
   pub few : length rows ≤ ROWS_MAX
-  pub possible : HasActList rows
+  pub possible : IsExplained rows
   pub telling : report ≡ report_of (length rows)
 
--- Rows that can be, and then a record.
-pub record StopsAt (records : List (List (List ℕ))) (rows : List Event) (fields : List (List ℕ)) : Type 0 where
+-- Rows that can be lead up to a record.
+pub record LeadUpTo (records : List (List (List ℕ))) (rows : List Event) (fields : List (List ℕ)) : Type 0 where
   pub done : List (List (List ℕ))
   pub rest : List (List (List ℕ))
   pub split : records ≡ done ++ fields ∷ rest
   pub told : AreRows done rows
-  pub possible : HasActList rows
+  pub possible : IsExplained rows
 
--- The first row that cannot follow the rows before it, the rule that it breaks, and who is to blame.
+-- The first row that cannot follow the rows before it, the rule that it breaks, and who is to
+-- blame.
 pub record IsOffence (records : List (List (List ℕ))) (offence : Offence) : Type 0 where
   pub rows : List Event
   pub row : Event
   pub fields : List (List ℕ)
-  pub stops : StopsAt records rows fields
+  pub stops : LeadUpTo records rows fields
   pub told : IsRow fields row
   pub few : length rows < ROWS_MAX
   pub number : offence.row ≡ length rows + 1
-  pub impossible : HasActList (rows ++ row ∷ []) → ⊥
-  pub fault : IsLinkFault rows row offence.rule offence.blame
+  pub impossible : IsExplained (rows ++ row ∷ []) → ⊥
+  pub pieces : List Piece
+  pub act_list : IsActList pieces rows
+  pub fault : IsLinkFault pieces row offence.rule offence.blame
 
 -- The first record that is no row, behind rows that can be.
 pub record IsBadRow (records : List (List (List ℕ))) (row : ℕ) (fault : RowFault) : Type 0 where
   pub rows : List Event
   pub fields : List (List ℕ)
-  pub stops : StopsAt records rows fields
+  pub stops : LeadUpTo records rows fields
   pub few : length rows < ROWS_MAX
   pub number : row ≡ length rows + 1
   pub refused : IsRefusal fields fault
@@ -77,7 +81,7 @@ pub record IsBadRow (records : List (List (List ℕ))) (row : ℕ) (fault : RowF
 pub record IsTooLong (records : List (List (List ℕ))) : Type 0 where
   pub rows : List Event
   pub fields : List (List ℕ)
-  pub stops : StopsAt records rows fields
+  pub stops : LeadUpTo records rows fields
   pub full : length rows ≡ ROWS_MAX
 
 -- The answer to the records of a text. Of a refused read, write or memory the records say nothing.
@@ -91,13 +95,13 @@ IsAnswer records (Err Write) = ⊤
 IsAnswer records (Err Memory) = ⊤
 
 -- an answer that the records themselves have: every one but a refused read, write or memory
-abbrev pub IsTold : Result Outcome RunFault → Type 0
-IsTold (Ok outcome) = ⊤
-IsTold (Err (BadRow row fault)) = ⊤
-IsTold (Err TooLong) = ⊤
-IsTold (Err Read) = ⊥
-IsTold (Err Write) = ⊥
-IsTold (Err Memory) = ⊥
+abbrev pub IsOwnAnswer : Result Outcome RunFault → Type 0
+IsOwnAnswer (Ok outcome) = ⊤
+IsOwnAnswer (Err (BadRow row fault)) = ⊤
+IsOwnAnswer (Err TooLong) = ⊤
+IsOwnAnswer (Err Read) = ⊥
+IsOwnAnswer (Err Write) = ⊥
+IsOwnAnswer (Err Memory) = ⊥
 
 -- an answer that isn't yes
 abbrev pub IsNoYes : Result Outcome RunFault → Type 0
@@ -109,3 +113,9 @@ IsNoYes (Err fault) = ⊤
 abbrev pub run_fault_of : ReadFault → RunFault
 run_fault_of reading.Read = Read
 run_fault_of reading.Memory = Memory
+
+-- a fault of reading is one that the reading of records has met
+abbrev pub HasMet : Option ReadFault → RunFault → Type 0
+HasMet met Read = met ≡ Some reading.Read
+HasMet met Memory = met ≡ Some reading.Memory
+HasMet met _ = ⊤

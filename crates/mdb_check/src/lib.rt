@@ -1,8 +1,7 @@
-//! The checker: reads a transcript, and answers whether the controller and its peripherals can have said these words at
-//! these times.
+//! The checker: reads a transcript, and answers whether the controller and its peripherals can have
+//! said these words at these times.
 #![tactic(auto)]
 
-mod bus;
 pub mod laws;
 mod offence;
 mod outcome;
@@ -12,7 +11,8 @@ mod tests;
 mod text;
 mod verdict;
 
-pub use offence::{Blame, LinkFault, Offence, Rule};
+pub use mdb_bus::{Blame, Rule};
+pub use offence::Offence;
 pub use outcome::{Account, Outcome, Range, Report, RunFault};
 pub use program::run;
 pub use verdict::{BYTES_MAX, ROWS_MAX, check};

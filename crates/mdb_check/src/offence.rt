@@ -1,68 +1,6 @@
-//! Why a row is impossible, and who is to blame.
+//! The first row that cannot be.
 
-/// The rule that an impossible row breaks. Of several, the first of this order is told.
-///
-/// The first thirteen are rules of the link (MDB/ICP 4.3, bus format and timing, in this profile), the last three say
-/// that no state of the device or of the controller allows the row.
-#[derive(Clone, Copy, PartialEq, Eq, Debug)]
-pub enum Rule {
-    /// The row doesn't start after the row before it.
-    Order,
-    /// A side sends where the other one has the bus.
-    Speaker,
-    /// The mode bit is set, or isn't, where it must not be so.
-    Mode,
-    /// The row comes too soon.
-    Early,
-    /// The answer comes too late.
-    Late,
-    /// The words of a block are too far apart.
-    Spacing,
-    /// The block has another length than the command's answer has.
-    Length,
-    /// The last byte of the block isn't the sum of the others.
-    Sum,
-    /// The break is too short.
-    Break,
-    /// The answer isn't one that the command can have.
-    Answer,
-    /// A message can't be read.
-    Message,
-    /// A repeated word differs from the word that it repeats.
-    Same,
-    /// The row is outside what this profile covers.
-    Profile,
-    /// No state of the coin changer or of the controller allows the row.
-    Changer,
-    /// No state of the bill validator or of the controller allows the row.
-    Bill,
-    /// No state of the cashless reader or of the controller allows the row.
-    Cashless,
-}
-
-/// Who is to blame for an impossible row.
-#[derive(Clone, Copy, PartialEq, Eq, Debug)]
-pub enum Blame {
-    /// The controller (VMC).
-    Controller,
-    /// The coin changer.
-    Changer,
-    /// The bill validator.
-    Bill,
-    /// The cashless reader.
-    Cashless,
-    /// Some peripheral, where no device was asked.
-    Other,
-}
-
-/// A fault of the link: which rule a row breaks, and who is to blame.
-#[derive(Clone, Copy, PartialEq, Eq, Debug)]
-pub struct LinkFault {
-    /// The rule.
-    pub rule: Rule,
-    /// Who is to blame.
-    pub blame: Blame,
-}
+use mdb_bus::{Blame, LinkFault, Rule};
 
 /// The first row that cannot be, the rule that it breaks, and who is to blame.
 #[derive(Clone, Copy, PartialEq, Eq, Debug)]
@@ -73,4 +11,19 @@ pub struct Offence {
     pub rule: Rule,
     /// Who is to blame.
     pub blame: Blame,
+}
+
+impl Offence {
+    ghost use Rattle.std.specs.Prelude.{◌≡◌};
+
+    /// The offence of a row that breaks a rule of the link.
+    pub(crate) fn at(row: u64, fault: LinkFault) -> Offence
+        ensures { result ≡ record { row = row; rule = fault.rule; blame = fault.blame } }
+    {
+        Offence {
+            row,
+            rule: fault.rule,
+            blame: fault.blame,
+        }
+    }
 }

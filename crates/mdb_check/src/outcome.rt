@@ -3,6 +3,7 @@
 ghost use Rattle.std.specs.Prelude.{◌≡◌};
 
 use super::offence::Offence;
+use mdb_records::ReadFault;
 use mdb_words::RowFault;
 use thiserror::Error;
 
@@ -15,7 +16,8 @@ pub struct Range {
     pub greatest: i64,
 }
 
-/// An account as the device has it, as the controller has it, and the difference (device less controller).
+/// An account as the device has it, as the controller has it, and the difference (device less
+/// controller).
 #[derive(Clone, Copy, PartialEq, Eq, Debug)]
 pub struct Account {
     /// The device's sum.
@@ -33,12 +35,13 @@ pub struct Account {
 pub struct Report {
     /// How many rows the transcript has.
     pub rows: u64,
-    /// The decimal places of changer, validator and reader, as far as the transcript tells them.
-    pub decimals: [Option<u8>; 3],
-    /// Coins in, bills in, paid out, approved and sold.
-    pub accounts: [Account; 5],
-    /// How often changer, validator and reader were silent for too long.
-    pub silences: [u64; 3],
+    /// The decimal places of changer, validator and the two readers, as far as the transcript tells
+    /// them.
+    pub decimals: [Option<u8>; 4],
+    /// Coins in, bills in, paid out, and approved and sold of each reader.
+    pub accounts: [Account; 7],
+    /// How often changer, validator and each reader were silent for too long.
+    pub silences: [u64; 4],
 }
 
 impl Report {
@@ -59,9 +62,9 @@ impl Report {
         };
         Report {
             rows,
-            decimals: [None; 3],
-            accounts: [ACCOUNT; 5],
-            silences: [0; 3],
+            decimals: [None; 4],
+            accounts: [ACCOUNT; 7],
+            silences: [0; 4],
         }
     }
 }
@@ -98,4 +101,18 @@ pub enum RunFault {
     /// Memory was refused.
     #[error("out of memory")]
     Memory,
+}
+
+impl From<ReadFault> for RunFault {
+    ghost use Rattle.std.specs.Prelude.{◌≡◌};
+    ghost use Rattle.mdb_check.specs.Verdict.{run_fault_of};
+
+    ghost from_gives = { λ fault told. told ≡ run_fault_of fault };
+
+    fn from(fault: ReadFault) -> RunFault {
+        match fault {
+            ReadFault::Read => RunFault::Read,
+            ReadFault::Memory => RunFault::Memory,
+        }
+    }
 }

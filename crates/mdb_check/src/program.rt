@@ -37,9 +37,9 @@ enum Task {
 ///
 /// - 0: the transcript can have been, and its report is on `out`.
 /// - 1: it cannot, and the report on `out` says why.
-/// - 2: there is no verdict, for the fault that `check` met, or because the words aren't a command of the program, which
-///   goes for those that ask for help or for the version too. One line on `err` says so; where `err` refuses the line,
-///   the status is the same.
+/// - 2: there is no verdict, for the fault that `check` met, or because the words aren't a command
+///   of the program, which   goes for those that ask for help or for the version too. One line on
+///   `err` says so; where `err` refuses the line,   the status is the same.
 pub fn run<R: Read + Drop, W: Write, E: Write>(
     alloc: Global,
     words: Vec<String>,
@@ -48,7 +48,8 @@ pub fn run<R: Read + Drop, W: Write, E: Write>(
     err: &mut E,
 ) -> u8
     ensures status { result < 3 }
-    ensures says { IfSome (R.remaining reader) (λ text. Says (records default_config (strip_bom text)) (W.contents out.old) (W.contents out.new) result) }
+    ensures says { IfSome (R.remaining reader)
+        (λ text. Says (records default_config (strip_bom text)) (W.contents out.old) (W.contents out.new) result) }
     ensures silent { result < 2 → err.new ≡ err.old }
 {
     match task_of(alloc, words.as_slice()) {

@@ -1,4 +1,5 @@
-//! What no contract says: that a call can answer at all, the faults of readers and writers, and the program's words.
+//! What no contract says: that a call can answer at all, the faults of readers and writers, and the
+//! program's words.
 
 use super::{Blame, Offence, Outcome, Rule, RunFault, check, run};
 use mdb_words::RowFault;
@@ -216,6 +217,83 @@ fn a_failed_write_is_told(rt: HostRuntime) {
         assert_eq!(rt; answer, Err(RunFault::Write), "at write {failing}");
     }
     assert!(rt; untouched);
+}
+
+/// Takes what is written whole, and counts the writes.
+#[derive(Drop)]
+struct Counter {
+    text: Vec<u8>,
+    writes: u64,
+}
+
+impl Write for Counter {
+    fn write(&mut self, buf: &[u8]) -> io::Result<usize> {
+        self.writes = self.writes.saturating_add(1);
+        self.text.extend_from_slice(buf)?;
+        Ok(buf.len())
+    }
+
+    fn flush(&mut self) -> io::Result<()> {
+        Ok(())
+    }
+}
+
+#[test]
+fn a_report_is_one_write(rt: HostRuntime) {
+    for (rows, report) in [(ROWS, REPORT), (WRONG_SUM, WRONG_SUM_REPORT)] {
+        let mut out = Counter {
+            text: Vec::new(rt.alloc()),
+            writes: 0,
+        };
+        assert!(rt; check(rt.alloc(), rows, &mut out).is_ok());
+        assert_eq!(rt; out.text.as_slice(), report);
+        assert_eq!(rt; out.writes, 1);
+    }
+}
+
+#[test]
+fn texts_of_faults(rt: HostRuntime) -> Result<(), Fail> {
+    let bad_row = RunFault::BadRow {
+        row: 7,
+        fault: RowFault::BadTime,
+    };
+    for (fault, text) in [
+        (bad_row, "row 7: BadTime"),
+        (RunFault::TooLong, "more than 100000000 rows"),
+        (
+            RunFault::Read,
+            "the input can't be read, or has more than 6400000000 bytes",
+        ),
+        (RunFault::Write, "the output can't be written"),
+        (RunFault::Memory, "out of memory"),
+    ] {
+        assert_eq!(rt; format!(in rt.alloc(); "{fault}")?.as_str(), text);
+    }
+    Ok(())
+}
+
+#[test]
+fn faults_of_the_program_are_told_on_one_line(rt: HostRuntime) -> Result<(), Fail> {
+    let words = words_of(rt.alloc(), &["mdbcheck", "check"])?;
+    let mut out = Vec::new(rt.alloc());
+    let mut err = Vec::new(rt.alloc());
+    let reader = Pieces::failing(ROWS, 7, 2, ErrorKind::BrokenPipe);
+    assert_eq!(rt; run(rt.alloc(), words, reader, &mut out, &mut err), 2);
+    assert!(rt; out.is_empty());
+    assert_eq!(rt;
+        err.as_slice(),
+        b"mdbcheck: the input can't be read, or has more than 6400000000 bytes\n".as_slice()
+    );
+
+    let words = words_of(rt.alloc(), &["mdbcheck", "check"])?;
+    let mut out = Sheet::failing(rt.alloc(), 1);
+    let mut err = Vec::new(rt.alloc());
+    assert_eq!(rt; run(rt.alloc(), words, ROWS, &mut out, &mut err), 2);
+    assert_eq!(rt;
+        err.as_slice(),
+        b"mdbcheck: the output can't be written\n".as_slice()
+    );
+    Ok(())
 }
 
 #[test]

@@ -1,11 +1,13 @@
 //! The text of an outcome.
 
-ghost use Rattle.std.specs.Prelude.{◌≡◌, OnOk};
+ghost use Rattle.std.specs.Prelude.{◌≡◌, IfOk, OnOk};
 ghost use Rattle.std.specs.Io.KnownBytes.{Appends};
-ghost use Rattle.mdb_check.specs.Text.{blame_word, rule_word, text_of};
+ghost use Rattle.mdb_check.specs.Text.{blame_word, report_text, rule_word};
 
-use super::offence::{Blame, Offence, Rule};
+use super::offence::Offence;
 use super::outcome::{Outcome, Report};
+use mdb_bus::{Blame, Rule};
+use std::alloc::Global;
 use std::io;
 use std::io::Write;
 
@@ -42,13 +44,24 @@ fn word_of_blame(blame: Blame) -> &'static str
         Blame::Changer => "changer",
         Blame::Bill => "bill",
         Blame::Cashless => "cashless",
+        Blame::Cashless2 => "cashless-2",
         Blame::Other => "other",
     }
 }
 
+/// The text of an outcome as bytes. Only want of memory is an error here.
+pub(crate) fn text_of(alloc: Global, outcome: &Outcome) -> io::Result<Vec<u8>>
+    ensures { IfOk result (λ text. text.items ≡ report_text outcome.now) }
+{
+    let mut text = Vec::new(alloc);
+    write_outcome(&mut text, outcome)?;
+    Ok(text)
+}
+
 /// Writes the text of an outcome, line by line.
-pub(crate) fn write_outcome<W: Write>(writer: &mut W, outcome: &Outcome) -> io::Result<()>
-    ensures { OnOk result (Appends (W.contents writer.old) (W.contents writer.new) (text_of outcome.now)) }
+fn write_outcome<W: Write>(writer: &mut W, outcome: &Outcome) -> io::Result<()>
+    ensures { OnOk result
+        (Appends (W.contents writer.old) (W.contents writer.new) (report_text outcome.now)) }
 {
     match outcome {
         Outcome::Yes(report) => write_report(writer, report),
@@ -58,7 +71,9 @@ pub(crate) fn write_outcome<W: Write>(writer: &mut W, outcome: &Outcome) -> io::
 
 /// Writes the two lines of a yes.
 fn write_report<W: Write>(writer: &mut W, report: &Report) -> io::Result<()>
-    ensures { OnOk result (Appends (W.contents writer.old) (W.contents writer.new) (text_of (Outcome.Yes report.now))) }
+    ensures { OnOk result
+        (Appends (W.contents writer.old)
+        (W.contents writer.new) (report_text (Outcome.Yes report.now))) }
 {
     let rows = report.rows;
     write!(writer, "verdict yes\nrows {rows}\n")
@@ -66,7 +81,9 @@ fn write_report<W: Write>(writer: &mut W, report: &Report) -> io::Result<()>
 
 /// Writes the four lines of a no.
 fn write_offence<W: Write>(writer: &mut W, offence: &Offence) -> io::Result<()>
-    ensures { OnOk result (Appends (W.contents writer.old) (W.contents writer.new) (text_of (Outcome.No offence.now))) }
+    ensures { OnOk result
+        (Appends (W.contents writer.old)
+        (W.contents writer.new) (report_text (Outcome.No offence.now))) }
 {
     let row = offence.row;
     let rule = word_of_rule(offence.rule);

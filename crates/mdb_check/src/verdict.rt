@@ -4,17 +4,17 @@ ghost use Rattle.std.specs.Prelude.{◌≡◌, ◌≢◌, ◌<◌, List, ℕ, If
 ghost use Rattle.std.specs.Io.KnownBytes.{Appends};
 ghost use Rattle.csv.specs.Reading.{default_config, records, strip_bom};
 ghost use Rattle.csv.specs.Records.{field_at, fields_of};
-ghost use Rattle.mdb_records.specs.ToCome.{IsOverLimit, ToCome};
-ghost use Rattle.mdb_check.specs.Text.{text_of};
-ghost use Rattle.mdb_check.specs.Verdict.{IsAnswer, IsNoYes, run_fault_of};
+ghost use Rattle.mdb_records.specs.ToCome.{IsOverLimit, ToCome, fault_of};
+ghost use Rattle.mdb_check.specs.Text.{report_text};
+ghost use Rattle.mdb_check.specs.Verdict.{IsAnswer, HasMet, IsNoYes};
 ghost use Rattle.mdb_words.specs.Row.{Tells};
 
-use super::bus::Bus;
-use super::offence::{LinkFault, Offence};
+use super::offence::Offence;
 use super::outcome::{Outcome, Report, RunFault};
-use super::text::write_outcome;
+use super::text::text_of;
 use csv::ByteRecord;
-use mdb_records::{ReadFault, Records};
+use mdb_bus::{Bus, laws};
+use mdb_records::Records;
 use mdb_words::{Event, RowFault};
 use std::alloc::Global;
 use std::io::{Read, Write};
@@ -27,49 +27,53 @@ pub const BYTES_MAX: u64 = 6_400_000_000;
 
 /// Reads a transcript, writes the text of its verdict, and answers it.
 ///
-/// The rows are the records of the input as `csv` reads them, without a header: start in microseconds, line (`M`, `S` or
-/// `B`), and word or length of the break. The first record that is no row, or the first row that cannot follow the rows
-/// before it, ends the reading.
+/// The rows are the records of the input as `csv` reads them, without a header: start in
+/// microseconds, line (`M`, `S` or `B`), and word or length of the break. The first record that is
+/// no row, or the first row that cannot follow the rows before it, ends the reading.
 ///
 /// # Errors
 ///
-/// `BadRow` for the first record that is no row, if no row before it is impossible; `TooLong` for a record past
-/// [`ROWS_MAX`]; `Read` where the reader failed, or for an input of more than [`BYTES_MAX`] bytes that isn't answered
-/// before; `Memory` where memory was refused. Nothing has been written then. `Write` where the writer failed: then
-/// nothing is said of how much was written.
+/// `BadRow` for the first record that is no row, if no row before it is impossible; `TooLong` for a
+/// record past [`ROWS_MAX`]; `Read` where the reader failed, or for an input of more than
+/// [`BYTES_MAX`] bytes that isn't answered before; `Memory` where memory was refused. Nothing has
+/// been written then. `Write` where the writer failed: then nothing is said of how much was
+/// written.
 pub fn check<R: Read + Drop, W: Write>(
     alloc: Global,
     reader: R,
     writer: &mut W,
 ) -> Result<Outcome, RunFault>
-    ensures answer { IfSome (R.remaining reader) (λ text. IsAnswer (records default_config (strip_bom text)) result) }
+    ensures answer { IfSome (R.remaining reader)
+        (λ text. IsAnswer (records default_config (strip_bom text)) result) }
     ensures whole { IfSome (R.remaining reader) (λ text. BYTES_MAX < length text → IsNoYes result) }
-    ensures written { IfOk result (λ outcome. Appends (W.contents writer.old) (W.contents writer.new) (text_of outcome)) }
-    ensures nothing_written { IfErr result (λ fault. fault ≢ RunFault.Write → writer.new ≡ writer.old) }
+    ensures written { IfOk result (λ outcome. Appends (W.contents writer.old)
+        (W.contents writer.new) (report_text outcome)) }
+    ensures nothing_written { IfErr result (λ fault. fault ≢ RunFault.Write
+        → writer.new ≡ writer.old) }
 {
     let mut records = Records::new(alloc, reader, BYTES_MAX);
-    let outcome = match judge(&mut records) {
-        Ok(outcome) => outcome,
-        Err(fault) => return Err(fault),
+    let outcome = verdict_on(&mut records)?;
+    let Ok(text) = text_of(alloc, &outcome) else {
+        return Err(RunFault::Memory);
     };
-    match write_outcome(writer, &outcome) {
+    match writer.write_all(text.as_slice()) {
         Ok(()) => Ok(outcome),
         Err(_) => Err(RunFault::Write),
     }
 }
 
 /// The verdict on the records that are still to come.
-fn judge<R: Read + Drop>(records: &mut Records<R>) -> Result<Outcome, RunFault>
-    ensures answer { (all : List (List (List ℕ))) → ToCome R.remaining records.old all → IsAnswer all result }
+fn verdict_on<R: Read + Drop>(records: &mut Records<R>) -> Result<Outcome, RunFault>
+    ensures answer { (all : List (List (List ℕ))) → ToCome R.remaining records.old all
+        → IsAnswer all result }
     ensures whole { IsOverLimit R.remaining records.old → IsNoYes result }
+    ensures heard { IfErr result (HasMet (fault_of records.new)) }
     ensures not_write { IfErr result (λ fault. fault ≢ RunFault.Write) }
 {
+    laws::act_lists_have_a_fitting_loss();
     let mut bus = Bus::new();
     for row in 0..ROWS_MAX {
-        let found = match records.advance() {
-            Ok(found) => found,
-            Err(fault) => return Err(run_fault(fault)),
-        };
+        let found = records.advance()?;
         if !found {
             return Ok(Outcome::Yes(Report::of_rows(row)));
         }
@@ -81,36 +85,15 @@ fn judge<R: Read + Drop>(records: &mut Records<R>) -> Result<Outcome, RunFault>
             }),
         };
         match bus.feed(event) {
-            Ok(()) => {}
-            Err(fault) => return Ok(Outcome::No(offence_at(row + 1, fault))),
+            Ok(_) => {}
+            Err(fault) => return Ok(Outcome::No(Offence::at(row + 1, fault))),
         }
     }
-    match records.advance() {
-        Ok(found) if found => Err(RunFault::TooLong),
-        Ok(_) => Ok(Outcome::Yes(Report::of_rows(ROWS_MAX))),
-        Err(fault) => Err(run_fault(fault)),
+    let more = records.advance()?;
+    if more {
+        return Err(RunFault::TooLong);
     }
-}
-
-/// The offence of a row that breaks a rule of the link.
-fn offence_at(row: u64, fault: LinkFault) -> Offence
-    ensures { result ≡ record { row = row; rule = fault.rule; blame = fault.blame } }
-{
-    Offence {
-        row,
-        rule: fault.rule,
-        blame: fault.blame,
-    }
-}
-
-/// The fault of a run whose reading failed.
-fn run_fault(fault: ReadFault) -> RunFault
-    ensures { result ≡ run_fault_of fault }
-{
-    match fault {
-        ReadFault::Read => RunFault::Read,
-        ReadFault::Memory => RunFault::Memory,
-    }
+    Ok(Outcome::Yes(Report::of_rows(ROWS_MAX)))
 }
 
 /// The event of a record.

@@ -5,6 +5,9 @@ pub mod OneReading
 pub mod OneReply
 pub mod OneCommand
 pub mod Prefixes
+pub mod Fronts
 pub mod ReaderReading
 pub mod ReaderWriting
 pub mod Reading
+pub mod SomeReading
+pub mod SomeReply

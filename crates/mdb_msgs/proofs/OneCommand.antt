@@ -5,15 +5,14 @@ use Rattle.mdb_msgs.specs.declared.command.Command.{Command}
 use Rattle.mdb_msgs.specs.declared.command.Command.TheVariants.{Changer, Bill, Reader}
 use Rattle.mdb_msgs.specs.declared.command.ChangerCommand.TheVariants as changer
 use Rattle.mdb_msgs.specs.declared.command.BillCommand.TheVariants as bill
-use Rattle.mdb_msgs.specs.declared.command.ReaderCommand.{ReaderCommand}
 use Rattle.mdb_msgs.specs.declared.command.ReaderCommand.TheVariants as reader
 use Rattle.mdb_msgs.specs.declared.command.ReaderUnit.TheVariants.{First, Second}
 use Rattle.mdb_msgs.specs.declared.fault.MsgFault.{MsgFault}
-use Rattle.mdb_msgs.specs.declared.fault.MsgFault.TheVariants.{Length, Message, Profile, Answer}
+use Rattle.mdb_msgs.specs.declared.fault.MsgFault.TheVariants.{Length, Profile}
 use Rattle.mdb_msgs.specs.declared.needs.Need.{Need}
 use Rattle.mdb_msgs.specs.declared.needs.Need.TheVariants.{More, Exactly, Foreign, Outside}
 use Rattle.mdb_msgs.specs.CommandFaults.{IsCommandFault, IsRefused}
-use Rattle.mdb_msgs.specs.Commands.{Spells, command_bytes, reader_bytes}
+use Rattle.mdb_msgs.specs.Commands.{Spells, command_bytes}
 use Rattle.mdb_msgs.specs.Needs.{is_for, needed}
 use Rattle.mdb_msgs.proofs.Contents.{changer_at, bill_at, reader_at}
 use Rattle.mdb_msgs.proofs.OneReply.{one_content}

@@ -1,6 +1,6 @@
 -- For a command, bytes have one reply or one fault.
 use Rattle.std.proofs.Common.{◌≡◌, ◌≢◌, ℕ, ◌+◌, ◌/◌, ◌%◌, ◌<◌, inl, inr, if◌then◌else◌, Bool, true, false, Some, Result, Ok, Err, IfOk, IfErr, List, [], ◌∷◌, ◌++◌, length, refl, sym, ap, ◌∙◌, arith, length-append, subst, sum}
-use Rattle.mdb_blocks.specs.Block.{block_of}
+use Rattle.mdb_blocks.specs.Block.{block_of, IsBlock, IsContent}
 use Rattle.mdb_msgs.specs.declared.answer.AnswerForm.{AnswerForm}
 use Rattle.mdb_msgs.specs.declared.answer.AnswerForm.TheVariants as form
 use Rattle.mdb_msgs.specs.declared.command.Command.{Command}
@@ -13,7 +13,7 @@ use Rattle.mdb_msgs.specs.declared.reply.setup.ChangerSetup.{ChangerSetup}
 use Rattle.mdb_msgs.specs.declared.reply.setup.Stacker.{Stacker}
 use Rattle.mdb_msgs.specs.declared.reply.setup.TubeStatus.{TubeStatus}
 use Rattle.mdb_msgs.specs.Answers.{IsDataLength}
-use Rattle.mdb_msgs.specs.Replies.{form_of_reply, reply_bytes, HasFields, has_kept, IsAnswerTo, IsReplyTo, NoReply, IsNoReplyTo, IsReadFault, IsWriteFault}
+use Rattle.mdb_msgs.specs.Replies.{form_of_reply, reply_bytes, HasFields, has_kept, IsAnswerTo, IsReplyTo, NoReply, IsNoReplyTo, IsReadFault, IsWriteFault, SpellsReply}
 use Rattle.mdb_msgs.specs.Setup.{changer_setup_bytes, tube_status_bytes, bill_setup_bytes, stacker_bytes, IsStacker}
 use Rattle.mdb_msgs.proofs.OneReader.{same_fronts, one_reader_list, reader_no_stop, one_reader_stop}
 use Rattle.mdb_msgs.proofs.OneReading.{one_changer_list, one_bill_list, changer_no_stop, bill_no_stop, one_changer_stop, one_bill_stop}
@@ -202,12 +202,42 @@ one_read_fault command bytes faults.Answer faults.Message h k = absurd (message_
 one_read_fault command bytes faults.Answer faults.Profile h k = absurd (message_or_answer command bytes faults.Profile k h)
 one_read_fault command bytes faults.Answer faults.Answer h k = refl
 
--- what reading a block found is the only thing that it spells
-pub only_reply : (command : Command) (block content : List ℕ) (result : Result Reply MsgFault) → block ≡ block_of content → IfOk result (IsReplyTo command) → IfOk result (λ found. content ≡ reply_bytes found) → IfErr result (IsReadFault command content) → (other : Reply) → IsReplyTo command other → block ≡ block_of (reply_bytes other) → result ≡ Ok other
-only_reply command block content (Ok found) e is spelled fault other h d =
-    ap Ok (one_answer command found other is.answer h.answer (sym spelled ∙ one_content content (reply_bytes other) (sym e ∙ d)))
-only_reply command block content (Err a) e is spelled fault other h d =
-    absurd (reply_has_no_fault command other a h (subst (λ x. IsReadFault command x a) (one_content content (reply_bytes other) (sym e ∙ d)) fault))
+-- for a command, a block has one reply
+pub one_reply : (command : Command) (block : List ℕ) (a b : Reply) → SpellsReply command a block → SpellsReply command b block → a ≡ b
+one_reply command block a b h k = one_answer command a b h.answers.answer k.answers.answer (one_content _ _ (sym h.bytes ∙ k.bytes))
+
+-- the bytes of a reply that a block spells are its content
+pub spelled_content : (command : Command) (a : Reply) (block : List ℕ) → SpellsReply command a block → IsBlock block → IsContent (reply_bytes a)
+spelled_content command a block h is =
+    subst IsContent (one_content is.content (reply_bytes a) (sym is.summed ∙ h.bytes)) is.is_content
+
+-- what reading a block found, it spells
+pub found_reply : (command : Command) (block content : List ℕ) (result : Result Reply MsgFault) → block ≡ block_of content → IfOk result (IsReplyTo command) → IfOk result (λ found. content ≡ reply_bytes found) → IfOk result (λ found. SpellsReply command found block)
+found_reply command block content (Ok found) e is spelled = record { answers = is; bytes = e ∙ ap block_of spelled }
+found_reply command block content (Err a) e is spelled = spelled
+
+-- and that is the only thing that it spells
+pub only_reply : (command : Command) (block content : List ℕ) (result : Result Reply MsgFault) → block ≡ block_of content → IfOk result (λ found. SpellsReply command found block) → IfErr result (IsReadFault command content) → (other : Reply) → SpellsReply command other block → result ≡ Ok other
+only_reply command block content (Ok found) e is fault other h = ap Ok (one_reply command block found other is h)
+only_reply command block content (Err a) e is fault other h =
+    let P : List ℕ → Type 0 = λ x. IsReadFault command x a in
+    absurd (reply_has_no_fault command other a h.answers (subst P (one_content content (reply_bytes other) (sym e ∙ h.bytes)) fault))
+
+-- the fault in reading a block is that of its content, which is one
+pub read_fault : (command : Command) (block content : List ℕ) (result : Result Reply MsgFault) → block ≡ block_of content → IfErr result (IsReadFault command content) → IfErr result (λ fault. (other : List ℕ) → block ≡ block_of other → IsReadFault command other fault)
+read_fault command block content (Ok found) e fault = fault
+read_fault command block content (Err a) e fault = λ other d.
+    let P : List ℕ → Type 0 = λ x. IsReadFault command x a in
+    subst P (one_content content other (sym e ∙ d)) fault
+
+-- and the only one
+pub only_read_fault : (command : Command) (block content : List ℕ) (result : Result Reply MsgFault) → block ≡ block_of content → IfOk result (λ found. SpellsReply command found block) → IfErr result (IsReadFault command content) → (other : List ℕ) (b : MsgFault) → block ≡ block_of other → IsReadFault command other b → result ≡ Err b
+only_read_fault command block content (Ok found) e is fault other b d h =
+    let P : List ℕ → Type 0 = λ x. IsReadFault command x b in
+    absurd (reply_has_no_fault command found b is.answers (subst P (one_content other (reply_bytes found) (sym d ∙ is.bytes)) h))
+only_read_fault command block content (Err a) e is fault other b d h =
+    let P : List ℕ → Type 0 = λ x. IsReadFault command x b in
+    ap Err (one_read_fault command content a b fault (subst P (one_content other content (sym d ∙ e)) h))
 
 -- a reply of another form, or with a field outside its range, is no answer
 no_answer_message : (command : Command) (a : Reply) → IsAnswerTo command a → IsWriteFault command a faults.Message → ⊥
@@ -253,3 +283,8 @@ written_has_no_fault command r faults.Message h none = no_answer_message command
 written_has_no_fault command r faults.Profile h none = none
 written_has_no_fault command r faults.Answer h (inl none) = let form = h.answer.form in cc (none, form)
 written_has_no_fault command r faults.Answer h (inr kept) = let none = h.kept kept.2 in let told = kept.1 in cc (none, told)
+
+-- the fault in writing is the only one
+pub only_write_fault : {A : Type 0} (command : Command) (reply : Reply) (result : Result A MsgFault) → IfOk result (λ _. IsReplyTo command reply) → IfErr result (IsWriteFault command reply) → (b : MsgFault) → IsWriteFault command reply b → result ≡ Err b
+only_write_fault command reply (Ok found) is fault b h = absurd (written_has_no_fault command reply b is h)
+only_write_fault command reply (Err a) is fault b h = ap Err (one_write_fault command reply a b fault h)

@@ -1,5 +1,5 @@
 -- What a command may be answered with, beside ACK: the form of the data and its number of bytes.
-use Rattle.std.specs.Prelude.{ℕ, ◌≤◌, Bool, true, false, Option, Some, None, option_map}
+use Rattle.std.specs.Prelude.{◌≡◌, ℕ, ◌≤◌, Bool, true, false, Option, Some, None, IsSome}
 use Rattle.mdb_msgs.specs.declared.answer.AnswerForm.{AnswerForm}
 use Rattle.mdb_msgs.specs.declared.answer.AnswerForm.TheVariants as form
 use Rattle.mdb_msgs.specs.declared.command.Command.{Command}
@@ -47,15 +47,22 @@ lengths_of form.BillIdentification = (29, 29)
 lengths_of form.BillIdentificationWithOptions = (33, 33)
 lengths_of form.Reader = (1, 35)
 
--- the same of a command, or None where it may have no data answer
-abbrev pub data_lengths : Command → Option (ℕ × ℕ)
-data_lengths command = option_map lengths_of (form_of command)
-
 -- an answer of this form may have so many data bytes
 abbrev pub IsDataLength : AnswerForm → ℕ → Type 0
 IsDataLength form count = ((lengths_of form).0 ≤ count) × (count ≤ (lengths_of form).1)
 
--- whether answers to the command may tell of sessions and sales: POLL and 13 00 to 13 04 alone
+-- some data block may answer the command
+abbrev pub MayHaveData : Command → Type 0
+MayHaveData command = IsSome (form_of command)
+
+-- so many data bytes may answer the command
+abbrev pub HasDataAnswer : Command → ℕ → Type 0
+HasDataAnswer command count =
+    (form : AnswerForm) × (form_of command ≡ Some form) × IsDataLength form count
+
+-- whether answers to the command may tell of sessions and sales: POLL, and the five commands of a
+-- session, VEND REQUEST to SESSION COMPLETE, alone: 12 and 13 00 to 13 04 to the first reader, 62
+-- and 63 00 to 63 04 to the second (this profile)
 abbrev pub reader_may_keep : ReaderCommand → Bool
 reader_may_keep reader.Poll = true
 reader_may_keep (reader.VendRequest price item) = true
@@ -65,6 +72,7 @@ reader_may_keep reader.VendFailure = true
 reader_may_keep reader.SessionComplete = true
 reader_may_keep _ = false
 
+-- the same of any command: to changer and validator there are none
 abbrev pub may_keep : Command → Bool
 may_keep (command.Reader unit c) = reader_may_keep c
 may_keep _ = false

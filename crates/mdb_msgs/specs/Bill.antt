@@ -25,8 +25,10 @@ IsBillMsg (Attempts count) = count < 32
 IsBillMsg Reset = Unit {0}
 IsBillMsg (Status byte) = (byte ≢ 6) × ((byte < 27) ⊎ ((32 ≤ byte) × (byte < 64)))
 
--- no message stands at the front of these bytes: 60 to 7F; 1B to 1F, B0 to BF and D0 to FF, which this profile leaves out
+-- no message stands at the front of these bytes: 60 to 7F; 1B to 1F, B0 to BF and D0 to FF, which
+-- this profile leaves out
 abbrev pub NoBillMsg : List ℕ → MsgFault → Type 0
 NoBillMsg (byte ∷ rest) Message = (96 ≤ byte) × (byte < 128)
-NoBillMsg (byte ∷ rest) Profile = ((27 ≤ byte) × (byte < 32)) ⊎ ((176 ≤ byte) × (byte < 192)) ⊎ (208 ≤ byte)
+NoBillMsg (byte ∷ rest) Profile =
+    ((27 ≤ byte) × (byte < 32)) ⊎ ((176 ≤ byte) × (byte < 192)) ⊎ (208 ≤ byte)
 NoBillMsg _ _ = ⊥

@@ -25,8 +25,10 @@ IsChangerMsg (Slugs count) = count < 32
 IsChangerMsg Reset = Unit {0}
 IsChangerMsg (Status byte) = (byte < 27) × (byte ≢ 11)
 
--- no message stands at the front of these bytes: 60 to 6F, or one byte of a message of two; 1B to 1F is file transfer
+-- no message stands at the front of these bytes: 60 to 6F, or one byte of a message of two; 1B to
+-- 1F is file transfer
 abbrev pub NoChangerMsg : List ℕ → MsgFault → Type 0
-NoChangerMsg (first ∷ behind) Message = ((96 ≤ first) × (first < 112)) ⊎ ((64 ≤ first) × (behind ≡ []))
+NoChangerMsg (first ∷ behind) Message =
+    ((96 ≤ first) × (first < 112)) ⊎ ((64 ≤ first) × (behind ≡ []))
 NoChangerMsg (first ∷ behind) Profile = (27 ≤ first) × (first < 32)
 NoChangerMsg _ _ = ⊥

@@ -1,4 +1,5 @@
--- The commands of the controller as bytes (MDB/ICP 4.3, coin changer, bill validator, cashless device).
+-- The commands of the controller as bytes (MDB/ICP 4.3, coin changer, bill validator, cashless
+-- device).
 use Rattle.std.specs.Prelude.{◌≡◌, ℕ, ◌+◌, ◌<◌, List, [], ◌∷◌, ◌++◌, length, All}
 use Rattle.mdb_blocks.specs.Block.{block_of}
 use Rattle.mdb_msgs.specs.declared.command.Device.{Device}
@@ -54,15 +55,19 @@ reader_address Second = 0x60
 -- to the cashless reader at an address
 abbrev pub reader_bytes : ℕ → ReaderCommand → List ℕ
 reader_bytes address reader.Reset = address ∷ []
-reader_bytes address (reader.SetupConfig level columns rows display) = (address + 1) ∷ 0x00 ∷ level ∷ columns ∷ rows ∷ display ∷ []
-reader_bytes address (reader.SetupPrices maximum minimum) = (address + 1) ∷ 0x01 ∷ two_bytes maximum ++ two_bytes minimum
+reader_bytes address (reader.SetupConfig level columns rows display) =
+    (address + 1) ∷ 0x00 ∷ level ∷ columns ∷ rows ∷ display ∷ []
+reader_bytes address (reader.SetupPrices maximum minimum) =
+    (address + 1) ∷ 0x01 ∷ two_bytes maximum ++ two_bytes minimum
 reader_bytes address reader.Poll = (address + 2) ∷ []
-reader_bytes address (reader.VendRequest price item) = (address + 3) ∷ 0x00 ∷ two_bytes price ++ two_bytes item
+reader_bytes address (reader.VendRequest price item) =
+    (address + 3) ∷ 0x00 ∷ two_bytes price ++ two_bytes item
 reader_bytes address reader.VendCancel = (address + 3) ∷ 0x01 ∷ []
 reader_bytes address (reader.VendSuccess item) = (address + 3) ∷ 0x02 ∷ two_bytes item
 reader_bytes address reader.VendFailure = (address + 3) ∷ 0x03 ∷ []
 reader_bytes address reader.SessionComplete = (address + 3) ∷ 0x04 ∷ []
-reader_bytes address (reader.CashSale price item) = (address + 3) ∷ 0x05 ∷ two_bytes price ++ two_bytes item
+reader_bytes address (reader.CashSale price item) =
+    (address + 3) ∷ 0x05 ∷ two_bytes price ++ two_bytes item
 reader_bytes address reader.Disable = (address + 4) ∷ 0x00 ∷ []
 reader_bytes address reader.Enable = (address + 4) ∷ 0x01 ∷ []
 reader_bytes address reader.Cancel = (address + 4) ∷ 0x02 ∷ []
@@ -103,7 +108,8 @@ HasBillFields _ = Unit {0}
 
 -- the fields of a command to a reader are in range
 abbrev pub HasReaderFields : ReaderCommand → Type 0
-HasReaderFields (reader.SetupConfig level columns rows display) = IsByte level × IsByte columns × IsByte rows × IsByte display
+HasReaderFields (reader.SetupConfig level columns rows display) =
+    IsByte level × IsByte columns × IsByte rows × IsByte display
 HasReaderFields (reader.SetupPrices maximum minimum) = IsNumber maximum × IsNumber minimum
 HasReaderFields (reader.VendRequest price item) = IsNumber price × IsNumber item
 HasReaderFields (reader.VendSuccess item) = IsNumber item

@@ -1,28 +1,78 @@
--- Laws about replies.
-use Rattle.std.specs.Prelude.{◌≡◌, List, ℕ}
-use Rattle.mdb_blocks.specs.Block.{block_of}
+-- Laws about commands and replies.
+use Rattle.std.specs.Prelude.{◌≡◌, ◌≢◌, ◌<◌, ◌≤◌, ◌⊎◌, ◌++◌, List, [], ℕ, length, All}
+use Rattle.mdb_blocks.specs.Block.{IsBlock, IsContent}
 use Rattle.mdb_msgs.specs.declared.command.Command.{Command}
 use Rattle.mdb_msgs.specs.declared.fault.MsgFault.{MsgFault}
 use Rattle.mdb_msgs.specs.declared.reply.Reply.{Reply}
-use Rattle.mdb_msgs.specs.Replies.{reply_bytes, IsReplyTo, IsReadFault, IsWriteFault}
+use Rattle.mdb_msgs.specs.Answers.{HasDataAnswer}
+use Rattle.mdb_msgs.specs.Commands.{IsByte, Spells}
+use Rattle.mdb_msgs.specs.Needs.{IsOpen}
+use Rattle.mdb_msgs.specs.Replies.{reply_bytes, IsReplyTo, IsReadFault, IsWriteFault, SpellsReply}
+
+-- open bytes are the front of some command's block
+abbrev pub OpenIsAFront : Type 0
+OpenIsAFront =
+    (bytes : List ℕ)
+    → All IsByte bytes → IsOpen bytes
+    → (command : Command) × (rest : List ℕ) × (rest ≢ []) × Spells command (bytes ++ rest)
+
+-- the front of a command's block is open, as long as it is not the whole block
+abbrev pub FrontIsOpen : Type 0
+FrontIsOpen =
+    (front rest : List ℕ) (command : Command)
+    → 0 < length front → rest ≢ [] → Spells command (front ++ rest) → IsOpen front
 
 -- for a command, a block has at most one reply
 abbrev pub BlockHasOneReply : Type 0
 BlockHasOneReply =
-    (command : Command) (one other : Reply) → IsReplyTo command one → IsReplyTo command other → block_of (reply_bytes one) ≡ block_of (reply_bytes other) → one ≡ other
+    (command : Command) (block : List ℕ) (one other : Reply)
+    → SpellsReply command one block → SpellsReply command other block → one ≡ other
+
+-- the data bytes of a reply are as many as the command allows
+abbrev pub ReplyHasItsLength : Type 0
+ReplyHasItsLength =
+    (command : Command) (reply : Reply)
+    → IsReplyTo command reply → HasDataAnswer command (length (reply_bytes reply))
+
+-- a command allows no data answer of no bytes, or of more than a block has
+abbrev pub DataFitsABlock : Type 0
+DataFitsABlock =
+    (command : Command) (count : ℕ) → HasDataAnswer command count → (1 ≤ count) × (count ≤ 35)
+
+-- the data bytes of a reply that a block spells are those that the block carries
+abbrev pub SpelledReplyIsContent : Type 0
+SpelledReplyIsContent =
+    (command : Command) (reply : Reply) (block : List ℕ)
+    → SpellsReply command reply block → IsBlock block → IsContent (reply_bytes reply)
+
+-- data bytes are a reply to a command, or have a fault
+abbrev pub DataIsAReplyOrHasAFault : Type 0
+DataIsAReplyOrHasAFault =
+    (command : Command) (bytes : List ℕ)
+    → IsContent bytes
+    → ((reply : Reply) × IsReplyTo command reply × (bytes ≡ reply_bytes reply))
+    ⊎ ((fault : MsgFault) × IsReadFault command bytes fault)
 
 -- data bytes that are a reply have no fault
 abbrev pub ReplyHasNoFault : Type 0
-ReplyHasNoFault = (command : Command) (reply : Reply) (fault : MsgFault) → IsReplyTo command reply → IsReadFault command (reply_bytes reply) fault → ⊥
+ReplyHasNoFault =
+    (command : Command) (reply : Reply) (fault : MsgFault)
+    → IsReplyTo command reply → IsReadFault command (reply_bytes reply) fault → ⊥
 
 -- data bytes have at most one fault
 abbrev pub BytesHaveOneFault : Type 0
-BytesHaveOneFault = (command : Command) (bytes : List ℕ) (one other : MsgFault) → IsReadFault command bytes one → IsReadFault command bytes other → one ≡ other
+BytesHaveOneFault =
+    (command : Command) (bytes : List ℕ) (one other : MsgFault)
+    → IsReadFault command bytes one → IsReadFault command bytes other → one ≡ other
 
 -- a reply has at most one fault in writing
 abbrev pub ReplyHasOneWriteFault : Type 0
-ReplyHasOneWriteFault = (command : Command) (reply : Reply) (one other : MsgFault) → IsWriteFault command reply one → IsWriteFault command reply other → one ≡ other
+ReplyHasOneWriteFault =
+    (command : Command) (reply : Reply) (one other : MsgFault)
+    → IsWriteFault command reply one → IsWriteFault command reply other → one ≡ other
 
 -- a reply that may answer the command has none
 abbrev pub WrittenHasNoFault : Type 0
-WrittenHasNoFault = (command : Command) (reply : Reply) (fault : MsgFault) → IsReplyTo command reply → IsWriteFault command reply fault → ⊥
+WrittenHasNoFault =
+    (command : Command) (reply : Reply) (fault : MsgFault)
+    → IsReplyTo command reply → IsWriteFault command reply fault → ⊥

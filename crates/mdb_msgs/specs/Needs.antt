@@ -1,6 +1,6 @@
--- What the first bytes of a block of the controller tell (MDB/ICP 4.3, commands of the four devices; what is outside
--- and what is foreign, this profile).
-use Rattle.std.specs.Prelude.{◌≡◌, ℕ, length, ◌/◌, ◌%◌, ◌==◌, Bool, List, Option, Some, None, slice_index, slice_get, if◌then◌else◌}
+-- What the first bytes of a block of the controller tell (MDB/ICP 4.3, commands of the four
+-- devices; what is outside and what is foreign, this profile).
+use Rattle.std.specs.Prelude.{◌≡◌, ◌<◌, ℕ, length, ◌/◌, ◌%◌, ◌==◌, Bool, List, Option, Some, None, slice_index, slice_get, if◌then◌else◌}
 use Rattle.mdb_msgs.specs.declared.needs.Need.{Need}
 use Rattle.mdb_msgs.specs.declared.needs.Need.TheVariants.{More, Exactly, Foreign, Outside}
 
@@ -115,7 +115,8 @@ need first second =
 abbrev pub needed : List ℕ → Need
 needed prefix = need (slice_index prefix 0) (slice_get prefix 1)
 
--- the need of so many first bytes of a block tells its length, but one byte may leave that to the second
+-- the need of so many first bytes of a block tells its length, but one byte may leave that to the
+-- second
 abbrev pub IsTold : Need → ℕ → ℕ → Type 0
 IsTold (Exactly n) count whole = n ≡ whole
 IsTold More count whole = count ≡ 1
@@ -124,3 +125,14 @@ IsTold _ count whole = ⊥
 -- the first bytes of a block tell its length
 abbrev pub TellsLength : List ℕ → ℕ → Type 0
 TellsLength prefix whole = IsTold (needed prefix) (length prefix) whole
+
+-- a block needs more than so many first bytes of it: more bytes, or, after its first, its
+-- subcommand
+abbrev pub IsShort : Need → ℕ → Type 0
+IsShort (Exactly n) count = count < n
+IsShort More count = count ≡ 1
+IsShort _ count = ⊥
+
+-- bytes that want more for a command
+abbrev pub IsOpen : List ℕ → Type 0
+IsOpen bytes = IsShort (needed bytes) (length bytes)

@@ -34,7 +34,8 @@ abbrev pub is_id : ReaderMsg → Bool
 is_id PeripheralId = true
 is_id _ = false
 
--- whether a message may stand in answers to POLL and 13 00 to 13 04 alone (this profile)
+-- whether a message tells of a session or a sale, and so may stand in answers to POLL and the five
+-- commands of a session alone: 12 and 13 00 to 13 04, or 62 and 63 00 to 63 04 (this profile)
 abbrev pub is_kept : ReaderMsg → Bool
 is_kept (BeginSession funds) = true
 is_kept (VendApproved amount) = true
@@ -60,9 +61,11 @@ reader_list_bytes list = flat_map (reader_msg_bytes list.id list.text.items) lis
 abbrev pub IsDisplayLast : List ReaderMsg → Type 0
 IsDisplayLast [] = Unit {0}
 IsDisplayLast (message ∷ []) = Unit {0}
-IsDisplayLast (message ∷ next ∷ messages) = (is_display message ≡ false) × IsDisplayLast (next ∷ messages)
+IsDisplayLast (message ∷ next ∷ messages) =
+    (is_display message ≡ false) × IsDisplayLast (next ∷ messages)
 
--- the texts have their lengths, and are blank where no message has them; a display request is last (this profile)
+-- the texts have their lengths, and are blank where no message has them; a display request is last
+-- (this profile)
 pub record IsReaderList (list : ReaderList) : Type 0 where
   pub id_length : length list.id ≡ 29
   pub text_length : length list.text.items ≤ 32
@@ -74,8 +77,8 @@ pub record IsReaderList (list : ReaderList) : Type 0 where
 abbrev pub NotDisplay : ReaderMsg → Type 0
 NotDisplay message = is_display message ≡ false
 
--- no message stands at the front of these bytes: they are too few for it, or too many for a display request, which
--- takes them all; from 0C on the messages are left out of this profile
+-- no message stands at the front of these bytes: they are too few for it, or too many for a display
+-- request, which takes them all; from 0C on the messages are left out of this profile
 abbrev pub NoReaderMsg : List ℕ → MsgFault → Type 0
 NoReaderMsg (first ∷ behind) Message =
     ((first ≡ 1) × (length behind < 7))
@@ -89,4 +92,5 @@ NoReaderMsg _ _ = ⊥
 -- in front stand messages, and where they end no message stands, for this reason
 abbrev pub ReaderStopsAt : List ℕ → MsgFault → Type 0
 ReaderStopsAt bytes fault =
-    (id : List ℕ) × (length id ≡ 29) × StopsAt (reader_msg_bytes id []) NotDisplay NoReaderMsg bytes fault
+    (id : List ℕ) × (length id ≡ 29)
+    × StopsAt (reader_msg_bytes id []) NotDisplay NoReaderMsg bytes fault

@@ -1,4 +1,5 @@
--- One step of reading a reader's answer: what the private functions of the reading say, and no public one.
+-- One step of reading a reader's answer: what the private functions of the reading say, and no
+-- public one.
 use Rattle.std.specs.Prelude.{◌≡◌, ℕ, ◌≤◌, List, [], ◌∷◌, ◌++◌, length}
 use Rattle.mdb_msgs.specs.declared.reply.reader.ReaderMsg.{ReaderMsg}
 use Rattle.mdb_msgs.specs.declared.reply.reader.ReaderMsg.TheVariants.{Display, PeripheralId}
@@ -12,7 +13,15 @@ IsTextOf _ text rest = text ≡ []
 
 -- the list with a message more, and with its text
 abbrev pub with_message : ReaderList → ReaderMsg → List ℕ → ReaderList
-with_message list PeripheralId text = record list { messages = record { items = list.messages.items ++ PeripheralId ∷ [] }; id = text }
+with_message list PeripheralId text =
+    record list {
+      messages = record { items = list.messages.items ++ PeripheralId ∷ [] };
+      id = text;
+    }
 with_message list (Display time) text =
-    record list { messages = record { items = list.messages.items ++ Display time ∷ [] }; text = record { items = text } }
-with_message list message text = record list { messages = record { items = list.messages.items ++ message ∷ [] } }
+    record list {
+      messages = record { items = list.messages.items ++ Display time ∷ [] };
+      text = record { items = text };
+    }
+with_message list message text =
+    record list { messages = record { items = list.messages.items ++ message ∷ [] } }

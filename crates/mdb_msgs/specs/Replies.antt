@@ -1,6 +1,7 @@
 -- Replies: what they spell, and which of them may answer a command.
 use Rattle.std.specs.Prelude.{◌≡◌, ◌≢◌, ℕ, ◌⊎◌, Bool, true, false, List, length, Some, None, slice_index}
 use Rattle.std.specs.List.{flat_map, list_any, AllByRecursion}
+use Rattle.mdb_blocks.specs.Block.{block_of}
 use Rattle.mdb_msgs.specs.declared.answer.AnswerForm.{AnswerForm}
 use Rattle.mdb_msgs.specs.declared.answer.AnswerForm.TheVariants as form
 use Rattle.mdb_msgs.specs.declared.command.Command.{Command}
@@ -65,10 +66,16 @@ pub record IsReplyTo (command : Command) (reply : Reply) : Type 0 where
   pub answer : IsAnswerTo command reply
   pub kept : may_keep command ≡ false → has_kept reply ≡ false
 
--- why bytes of an allowed number are no reply of this form: the leftmost message that can't be taken, or a byte for
--- the escrow that is neither FF nor 00
+-- a reply to a command and its block
+pub record SpellsReply (command : Command) (reply : Reply) (block : List ℕ) : Type 0 where
+  pub answers : IsReplyTo command reply
+  pub bytes : block ≡ block_of (reply_bytes reply)
+
+-- why bytes of an allowed number are no reply of this form: the leftmost message that can't be
+-- taken, or a byte for the escrow that is neither FF nor 00
 abbrev pub NoReply : AnswerForm → List ℕ → MsgFault → Type 0
-NoReply form.ChangerPoll bytes fault = StopsAt changer_msg_bytes IsChangerMsg NoChangerMsg bytes fault
+NoReply form.ChangerPoll bytes fault =
+    StopsAt changer_msg_bytes IsChangerMsg NoChangerMsg bytes fault
 NoReply form.BillPoll bytes fault = StopsAt bill_msg_bytes IsBillMsg NoBillMsg bytes fault
 NoReply form.Reader bytes fault = ReaderStopsAt bytes fault
 NoReply form.BillSetup bytes fault =
@@ -78,12 +85,15 @@ NoReply _ bytes fault = ⊥
 -- no reply of the command's form has these bytes, though their number is allowed
 abbrev pub IsNoReplyTo : Command → List ℕ → MsgFault → Type 0
 IsNoReplyTo command bytes fault =
-    (form : AnswerForm) × (form_of command ≡ Some form) × IsDataLength form (length bytes) × NoReply form bytes fault
+    (form : AnswerForm) × (form_of command ≡ Some form) × IsDataLength form (length bytes)
+    × NoReply form bytes fault
 
--- they are a reply of the command's form, which tells of sessions and sales though the command may not have that
+-- they are a reply of the command's form, which tells of sessions and sales though the command may
+-- not have that
 abbrev pub IsKeptFault : Command → List ℕ → Type 0
 IsKeptFault command bytes =
-    (reply : Reply) × IsAnswerTo command reply × (bytes ≡ reply_bytes reply) × (has_kept reply ≡ true) × (may_keep command ≡ false)
+    (reply : Reply) × IsAnswerTo command reply × (bytes ≡ reply_bytes reply)
+    × (has_kept reply ≡ true) × (may_keep command ≡ false)
 
 -- why data bytes are no reply to a command, in the order in which the checks are made
 abbrev pub IsReadFault : Command → List ℕ → MsgFault → Type 0
@@ -97,10 +107,13 @@ IsReadFault command bytes faults.Answer =
 -- why a reply to a command has no block, in the order in which the checks are made
 abbrev pub IsWriteFault : Command → Reply → MsgFault → Type 0
 IsWriteFault command reply faults.Length =
-    (form : AnswerForm) × (form_of command ≡ Some form) × (IsDataLength form (length (reply_bytes reply)) → ⊥)
+    (form : AnswerForm) × (form_of command ≡ Some form)
+    × (IsDataLength form (length (reply_bytes reply)) → ⊥)
 IsWriteFault command reply faults.Message =
-    (form : AnswerForm) × (form_of command ≡ Some form) × IsDataLength form (length (reply_bytes reply))
+    (form : AnswerForm) × (form_of command ≡ Some form)
+    × IsDataLength form (length (reply_bytes reply))
     × ((form_of_reply reply ≢ form) ⊎ (HasFields reply → ⊥))
 IsWriteFault command reply faults.Profile = ⊥
 IsWriteFault command reply faults.Answer =
-    (form_of command ≡ None) ⊎ (IsAnswerTo command reply × (has_kept reply ≡ true) × (may_keep command ≡ false))
+    (form_of command ≡ None)
+    ⊎ (IsAnswerTo command reply × (has_kept reply ≡ true) × (may_keep command ≡ false))

@@ -1,7 +1,7 @@
 //! What a command may be answered with, beside ACK.
 
 ghost use Rattle.std.specs.Prelude.{◌≡◌, ◌↔◌, IsTrue};
-ghost use Rattle.mdb_msgs.specs.Answers.{form_of, changer_form_of, bill_form_of, lengths_of, may_keep, IsDataLength};
+ghost use Rattle.mdb_msgs.specs.Answers.{form_of, changer_form_of, bill_form_of, lengths_of, may_keep, HasDataAnswer, IsDataLength, MayHaveData};
 
 use crate::command::{BillCommand, ChangerCommand, Command, ReaderCommand};
 
@@ -96,8 +96,28 @@ impl AnswerForm {
     }
 }
 
-/// Whether answers to this command may tell of sessions and sales: to a reader, POLL and the commands of a session, 13 00
-/// to 13 04 (VEND REQUEST to SESSION COMPLETE; this profile).
+impl Command {
+    /// Whether some data block may answer the command.
+    pub fn may_have_data(&self) -> bool
+        ensures { IsTrue result ↔ MayHaveData self.now }
+    {
+        AnswerForm::of(self).is_some()
+    }
+
+    /// Whether so many data bytes, without their sum, may answer the command.
+    pub fn has_data_answer(&self, count: usize) -> bool
+        ensures { IsTrue result ↔ HasDataAnswer self.now count }
+    {
+        match AnswerForm::of(self) {
+            Some(form) => form.allows(count),
+            None => false,
+        }
+    }
+}
+
+/// Whether answers to this command may tell of sessions and sales: to a reader, POLL and the five
+/// commands of a session, VEND REQUEST to SESSION COMPLETE (12 and 13 00 to 13 04 to the first, 62
+/// and 63 00 to 63 04 to the second; this profile).
 pub(crate) fn may_keep(command: &Command) -> bool
     ensures { result ≡ may_keep command.now }
 {

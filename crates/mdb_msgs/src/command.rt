@@ -3,8 +3,8 @@
 ghost use Rattle.std.specs.Prelude.{◌≡◌};
 ghost use Rattle.mdb_msgs.specs.Commands.{device_of, reader_address};
 
-/// A peripheral that this profile follows (MDB/ICP 4.3: changer at 08H, cashless device #1 at 10H, validator at 30H,
-/// cashless device #2 at 60H).
+/// A peripheral that this profile follows (MDB/ICP 4.3: changer at 08H, cashless device #1 at 10H,
+/// validator at 30H, cashless device #2 at 60H).
 #[derive(Clone, Copy, PartialEq, Eq, Debug)]
 pub enum Device {
     /// The coin changer, 08H.
@@ -38,7 +38,8 @@ impl ReaderUnit {
     }
 }
 
-/// A command of the controller. Its fields are whole bytes and two-byte numbers, so every command has a block.
+/// A command of the controller. Its fields are whole bytes and two-byte numbers, so every command
+/// has a block.
 #[derive(Clone, Copy, PartialEq, Eq, Debug)]
 pub enum Command {
     /// To the coin changer.
@@ -126,8 +127,8 @@ pub enum BillCommand {
     IdentificationWithOptions,
 }
 
-/// A command to a cashless reader (MDB/ICP 4.3, cashless device). The bytes are those to the first; to the second, the
-/// first byte is greater by 50 hexadecimal.
+/// A command to a cashless reader (MDB/ICP 4.3, cashless device). The bytes are those to the first;
+/// to the second, the first byte is greater by 50 hexadecimal.
 #[derive(Clone, Copy, PartialEq, Eq, Debug)]
 pub enum ReaderCommand {
     /// RESET, 10.

@@ -13,8 +13,8 @@ use super::fault::MsgFault;
 use super::two_bytes::number;
 use mdb_blocks::Block;
 
-/// The command of a block. `Profile` where the first two bytes tell that the block is foreign or outside of this
-/// profile, `Length` where they tell another length.
+/// The command of a block. `Profile` where the first two bytes tell that the block is foreign or
+/// outside of this profile, `Length` where they tell another length.
 pub fn read_command(block: &Block) -> Result<Command, MsgFault>
     ensures command { IfOk result (λ command. Spells command block.now) }
     ensures only { (command : Command) → Spells command block.now → result ≡ Ok command }
@@ -47,7 +47,8 @@ fn changer_command(content: &[u8]) -> Result<ChangerCommand, MsgFault>
     requires some { 0 < length content.now }
     requires least { 0x08 ≤ slice_index content.now 0 }
     requires most { slice_index content.now 0 ≤ 0x0F }
-    ensures command { IfOk result (λ command. HasChangerFields command × (content.now ≡ changer_bytes command)) }
+    ensures command { IfOk result (λ command.
+        HasChangerFields command × (content.now ≡ changer_bytes command)) }
     ensures fault { IfErr result (IsCommandFault (block_of content.now)) }
 {
     match content {
@@ -72,7 +73,8 @@ fn bill_command(content: &[u8]) -> Result<BillCommand, MsgFault>
     requires some { 0 < length content.now }
     requires least { 0x30 ≤ slice_index content.now 0 }
     requires most { slice_index content.now 0 ≤ 0x37 }
-    ensures command { IfOk result (λ command. HasBillFields command × (content.now ≡ bill_bytes command)) }
+    ensures command { IfOk result (λ command.
+        HasBillFields command × (content.now ≡ bill_bytes command)) }
     ensures fault { IfErr result (IsCommandFault (block_of content.now)) }
 {
     match content {
@@ -100,8 +102,11 @@ fn reader_command(address: u8, content: &[u8]) -> Result<ReaderCommand, MsgFault
     requires some { 0 < length content.now }
     requires least { address ≤ slice_index content.now 0 }
     requires most { slice_index content.now 0 ≤ address + 7 }
-    ensures command { IfOk result (λ command. HasReaderFields command × (content.now ≡ reader_bytes address command)) }
-    ensures fault { IfErr result (IsRefused (reader_need (slice_index content.now 0 - address) (slice_get (block_of content.now) 1)) (length content.now + 1)) }
+    ensures command { IfOk result (λ command.
+        HasReaderFields command × (content.now ≡ reader_bytes address command)) }
+    ensures fault { IfErr result (IsRefused
+        (reader_need (slice_index content.now 0 - address) (slice_get (block_of content.now) 1))
+        (length content.now + 1)) }
 {
     match (content[0] - address, &content[1..]) {
         (0, []) => Ok(ReaderCommand::Reset),

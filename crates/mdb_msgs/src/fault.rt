@@ -1,7 +1,7 @@
 //! Why a block is no command or no reply.
 
-/// Why a block can't be read, or a reply can't be written (this profile). Each function says in which order it looks for
-/// them.
+/// Why a block can't be read, or a reply can't be written (this profile). Each function says in
+/// which order it looks for them.
 #[derive(Clone, Copy, PartialEq, Eq, Debug)]
 pub enum MsgFault {
     /// The number of bytes isn't the command's.

@@ -6,32 +6,65 @@ ghost use Rattle.mdb_msgs.specs.declared.command.Command.{Command};
 ghost use Rattle.mdb_msgs.specs.declared.needs.Need.TheVariants.{Exactly};
 ghost use Rattle.mdb_msgs.specs.Commands.{IsByte, Spells};
 ghost use Rattle.mdb_msgs.specs.Needs.{TellsLength, needed};
-ghost use Rattle.mdb_msgs.specs.Laws.{BlockHasOneReply, ReplyHasNoFault, BytesHaveOneFault, ReplyHasOneWriteFault, WrittenHasNoFault};
+ghost use Rattle.mdb_msgs.specs.Laws.{OpenIsAFront, FrontIsOpen, BlockHasOneReply, ReplyHasItsLength, DataFitsABlock, SpelledReplyIsContent, DataIsAReplyOrHasAFault, ReplyHasNoFault, BytesHaveOneFault, ReplyHasOneWriteFault, WrittenHasNoFault};
 
 /// A block has at most one command.
 pub fn block_has_one_command()
-    ensures { (block : List ℕ) (one other : Command) → Spells one block → Spells other block → one ≡ other }
+    ensures { (block : List ℕ) (one other : Command) →
+        Spells one block → Spells other block → one ≡ other }
 {}
 
 /// What the first two bytes of a command's block need is the length of the block.
 pub fn command_has_what_it_needs()
-    ensures { (block : List ℕ) (command : Command) → Spells command block → needed block ≡ Exactly (length block) }
+    ensures { (block : List ℕ) (command : Command) →
+        Spells command block → needed block ≡ Exactly (length block) }
 {}
 
-/// The first byte of a command's block tells the length of the block or leaves it to the second, and the first two
-/// bytes tell it.
+/// The first byte of a command's block tells the length of the block or leaves it to the second,
+/// and the first two bytes tell it.
 pub fn first_bytes_tell_the_length()
-    ensures { (prefix rest : List ℕ) (command : Command) → 0 < length prefix → Spells command (prefix ++ rest) → TellsLength prefix (length (prefix ++ rest)) }
+    ensures { (prefix rest : List ℕ) (command : Command) →
+        0 < length prefix → Spells command (prefix ++ rest) →
+        TellsLength prefix (length (prefix ++ rest)) }
 {}
 
 /// Bytes that are as long as they need to be are those of a command.
 pub fn what_it_needs_is_a_command()
-    ensures { (content : List ℕ) → All IsByte content → needed content ≡ Exactly (length content + 1) → (command : Command) × Spells command (block_of content) }
+    ensures { (content : List ℕ) →
+        All IsByte content → needed content ≡ Exactly (length content + 1) →
+        (command : Command) × Spells command (block_of content) }
+{}
+
+/// Bytes whose need wants more of them are the front of some command's block: they leave a command
+/// open.
+pub fn need_leaves_a_command_open()
+    ensures { OpenIsAFront }
+{}
+
+/// A front of a command's block that is not the whole block wants more.
+pub fn front_of_a_command_is_open()
+    ensures { FrontIsOpen }
 {}
 
 /// For a command, a block has at most one reply.
 pub fn block_has_one_reply()
     ensures { BlockHasOneReply }
+{}
+
+/// The data bytes of a reply are as many as the command allows, and that is 1 to 35.
+pub fn reply_has_its_length()
+    ensures allowed { ReplyHasItsLength }
+    ensures fits { DataFitsABlock }
+{}
+
+/// The data bytes of a reply that a block spells are bytes.
+pub fn spelled_reply_is_content()
+    ensures { SpelledReplyIsContent }
+{}
+
+/// Data bytes are a reply to a command, or have a fault.
+pub fn data_is_a_reply_or_has_a_fault()
+    ensures { DataIsAReplyOrHasAFault }
 {}
 
 /// Data bytes that are a reply to a command have no fault.

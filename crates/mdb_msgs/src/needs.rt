@@ -16,8 +16,9 @@ pub enum Need {
     Outside,
 }
 
-/// What a block that begins with these bytes needs. At most the first two bytes count (MDB/ICP 4.3, commands of the
-/// coin changer, the bill validator and the cashless device, as far as this profile goes).
+/// What a block that begins with these bytes needs. At most the first two bytes count (MDB/ICP 4.3,
+/// commands of the coin changer, the bill validator and the cashless device, as far as this profile
+/// goes).
 pub fn need_of(prefix: &[u8]) -> Need
     requires { 0 < length prefix.now }
     ensures { result ≡ needed prefix.now }

@@ -1,10 +1,11 @@
 //! Replies of the peripherals.
 
-ghost use Rattle.std.specs.Prelude.{◌≡◌, ℕ, List, ◌≤◌, ◌↔◌, length, IsTrue, IsOk, IfOk, IfErr};
-ghost use Rattle.mdb_blocks.specs.Block.{block_of, IsBlock};
+ghost use Rattle.std.specs.Prelude.{◌≡◌, ℕ, List, ◌≤◌, ◌↔◌, length, IsTrue, Ok, Err, IsOk, IfOk, IfErr};
+ghost use Rattle.mdb_blocks.specs.Block.{block_of};
 ghost use Rattle.mdb_msgs.specs.Answers.{IsDataLength};
+ghost use Rattle.mdb_msgs.specs.declared.fault.MsgFault.{MsgFault};
 ghost use Rattle.mdb_msgs.specs.declared.reply.Reply.{Reply};
-ghost use Rattle.mdb_msgs.specs.Replies.{form_of_reply, reply_bytes, has_kept, HasFields, IsReplyTo, NoReply, IsReadFault, IsWriteFault};
+ghost use Rattle.mdb_msgs.specs.Replies.{form_of_reply, reply_bytes, has_kept, HasFields, IsReplyTo, NoReply, IsReadFault, IsWriteFault, SpellsReply};
 
 pub mod bill;
 pub mod changer;
@@ -202,17 +203,20 @@ fn read_content(command: &Command, content: &[u8]) -> Result<Reply, MsgFault>
 ///
 /// # Errors
 ///
-/// The first of these: `Answer` where the command may have no data answer; `Length` where the number of data bytes
-/// isn't the command's; `Message` or `Profile` for the leftmost message that can't be taken, or `Message` for a
-/// validator's SETUP whose byte for the escrow is neither FF nor 00; `Answer` for a reader's message of a session or
-/// a sale (03, 05, 06, 07) in an answer to another command than POLL and 13 00 to 13 04 (this profile).
+/// The first of these: `Answer` where the command may have no data answer; `Length` where the
+/// number of data bytes isn't the command's; `Message` or `Profile` for the leftmost message that
+/// can't be taken, or `Message` for a validator's SETUP whose byte for the escrow is neither FF nor
+/// 00; `Answer` for a reader's message of a session or a sale (03, 05, 06, 07) in an answer to
+/// another command than POLL and the five commands of a session, 13 00 to 13 04 or 63 00 to 63 04
+/// (this profile).
 pub fn read_reply(command: &Command, block: &Block) -> Result<Reply, MsgFault>
-    // What is read may answer the command, and the block is its block.
-    ensures found { IfOk result (IsReplyTo command.now) }
-    ensures spelled { IfOk result (λ reply. block.now ≡ block_of (reply_bytes reply)) }
-    // What may answer the command, and has this block, is read.
-    ensures only { (reply : Reply) → IsReplyTo command.now reply → block.now ≡ block_of (reply_bytes reply) → result ≡ Ok reply }
-    ensures fault { IfErr result (λ fault. (content : List ℕ) × (block.now ≡ block_of content) × IsReadFault command.now content fault) }
+    ensures found { IfOk result (λ reply. SpellsReply command.now reply block.now) }
+    ensures only { (reply : Reply) → SpellsReply command.now reply block.now → result ≡ Ok reply }
+    ensures fault { IfErr result (λ fault. (content : List ℕ) →
+        block.now ≡ block_of content → IsReadFault command.now content fault) }
+    ensures refused { (content : List ℕ) (fault : MsgFault) →
+        block.now ≡ block_of content → IsReadFault command.now content fault →
+        result ≡ Err fault }
 {
     read_content(command, block.content())
 }
@@ -230,14 +234,28 @@ fn block_with(bytes: &[u8]) -> Block
 ///
 /// # Errors
 ///
-/// The first of these, and none where the command has a block of this reply: `Answer` where the command may have no
-/// data answer; `Length` where the bytes of the reply, whatever its form, aren't as many as the command allows;
-/// `Message` where the reply is of another command's form, a display request in it isn't last, a field is outside its
-/// range, or a text stands beside the list without its message; `Answer` for a reader's message of a session or a
-/// sale (03, 05, 06, 07) in an answer to another command than POLL and 13 00 to 13 04 (this profile).
+/// The first of these, and none where the command has a block of this reply: `Answer` where the
+/// command may have no data answer; `Length` where the bytes of the reply, whatever its form,
+/// aren't as many as the command allows; `Message` where the reply is of another command's form, a
+/// display request in it isn't last, a field is outside its range, or a text stands beside the list
+/// without its message; `Answer` for a reader's message of a session or a sale (03, 05, 06, 07) in
+/// an answer to another command than POLL and the five commands of a session, 13 00 to 13 04 or
+/// 63 00 to 63 04 (this profile).
 pub fn write_reply(command: &Command, reply: &Reply) -> Result<Block, MsgFault>
     ensures exactly { IsOk result ↔ IsReplyTo command.now reply.now }
-    ensures spelled { IfOk result (λ block. block ≡ block_of (reply_bytes reply.now)) }
+    ensures written { IfOk result (λ block. SpellsReply command.now reply.now block) }
+    ensures fault { IfErr result (IsWriteFault command.now reply.now) }
+    ensures refused { (fault : MsgFault) →
+        IsWriteFault command.now reply.now fault → result ≡ Err fault }
+{
+    let bytes = written_bytes(command, reply)?;
+    Ok(block_with(bytes.as_slice()))
+}
+
+/// The data bytes of a reply to a command.
+fn written_bytes(command: &Command, reply: &Reply) -> Result<Bytes, MsgFault>
+    ensures answers { IfOk result (λ _. IsReplyTo command.now reply.now) }
+    ensures bytes { IfOk result (λ bytes. bytes.items ≡ reply_bytes reply.now) }
     ensures fault { IfErr result (IsWriteFault command.now reply.now) }
 {
     let form = AnswerForm::of(command).ok_or(MsgFault::Answer)?;
@@ -250,7 +268,7 @@ pub fn write_reply(command: &Command, reply: &Reply) -> Result<Block, MsgFault>
     if reply.has_kept() && !may_keep(command) {
         return Err(MsgFault::Answer);
     }
-    Ok(block_with(reply.bytes().as_slice()))
+    Ok(reply.bytes())
 }
 
 #[cfg(test)]

@@ -79,6 +79,14 @@ gives-stripped (suc (suc zero)) (a ∷ b ∷ c ∷ rest) =
     (λ e. All-cons (λ b. 128 ≤ b) a (b ∷ []) (bom-high a b c e).0 (All-cons (λ b. 128 ≤ b) b [] (bom-high a b c e).1 (All-nil (λ b. 128 ≤ b)))) (rw never refl)
 gives-stripped (suc (suc (suc limit))) (a ∷ b ∷ c ∷ rest) = past-bom a b c limit rest (is_bom a b c)
 
+-- no mark is put into a text within the limit
+pub marked-within : (limit : ℕ) (text : List ℕ) → length text ≤ limit → marked limit text ≡ text
+unfolding marked
+marked-within zero [] h = refl
+marked-within (suc limit) [] h = refl
+marked-within zero (b ∷ text) h = absurd (omega arith)
+marked-within (suc limit) (b ∷ text) h = ap (λ r. b ∷ r) (marked-within limit text (omega arith))
+
 -- the mark is put into a text that is longer than the limit
 marked-over : (limit : ℕ) (text : List ℕ) → limit < length text → (before after : List ℕ) × (marked limit text ≡ before ++ mark ∷ after)
 unfolding marked

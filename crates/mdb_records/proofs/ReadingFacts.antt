@@ -1,5 +1,5 @@
 -- One read of a reader of records, as a step along the records to come.
-use Rattle.std.proofs.Common.{◌≡◌, ◌<◌, ◌-◌, ℕ, zero, suc, Bool, List, [], ◌∷◌, ◌++◌, ap, length, take, drop, Option, Some, None, true, false, inl, inr, refl, ◌∙◌}
+use Rattle.std.proofs.Common.{◌≡◌, ◌<◌, ◌≤◌, ◌-◌, ℕ, zero, suc, Bool, List, [], ◌∷◌, ◌++◌, ap, length, take, drop, Option, Some, None, true, false, inl, inr, refl, ◌∙◌}
 use Rattle.std.specs.Prelude.{All, IfSome, is_none, option_map}
 use Rattle.std.proofs.lemmas.List.Elements.{All-head, All-tail}
 use Rattle.csv.specs.Machine.{next_record}
@@ -12,9 +12,9 @@ use Rattle.csv.specs.declared.reader.Headers.{Headers}
 use Rattle.csv.specs.declared.reader.Reader.{Reader}
 use Rattle.mdb_records.specs.SetUp.{IsSetUp}
 use Rattle.mdb_records.specs.Mark.{given_of, mark, marked}
-use Rattle.mdb_records.specs.ToCome.{Advances, IsOverLimit, ToCome, limited_remaining}
+use Rattle.mdb_records.specs.ToCome.{Advances, IsOverLimit, IsUncut, ToCome, limited_remaining}
 use Rattle.mdb_records.specs.declared.Records.{Records}
-use Rattle.mdb_records.proofs.MarkGives.{gives-stripped, stripped-over}
+use Rattle.mdb_records.proofs.MarkGives.{gives-stripped, marked-within, stripped-over}
 use Rattle.mdb_records.proofs.MarkedRecords.{AreBytes, IsBytes, marked-none, marked-some}
 use Rattle.mdb_records.proofs.RowFacts.{are-records, between-after, gives-none, gives-some}
 use Rattle.mdb_records.proofs.StepFacts.{plain-between}
@@ -115,6 +115,13 @@ new-over remaining value limit (Some text) going plain start source = λ long.
       between = rw start refl;
       source = source ∙ ap Some m.2;
     }
+
+-- a new reader of a text within the limit
+pub new-within : {R : Type 0} (remaining : R → Option (List ℕ)) (value : Records R) (limit : ℕ) (known : Option (List ℕ))
+    → source_of (limited_remaining remaining) value.reader ≡ option_map strip_bom (given_of known limit None)
+    → IfSome known (λ text. length text ≤ limit → IsUncut remaining value (strip_bom text))
+new-within remaining value limit None source = tt
+new-within remaining value limit (Some text) source = λ fits. record { source = source ∙ ap (λ t. Some (strip_bom t)) (marked-within limit text fits) }
 
 -- a read of a text that goes on behind the limit finds a record before it
 pub over-goes-on : {R : Type 0} (remaining : R → Option (List ℕ)) (old new : Records R) (found : Bool)

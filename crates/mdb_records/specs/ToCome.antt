@@ -14,19 +14,23 @@ limited_remaining remaining limited = given_of (remaining limited.inner) limited
 
 -- the mark stands somewhere in the text
 abbrev pub HasMark : List ℕ → List ℕ → Type 0
-HasMark text given = (before after : List ℕ) × (text ≡ before ++ after) × (given ≡ before ++ mark ∷ after)
+HasMark text given =
+    (before after : List ℕ) × (text ≡ before ++ after) × (given ≡ before ++ mark ∷ after)
 
 -- the mark comes after bytes above ASCII alone, as where the limit cuts a byte order mark
 abbrev pub IsCutAtStart : List ℕ → Type 0
-IsCutAtStart given = (before after : List ℕ) × All (λ b. 128 ≤ b) before × (given ≡ before ++ mark ∷ after)
+IsCutAtStart given =
+    (before after : List ℕ) × All (λ b. 128 ≤ b) before × (given ≡ before ++ mark ∷ after)
 
--- what is given is the text, or the limit's mark keeps each record from being given that is not the text's
+-- what is given is the text, or the limit's mark keeps each record from being given that is not the
+-- text's
 abbrev pub Gives : List ℕ → List ℕ → Type 0
 Gives text given = (given ≡ text) ⊎ HasMark text given ⊎ IsCutAtStart given
 
--- these are all the records that are still to come, where `text` is the whole text that is left, however
--- long, and `given` is what the limit leaves of it
-pub record ToCome {R : Type 0} (remaining : R → Option (List ℕ)) (value : Records R) (rows : List (List (List ℕ))) : Type 0 where
+-- these are all the records that are still to come, where `text` is the whole text that is left,
+-- however long, and `given` is what the limit leaves of it
+pub record ToCome {R : Type 0} (remaining : R → Option (List ℕ)) (value : Records R)
+    (rows : List (List (List ℕ))) : Type 0 where
   pub text : List ℕ
   pub given : List ℕ
   pub going : value.fault ≡ None
@@ -37,13 +41,19 @@ pub record ToCome {R : Type 0} (remaining : R → Option (List ℕ)) (value : Re
   pub all : AreRecords default_config (reader_state value.reader) text rows
 
 -- the text that is left goes on behind the limit
-pub record IsOverLimit {R : Type 0} (remaining : R → Option (List ℕ)) (value : Records R) : Type 0 where
+pub record IsOverLimit {R : Type 0} (remaining : R → Option (List ℕ)) (value : Records R)
+    : Type 0 where
   pub before : List ℕ
   pub after : List ℕ
   pub going : value.fault ≡ None
   pub plain : reader_config value.reader ≡ default_config
   pub between : ends_at_end (reader_state value.reader) ≡ false
   pub source : source_of (limited_remaining remaining) value.reader ≡ Some (before ++ mark ∷ after)
+
+-- this is the text that is left, past a byte order mark, and the limit cuts nothing from it
+pub record IsUncut {R : Type 0} (remaining : R → Option (List ℕ)) (value : Records R)
+    (text : List ℕ) : Type 0 where
+  pub source : source_of (limited_remaining remaining) value.reader ≡ Some text
 
 -- the fields of the record that was read last
 abbrev pub current_fields : {R : Type 0} → Records R → List (List ℕ)
@@ -54,7 +64,9 @@ abbrev pub fault_of : {R : Type 0} → Records R → Option ReadFault
 fault_of value = value.fault
 
 -- a read that found the next of the records to come, and one that found that there is none
-abbrev pub Advances : {R : Type 0} → (R → Option (List ℕ)) → Records R → Bool → List (List (List ℕ)) → Type 0
+abbrev pub Advances : {R : Type 0} → (R → Option (List ℕ)) → Records R → Bool
+    → List (List (List ℕ)) → Type 0
 Advances remaining value true rows =
-    (rest : List (List (List ℕ))) × (rows ≡ current_fields value ∷ rest) × ToCome remaining value rest
+    (rest : List (List (List ℕ))) × (rows ≡ current_fields value ∷ rest)
+    × ToCome remaining value rest
 Advances remaining value false rows = rows ≡ []

@@ -1,10 +1,11 @@
-//! The CSV records of a text, one at a time, from any reader and under a limit on the number of its bytes.
+//! The CSV records of a text, one at a time, from any reader and under a limit on the number of its
+//! bytes.
 //!
-//! A text that is longer than the limit is an error and never the end of the text: each record that is given
-//! is one of the whole text's records, and the end is told only where the whole text ends.
+//! A text that is longer than the limit is an error and never the end of the text: each record that
+//! is given is one of the whole text's records, and the end is told only where the whole text ends.
 #![tactic(auto)]
 
-ghost use Rattle.std.specs.Prelude.{◌≡◌, ◌<◌, ℕ, All, List, None, length, true, IfErr, IfOk, IfSome, Some, Err, if◌then◌else◌};
+ghost use Rattle.std.specs.Prelude.{◌≡◌, ◌<◌, ◌≤◌, ℕ, All, List, None, length, true, IfErr, IfOk, IfSome, Some, Err, if◌then◌else◌};
 ghost use Rattle.csv.specs.Reading.{default_config, error_kind, is_io, records, stops_reader, strip_bom};
 ghost use Rattle.csv.specs.Records.{fields_of};
 ghost use Rattle.mdb_records.specs.SetUp.{IsSetUp};
@@ -37,18 +38,22 @@ pub struct Records<R> {
 }
 
 impl<R: Read + Drop> Records<R> {
-    ghost use Rattle.mdb_records.specs.ToCome.{Advances, IsOverLimit, ToCome, current_fields, fault_of};
+    ghost use Rattle.mdb_records.specs.ToCome.{Advances, IsOverLimit, IsUncut, ToCome, current_fields, fault_of};
 
-    /// The records of the text that `reader` has left, which may be at most `limit` bytes long: past them one
-    /// more byte is asked for, to tell the end from a longer text. Fields are separated by commas and may be
-    /// quoted, lines end in LF, CR or both, and blank lines are no records.
+    /// The records of the text that `reader` has left, which may be at most `limit` bytes long:
+    /// past them one more byte is asked for, to tell the end from a longer text. Fields are
+    /// separated by commas and may be quoted, lines end in LF, CR or both, and blank lines are no
+    /// records.
     ///
-    /// No clause says that a text within the limit is read to its end, since a reader may fail at any time.
+    /// A text within the limit is not cut, though no clause says that it is read to its end, since
+    /// a reader may fail at any time.
     pub fn new(alloc: Global, reader: R, limit: u64) -> Records<R>
         ensures records { IfSome (R.remaining reader) (λ text.
             ToCome R.remaining result (records default_config (strip_bom text))) }
         ensures over { IfSome (R.remaining reader) (λ text.
             limit < length text → IsOverLimit R.remaining result) }
+        ensures within { IfSome (R.remaining reader) (λ text.
+            length text ≤ limit → IsUncut R.remaining result (strip_bom text)) }
         ensures going { fault_of result ≡ None }
     {
         Records {
@@ -61,7 +66,8 @@ impl<R: Read + Drop> Records<R> {
         }
     }
 
-    /// Reads the next record, and says whether there is one. Nothing is said of a call after the end.
+    /// Reads the next record, and says whether there is one. Nothing is said of a call after the
+    /// end.
     pub fn advance(&mut self) -> Result<bool, ReadFault>
         ensures next { IfOk result (λ found. (rows : List (List (List ℕ))) →
             ToCome R.remaining self.old rows → Advances R.remaining self.new found rows) }
@@ -70,8 +76,8 @@ impl<R: Read + Drop> Records<R> {
         ensures endless { IfOk result (λ found.
             IsOverLimit R.remaining self.old → (found ≡ true) × IsOverLimit R.remaining self.new) }
 
-        // A fault says nothing of the records to come, since the reader may stand inside one: each call from
-        // then on answers that fault again.
+        // A fault says nothing of the records to come, since the reader may stand inside one: each
+        // call from then on answers that fault again.
         ensures failed { IfErr result (λ fault. fault_of self.new ≡ Some fault) }
         ensures stays { IfSome (fault_of self.old) (λ fault. result ≡ Err fault) }
     {

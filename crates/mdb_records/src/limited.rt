@@ -4,7 +4,8 @@ ghost use Rattle.std.specs.Prelude.{◌≡◌, None};
 
 use std::io::{Error, ErrorKind, Read, Result};
 
-/// The bytes of a reader up to a limit. Behind it every read fails, so the limit is no end of the text.
+/// The bytes of a reader up to a limit. Behind it every read fails, so the limit is no end of the
+/// text.
 #[derive(Drop)]
 pub(crate) struct Limited<R> {
     inner: R,

@@ -24,4 +24,6 @@ pub record IsHexWord (field : List ℕ) (word : ℕ) : Type 0 where
 
 -- a word in three upper case hexadecimal digits
 abbrev pub hex_word : ℕ → List ℕ
-hex_word word = digit_glyph true (word / 256) ∷ digit_glyph true (word / 16 % 16) ∷ digit_glyph true (word % 16) ∷ []
+hex_word word =
+    digit_glyph true (word / 256) ∷ digit_glyph true (word / 16 % 16)
+    ∷ digit_glyph true (word % 16) ∷ []

@@ -21,12 +21,18 @@ break_letter = 66
 
 -- the fields of a row: the start in digits, the letter, and the word or the break's length
 abbrev pub IsRow : List (List ℕ) → Event → Type 0
-IsRow fields (Word at line word) = (time value : List ℕ) × (fields ≡ time ∷ (letter_of line ∷ []) ∷ value ∷ []) × IsDecimal 15 time at × IsHexWord value word
-IsRow fields (Break at length) = (time value : List ℕ) × (fields ≡ time ∷ (break_letter ∷ []) ∷ value ∷ []) × IsDecimal 15 time at × IsDecimal 9 value length
+IsRow fields (Word at line word) =
+    (time value : List ℕ) × (fields ≡ time ∷ (letter_of line ∷ []) ∷ value ∷ [])
+    × IsDecimal 15 time at × IsHexWord value word
+IsRow fields (Break at length) =
+    (time value : List ℕ) × (fields ≡ time ∷ (break_letter ∷ []) ∷ value ∷ [])
+    × IsDecimal 15 time at × IsDecimal 9 value length
 
 -- a field that is a row's letter
 abbrev pub IsLetter : List ℕ → Type 0
-IsLetter field = (field ≡ letter_of Controller ∷ []) ⊎ (field ≡ letter_of Peripheral ∷ []) ⊎ (field ≡ break_letter ∷ [])
+IsLetter field =
+    (field ≡ letter_of Controller ∷ []) ⊎ (field ≡ letter_of Peripheral ∷ [])
+    ⊎ (field ≡ break_letter ∷ [])
 
 -- Why fields are refused: the first of the four faults, in their order.
 abbrev pub IsRefusal : List (List ℕ) → RowFault → Type 0

@@ -9,7 +9,8 @@ ghost use Rattle.mdb_words.specs.Digits.{IsDecimal, hex_word};
 
 use arrayvec::ArrayString;
 
-/// The number of ASCII digits in a base, with letters of either case; `None` where a byte is no such digit.
+/// The number of ASCII digits in a base, with letters of either case; `None` where a byte is no
+/// such digit.
 pub(crate) fn number_of(digits: &[u8], base: u32) -> Option<u64>
     requires two { 2 ≤ base }
     requires sixteen { base ≤ 16 }

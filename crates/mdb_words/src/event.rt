@@ -33,14 +33,16 @@ pub enum Event {
 }
 
 impl Event {
-    /// The event of a row's fields (this profile): the start in microseconds as 1 to 15 decimal digits; `M`, `S` or
-    /// `B`; a word of the controller (`M`) or a peripheral (`S`) as three hexadecimal digits up to 1FF, or the length of
-    /// a break (`B`) in microseconds as 1 to 9 decimal digits.
+    /// The event of a row's fields (this profile): the start in microseconds as 1 to 15 decimal
+    /// digits; `M`, `S` or `B`; a word of the controller (`M`) or a peripheral (`S`) as three
+    /// hexadecimal digits up to 1FF, or the length of a break (`B`) in microseconds as 1 to 9
+    /// decimal digits.
     ///
     /// Of several faults the first in the order of [`RowFault`] is told.
     pub fn read(fields: &[&[u8]]) -> Result<Event, RowFault>
         ensures ok { IfOk result (IsRow (map (λ f. f.now) fields.now)) }
-        ensures only { (event : Event) → IsRow (map (λ f. f.now) fields.now) event → result ≡ Ok event }
+        ensures only { (event : Event) →
+            IsRow (map (λ f. f.now) fields.now) event → result ≡ Ok event }
         ensures err { IfErr result (IsRefusal (map (λ f. f.now) fields.now)) }
     {
         let &[time, letter, value] = fields else {
@@ -52,7 +54,8 @@ impl Event {
 
     /// The event that starts at a time, by the letter and the value of its row.
     fn read_at(at: Time, letter: &[u8], value: &[u8]) -> Result<Event, RowFault>
-        ensures { (time : List ℕ) → IsDecimal 15 time at → Tells result (time ∷ letter.now ∷ value.now ∷ []) }
+        ensures { (time : List ℕ) →
+            IsDecimal 15 time at → Tells result (time ∷ letter.now ∷ value.now ∷ []) }
     {
         match letter {
             [b'M'] => Event::read_word(at, Line::Controller, value),
@@ -64,7 +67,8 @@ impl Event {
 
     /// The word that starts at a time on a line, by the value of its row.
     fn read_word(at: Time, line: Line, value: &[u8]) -> Result<Event, RowFault>
-        ensures { (time : List ℕ) → IsDecimal 15 time at → Tells result (time ∷ (letter_of line ∷ []) ∷ value.now ∷ []) }
+        ensures { (time : List ℕ) → IsDecimal 15 time at →
+            Tells result (time ∷ (letter_of line ∷ []) ∷ value.now ∷ []) }
     {
         let word = Word::read(value).ok_or(RowFault::BadValue)?;
         Ok(Event::Word { at, line, word })
@@ -72,15 +76,16 @@ impl Event {
 
     /// The break that starts at a time, by the value of its row.
     fn read_break(at: Time, value: &[u8]) -> Result<Event, RowFault>
-        ensures { (time : List ℕ) → IsDecimal 15 time at → Tells result (time ∷ (break_letter ∷ []) ∷ value.now ∷ []) }
+        ensures { (time : List ℕ) → IsDecimal 15 time at →
+            Tells result (time ∷ (break_letter ∷ []) ∷ value.now ∷ []) }
     {
         let length = Span::read(value).ok_or(RowFault::BadValue)?;
         Ok(Event::Break { at, length })
     }
 
-    /// The event as the text of a row (this profile): start, letter and value between commas, and no line feed. Numbers
-    /// are as short as they can be, a word is always three hexadecimal digits, in capitals. [`Event::read`] reads the
-    /// fields of this text as the same event.
+    /// The event as the text of a row (this profile): start, letter and value between commas, and
+    /// no line feed. Numbers are as short as they can be, a word is always three hexadecimal
+    /// digits, in capitals. [`Event::read`] reads the fields of this text as the same event.
     pub fn row_text(&self) -> ArrayString<32>
         ensures text { result.bytes ≡ joined_by_commas (row_fields self.now) }
         ensures row { IsRow (row_fields self.now) self.now }
@@ -115,7 +120,8 @@ impl Event {
         }
     }
 
-    /// From when the gap to a later event is counted, in microseconds: the start of a word, the end of a break.
+    /// From when the gap to a later event is counted, in microseconds: the start of a word, the end
+    /// of a break.
     fn end(&self) -> u64
         ensures value { result ≡ end_of self.now }
         ensures range { result < 2 ^ 50 }
@@ -127,8 +133,8 @@ impl Event {
     }
 }
 
-/// The microseconds from one event to a later one: from the start of a word, or the end of a break, to the start of
-/// the later event. `None` where the later event starts before that (this profile).
+/// The microseconds from one event to a later one: from the start of a word, or the end of a break,
+/// to the start of the later event. `None` where the later event starts before that (this profile).
 pub fn gap_of(earlier: &Event, later: &Event) -> Option<u64>
     ensures some { IfSome result (λ gap. IsGap earlier.now later.now gap) }
     ensures none { IfNone result (start_of later.now < end_of earlier.now) }
@@ -136,8 +142,8 @@ pub fn gap_of(earlier: &Event, later: &Event) -> Option<u64>
     later.start().value().checked_sub(earlier.end())
 }
 
-/// Whether the later event starts at least so many microseconds after the earlier one: after the start of a word, or
-/// the end of a break (this profile).
+/// Whether the later event starts at least so many microseconds after the earlier one: after the
+/// start of a word, or the end of a break (this profile).
 pub fn is_at_least(earlier: &Event, later: &Event, least: u64) -> bool
     requires { least < 2 ^ 32 }
     ensures { IsTrue result ↔ AtLeast least earlier.now later.now }
@@ -145,8 +151,9 @@ pub fn is_at_least(earlier: &Event, later: &Event, least: u64) -> bool
     earlier.end() + least <= later.start().value()
 }
 
-/// Whether the later event starts at most so many microseconds after the earlier one: after the start of a word, or
-/// the end of a break (this profile). An event that starts before that does too.
+/// Whether the later event starts at most so many microseconds after the earlier one: after the
+/// start of a word, or the end of a break (this profile). An event that starts before that does
+/// too.
 pub fn is_at_most(earlier: &Event, later: &Event, most: u64) -> bool
     requires { most < 2 ^ 32 }
     ensures { IsTrue result ↔ AtMost most earlier.now later.now }

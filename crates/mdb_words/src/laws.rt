@@ -13,15 +13,18 @@ pub fn fields_are_of_one_event()
 
 /// The fields of a row are never refused.
 pub fn rows_are_never_refused()
-    ensures { (fields : List (List ℕ)) (event : Event) (fault : RowFault) → IsRow fields event → IsRefusal fields fault → ⊥ }
+    ensures { (fields : List (List ℕ)) (event : Event) (fault : RowFault) →
+        IsRow fields event → IsRefusal fields fault → ⊥ }
 {}
 
 /// Fields are refused for at most one reason.
 pub fn fields_have_one_refusal()
-    ensures { (fields : List (List ℕ)) (a b : RowFault) → IsRefusal fields a → IsRefusal fields b → a ≡ b }
+    ensures { (fields : List (List ℕ)) (a b : RowFault) →
+        IsRefusal fields a → IsRefusal fields b → a ≡ b }
 {}
 
-/// The time limits are those of MDB/ICP 4.3 with the 1146 of the word that they count from and 150 of tolerance.
+/// The time limits are those of MDB/ICP 4.3 with the 1146 of the word that they count from and 150
+/// of tolerance.
 pub fn limits_are_those_of_the_standard()
     ensures word { WORD_GAP_MIN + 150 ≡ 1146 }
     ensures block { BLOCK_GAP_MAX ≡ 1146 + 1000 + 150 }

@@ -1,7 +1,8 @@
 //! Words, times and events of a recorded MDB/ICP payment bus, and the rows that tell them.
 //!
-//! A recorder writes one row for each word and each break on the bus: when it started, on which line, and what it
-//! was. This crate has the values of such a row and reads and writes it. It takes no memory.
+//! A recorder writes one row for each word and each break on the bus: when it started, on which
+//! line, and what it was. This crate has the values of such a row and reads and writes it. It takes
+//! no memory.
 #![tactic(auto)]
 
 mod digits;

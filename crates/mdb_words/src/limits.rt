@@ -1,9 +1,11 @@
-//! The time limits of this profile, in microseconds from the start of one row to the start of the next.
+//! The time limits of this profile, in microseconds from the start of a word, or the end of a
+//! break, to the start of the next row.
 //!
-//! They are the limits of MDB/ICP 4.3 (bus format and timing: inter-byte 1.0 ms, response 5.0 ms, break 100 ms, setup
-//! 200 ms) with the 1146 microseconds that a word of 11 bits lasts at 9600 baud and a tolerance of 150 microseconds.
+//! They are the limits of MDB/ICP 4.3 (bus format and timing: inter-byte 1.0 ms, response 5.0 ms,
+//! break 100 ms, setup 200 ms) with the 1146 microseconds that a word of 11 bits lasts at 9600 baud
+//! and a tolerance of 150 microseconds.
 
-/// Least time between the starts of any two words.
+/// Least time from the start of any word to the start of the next word, or of a break after it.
 pub const WORD_GAP_MIN: u64 = 996;
 
 /// Greatest time between the starts of two neighbouring words of one block.

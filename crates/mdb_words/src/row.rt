@@ -1,7 +1,7 @@
 //! Rows of a transcript as text.
 
-/// Why the fields of a record are no row of a transcript (this profile). Of several faults the first of this order is
-/// told.
+/// Why the fields of a record are no row of a transcript (this profile). Of several faults the
+/// first of this order is told.
 #[derive(Clone, Copy, PartialEq, Eq, Debug)]
 pub enum RowFault {
     /// There are not three fields.
@@ -10,6 +10,7 @@ pub enum RowFault {
     BadTime,
     /// The second field isn't `M`, `S` or `B`.
     BadLine,
-    /// The third field isn't three hexadecimal digits up to 1FF (`M`, `S`) or 1 to 9 decimal digits (`B`).
+    /// The third field isn't three hexadecimal digits up to 1FF (`M`, `S`) or 1 to 9 decimal digits
+    /// (`B`).
     BadValue,
 }

@@ -39,7 +39,8 @@ impl Time {
         }
     }
 
-    /// The time that a field of exactly 1 to 15 ASCII digits tells, leading zeros allowed; else `None` (this profile).
+    /// The time that a field of exactly 1 to 15 ASCII digits tells, leading zeros allowed; else
+    /// `None` (this profile).
     pub fn read(field: &[u8]) -> Option<Time>
         ensures some { IfSome result (IsDecimal 15 field.now) }
         ensures none { IfNone result ((n : ℕ) → IsDecimal 15 field.now n → ⊥) }
@@ -88,7 +89,8 @@ impl Span {
         }
     }
 
-    /// The length that a field of exactly 1 to 9 ASCII digits tells, leading zeros allowed; else `None`.
+    /// The length that a field of exactly 1 to 9 ASCII digits tells, leading zeros allowed; else
+    /// `None`.
     pub(crate) fn read(field: &[u8]) -> Option<Span>
         ensures some { IfSome result (IsDecimal 9 field.now) }
         ensures none { IfNone result ((n : ℕ) → IsDecimal 9 field.now n → ⊥) }

@@ -48,7 +48,8 @@ impl Word {
         }
     }
 
-    /// The word that a field of exactly three hexadecimal digits of either case tells, up to 1FF; else `None`.
+    /// The word that a field of exactly three hexadecimal digits of either case tells, up to 1FF;
+    /// else `None`.
     pub(crate) fn read(field: &[u8]) -> Option<Word>
         ensures some { IfSome result (IsHexWord field.now) }
         ensures none { IfNone result ((word : ℕ) → IsHexWord field.now word → ⊥) }

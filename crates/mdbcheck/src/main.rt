@@ -1,5 +1,5 @@
-//! `mdbcheck`: reads a recording of a vending bus from its standard input, and says on its standard output whether the
-//! controller and its peripherals can have said these words at these times.
+//! `mdbcheck`: reads a recording of a vending bus from its standard input, and says on its standard
+//! output whether the controller and its peripherals can have said these words at these times.
 #![tactic(auto)]
 
 use std::process::ExitCode;
@@ -10,8 +10,9 @@ fn words(rt: &HostRuntime) -> io::Result<Vec<String>> {
     Ok(env::args(rt)?.collect(rt.alloc())?)
 }
 
-/// Hands the standard streams and the words to `run`. Words that can't be had, for want of memory or since one isn't
-/// UTF-8, are refused like words that are no command of the program: status 2 and one line.
+/// Hands the standard streams and the words to `run`. Words that can't be had, for want of memory
+/// or since one isn't UTF-8, are refused like words that are no command of the program: status 2
+/// and one line.
 fn main(rt: HostRuntime) -> ExitCode {
     let status = match words(&rt) {
         Ok(words) => mdb_check::run(

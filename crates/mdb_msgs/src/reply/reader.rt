@@ -66,7 +66,9 @@ pub enum ReaderMsg {
 }
 
 impl ReaderMsg {
-    /// Whether the message may stand in answers to POLL and 13 00 to 13 04 alone: 03, 05, 06 and 07.
+    /// Whether the message tells of a session or a sale (03, 05, 06 and 07), and so may stand in
+    /// answers to POLL and the five commands of a session alone: 12 and 13 00 to 13 04 of the first
+    /// reader, 62 and 63 00 to 63 04 of the second (this profile).
     fn is_kept(self) -> bool
         ensures { result ≡ is_kept self }
     {
@@ -128,7 +130,8 @@ impl ReaderMsg {
     }
 }
 
-/// A reader's answer: its messages in order, and beside them the two long texts, of which a block holds at most one each.
+/// A reader's answer: its messages in order, and beside them the two long texts, of which a block
+/// holds at most one each.
 #[derive(PartialEq, Eq, Debug, Drop)]
 pub struct ReaderList {
     /// The messages in order.
@@ -151,7 +154,7 @@ impl ReaderList {
         }
     }
 
-    /// Whether a message is one that may stand in answers to POLL and 13 00 to 13 04 alone.
+    /// Whether a message tells of a session or a sale.
     pub(crate) fn has_kept(&self) -> bool
         ensures { result ≡ list_any is_kept self.now.messages.items }
     {
@@ -186,7 +189,8 @@ impl ReaderList {
 
     /// Whether the identification is blank where no message has it.
     fn has_fitting_id(&self) -> bool
-        ensures { IsTrue result ↔ (list_any is_id self.now.messages.items ≡ false → self.now.id ≡ replicate 29 0) }
+        ensures { IsTrue result ↔
+            (list_any is_id self.now.messages.items ≡ false → self.now.id ≡ replicate 29 0) }
     {
         has_id(self.messages.as_slice()) || self.id == [0; 29]
     }
@@ -194,7 +198,8 @@ impl ReaderList {
     /// Whether the text is empty where no message has it.
     fn has_fitting_text(&self) -> bool
         ensures fits { length self.now.text.items ≤ 32 }
-        ensures value { IsTrue result ↔ (list_any is_display self.now.messages.items ≡ false → self.now.text.items ≡ []) }
+        ensures value { IsTrue result ↔
+            (list_any is_display self.now.messages.items ≡ false → self.now.text.items ≡ []) }
     {
         let text = self.text.as_slice();
         has_display(self.messages.as_slice()) || text.is_empty()
@@ -211,8 +216,10 @@ impl ReaderList {
 
     /// Adds the bytes of a message at the end.
     fn append_to(&self, bytes: &mut Bytes, message: ReaderMsg)
-        requires { array_vec_len bytes.old + length (reader_msg_bytes self.now.id self.now.text.items message) ≤ 35 }
-        ensures { bytes.new.items ≡ bytes.old.items ++ reader_msg_bytes self.now.id self.now.text.items message }
+        requires { array_vec_len bytes.old
+            + length (reader_msg_bytes self.now.id self.now.text.items message) ≤ 35 }
+        ensures { bytes.new.items ≡
+            bytes.old.items ++ reader_msg_bytes self.now.id self.now.text.items message }
     {
         append(bytes, message.head().as_slice());
         append(bytes, self.text_of(message));

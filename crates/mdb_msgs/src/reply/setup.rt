@@ -1,7 +1,8 @@
-//! The setup tables and statuses of changer and validator (MDB/ICP 4.3, coin changer and bill validator).
+//! The setup tables and statuses of changer and validator (MDB/ICP 4.3, coin changer and bill
+//! validator).
 
 ghost use Rattle.std.specs.Prelude.{◌≡◌, ◌≢◌, ◌≤◌, ◌↔◌, length, IsTrue, slice_index, IfOk, IfErr};
-ghost use Rattle.mdb_msgs.specs.Setup.{changer_setup_bytes, tube_status_bytes, bill_setup_bytes, stacker_bytes, IsStacker};
+ghost use Rattle.mdb_msgs.specs.Setup.{changer_setup_bytes, credit_of, tube_status_bytes, bill_setup_bytes, stacker_bytes, IsStacker};
 ghost use Rattle.mdb_msgs.specs.declared.fault.MsgFault.TheVariants.{Message};
 
 use super::list::{Bytes, append, list_of};
@@ -22,7 +23,8 @@ pub struct ChangerSetup {
     pub decimals: u8,
     /// Z6-Z7: the coin types that go to tubes, the lowest bit type 0.
     pub routing: u16,
-    /// Z8 and on: the credits of the types from 0 on that were sent. A type behind them has credit 0; FF is a token.
+    /// Z8 and on: the credits of the types from 0 on that were sent. A type behind them has credit
+    /// 0; FF is a token.
     pub credits: ArrayVec<u8, 16>,
 }
 
@@ -41,9 +43,10 @@ impl ChangerSetup {
         }
     }
 
-    /// The credit of a coin type, in units of the scaling factor: 0 where it wasn't sent, and FF for a token.
+    /// The credit of a coin type, in units of the scaling factor: 0 where it wasn't sent, and FF
+    /// for a token.
     pub fn credit(&self, coin: u8) -> u8
-        ensures { result ≡ slice_index self.now.credits.items coin }
+        ensures { result ≡ credit_of self.now.credits.items coin }
     {
         credit_in(self.credits.as_slice(), coin)
     }
@@ -127,7 +130,8 @@ pub struct BillSetup {
     pub security: u16,
     /// Z11: whether there is an escrow, FF or 00.
     pub escrow: bool,
-    /// Z12 and on: the credits of the types from 0 on that were sent. A type behind them has credit 0.
+    /// Z12 and on: the credits of the types from 0 on that were sent. A type behind them has credit
+    /// 0.
     pub credits: ArrayVec<u8, 16>,
 }
 
@@ -150,7 +154,7 @@ impl BillSetup {
 
     /// The credit of a bill type, in units of the scaling factor: 0 where it wasn't sent.
     pub fn credit(&self, bill: u8) -> u8
-        ensures { result ≡ slice_index self.now.credits.items bill }
+        ensures { result ≡ credit_of self.now.credits.items bill }
     {
         credit_in(self.credits.as_slice(), bill)
     }
@@ -217,7 +221,7 @@ impl Stacker {
 
 /// The credit of a type, 0 where it wasn't sent.
 fn credit_in(credits: &[u8], kind: u8) -> u8
-    ensures { result ≡ slice_index credits.now kind }
+    ensures { result ≡ credit_of credits.now kind }
 {
     credits.get(usize::from(kind)).copied().unwrap_or(0)
 }
@@ -250,12 +254,14 @@ pub(crate) fn read_tube_status(bytes: &[u8]) -> TubeStatus
     }
 }
 
-/// The validator's SETUP answer of these bytes, which is none where the byte for the escrow is neither FF nor 00.
+/// The validator's SETUP answer of these bytes, which is none where the byte for the escrow is
+/// neither FF nor 00.
 pub(crate) fn read_bill_setup(bytes: &[u8]) -> Result<BillSetup, MsgFault>
     requires at_least { 11 ≤ length bytes.now }
     requires at_most { length bytes.now ≤ 27 }
     ensures ok { IfOk result (λ setup. bytes.now ≡ bill_setup_bytes setup) }
-    ensures err { IfErr result (λ fault. (fault ≡ Message) × (slice_index bytes.now 10 ≢ 0) × (slice_index bytes.now 10 ≢ 255)) }
+    ensures err { IfErr result (λ fault. (fault ≡ Message)
+        × (slice_index bytes.now 10 ≢ 0) × (slice_index bytes.now 10 ≢ 255)) }
 {
     let escrow = match bytes[10] {
         0xFF => true,

@@ -1,5 +1,4 @@
-use Rattle.std.proofs.Common.{◌∙◌, sym, ap, None}
-use Rattle.std.specs.Option.{option_map}
+use Rattle.std.proofs.Common.{sym}
 use Rattle.mdb_check.proofs.Fields.{field_some}
 use Rattle.mdb_check.proofs.verdict.field.Goals as goal
 

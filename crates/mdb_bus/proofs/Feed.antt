@@ -1,0 +1,132 @@
+-- The bus behind a row: what it stands for, and why a row is refused.
+use Rattle.std.proofs.Common.{ap, sym, subst, ◌∙◌, ◌≡◌, ℕ, List, [], ◌∷◌, ◌++◌, Option, inl, inr}
+use Rattle.mdb_words.specs.declared.event.Event.{Event}
+use Rattle.mdb_words.specs.declared.event.Event.TheVariants.{Word, Break}
+use Rattle.mdb_words.specs.declared.word.Line.{Line}
+use Rattle.mdb_words.specs.declared.word.Line.TheVariants.{Controller, Peripheral}
+use Rattle.mdb_bus.specs.declared.act.Act.{Act}
+use Rattle.mdb_bus.specs.declared.bus.Bus.{Bus}
+use Rattle.mdb_bus.specs.declared.fault.Blame.{Blame}
+use Rattle.mdb_bus.specs.declared.fault.Rule.{Rule}
+use Rattle.mdb_bus.specs.declared.levels.Levels.{Levels}
+use Rattle.mdb_bus.specs.Step.{Step}
+use Rattle.mdb_bus.specs.Step as step
+use Rattle.mdb_bus.specs.ActLists.{Piece, Position, Quiet, InAsk, Asked, InReply, Replied, Returned, InRepeat, InForeign, IsRepeatFront, acts_of, with_act, events_of, last_of, levels_of, position_of}
+use Rattle.mdb_bus.specs.Bus.{GoesOn, HasGone, StandsFor, position_at}
+use Rattle.mdb_bus.specs.LinkFaults.{IsFirstBroken, IsLinkFault, Situation, asked_device, blame_of, situation_of}
+use Rattle.mdb_bus.specs.Steps.{IsAt, IsSound, Leads, WordLeads, act_after, asked_behind, levels_behind, pieces_after, position_after}
+use Rattle.mdb_bus.specs.declared.judged.Judged.{Judged}
+use Rattle.mdb_bus.specs.Step.{EachStep, SomeStep}
+use Rattle.mdb_bus.proofs.EachSteps.{some_each}
+use Rattle.mdb_bus.proofs.Forward.{forward, sound}
+use Rattle.mdb_bus.proofs.Rows.{last_push}
+
+-- the situation that a bus is in
+abbrev pub situation_at : Bus → Situation
+situation_at bus = record { position = position_at bus.place; last = bus.last; levels = bus.levels }
+
+-- it is that of the pieces that the bus stands for
+pub same_situation : (bus : Bus) (pieces : List Piece) → StandsFor bus pieces → situation_of pieces ≡ situation_at bus
+same_situation bus pieces stands =
+    let make : Position → Option Event → Levels → Situation = λ p l v. record { position = p; last = l; levels = v } in
+    ap (λ p. make p (last_of (events_of pieces)) (levels_of pieces)) stands.position
+    ∙ (ap (λ l. make (position_at bus.place) l (levels_of pieces)) stands.last
+    ∙ ap (λ v. make (position_at bus.place) bus.last v) stands.levels)
+
+-- a step belongs to the position that it leads from
+word_at : (at : Position) (from : Option Event) (levels : Levels) (to : Event) (line : Line) (word : ℕ) (next : Step)
+    → WordLeads at from levels to line word next → IsAt at next
+word_at at from levels to line word (step.AskByte byte) leads = tt
+word_at at from levels to line word (step.Ask command) leads = tt
+word_at at from levels to line word step.Foreign leads = tt
+word_at at from levels to line word (step.Break length) leads = tt
+word_at (Asked command) from levels to line word step.Ack leads = tt
+word_at (Asked command) from levels to line word step.Nak leads = tt
+word_at (Asked command) from levels to line word (step.ReplyByte byte) leads = tt
+word_at (InReply command bytes) from levels to line word (step.ReplyByte byte) leads = tt
+word_at (InReply command bytes) from levels to Peripheral word (step.Reply reply) leads = (leads.1, leads.2)
+word_at (Replied command reply) from levels to line word step.VmcAck leads = tt
+word_at (Replied command reply) from levels to line word step.VmcNak leads = tt
+word_at (Replied command reply) from levels to line word step.VmcRet leads = tt
+word_at (InRepeat command reply words) from levels to line word step.Repeat leads = tt
+word_at (Returned command reply) from levels to Peripheral word (step.RepeatWord said) leads =
+    let P : ℕ → Type 0 = λ w. IsRepeatFront reply (w ∷ []) in subst P leads.0 leads.1
+word_at (InRepeat command reply words) from levels to Peripheral word (step.RepeatWord said) leads =
+    let P : ℕ → Type 0 = λ w. IsRepeatFront reply (words ++ w ∷ []) in subst P leads.0 leads.1
+word_at Quiet from levels to Controller word next leads = absurd leads
+word_at Quiet from levels to Peripheral word next leads = absurd leads
+word_at (InAsk bytes) from levels to Controller word next leads = absurd leads
+word_at (InAsk bytes) from levels to Peripheral word next leads = absurd leads
+word_at (Asked command) from levels to Controller word next leads = absurd leads
+word_at (Asked command) from levels to Peripheral word next leads = absurd leads
+word_at (InReply command bytes) from levels to Controller word next leads = absurd leads
+word_at (InReply command bytes) from levels to Peripheral word next leads = absurd leads
+word_at (Replied command reply) from levels to Controller word next leads = absurd leads
+word_at (Replied command reply) from levels to Peripheral word next leads = absurd leads
+word_at (Returned command reply) from levels to Controller word next leads = absurd leads
+word_at (Returned command reply) from levels to Peripheral word next leads = absurd leads
+word_at (InRepeat command reply words) from levels to Controller word next leads = absurd leads
+word_at (InRepeat command reply words) from levels to Peripheral word next leads = absurd leads
+word_at InForeign from levels to Controller word next (inl leads) = absurd leads
+word_at InForeign from levels to Controller word next (inr leads) = absurd leads.1
+word_at InForeign from levels to Peripheral word next leads = absurd leads
+
+pub leads_at : (s : Situation) (row : Event) (next : Step) → Leads s row next → IsAt s.position next
+leads_at s (Word at line word) next leads = word_at s.position s.last s.levels (Word at line word) line word next leads
+leads_at s (Break at length) (step.Break lasted) leads = tt
+leads_at s (Break at length) next leads = absurd leads
+
+-- the bus stands for one row more
+stands_by : (old new : Bus) (pieces : List Piece) (row : Event) (next : Step) (act : Option Act) → StandsFor old pieces
+    → Leads (situation_at old) row next
+    → (IsAt (position_at old.place) next → HasGone old next row new act) → GoesOn new pieces row act
+stands_by old new pieces row next act stands leads gone =
+    let went : HasGone old next row new act = gone (leads_at (situation_at old) row next leads) in
+    let There : Situation → Type 0 = λ s. Leads s row next in
+    let more = forward pieces row next stands.in_order (subst There (sym (same_situation old pieces stands)) leads) in
+    record {
+      longer = pieces_after pieces row next;
+      stands = record {
+        in_order = more.in_order;
+        position = more.position ∙ (ap (λ p. position_after p next) stands.position ∙ sym went.advanced.position);
+        last = ap last_of more.rows ∙ (last_push (events_of pieces) row ∙ sym went.last);
+        levels = more.levels ∙ (ap (λ l. levels_behind l next) stands.levels ∙ sym went.levels);
+        asked = more.asked ∙ (ap (λ a. asked_behind a next) stands.asked ∙ sym went.asked);
+      };
+      rows = more.rows;
+      acts = more.acts ∙ acts_same stands.position went.advanced.act;
+    }
+  where
+    acts_same : position_of pieces ≡ position_at old.place → act ≡ act_after (position_at old.place) next
+        → with_act (act_after (position_of pieces) next) (acts_of pieces)
+        ≡ with_act act (acts_of pieces)
+    acts_same position ended =
+        ap (λ p. with_act (act_after p next) (acts_of pieces)) position
+        ∙ ap (λ a. with_act a (acts_of pieces)) (sym ended)
+
+pub stands_on : (old new : Bus) (pieces : List Piece) (row : Event) (found : Judged) (act : Option Act) → StandsFor old pieces
+    → (IsSound (position_at old.place) → SomeStep found (Leads (situation_at old) row))
+    → EachStep found (λ next. IsAt (position_at old.place) next → HasGone old next row new act) → GoesOn new pieces row act
+stands_on old new pieces row found act stands judged gone =
+    let Right : Position → Type 0 = λ p. IsSound p in
+    let both = some_each found (Leads (situation_at old) row)
+    (λ next. IsAt (position_at old.place) next → HasGone old next row new act)
+    (judged (subst Right stands.position (sound pieces stands.in_order))) gone in
+    stands_by old new pieces row both.0 act stands both.1 both.2
+
+-- the fault of a row that is refused
+pub fault_of : (old : Bus) (pieces : List Piece) (row : Event) (broken told : Rule) (blamed : Blame) → StandsFor old pieces
+    → (IsSound (position_at old.place) → IsFirstBroken (situation_at old) row broken) → told ≡ broken
+    → blamed ≡ blame_of (position_at old.place) old.asked row broken → IsLinkFault pieces row told blamed
+fault_of old pieces row broken told blamed stands judged same blame =
+    let Right : Position → Type 0 = λ p. IsSound p in
+    let first : IsFirstBroken (situation_at old) row broken = judged (subst Right stands.position (sound pieces stands.in_order)) in
+    let There : Situation → Type 0 = λ s. IsFirstBroken s row told in
+    let Meant : Rule → Type 0 = λ r. IsFirstBroken (situation_at old) row r in
+    record {
+      rule = subst There (sym (same_situation old pieces stands)) (subst Meant (sym same) first);
+      blame = blame
+          ∙ (ap (λ p. blame_of p old.asked row broken) (sym stands.position)
+          ∙ (ap (λ a. blame_of (position_of pieces) a row broken) (sym stands.asked)
+          ∙ ap (λ r. blame_of (position_of pieces) (asked_device pieces) row r) (sym same)));
+    }

@@ -1,0 +1,215 @@
+-- The fronts of commands' blocks: they are of bytes, and what they need stays as they grow.
+use Rattle.std.proofs.Common.{arith, refl, Bool, true, false, if◌then◌else◌, sym, subst, ◌≡◌, ◌≢◌, ◌%◌, ◌<◌, ◌≤◌, ℕ, List, [], ◌∷◌, ◌++◌, ◌⊎◌, inl, inr, Option, Some, None, All, length, sum}
+use Rattle.std.specs.List.{AllByRecursion}
+use Rattle.std.proofs.lemmas.Grind.{common_steps}
+use Rattle.std.proofs.lemmas.List.Elements.{recursion_from_All, All-from_recursion, All-cons, All-nil, All-push}
+use Rattle.mdb_blocks.specs.Block.{block_of}
+use Rattle.mdb_msgs.specs.declared.command.BillCommand.{BillCommand}
+use Rattle.mdb_msgs.specs.declared.command.BillCommand.TheVariants as bill
+use Rattle.mdb_msgs.specs.declared.command.ChangerCommand.{ChangerCommand}
+use Rattle.mdb_msgs.specs.declared.command.ChangerCommand.TheVariants as changer
+use Rattle.mdb_msgs.specs.declared.command.Command.{Command}
+use Rattle.mdb_msgs.specs.declared.command.Command.TheVariants.{Changer, Bill, Reader}
+use Rattle.mdb_msgs.specs.declared.command.ReaderCommand.{ReaderCommand}
+use Rattle.mdb_msgs.specs.declared.command.ReaderCommand.TheVariants as reader
+use Rattle.mdb_msgs.specs.declared.command.ReaderUnit.TheVariants.{First, Second}
+use Rattle.mdb_msgs.specs.declared.needs.Need.{Need}
+use Rattle.mdb_msgs.specs.declared.needs.Need.TheVariants as need
+use Rattle.mdb_msgs.specs.Commands.{HasBillFields, HasChangerFields, HasFields, HasReaderFields, IsByte, bill_bytes, changer_bytes, command_bytes, reader_bytes}
+use Rattle.mdb_msgs.specs.Needs.{bill_need, changer_need, is_for, need as need_of, needed, reader_need}
+use Rattle.mdb_bus.specs.ActLists.{IsAskFront}
+use Rattle.mdb_bus.proofs.Decided.{Decided, less}
+use Rattle.mdb_bus.specs.Grammar.{Grammar}
+use Rattle.mdb_bus.proofs.Stops.{some_long}
+
+-- one byte never needs to be the whole block
+pub need_two : (first n : ℕ) → need_of first None ≡ need.Exactly n → 2 ≤ n
+need_two first n told = grind (arith, common_steps)
+
+-- What two bytes tell fits what the first one tells: that stays, and a subcommand is told by the second byte and
+-- doesn't end its block.
+record Fits (told : Option ℕ → Need) : Type 0 where
+  stays : (second n : ℕ) → told None ≡ need.Exactly n → told (Some second) ≡ need.Exactly n
+  three : (second n : ℕ) → told None ≡ need.More → told (Some second) ≡ need.Exactly n → 3 ≤ n
+  ends : (second : ℕ) → told (Some second) ≡ need.More → ⊥
+
+changer_fits : (first : ℕ) → Fits (changer_need first)
+changer_fits first = record {
+  stays = λ second n told. grind (arith, common_steps);
+  three = λ second n more told. grind (arith, common_steps);
+  ends = λ second more. grind (arith, common_steps);
+}
+
+bill_fits : (first : ℕ) → Fits (bill_need first)
+bill_fits first = record {
+  stays = λ second n told. grind (arith, common_steps);
+  three = λ second n more told. grind (arith, common_steps);
+  ends = λ second more. grind (arith, common_steps);
+}
+
+reader_fits : (command : ℕ) → Fits (reader_need command)
+reader_fits command = record {
+  stays = λ second n told. grind (arith, common_steps);
+  three = λ second n more told. grind (arith, common_steps);
+  ends = λ second more. grind (arith, common_steps);
+}
+
+foreign_fits : Fits (λ second. need.Foreign)
+foreign_fits = record { stays = λ second n told. told; three = λ second n more told. cc; ends = λ second more. cc }
+
+either_fits : (test : Bool) (one other : Option ℕ → Need) → Fits one → Fits other
+    → Fits (λ second. if test then one second else other second)
+either_fits true one other fits fit = fits
+either_fits false one other fits fit = fit
+
+need_fits : (first : ℕ) → Fits (need_of first)
+need_fits first =
+    either_fits (is_for 0x08 first) (changer_need first) _ (changer_fits first)
+    (either_fits (is_for 0x10 first) (reader_need (first % 8)) _ (reader_fits (first % 8))
+    (either_fits (is_for 0x30 first) (bill_need first) _ (bill_fits first)
+    (either_fits (is_for 0x60 first) (reader_need (first % 8)) _ (reader_fits (first % 8)) foreign_fits)))
+
+-- a subcommand doesn't end its block
+pub need_three : (first second n : ℕ) → need_of first None ≡ need.More → need_of first (Some second) ≡ need.Exactly n
+    → 3 ≤ n
+need_three first second n more told = (need_fits first).three second n more told
+
+-- two bytes tell the need
+pub need_ends : (first second : ℕ) → need_of first (Some second) ≡ need.More → ⊥
+need_ends first second more = (need_fits first).ends second more
+
+-- what is no byte is for no device
+pub need_high : (first : ℕ) → 256 ≤ first → need_of first None ≡ need.Foreign
+need_high first high = grind (arith, common_steps)
+
+-- the bytes of a command
+
+changer_low : (command : ChangerCommand) → HasChangerFields command → AllByRecursion IsByte (changer_bytes command)
+changer_low changer.Reset fields = (omega arith, tt)
+changer_low changer.Setup fields = (omega arith, tt)
+changer_low changer.TubeStatus fields = (omega arith, tt)
+changer_low changer.Poll fields = (omega arith, tt)
+changer_low (changer.CoinType enable manual) fields =
+    (omega arith, (omega (arith, fields.0), (omega arith, (omega (arith, fields.1), (omega arith, tt)))))
+changer_low (changer.Dispense coins) fields = (omega arith, (omega (arith, fields), tt))
+changer_low changer.Identification fields = (omega arith, (omega arith, tt))
+changer_low (changer.Features features) fields =
+    (omega arith, (omega arith, recursion_from_All IsByte features fields.1))
+
+bill_low : (command : BillCommand) → HasBillFields command → AllByRecursion IsByte (bill_bytes command)
+bill_low bill.Reset fields = (omega arith, tt)
+bill_low bill.Setup fields = (omega arith, tt)
+bill_low (bill.Security levels) fields = (omega arith, recursion_from_All IsByte levels fields.1)
+bill_low bill.Poll fields = (omega arith, tt)
+bill_low (bill.BillType enable escrow) fields =
+    (omega arith, (omega (arith, fields.0), (omega arith, (omega (arith, fields.1), (omega arith, tt)))))
+bill_low (bill.Escrow order) fields = (omega arith, (omega (arith, fields), tt))
+bill_low bill.Stacker fields = (omega arith, tt)
+bill_low bill.Identification fields = (omega arith, (omega arith, tt))
+bill_low (bill.Features features) fields = (omega arith, (omega arith, recursion_from_All IsByte features fields.1))
+bill_low bill.IdentificationWithOptions fields = (omega arith, (omega arith, tt))
+
+reader_low : (address : ℕ) (command : ReaderCommand) → address < 249 → HasReaderFields command
+    → AllByRecursion IsByte (reader_bytes address command)
+reader_low address reader.Reset low fields = (omega (arith, low), tt)
+reader_low address (reader.SetupConfig level columns rows display) low fields = (
+  omega (arith, low),
+  (
+    omega arith,
+    (omega (arith, fields.0), (omega (arith, fields.1), (omega (arith, fields.2), (omega (arith, fields.3), tt)))),
+  ),
+)
+reader_low address (reader.SetupPrices maximum minimum) low fields = (
+  omega (arith, low),
+  (
+    omega arith,
+    (omega (arith, fields.0), (omega arith, (omega (arith, fields.1), (omega arith, tt)))),
+  ),
+)
+reader_low address reader.Poll low fields = (omega (arith, low), tt)
+reader_low address (reader.VendRequest price item) low fields = (
+  omega (arith, low),
+  (
+    omega arith,
+    (omega (arith, fields.0), (omega arith, (omega (arith, fields.1), (omega arith, tt)))),
+  ),
+)
+reader_low address reader.VendCancel low fields = (omega (arith, low), (omega arith, tt))
+reader_low address (reader.VendSuccess item) low fields =
+    (omega (arith, low), (omega arith, (omega (arith, fields), (omega arith, tt))))
+reader_low address reader.VendFailure low fields = (omega (arith, low), (omega arith, tt))
+reader_low address reader.SessionComplete low fields = (omega (arith, low), (omega arith, tt))
+reader_low address (reader.CashSale price item) low fields = (
+  omega (arith, low),
+  (
+    omega arith,
+    (omega (arith, fields.0), (omega arith, (omega (arith, fields.1), (omega arith, tt)))),
+  ),
+)
+reader_low address reader.Disable low fields = (omega (arith, low), (omega arith, tt))
+reader_low address reader.Enable low fields = (omega (arith, low), (omega arith, tt))
+reader_low address reader.Cancel low fields = (omega (arith, low), (omega arith, tt))
+reader_low address (reader.RequestId identity) low fields =
+    (omega (arith, low), (omega arith, recursion_from_All IsByte identity fields.1))
+
+command_low : (command : Command) → HasFields command → AllByRecursion IsByte (command_bytes command)
+command_low (Changer command) fields = changer_low command fields
+command_low (Bill command) fields = bill_low command fields
+command_low (Reader First command) fields = reader_low 0x10 command (omega arith) fields
+command_low (Reader Second command) fields = reader_low 0x60 command (omega arith) fields
+
+-- the sum of a block is a byte
+sum_low : (bytes : List ℕ) → sum bytes % 256 < 256
+sum_low bytes = omega arith
+
+-- a front of a list of bytes is of bytes
+low_front : (bytes rest : List ℕ) → AllByRecursion IsByte (bytes ++ rest) → AllByRecursion IsByte bytes
+low_front [] rest low = tt
+low_front (byte ∷ bytes) rest low = (low.0, low_front bytes rest low.1)
+
+-- the front of a command's block is of bytes
+pub front_bytes : (bytes : List ℕ) → IsAskFront bytes → All IsByte bytes
+front_bytes bytes front =
+    let content = command_bytes front.command in
+    let low : All IsByte content = All-from_recursion IsByte content (command_low front.command front.spelled.fields) in
+    let block : All IsByte (block_of content) = All-push IsByte content (sum content % 256) low (sum_low content) in
+    let P : List ℕ → Type 0 = λ bs. All IsByte bs in
+    let whole : All IsByte (bytes ++ front.rest) = subst P (sym front.spelled.bytes) block in
+    All-from_recursion IsByte bytes (low_front bytes front.rest (recursion_from_All IsByte (bytes ++ front.rest) whole))
+
+-- what two bytes need stays as more come, and what one byte does unless it is left to the second
+pub needed_stays : (bytes : List ℕ) (byte n : ℕ) → bytes ≢ [] → needed bytes ≡ need.Exactly n
+    → needed (bytes ++ byte ∷ []) ≡ need.Exactly n
+needed_stays [] byte n some told = absurd (some refl)
+needed_stays (first ∷ []) byte n some told = (need_fits first).stays byte n told
+needed_stays (first ∷ second ∷ bytes) byte n some told = told
+
+-- bytes that need more are a front
+pub front_of : Grammar → (bytes : List ℕ) → bytes ≢ [] → All IsByte bytes
+    → ((needed bytes ≡ need.More) × (length bytes ≡ 1))
+    ⊎ ((n : ℕ) × (needed bytes ≡ need.Exactly n) × (length bytes < n))
+    → IsAskFront bytes
+front_of grammar bytes some low needs =
+    let found = grammar.opens bytes (some_long bytes some) low needs in
+    record { some = some; command = found.0; rest = found.1; open_end = found.2; spelled = found.3 }
+
+-- where one byte opens a block: in the profile it is a front, or it is foreign
+pub first_byte : Grammar → (byte : ℕ) → (needed (byte ∷ []) ≡ need.Outside → ⊥)
+    → IsAskFront (byte ∷ []) ⊎ (needed (byte ∷ []) ≡ need.Foreign)
+first_byte grammar byte inside = by_size (less byte 256)
+  where
+    low : byte < 256 → All IsByte (byte ∷ [])
+    low small = All-cons IsByte byte [] small (All-nil IsByte)
+
+    by_need : byte < 256 → (n : Need) → needed (byte ∷ []) ≡ n
+        → IsAskFront (byte ∷ []) ⊎ (needed (byte ∷ []) ≡ need.Foreign)
+    by_need small need.More told = inl (front_of grammar (byte ∷ []) (λ none. cc) (low small) (inl (told, refl)))
+    by_need small (need.Exactly n) told =
+        let two : 2 ≤ n = need_two byte n told in
+        inl (front_of grammar (byte ∷ []) (λ none. cc) (low small) (inr (n, told, omega (arith, two))))
+    by_need small need.Foreign told = inr told
+    by_need small need.Outside told = absurd (inside told)
+
+    by_size : Decided (byte < 256) → IsAskFront (byte ∷ []) ⊎ (needed (byte ∷ []) ≡ need.Foreign)
+    by_size (inl small) = by_need small (needed (byte ∷ [])) refl
+    by_size (inr large) = inr (need_high byte (omega (arith, large)))

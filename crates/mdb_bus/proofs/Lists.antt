@@ -1,0 +1,153 @@
+-- Lists of events and of words, with their last element apart.
+use Rattle.std.proofs.Common.{arith, refl, ap, sym, subst, ◌∙◌, ◌≡◌, ◌≢◌, ◌+◌, ◌≤◌, ℕ, List, [], ◌∷◌, ◌++◌, Option, Some, length, All, append_assoc, length-append}
+use Rattle.std.specs.List.{AllByRecursion}
+use Rattle.std.proofs.lemmas.List.{length-map}
+use Rattle.std.proofs.lemmas.List.Elements.{recursion_from_All, All-from_recursion}
+use Rattle.mdb_words.specs.declared.limits.TheConstants.{WORD_GAP_MIN, BLOCK_GAP_MAX}
+use Rattle.mdb_words.specs.declared.event.Event.{Event}
+use Rattle.mdb_words.specs.declared.word.Line.{Line}
+use Rattle.mdb_words.specs.declared.word.Line.TheVariants.{Controller}
+use Rattle.mdb_words.specs.Event.{AtLeast, AtMost}
+use Rattle.mdb_blocks.specs.Block.{controller_words, peripheral_words}
+use Rattle.mdb_bus.specs.Acts.{Say, said_by}
+use Rattle.mdb_bus.specs.ActLists.{AreSpaced, last_of}
+use Rattle.mdb_bus.specs.Steps.{InBlock}
+
+-- a list that isn't empty has a last element
+pub front_and_last : {X : Type 0} (xs : List X) → xs ≢ [] → (front : List X) × (last : X) × (xs ≡ front ++ last ∷ [])
+front_and_last [] some = absurd (some refl)
+front_and_last (x ∷ []) some = ([], x, refl)
+front_and_last (x ∷ y ∷ ys) some =
+    let rest = front_and_last (y ∷ ys) (λ none. cc) in
+    (x ∷ rest.0, rest.1, ap (λ zs. x ∷ zs) rest.2)
+
+-- a list with an element behind it has elements
+pub not_empty : {X : Type 0} (xs : List X) (x : X) → xs ++ x ∷ [] ≢ []
+not_empty [] x none = cc
+not_empty (y ∷ xs) x none = cc
+
+-- a list begins with what it begins with when an element stands behind it
+pub first_stays : {X : Type 0} (xs : List X) (x to : X) (back : List X) → xs ≢ [] → xs ++ x ∷ [] ≡ to ∷ back
+    → (rest : List X) × (xs ≡ to ∷ rest)
+first_stays [] x to back some is = absurd (some refl)
+first_stays (y ∷ ys) x to back some is = (ys, cc)
+
+-- a list that is as long as a part of it has nothing behind the part
+pub nothing_behind : {X : Type 0} (xs ys : List X) → length xs ≡ length (xs ++ ys) → ys ≡ []
+nothing_behind xs [] same = refl
+nothing_behind xs (y ∷ ys) same = absurd (omega (arith, same, length-append xs (y ∷ ys)))
+
+-- the length of a list that isn't empty
+pub some_length : {X : Type 0} (xs : List X) → xs ≢ [] → 1 ≤ length xs
+some_length [] some = absurd (some refl)
+some_length (x ∷ xs) some = omega arith
+
+-- the last row is the one behind the others
+pub last_push : (events : List Event) (event : Event) → last_of (events ++ event ∷ []) ≡ Some event
+last_push [] event = refl
+last_push (x ∷ []) event = refl
+last_push (x ∷ y ∷ ys) event = last_push (y ∷ ys) event
+
+-- events say as many words as they are
+pub say_length : (line : Line) (words : List ℕ) (events : List Event) → Say line words events
+    → length words ≡ length events
+say_length line words events says =
+    sym (length-map words (λ word. Some (line, word))) ∙ (sym (ap length says) ∙ length-map events said_by)
+
+-- the words of events that end in one
+pub say_last : (line : Line) (words : List ℕ) (events : List Event) (event : Event)
+    → Say line words (events ++ event ∷ [])
+    → (front : List ℕ) × (word : ℕ) × (words ≡ front ++ word ∷ []) × Say line front events
+    × (said_by event ≡ Some (line, word))
+say_last line [] [] event says = cc
+say_last line [] (f ∷ events) event says = cc
+say_last line (w ∷ []) [] event says = ([], w, refl, refl, cc)
+say_last line (w ∷ v ∷ words) [] event says = cc
+say_last line (w ∷ words) (f ∷ events) event says =
+    let rest = say_last line words events event (cc) in
+    let whole : words ≡ rest.0 ++ rest.1 ∷ [] = rest.2 in
+    (w ∷ rest.0, rest.1, cc, cc, rest.4)
+
+-- one word is one event
+pub one_alone : (line : Line) (word : ℕ) (front : List Event) (event : Event)
+    → Say line (word ∷ []) (front ++ event ∷ [])
+    → front ≡ []
+one_alone line word [] event says = refl
+one_alone line word (f ∷ front) event says =
+    absurd (omega (arith, say_length line (word ∷ []) (f ∷ front ++ event ∷ []) says, length-append front (event ∷ [])))
+
+-- the controller's words that end in one, behind others: the last is no marked one
+pub record ControllerEnd (bytes : List ℕ) (front : List Event) (event : Event) : Type 0 where
+  pub start : List ℕ
+  pub byte : ℕ
+  pub is : bytes ≡ start ++ byte ∷ []
+  pub some : start ≢ []
+  pub says : Say Controller (controller_words start) front
+  pub said : said_by event ≡ Some (Controller, byte)
+
+pub controller_last : (bytes : List ℕ) (front : List Event) (event : Event) → front ≢ []
+    → Say Controller (controller_words bytes) (front ++ event ∷ []) → ControllerEnd bytes front event
+controller_last bytes [] event behind says = absurd (behind refl)
+controller_last [] (f ∷ front) event behind says = cc
+controller_last (b ∷ bytes) (f ∷ front) event behind says =
+    let rest = say_last Controller bytes front event (cc) in
+    let first : said_by f ≡ Some (Controller, 256 + b) = cc in
+    let others : Say Controller rest.0 front = rest.3 in
+    let whole : bytes ≡ rest.0 ++ rest.1 ∷ [] = rest.2 in
+    record {
+      start = b ∷ rest.0;
+      byte = rest.1;
+      is = cc;
+      some = λ none. cc;
+      says = cc;
+      said = rest.4;
+    }
+
+-- the controller's words are as many as the bytes
+pub controller_length : (bytes : List ℕ) → length (controller_words bytes) ≡ length bytes
+controller_length [] = refl
+controller_length (byte ∷ bytes) = refl
+
+-- a peripheral marks the last of its words alone
+pub peripheral_push : (bytes : List ℕ) (byte : ℕ) → peripheral_words (bytes ++ byte ∷ []) ≡ bytes ++ (256 + byte) ∷ []
+peripheral_push [] byte = refl
+peripheral_push (x ∷ []) byte = refl
+peripheral_push (x ∷ y ∷ ys) byte = ap (λ ws. x ∷ ws) (peripheral_push (y ∷ ys) byte)
+
+-- the gaps of events that end in one
+pub spaced_front : (events : List Event) (from to : Event) → AreSpaced ((events ++ from ∷ []) ++ to ∷ [])
+    → AreSpaced (events ++ from ∷ []) × AtLeast WORD_GAP_MIN from to × AtMost BLOCK_GAP_MAX from to
+spaced_front [] from to spaced = (tt, spaced.0, spaced.1)
+spaced_front (x ∷ []) from to spaced = ((spaced.0, spaced.1, tt), spaced.2.0, spaced.2.1)
+spaced_front (x ∷ y ∷ ys) from to spaced =
+    let rest = spaced_front (y ∷ ys) from to spaced.2 in
+    ((spaced.0, spaced.1, rest.0), rest.1, rest.2)
+
+-- the same behind other events
+pub inside : (before front : List Event) (event : Event) → front ≢ [] → AreSpaced (front ++ event ∷ [])
+    → AreSpaced front × InBlock (last_of (before ++ front)) event
+inside before front event some spaced =
+    let split = front_and_last front some in
+    let Longer : List Event → Type 0 = λ es. AreSpaced (es ++ event ∷ []) in
+    let Alone : List Event → Type 0 = λ es. AreSpaced es in
+    let In : Option Event → Type 0 = λ from. InBlock from event in
+    let apart = spaced_front split.0 split.1 event (subst Longer split.2 spaced) in
+    let joined : before ++ front ≡ (before ++ split.0) ++ split.1 ∷ [] =
+    ap (λ es. before ++ es) split.2 ∙ sym (append_assoc before split.0 (split.1 ∷ [])) in
+    let last : last_of (before ++ front) ≡ Some split.1 = ap last_of joined ∙ last_push (before ++ split.0) split.1 in
+    (subst Alone (sym split.2) apart.0, subst In (sym last) (apart.1, apart.2))
+
+-- what holds of each element holds of each in a front, and of the last
+front_by_recursion : (P : ℕ → Type 0) (xs ys : List ℕ) → AllByRecursion P (xs ++ ys) → AllByRecursion P xs
+front_by_recursion P [] ys all = tt
+front_by_recursion P (x ∷ xs) ys all = (all.0, front_by_recursion P xs ys all.1)
+
+last_by_recursion : (P : ℕ → Type 0) (xs : List ℕ) (x : ℕ) → AllByRecursion P (xs ++ x ∷ []) → P x
+last_by_recursion P [] x all = all.0
+last_by_recursion P (y ∷ xs) x all = last_by_recursion P xs x all.1
+
+pub all_front : (P : ℕ → Type 0) (xs ys : List ℕ) → All P (xs ++ ys) → All P xs
+all_front P xs ys all = All-from_recursion P xs (front_by_recursion P xs ys (recursion_from_All P (xs ++ ys) all))
+
+pub all_last : (P : ℕ → Type 0) (xs : List ℕ) (x : ℕ) → All P (xs ++ x ∷ []) → P x
+all_last P xs x all = last_by_recursion P xs x (recursion_from_All P (xs ++ x ∷ []) all)

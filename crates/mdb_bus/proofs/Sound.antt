@@ -1,0 +1,118 @@
+-- Where pieces in order leave the bus: a block there has begun well, and a last row that is a break is a long one.
+use Rattle.std.proofs.Common.{refl, sym, subst, ◌≡◌, ℕ, List, [], ◌∷◌, ◌++◌, inl, inr, Option, Some}
+use Rattle.mdb_words.specs.declared.event.Event.{Event}
+use Rattle.mdb_words.specs.declared.event.Event.TheVariants.{Word, Break}
+use Rattle.mdb_words.specs.declared.word.Line.{Line}
+use Rattle.mdb_words.specs.declared.word.Line.TheVariants.{Controller, Peripheral}
+use Rattle.mdb_blocks.specs.Answer.{answer_word}
+use Rattle.mdb_blocks.specs.Block.{words_on}
+use Rattle.mdb_blocks.specs.declared.answer.Answer.TheVariants as answers
+use Rattle.mdb_bus.specs.declared.act.Act.TheVariants as acts
+use Rattle.mdb_bus.specs.Acts.{IsForeign, IsForeignWord, Say, command_words, reply_words}
+use Rattle.mdb_bus.specs.ActLists.{Piece, Whole, AskTail, ReplyTail, RepeatTail, Position, ArePieces, IsSaid, events_of, last_of, piece_events, position_of}
+use Rattle.mdb_bus.specs.Steps.{IsSound}
+use Rattle.mdb_bus.proofs.SomeRule.{HasReply}
+use Rattle.mdb_bus.proofs.Stops.{LastIsLong}
+
+-- the position behind pieces in order is sound
+pub is_sound : (pieces : List Piece) → ArePieces pieces → IsSound (position_of pieces)
+is_sound [] order = tt
+is_sound (Whole (acts.Ask command) events ∷ pieces) order = tt
+is_sound (Whole (acts.Ack command) events ∷ pieces) order = tt
+is_sound (Whole (acts.Nak command) events ∷ pieces) order = tt
+is_sound (Whole (acts.Reply command reply) events ∷ pieces) order = tt
+is_sound (Whole (acts.VmcAck command reply) events ∷ pieces) order = tt
+is_sound (Whole (acts.VmcNak command reply) events ∷ pieces) order = tt
+is_sound (Whole (acts.VmcRet command reply) events ∷ pieces) order = tt
+is_sound (Whole (acts.Repeat command reply) events ∷ pieces) order = tt
+is_sound (Whole acts.Foreign events ∷ pieces) order = tt
+is_sound (Whole (acts.Break length) events ∷ pieces) order = tt
+is_sound (AskTail bytes events ∷ pieces) order = order.0.said.0
+is_sound (ReplyTail command bytes events ∷ pieces) order = order.0.said.0
+is_sound (RepeatTail command reply words events ∷ pieces) order = tt
+
+-- the last of some rows behind others
+last_behind : (front : List Event) (first : Event) (others : List Event)
+    → last_of (front ++ first ∷ others) ≡ last_of (first ∷ others)
+last_behind [] first others = refl
+last_behind (x ∷ []) first others = refl
+last_behind (x ∷ y ∷ front) first others = last_behind (y ∷ front) first others
+
+-- words aren't a break
+say_long : (line : Line) (words : List ℕ) (events : List Event) → Say line words events → LastIsLong (last_of events)
+say_long line words [] says = tt
+say_long line words (Word at on word ∷ []) says = tt
+say_long line [] (Break at length ∷ []) says = cc
+say_long line (w ∷ words) (Break at length ∷ []) says = cc
+say_long line [] (event ∷ next ∷ events) says = cc
+say_long line (w ∷ words) (event ∷ next ∷ events) says = say_long line words (next ∷ events) (cc)
+
+-- nor is a word of foreign traffic
+foreign_long : (event : Event) → IsForeignWord event → LastIsLong (Some event)
+foreign_long (Word at line word) further = tt
+foreign_long (Break at length) further = absurd further
+
+-- nor does a foreign act end in one
+a_foreign_long : (events : List Event) → IsForeign events → LastIsLong (last_of events)
+a_foreign_long events (inl opening) = say_long Controller (words_on Controller opening.0) events opening.2
+a_foreign_long events (inr further) =
+    let P : List Event → Type 0 = λ es. LastIsLong (last_of es) in
+    subst P (sym further.1) (foreign_long further.0 further.2)
+
+-- the last row of a piece that is a break is long
+piece_long : (piece : Piece) → IsSaid piece → LastIsLong (last_of (piece_events piece))
+piece_long (Whole (acts.Ask command) events) said = say_long Controller (command_words command) events said.1
+piece_long (Whole (acts.Ack command) events) said =
+    say_long Peripheral (answer_word Peripheral answers.Ack ∷ []) events said
+piece_long (Whole (acts.Nak command) events) said =
+    say_long Peripheral (answer_word Peripheral answers.Nak ∷ []) events said
+piece_long (Whole (acts.Reply command reply) events) said = say_long Peripheral (reply_words reply) events said.1
+piece_long (Whole (acts.VmcAck command reply) events) said =
+    say_long Controller (answer_word Controller answers.Ack ∷ []) events said
+piece_long (Whole (acts.VmcNak command reply) events) said =
+    say_long Controller (answer_word Controller answers.Nak ∷ []) events said
+piece_long (Whole (acts.VmcRet command reply) events) said =
+    say_long Controller (answer_word Controller answers.Ret ∷ []) events said
+piece_long (Whole (acts.Repeat command reply) events) said = say_long Peripheral (reply_words reply) events said
+piece_long (Whole acts.Foreign events) said = a_foreign_long events said
+piece_long (Whole (acts.Break length) events) said =
+    let P : List Event → Type 0 = λ es. LastIsLong (last_of es) in
+    subst P (sym said.1) said.2
+piece_long (AskTail bytes events) said = say_long Controller (words_on Controller bytes) events said.1
+piece_long (ReplyTail command bytes events) said = say_long Peripheral bytes events said.1
+piece_long (RepeatTail command reply words events) said = say_long Peripheral words events said.1
+
+-- the last row of pieces that is a break is long
+pub last_is_long : (pieces : List Piece) → ArePieces pieces → LastIsLong (last_of (events_of pieces))
+last_is_long [] order = tt
+last_is_long (piece ∷ pieces) order =
+    let stands = order.1 in
+    let begins : piece_events piece ≡ stands.first ∷ stands.others = stands.begins in
+    let P : List Event → Type 0 = λ es. LastIsLong (last_of es) in
+    let Q : List Event → Type 0 = λ es. LastIsLong (last_of (events_of pieces ++ es)) in
+    let R : Option Event → Type 0 = λ last. LastIsLong last in
+    let here : LastIsLong (last_of (stands.first ∷ stands.others)) = subst P begins (piece_long piece order.0.said) in
+    subst Q (sym begins) (subst R (sym (last_behind (events_of pieces) stands.first stands.others)) here)
+
+-- behind a reply or a repeat, and where it was asked for again, there is a reply
+pub has_reply : (pieces : List Piece) → ArePieces pieces → HasReply (position_of pieces)
+has_reply [] order = tt
+has_reply (Whole (acts.Ask command) events ∷ pieces) order = tt
+has_reply (Whole (acts.Ack command) events ∷ pieces) order = tt
+has_reply (Whole (acts.Nak command) events ∷ pieces) order = tt
+has_reply (Whole (acts.Reply command reply) events ∷ pieces) order = order.0.said.0
+has_reply (Whole (acts.VmcAck command reply) events ∷ pieces) order = tt
+has_reply (Whole (acts.VmcNak command reply) events ∷ pieces) order = tt
+has_reply (Whole (acts.VmcRet command reply) events ∷ pieces) order =
+    let P : Position → Type 0 = λ position. HasReply position in
+    subst P order.1.comes.0 (has_reply pieces order.2)
+has_reply (Whole (acts.Repeat command reply) events ∷ pieces) order =
+    let P : Position → Type 0 = λ position. HasReply position in
+    subst P order.1.comes.0 (has_reply pieces order.2)
+has_reply (Whole acts.Foreign events ∷ pieces) order = tt
+has_reply (Whole (acts.Break length) events ∷ pieces) order = tt
+has_reply (AskTail bytes events ∷ pieces) order = tt
+has_reply (ReplyTail command bytes events ∷ pieces) order = tt
+has_reply (RepeatTail command reply words events ∷ pieces) order =
+    let P : Position → Type 0 = λ position. HasReply position in
+    subst P order.1.comes.0 (has_reply pieces order.2)

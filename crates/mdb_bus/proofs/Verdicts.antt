@@ -1,0 +1,576 @@
+-- What is made of a word, position by position.
+use Rattle.std.proofs.Common.{rules, arith, refl, ap, sym, subst, ◌∙◌, ◌≡◌, ◌≢◌, ◌+◌, ◌<◌, ◌≤◌, ◌%◌, ◌⊎◌, inl, inr, ℕ, zero, suc, List, [], ◌∷◌, ◌++◌, length, take, drop, slice_index, slice_get, sum, Option, Some, None, Result, Ok, Err, get_or, append_assoc, length-append, length-drop, Fits, w8}
+use Rattle.std.proofs.lemmas.List.{same_from_push}
+use Rattle.std.proofs.lemmas.List.Elements.{All-append, All-from_get_or, All-from_recursion}
+use Rattle.std.proofs.lemmas.Option.{slice_get-get_or, slice_get_past, slice_get_within}
+use Rattle.std.proofs.Math.Seq.{get_or-append_seam}
+use Rattle.std.specs.List.{All}
+use Rattle.mdb_words.specs.declared.limits.TheConstants.{ANSWER_GAP_MAX, WORD_GAP_MIN, BLOCK_GAP_MAX}
+use Rattle.mdb_words.specs.declared.event.Event.{Event}
+use Rattle.mdb_words.specs.declared.event.Event.TheVariants.{Word}
+use Rattle.mdb_words.specs.declared.word.Line.TheVariants.{Controller, Peripheral}
+use Rattle.mdb_blocks.specs.Answer.{answer_byte}
+use Rattle.mdb_blocks.specs.declared.answer.Answer.{Answer}
+use Rattle.mdb_blocks.specs.declared.answer.Answer.TheVariants as answers
+use Rattle.mdb_blocks.specs.Block.{IsContent, block_of, controller_words, peripheral_words}
+use Rattle.mdb_msgs.specs.declared.command.Command.{Command}
+use Rattle.mdb_msgs.specs.declared.fault.MsgFault.{MsgFault}
+use Rattle.mdb_msgs.specs.declared.fault.MsgFault.TheVariants as reading
+use Rattle.mdb_msgs.specs.declared.needs.Need.{Need}
+use Rattle.mdb_msgs.specs.declared.needs.Need.TheVariants.{More, Exactly, Foreign, Outside}
+use Rattle.mdb_msgs.specs.declared.reply.Reply.{Reply}
+use Rattle.mdb_msgs.specs.declared.answer.AnswerForm.{AnswerForm}
+use Rattle.mdb_msgs.specs.Answers.{HasDataAnswer, IsDataLength}
+use Rattle.mdb_msgs.specs.Commands.{IsByte, Spells}
+use Rattle.mdb_msgs.specs.Laws.{BytesHaveOneFault, FrontIsOpen, OpenIsAFront, ReplyHasNoFault}
+use Rattle.mdb_msgs.specs.Needs.{IsOpen, IsShort, needed}
+use Rattle.mdb_msgs.specs.Replies.{IsReadFault, SpellsReply, form_of_reply, reply_bytes}
+use Rattle.mdb_bus.specs.declared.fault.Rule.{Rule}
+use Rattle.mdb_bus.specs.declared.fault.Rule.TheVariants as rule
+use Rattle.mdb_bus.specs.declared.levels.Levels.{Levels}
+use Rattle.mdb_bus.specs.declared.place.Place.{Place}
+use Rattle.mdb_bus.specs.Step.{Step}
+use Rattle.mdb_bus.specs.declared.judged.Judged.{Judged}
+use Rattle.mdb_bus.specs.declared.judged.Judged.TheVariants as judged
+use Rattle.mdb_bus.specs.Step as step
+use Rattle.mdb_bus.specs.Acts.{IsForeignOpening, IsReply, reply_words}
+use Rattle.mdb_bus.specs.ActLists.{Asked, InAsk, InReply, IsAskFront, IsRepeatFront, NotBefore, NotBehind}
+use Rattle.mdb_bus.specs.declared.place.Phase.{Phase}
+use Rattle.mdb_bus.specs.Bus.{position_at, position_in}
+use Rattle.mdb_bus.specs.LinkFaults.{IsBefore, IsBehind, IsFirstBroken, OutOfOrder, RowBreaks, Situation, WrongLength, place_of}
+use Rattle.mdb_bus.specs.Steps.{IsGoingOn, IsJudged, IsReplyEnd, IsSound, rule_of}
+use Rattle.mdb_bus.proofs.Needs.{at_least_two, not_left, stays, tells}
+
+-- a row isn't both too early and in time
+pub not_early : (least : ℕ) (from : Option Event) (to : Event) → NotBefore least from to → IsBefore least from to → ⊥
+not_early least None to enough early = early
+not_early least (Some before) to enough early = omega (arith, enough, early)
+
+-- it is one of them, and late or in time
+pub in_time : (least : ℕ) (from : Option Event) (to : Event) → (IsBefore least from to → ⊥) → NotBefore least from to
+in_time least None to early = tt
+in_time least (Some before) to early = omega (arith, early)
+
+pub not_late : (most : ℕ) (from : Option Event) (to : Event) → (IsBehind most from to → ⊥) → NotBehind most from to
+not_late most None to late = tt
+not_late most (Some before) to late = omega (arith, late)
+
+-- what fits a byte each are bytes
+pub are_bytes : (bytes : List ℕ) → ((i : ℕ) → Fits w8 (get_or bytes i 0)) → All IsByte bytes
+are_bytes bytes low = All-from_get_or IsByte bytes 0 (λ i within. search (rules, low i))
+
+-- a law of mdb_msgs: bytes that are as long as they need to be are those of a command
+abbrev pub WhatItNeeds : Type 0
+WhatItNeeds = (content : List ℕ) → All IsByte content → needed content ≡ Exactly (length content + 1)
+    → (command : Command) × Spells command (block_of content)
+
+-- what is open is the front of an ask, and the front of an ask is open
+pub front_of : OpenIsAFront → (bytes : List ℕ) → 0 < length bytes → All IsByte bytes → IsOpen bytes → IsAskFront bytes
+front_of law bytes some low wanting =
+    let found = law bytes low wanting in
+    record {
+      some = λ none. let e : length bytes ≡ 0 = ap length none in omega arith;
+      command = found.0;
+      rest = found.1;
+      open_end = found.2;
+      spelled = found.3;
+    }
+
+some_long : (bytes : List ℕ) → bytes ≢ [] → 0 < length bytes
+some_long [] some = absurd (some refl)
+some_long (byte ∷ bytes) some = omega arith
+
+pub open_front : FrontIsOpen → (bytes : List ℕ) → IsAskFront bytes → IsOpen bytes
+open_front law bytes front =
+    law bytes front.rest front.command (some_long bytes front.some) front.open_end front.spelled
+
+-- a first byte that leaves a command open begins an ask
+pub begins : OpenIsAFront → (word one byte : ℕ) (told : Need) → one ≡ word % 256 → byte ≡ word % 256
+    → told ≡ needed (one ∷ [])
+    → (told ≡ More) ⊎ ((n : ℕ) × (told ≡ Exactly n)) → IsAskFront (byte ∷ [])
+begins law word one byte told same again is wanting =
+    let P : ℕ → Type 0 = λ b. IsAskFront (b ∷ []) in
+    subst P (same ∙ sym again)
+    (front_of law (one ∷ []) (omega arith) (All-from_recursion IsByte (one ∷ []) (omega (arith, same), tt))
+    (short wanting))
+  where
+    short : (told ≡ More) ⊎ ((n : ℕ) × (told ≡ Exactly n)) → IsOpen (one ∷ [])
+    short (inl more) = let P : Need → Type 0 = λ need. IsShort need 1 in subst P (sym more ∙ is) refl
+    short (inr exact) =
+        let P : Need → Type 0 = λ need. IsShort need 1 in
+        let two : 2 ≤ exact.0 = at_least_two (one ∷ []) exact.0 (omega arith) (sym is ∙ exact.1) in
+        subst P (sym exact.1 ∙ is) (omega arith)
+
+-- what two bytes don't tell a length of, the first leaves to the second
+left_by : (first word : ℕ) (told : Need) → needed (first ∷ []) ≡ told → IsShort told 1
+    → ((n : ℕ) → needed (first ∷ word ∷ []) ≡ Exactly n → ⊥) → needed (first ∷ []) ≡ More
+left_by first word More is short other = is
+left_by first word (Exactly n) is short other = absurd (other n ((tells first).known word n is))
+left_by first word Foreign is short other = absurd short
+left_by first word Outside is short other = absurd short
+
+-- a second byte with which the bytes need no length
+second_other : FrontIsOpen → (bytes : List ℕ) (first byte word : ℕ) (told other : Need) → bytes ≡ first ∷ []
+    → byte ≡ word % 256 → word < 256 → told ≡ needed (first ∷ byte ∷ []) → told ≡ other
+    → ((n : ℕ) → other ≡ Exactly n → ⊥) → IsAskFront bytes
+    → (needed (first ∷ []) ≡ More) × (needed (first ∷ word ∷ []) ≡ other)
+second_other law bytes first byte word told other is low small tell out unsaid front =
+    let same : byte ≡ word = omega (arith, low) in
+    let two : needed (first ∷ word ∷ []) ≡ other =
+    ap (λ b. needed (first ∷ b ∷ [])) (sym same) ∙ (sym tell ∙ out) in
+    let alone : IsAskFront (first ∷ []) = subst IsAskFront is front in
+    let none : (n : ℕ) → needed (first ∷ word ∷ []) ≡ Exactly n → ⊥ = λ n exact. unsaid n (sym two ∙ exact) in
+    (left_by first word (needed (first ∷ [])) refl (open_front law (first ∷ []) alone) none, two)
+
+-- a second byte that this profile leaves out
+pub second_outside : FrontIsOpen → (bytes : List ℕ) (first byte word : ℕ) (told : Need) → bytes ≡ first ∷ []
+    → byte ≡ word % 256 → word < 256 → told ≡ needed (first ∷ byte ∷ []) → told ≡ Outside → IsAskFront bytes
+    → (needed bytes ≡ More) × (needed (bytes ++ word ∷ []) ≡ Outside)
+second_outside law bytes first byte word told is low small tell out front =
+    let P : List ℕ → Type 0 = λ bs. (needed bs ≡ More) × (needed (bs ++ word ∷ []) ≡ Outside) in
+    let unsaid : (n : ℕ) → Outside ≡ Exactly n → ⊥ = λ n same. cc same in
+    subst P (sym is) (second_other law bytes first byte word told Outside is low small tell out unsaid front)
+
+-- a second byte that makes the block foreign
+pub second_foreign : FrontIsOpen → (bytes : List ℕ) (first byte word : ℕ) (told : Need) → bytes ≡ first ∷ []
+    → byte ≡ word % 256 → word < 256 → told ≡ needed (first ∷ byte ∷ []) → told ≡ Foreign → IsAskFront bytes
+    → IsForeignOpening (bytes ++ word ∷ [])
+second_foreign law bytes first byte word told is low small tell out front =
+    let P : List ℕ → Type 0 = λ bs. IsForeignOpening (bs ++ word ∷ []) in
+    let unsaid : (n : ℕ) → Foreign ≡ Exactly n → ⊥ = λ n same. cc same in
+    let both = second_other law bytes first byte word told Foreign is low small tell out unsaid front in
+    subst P (sym is) (both.0, both.1, small)
+
+-- a second byte with which a command is open still
+second_short : (first byte : ℕ) (alone told : Need) → needed (first ∷ []) ≡ alone → needed (first ∷ byte ∷ []) ≡ told
+    → IsShort alone 1
+    → (needed (first ∷ []) ≡ Exactly 2 → ⊥) → (told ≡ More) ⊎ ((n : ℕ) × (told ≡ Exactly n)) → IsShort told 2
+second_short first byte alone told is tell short other (inl more) =
+    absurd (not_left (first ∷ byte ∷ []) (omega arith) (tell ∙ more))
+second_short first byte More told is tell short other (inr exact) =
+    let P : Need → Type 0 = λ need. IsShort need 2 in
+    subst P (sym exact.1) ((tells first).left byte exact.0 is (tell ∙ exact.1))
+second_short first byte (Exactly m) told is tell short other (inr exact) =
+    let P : Need → Type 0 = λ need. IsShort need 2 in
+    let stays_so : needed (first ∷ byte ∷ []) ≡ Exactly m = (tells first).known byte m is in
+    let e : Exactly m ≡ Exactly exact.0 = sym stays_so ∙ (tell ∙ exact.1) in
+    let same : m ≡ exact.0 = cc in
+    let two : 2 ≤ m = at_least_two (first ∷ []) m (omega arith) is in
+    let not_two : m ≡ 2 → ⊥ = λ at. other (is ∙ ap Exactly at) in
+    subst P (sym exact.1) (omega arith)
+second_short first byte Foreign told is tell short other (inr exact) = absurd short
+second_short first byte Outside told is tell short other (inr exact) = absurd short
+
+pub second_front : OpenIsAFront → FrontIsOpen → (bytes : List ℕ) (first one byte word : ℕ) (alone told : Need)
+    → bytes ≡ first ∷ [] → first < 256
+    → alone ≡ needed (first ∷ []) → (alone ≡ Exactly 2 → ⊥) → one ≡ word % 256 → byte ≡ word % 256 → word < 256
+    → told ≡ needed (first ∷ one ∷ [])
+    → (told ≡ More) ⊎ ((n : ℕ) × (told ≡ Exactly n)) → IsAskFront bytes
+    → (word ≡ byte) × IsAskFront (bytes ++ byte ∷ [])
+second_front opens law bytes first one byte word alone told is low lone other same again small tell wanting front =
+    let P : List ℕ → Type 0 = λ bs. IsAskFront bs → IsAskFront (bs ++ byte ∷ []) in
+    let fits : one ≡ byte = omega (arith, same, again) in
+    let byte_low : byte < 256 = omega (arith, again) in
+    let both : told ≡ needed (first ∷ byte ∷ []) = tell ∙ ap (λ b. needed (first ∷ b ∷ [])) fits in
+    let Q : Need → Type 0 = λ need. IsShort need 2 in
+    let go : IsAskFront (first ∷ []) → IsAskFront (first ∷ byte ∷ []) = λ begun.
+    front_of opens (first ∷ byte ∷ []) (omega arith)
+    (All-from_recursion IsByte (first ∷ byte ∷ []) (low, (byte_low, tt)))
+    (subst Q both (second_short first byte (needed (first ∷ [])) told refl (sym both)
+    (open_front law (first ∷ []) begun) (λ two. other (lone ∙ two)) wanting)) in
+    (omega (arith, again), subst P (sym is) go front)
+
+-- a further byte with which a command is open still
+pub further_front : OpenIsAFront → (bytes : List ℕ) (byte n : ℕ) → 2 ≤ length bytes → All IsByte bytes → byte < 256
+    → needed bytes ≡ Exactly n
+    → length bytes + 1 < n → IsAskFront (bytes ++ byte ∷ [])
+further_front opens bytes byte n two low byte_low told short =
+    let long : length (bytes ++ byte ∷ []) ≡ length bytes + 1 = length-append bytes (byte ∷ []) in
+    let P : Need → Type 0 = λ need. IsShort need (length (bytes ++ byte ∷ [])) in
+    let still : needed (bytes ++ byte ∷ []) ≡ Exactly n = stays bytes (byte ∷ []) two ∙ told in
+    front_of opens (bytes ++ byte ∷ []) (omega arith)
+    (All-append IsByte bytes (byte ∷ []) low (All-from_recursion IsByte (byte ∷ []) (byte_low, tt)))
+    (subst P (sym still) (omega arith))
+
+-- where no further byte leaves a command open, the next one is its last
+ended : (bytes : List ℕ) (told : Need) → 2 ≤ length bytes → needed bytes ≡ told → IsShort told (length bytes)
+    → ((n : ℕ) → told ≡ Exactly n → n ≤ length bytes + 1) → needed bytes ≡ Exactly (length bytes + 1)
+ended bytes More two is short most = absurd (not_left bytes two is)
+ended bytes (Exactly n) two is short most =
+    let e : n ≡ length bytes + 1 = omega (arith, most n refl, short) in
+    is ∙ ap Exactly e
+ended bytes Foreign two is short most = absurd short
+ended bytes Outside two is short most = absurd short
+
+pub further_end : FrontIsOpen → (bytes : List ℕ) (told : Need) → 2 ≤ length bytes → told ≡ needed bytes
+    → ((n : ℕ) → told ≡ Exactly n → n ≤ length bytes + 1) → IsAskFront bytes
+    → needed bytes ≡ Exactly (length bytes + 1)
+further_end law bytes told two is most front =
+    ended bytes (needed bytes) two refl (open_front law bytes front) (λ n exact. most n (is ∙ exact))
+
+-- the last word of a block of the controller
+pub ask_sum : (bytes : List ℕ) → 0 < length bytes
+    → slice_index (controller_words (block_of bytes)) (length bytes) ≡ sum bytes % 256
+ask_sum [] some = absurd (omega arith)
+ask_sum (byte ∷ bytes) some = get_or-append_seam bytes (sum (byte ∷ bytes) % 256) [] 0
+
+pub ask_whole : (bytes content block : List ℕ) (word last : ℕ) (command : Command) → content ≡ bytes
+    → 0 < length content → block ≡ block_of bytes
+    → last ≡ slice_index (controller_words block) (length content) → word ≡ last → Spells command block
+    → Spells command (bytes ++ word ∷ [])
+ask_whole bytes content block word last command is some sealed ends same spelled =
+    let here : last ≡ slice_index (controller_words (block_of bytes)) (length content) =
+    ends ∙ ap (λ b. slice_index (controller_words b) (length content)) sealed in
+    let there : last ≡ slice_index (controller_words (block_of bytes)) (length bytes) =
+    here ∙ ap (λ bs. slice_index (controller_words (block_of bytes)) (length bs)) is in
+    let total : word ≡ sum bytes % 256 = same ∙ (there ∙ ask_sum bytes (omega (arith, ap length is))) in
+    let P : List ℕ → Type 0 = λ b. Spells command b in
+    subst P (sealed ∙ ap (λ w. bytes ++ w ∷ []) (sym total)) spelled
+
+-- a controller's word inside its block breaks a rule
+abbrev AskBreaks : List ℕ → Option Event → ℕ → ℕ → Levels → Rule → Type 0
+AskBreaks bytes from at word levels broken =
+    RowBreaks (record { position = InAsk bytes; last = from; levels = levels }) (Word at Controller word) broken
+
+-- an unmarked word inside a block of the controller, in its time
+pub going_on : (bytes : List ℕ) (from : Option Event) (at word : ℕ) (levels : Levels) (result : Result Judged Rule)
+    → (OutOfOrder from (Word at Controller word) → ⊥) → (IsBefore WORD_GAP_MIN from (Word at Controller word) → ⊥)
+    → (IsBehind BLOCK_GAP_MAX from (Word at Controller word) → ⊥) → word < 256 → IsGoingOn bytes word result
+    → IsJudged (record { position = InAsk bytes; last = from; levels = levels }) (Word at Controller word) result
+going_on bytes from at word levels (Ok (judged.AskByte byte)) order early late small h =
+    let soon = in_time WORD_GAP_MIN from (Word at Controller word) early in
+    let near = not_late BLOCK_GAP_MAX from (Word at Controller word) late in
+    (h.0, small, h.1, (soon, near))
+going_on bytes from at word levels (Ok (judged.Ask command)) order early late small h =
+    let soon = in_time WORD_GAP_MIN from (Word at Controller word) early in
+    let near = not_late BLOCK_GAP_MAX from (Word at Controller word) late in
+    (small, h, (soon, near))
+going_on bytes from at word levels (Ok judged.Foreign) order early late small h =
+    let soon = in_time WORD_GAP_MIN from (Word at Controller word) early in
+    let near = not_late BLOCK_GAP_MAX from (Word at Controller word) late in
+    (small, h, (soon, near))
+going_on bytes from at word levels (Ok other) order early late small h = absurd h
+going_on bytes from at word levels (Err rule.Sum) order early late small h = record { breaks = h; first = first }
+  where
+    first : (other : Rule) → AskBreaks bytes from at word levels other → place_of rule.Sum ≤ place_of other
+    first rule.Order b = absurd (order b)
+    first rule.Mode b = absurd (omega (arith, b))
+    first rule.Early b = absurd (early b)
+    first rule.Spacing b = absurd (late b)
+    first other b = search rules
+going_on bytes from at word levels (Err rule.Profile) order early late small h = record { breaks = h; first = first }
+  where
+    first : (other : Rule) → AskBreaks bytes from at word levels other → place_of rule.Profile ≤ place_of other
+    first rule.Order b = absurd (order b)
+    first rule.Mode b = absurd (omega (arith, b))
+    first rule.Early b = absurd (early b)
+    first rule.Spacing b = absurd (late b)
+    first rule.Sum b = let clash : More ≡ Exactly (length bytes + 1) = sym h.0 ∙ b.0 in absurd (cc)
+    first other b = search rules
+going_on bytes from at word levels (Err other) order early late small h = absurd h
+
+-- the words of a peripheral that end in one
+pub peripheral_push : (bytes : List ℕ) (byte : ℕ) → peripheral_words (bytes ++ byte ∷ []) ≡ bytes ++ (256 + byte) ∷ []
+peripheral_push [] byte = refl
+peripheral_push (x ∷ []) byte = refl
+peripheral_push (x ∷ y ∷ ys) byte = ap (λ ws. x ∷ ws) (peripheral_push (y ∷ ys) byte)
+
+-- the last word of a block of a peripheral
+pub reply_sum : (bytes : List ℕ)
+    → slice_index (peripheral_words (block_of bytes)) (length bytes) ≡ 256 + sum bytes % 256
+reply_sum bytes = ap (λ words. slice_index words (length bytes)) (peripheral_push bytes (sum bytes % 256))
+    ∙ get_or-append_seam bytes (256 + sum bytes % 256) [] 0
+
+pub right_sum : (bytes content block : List ℕ) (word last : ℕ) → content ≡ bytes → block ≡ block_of bytes
+    → last ≡ slice_index (peripheral_words block) (length content)
+    → word ≡ last → word ≡ 256 + sum bytes % 256
+right_sum bytes content block word last is sealed ends same =
+    let here : last ≡ slice_index (peripheral_words (block_of bytes)) (length content) =
+    ends ∙ ap (λ b. slice_index (peripheral_words b) (length content)) sealed in
+    let there : last ≡ slice_index (peripheral_words (block_of bytes)) (length bytes) =
+    here ∙ ap (λ bs. slice_index (peripheral_words (block_of bytes)) (length bs)) is in
+    same ∙ (there ∙ reply_sum bytes)
+
+pub wrong_sum : (bytes content block : List ℕ) (word last : ℕ) → content ≡ bytes → block ≡ block_of bytes
+    → last ≡ slice_index (peripheral_words block) (length content)
+    → (word ≡ last → ⊥) → word ≢ 256 + sum bytes % 256
+wrong_sum bytes content block word last is sealed ends other total =
+    other (total ∙ sym (right_sum bytes content block last last is sealed ends refl))
+
+-- two contents of one block are one
+pub same_content : (one other : List ℕ) → block_of one ≡ block_of other → one ≡ other
+same_content one other is = (same_from_push one other (sum one % 256) (sum other % 256) is).0
+
+-- the content of a sealed block
+pub sealed_content : (bytes content block : List ℕ) → block ≡ block_of content → block ≡ block_of bytes
+    → content ≡ bytes
+sealed_content bytes content block is sealed = same_content content bytes (sym is ∙ sealed)
+
+-- a reply that a block spells is one with the block's content
+pub is_reply : (command : Command) (bytes content block : List ℕ) (reply : Reply) → IsContent content
+    → block ≡ block_of content → block ≡ block_of bytes
+    → SpellsReply command reply block → IsReply command reply × (bytes ≡ reply_bytes reply)
+is_reply command bytes content block reply is whole sealed spelled =
+    let same : bytes ≡ reply_bytes reply = sealed_content (reply_bytes reply) bytes block sealed spelled.bytes in
+    let here : content ≡ reply_bytes reply = sealed_content (reply_bytes reply) content block whole spelled.bytes in
+    let P : List ℕ → Type 0 = λ bs. IsContent bs in
+    (record { answers = spelled.answers; content = subst P here is }, same)
+
+-- a block that is as long as it needs to be has a command
+pub is_read : WhatItNeeds → (bytes content block : List ℕ) (read : Result Command MsgFault) (fault : MsgFault)
+    → IsContent content → block ≡ block_of content → block ≡ block_of bytes
+    → needed bytes ≡ Exactly (length bytes + 1) → ((command : Command) → Spells command block → read ≡ Ok command)
+    → read ≡ Err fault → ⊥
+is_read law bytes content block read fault is whole sealed told only bad =
+    let Low : List ℕ → Type 0 = λ bs. All IsByte bs in
+    let found = law bytes (subst Low (sealed_content bytes content block whole sealed) is.in_range) told in
+    let P : List ℕ → Type 0 = λ b. Spells found.0 b in
+    let good : read ≡ Ok found.0 = only found.0 (subst P (sym sealed) found.1) in
+    let clash : Ok found.0 ≡ Err fault = sym good ∙ bad in
+    cc
+
+-- what isn't read of an allowed number of bytes has no fault in that number
+length_read : (command : Command) (bytes : List ℕ) → HasDataAnswer command (length bytes)
+    → IsReadFault command bytes reading.Length → ⊥
+length_read command bytes has bad =
+    let both : Some bad.0 ≡ Some has.0 = sym bad.1 ∙ has.1 in
+    let same : has.0 ≡ bad.0 = cc in
+    let P : AnswerForm → Type 0 = λ form. IsDataLength form (length bytes) in
+    bad.2 (subst P same has.2)
+
+-- a marked word that is no answer's
+pub no_answer : (command : Command) (from : Option Event) (at word byte : ℕ) (levels : Levels)
+    → (OutOfOrder from (Word at Peripheral word) → ⊥)
+    → (IsBefore WORD_GAP_MIN from (Word at Peripheral word) → ⊥)
+    → (IsBehind ANSWER_GAP_MAX from (Word at Peripheral word) → ⊥) → 256 ≤ word → word < 512 → byte ≡ word % 256
+    → ((answer : Answer) → answer_byte answer ≢ byte)
+    → IsFirstBroken (record { position = Asked command; last = from; levels = levels }) (Word at Peripheral word)
+    rule.Answer
+no_answer command from at word byte levels order early late marked small low none = record {
+  breaks = inl (
+    marked,
+    (λ ack. none answers.Ack (omega (arith, low, ack))),
+    (λ nak. none answers.Nak (omega (arith, low, nak))),
+  );
+  first = first;
+}
+  where
+    first : (other : Rule)
+        → RowBreaks (record { position = Asked command; last = from; levels = levels }) (Word at Peripheral word) other
+        → place_of rule.Answer ≤ place_of other
+    first rule.Order b = absurd (order b)
+    first rule.Early b = absurd (early b)
+    first rule.Late b = absurd (late b)
+    first other b = search rules
+
+-- what isn't read ends a reply by the rule of its fault
+unread_by : (command : Command) (bytes : List ℕ) (levels : Levels) (word : ℕ) (fault : MsgFault)
+    → HasDataAnswer command (length bytes) → word ≡ 256 + sum bytes % 256
+    → IsReadFault command bytes fault → IsReplyEnd command bytes levels word (Err (rule_of fault))
+unread_by command bytes levels word reading.Length has total bad = absurd (length_read command bytes has bad)
+unread_by command bytes levels word reading.Message has total bad = (has, total, bad)
+unread_by command bytes levels word reading.Profile has total bad = inl (has, total, bad)
+unread_by command bytes levels word reading.Answer has total bad = (has, total, bad)
+
+pub unread : (command : Command) (bytes block : List ℕ) (levels : Levels) (word : ℕ) (fault : MsgFault) (told : Rule)
+    → HasDataAnswer command (length bytes)
+    → word ≡ 256 + sum bytes % 256 → block ≡ block_of bytes
+    → ((content : List ℕ) → block ≡ block_of content → IsReadFault command content fault) → told ≡ rule_of fault
+    → IsReplyEnd command bytes levels word (Err told)
+unread command bytes block levels word fault told has total sealed bad is =
+    let P : Rule → Type 0 = λ r. IsReplyEnd command bytes levels word (Err r) in
+    subst P (sym is) (unread_by command bytes levels word fault has total (bad bytes sealed))
+
+-- a marked word ends a reply of a right number of bytes
+length_right : (command : Command) (bytes : List ℕ) (at word : ℕ) → 256 ≤ word → HasDataAnswer command (length bytes)
+    → WrongLength (InReply command bytes) (Word at Peripheral word) → ⊥
+length_right command bytes at word marked count (inl wrong) = omega (arith, wrong.0)
+length_right command bytes at word marked count (inr wrong) = wrong.1 count
+
+-- the number of bytes of a reply is right
+count_right : (command : Command) (bytes : List ℕ) (reply : Reply) → IsReply command reply → bytes ≡ reply_bytes reply
+    → HasDataAnswer command (length bytes)
+count_right command bytes reply is same =
+    let P : List ℕ → Type 0 = λ bs. HasDataAnswer command (length bs) in
+    subst P (sym same) (form_of_reply reply, is.answers.answer.form, is.answers.answer.count)
+
+-- a peripheral's word inside a reply breaks a rule
+abbrev Breaks : Command → List ℕ → Option Event → ℕ → ℕ → Levels → Rule → Type 0
+Breaks command bytes from at word levels broken =
+    RowBreaks (record { position = InReply command bytes; last = from; levels = levels }) (Word at Peripheral word)
+    broken
+
+-- the marked word of a reply, in its time
+pub reply_ended : BytesHaveOneFault → ReplyHasNoFault
+    → (command : Command) (bytes : List ℕ) (from : Option Event) (at word : ℕ) (levels : Levels)
+    (result : Result Judged Rule)
+    → (OutOfOrder from (Word at Peripheral word) → ⊥) → (IsBefore WORD_GAP_MIN from (Word at Peripheral word) → ⊥)
+    → (IsBehind BLOCK_GAP_MAX from (Word at Peripheral word) → ⊥)
+    → 256 ≤ word → IsReplyEnd command bytes levels word result
+    → IsJudged (record { position = InReply command bytes; last = from; levels = levels }) (Word at Peripheral word)
+    result
+reply_ended one none command bytes from at word levels (Ok judged.Reply) order early late marked h =
+    let soon = in_time WORD_GAP_MIN from (Word at Peripheral word) early in
+    let near = not_late BLOCK_GAP_MAX from (Word at Peripheral word) late in
+    (h.0, (h.1, h.2, h.3, h.4, (soon, near)))
+reply_ended one none command bytes from at word levels (Ok other) order early late marked h = absurd h
+reply_ended one none command bytes from at word levels (Err rule.Length) order early late marked h =
+    record { breaks = inr (marked, h); first = first }
+  where
+    first : (other : Rule) → Breaks command bytes from at word levels other → place_of rule.Length ≤ place_of other
+    first rule.Order b = absurd (order b)
+    first rule.Early b = absurd (early b)
+    first rule.Spacing b = absurd (late b)
+    first other b = search rules
+reply_ended one none command bytes from at word levels (Err rule.Sum) order early late marked h =
+    record { breaks = (marked, h.1); first = first }
+  where
+    first : (other : Rule) → Breaks command bytes from at word levels other → place_of rule.Sum ≤ place_of other
+    first rule.Order b = absurd (order b)
+    first rule.Early b = absurd (early b)
+    first rule.Spacing b = absurd (late b)
+    first rule.Length b = absurd (length_right command bytes at word marked h.0 b)
+    first other b = search rules
+reply_ended one none command bytes from at word levels (Err rule.Answer) order early late marked h =
+    record { breaks = (marked, h.2); first = first }
+  where
+    first : (other : Rule) → Breaks command bytes from at word levels other → place_of rule.Answer ≤ place_of other
+    first rule.Order b = absurd (order b)
+    first rule.Early b = absurd (early b)
+    first rule.Spacing b = absurd (late b)
+    first rule.Length b = absurd (length_right command bytes at word marked h.0 b)
+    first rule.Sum b = absurd (b.1 h.1)
+    first other b = search rules
+reply_ended one none command bytes from at word levels (Err rule.Message) order early late marked h =
+    record { breaks = (marked, h.2); first = first }
+  where
+    first : (other : Rule) → Breaks command bytes from at word levels other → place_of rule.Message ≤ place_of other
+    first rule.Order b = absurd (order b)
+    first rule.Early b = absurd (early b)
+    first rule.Spacing b = absurd (late b)
+    first rule.Length b = absurd (length_right command bytes at word marked h.0 b)
+    first rule.Sum b = absurd (b.1 h.1)
+    first rule.Answer b =
+        let clash : reading.Answer ≡ reading.Message = one command bytes reading.Answer reading.Message b.1 h.2 in
+        absurd (cc)
+    first other b = search rules
+reply_ended one none command bytes from at word levels (Err rule.Profile) order early late marked (inl h) =
+    record { breaks = (marked, inl h.2); first = first }
+  where
+    first : (other : Rule) → Breaks command bytes from at word levels other → place_of rule.Profile ≤ place_of other
+    first rule.Order b = absurd (order b)
+    first rule.Early b = absurd (early b)
+    first rule.Spacing b = absurd (late b)
+    first rule.Length b = absurd (length_right command bytes at word marked h.0 b)
+    first rule.Sum b = absurd (b.1 h.1)
+    first rule.Answer b =
+        let clash : reading.Answer ≡ reading.Profile = one command bytes reading.Answer reading.Profile b.1 h.2 in
+        absurd (cc)
+    first rule.Message b =
+        let clash : reading.Message ≡ reading.Profile = one command bytes reading.Message reading.Profile b.1 h.2 in
+        absurd (cc)
+    first other b = search rules
+reply_ended one none command bytes from at word levels (Err rule.Profile) order early late marked (inr h) =
+    record { breaks = (marked, inr h.1); first = first }
+  where
+    faultless : (fault : MsgFault) → IsReadFault command bytes fault → ⊥
+    faultless fault bad =
+        let P : List ℕ → Type 0 = λ bs. IsReadFault command bs fault in
+        none command h.1.0 fault h.1.1.answers (subst P h.1.2 bad)
+
+    first : (other : Rule) → Breaks command bytes from at word levels other → place_of rule.Profile ≤ place_of other
+    first rule.Order b = absurd (order b)
+    first rule.Early b = absurd (early b)
+    first rule.Spacing b = absurd (late b)
+    first rule.Length b =
+        absurd (length_right command bytes at word marked (count_right command bytes h.1.0 h.1.1 h.1.2) b)
+    first rule.Sum b = absurd (b.1 h.0)
+    first rule.Answer b = absurd (faultless reading.Answer b.1)
+    first rule.Message b = absurd (faultless reading.Message b.1)
+    first other b = search rules
+reply_ended one none command bytes from at word levels (Err other) order early late marked h = absurd h
+
+-- the word at an index splits words
+pub split_at : (words : List ℕ) (n word : ℕ) → slice_get words n ≡ Some word
+    → take n words ++ word ∷ drop (suc n) words ≡ words
+split_at [] n word is = cc
+split_at (w ∷ words) zero word is = let same : word ≡ w = cc in ap (λ x. x ∷ words) same
+split_at (w ∷ words) (suc n) word is = ap (λ ws. w ∷ ws) (split_at words n word is)
+
+not_empty : (words : List ℕ) (word : ℕ) → words ++ word ∷ [] ≢ []
+not_empty [] word none = cc
+not_empty (w ∷ words) word none = cc
+
+empty : (words : List ℕ) → length words ≡ 0 → words ≡ []
+empty [] none = refl
+empty (w ∷ words) none = absurd (omega (arith, none))
+
+-- a word of a reply in its place, with more to come
+pub repeats : (reply : Reply) (n word count : ℕ) → length (reply_words reply) ≡ count + 1 → n < count
+    → slice_get (reply_words reply) n ≡ Some word
+    → IsRepeatFront reply (take n (reply_words reply) ++ word ∷ [])
+repeats reply n word count long more is =
+    let rest : List ℕ = drop (suc n) (reply_words reply) in
+    record {
+      some = not_empty (take n (reply_words reply)) word;
+      rest = rest;
+      open_end = λ none. omega (arith, length-drop (suc n) (reply_words reply), ap length none);
+      same = append_assoc (take n (reply_words reply)) (word ∷ []) rest ∙ split_at (reply_words reply) n word is;
+    }
+
+-- and the last one
+pub repeated : (words : List ℕ) (n word count : ℕ) → length words ≡ count + 1 → count ≤ n
+    → slice_get words n ≡ Some word → take n words ++ word ∷ [] ≡ words
+repeated words n word count long most is =
+    let within : n < length words = slice_get_within words n word is in
+    let none : drop (suc n) words ≡ [] = empty (drop (suc n) words) (omega (arith, length-drop (suc n) words)) in
+    ap (λ rest. take n words ++ word ∷ rest) (sym none) ∙ split_at words n word is
+
+-- the words of a reply are one more than its bytes
+pub words_count : (bytes : List ℕ) → length (peripheral_words (block_of bytes)) ≡ length bytes + 1
+words_count bytes =
+    ap length (peripheral_push bytes (sum bytes % 256)) ∙ length-append bytes ((256 + sum bytes % 256) ∷ [])
+
+-- the word at an index of a sealed reply
+pub word_there : (bytes content block : List ℕ) (i word : ℕ) → content ≡ bytes → block ≡ block_of content
+    → i < length block → word ≡ slice_index (peripheral_words block) i
+    → Some word ≡ slice_get (peripheral_words (block_of bytes)) i
+word_there bytes content block i word same sealed within is =
+    let whole : block ≡ block_of bytes = sealed ∙ ap block_of same in
+    let words : List ℕ = peripheral_words (block_of bytes) in
+    let count : length words ≡ length bytes + 1 = words_count bytes in
+    let long : length block ≡ length bytes + 1 = ap length whole ∙ length-append bytes ((sum bytes % 256) ∷ []) in
+    let here : word ≡ slice_index words i = is ∙ ap (λ b. slice_index (peripheral_words b) i) whole in
+    ap Some here ∙ sym (slice_get-get_or words i 0 (omega arith))
+
+pub word_behind : (bytes content block : List ℕ) (i : ℕ) → content ≡ bytes → block ≡ block_of content → length block ≤ i
+    → None ≡ slice_get (peripheral_words (block_of bytes)) i
+word_behind bytes content block i same sealed past =
+    let whole : block ≡ block_of bytes = sealed ∙ ap block_of same in
+    let count : length (peripheral_words (block_of bytes)) ≡ length bytes + 1 = words_count bytes in
+    let long : length block ≡ length bytes + 1 = ap length whole ∙ length-append bytes ((sum bytes % 256) ∷ []) in
+    sym (slice_get_past (peripheral_words (block_of bytes)) i (omega arith))
+
+-- what is made of a row at a place that is another's
+pub judged_at : (place : Place) (other : Phase) (from : Option Event) (levels : Levels) (row : Event)
+    (result : Result Judged Rule) → place.phase ≡ other
+    → IsJudged (record { position = position_in other place.exchange; last = from; levels = levels }) row result
+    → IsJudged (record { position = position_at place; last = from; levels = levels }) row result
+judged_at place other from levels row result is judged =
+    let P : Phase → Type 0 =
+    λ p. IsJudged (record { position = position_in p place.exchange; last = from; levels = levels }) row result in
+    subst P (sym is) judged
+
+-- what is made of a row that is another
+pub judged_row : (situation : Situation) (row other : Event) (result : Result Judged Rule) → row ≡ other
+    → IsJudged situation other result → IsJudged situation row result
+judged_row situation row other result is judged =
+    let P : Event → Type 0 = λ r. IsJudged situation r result in
+    subst P (sym is) judged
+
+-- a sound place that is another's
+pub sound_at : (place : Place) (other : Phase) → place.phase ≡ other → IsSound (position_at place)
+    → IsSound (position_in other place.exchange)
+sound_at place other is sound =
+    let P : Phase → Type 0 = λ p. IsSound (position_in p place.exchange) in
+    subst P is sound

@@ -1,0 +1,42 @@
+use Rattle.std.proofs.Common.{rules, arith, ap, ◌≡◌, ◌≤◌, ◌+◌, ◌++◌, ◌∷◌, [], length, sym, subst, ◌∙◌, List, ℕ}
+use Rattle.mdb_msgs.specs.declared.needs.Need.TheVariants.{Exactly}
+use Rattle.mdb_msgs.specs.Needs.{needed}
+use Rattle.mdb_bus.specs.ActLists.{IsAskFront}
+use Rattle.mdb_bus.proofs.Verdicts.{are_bytes, further_end, further_front}
+use Rattle.mdb_bus.proofs.Needs.{at_most_32}
+use Rattle.mdb_bus.proofs.judging.further_byte.Goals.{in_default-via-in-Exactly+else-so_far-length, in_default-via-in_default}
+use Rattle.mdb_bus.proofs.judging.further_byte.Goals as goal
+
+-- of two equal lengths the one is as small as the other
+at_most : (one other : ℕ) {most : ℕ} → Exactly one ≡ Exactly other → one ≤ most → other ≤ most
+at_most one other same small = let e : one ≡ other = cc in omega (arith, small, e)
+
+pub returns-in-Exactly-clause-room : goal.returns-in-Exactly-clause-room
+returns-in-Exactly-clause-room c =
+    let most : c.in-Exactly.length ≤ 32 =
+    at_most_32 c.args.so_far.now c.in-Exactly.length (omega arith) (sym c.need_of.ensures ∙ c.in-Exactly.is) in
+    let same = ap length c.requires.is in
+    omega arith
+
+pub returns-in-Exactly-clause-judged : goal.returns-in-Exactly-clause-judged
+returns-in-Exactly-clause-judged c =
+    let told : needed c.args.so_far.now ≡ Exactly c.in-Exactly.length = sym c.need_of.ensures ∙ c.in-Exactly.is in
+    let front : IsAskFront (c.args.so_far.now ++ c.byte.result ∷ []) =
+    further_front c.need_leaves_a_command_open.ensures c.args.so_far.now c.byte.result c.in-Exactly.length
+    c.requires.two (are_bytes c.args.so_far.now c.type_inv.so_far) c.byte.type_inv told c.if-so_far-length.true in
+    let P : List ℕ → Type 0 = λ bytes. IsAskFront (bytes ++ c.byte.result ∷ []) in
+    λ begun. (omega (arith, c.byte.ensures.value, c.requires.unmarked), subst P (sym c.requires.is) front)
+
+pub returns-in_default-clause-judged : goal.returns-in_default-clause-judged
+returns-in_default-clause-judged c =
+    let same = ap length c.requires.is in
+    let most : (n : ℕ) → c.need_of.result ≡ Exactly n → n ≤ length c.args.bytes.now + 1 =
+    λ n exact. (elim c.in_default.branch [
+      | in_default-via-in-Exactly+else-so_far-length w ↦ at_most w.in-Exactly.length n
+          (sym w.in-Exactly.is ∙ exact) (omega (arith, w.if-so_far-length.false))
+      | in_default-via-in_default w ↦ absurd (search rules)
+    ]) in
+    let told = c.need_of.ensures ∙ ap needed (sym c.requires.is) in
+    λ front. c.end_ask.ensures.judged front
+    (further_end c.front_of_a_command_is_open.ensures c.args.bytes.now c.need_of.result (omega arith) told most
+    front)

@@ -1,0 +1,32 @@
+use Rattle.mdb_words.specs.declared.event.Event.TheVariants.{Word}
+use Rattle.mdb_words.specs.declared.word.Line.TheVariants.{Controller}
+use Rattle.mdb_bus.proofs.Verdicts.{judged_at, sound_at}
+use Rattle.mdb_bus.proofs.judging.judge_controller.Goals as goal
+
+pub returns-in-InAsk-clause-judged : goal.returns-in-InAsk-clause-judged
+returns-in-InAsk-clause-judged c =
+    λ levels sound. judged_at c.args.place.now _ c.args.from.now levels (Word c.args.at Controller c.args.word)
+    c.go_on_asking.result c.in-InAsk.is
+    (c.go_on_asking.ensures.judged levels (sound_at c.args.place.now _ c.in-InAsk.is sound))
+
+pub returns-in-InReply-clause-judged : goal.returns-in-InReply-clause-judged
+returns-in-InReply-clause-judged c =
+    λ levels sound. judged_at c.args.place.now _ c.args.from.now levels (Word c.args.at Controller c.args.word)
+    c.cut_in.result c.in-InReply.is (c.cut_in.ensures.reply levels c.in-InReply.field-0 c.in-InReply.field-1)
+
+pub returns-in-InRepeat-clause-judged : goal.returns-in-InRepeat-clause-judged
+returns-in-InRepeat-clause-judged c =
+    λ levels sound. judged_at c.args.place.now _ c.args.from.now levels (Word c.args.at Controller c.args.word)
+    c.cut_in-in-InRepeat.result c.in-InRepeat.is
+    (c.cut_in-in-InRepeat.ensures.repeat levels c.args.place.now.exchange.command c.args.place.now.exchange.reply _)
+
+pub returns-in-Replied-2-clause-judged : goal.returns-in-Replied-2-clause-judged
+returns-in-Replied-2-clause-judged c =
+    λ levels sound. judged_at c.args.place.now _ c.args.from.now levels (Word c.args.at Controller c.args.word)
+    c.answer_reply.result c.in-Replied-2.is
+    (c.answer_reply.ensures levels c.args.place.now.exchange.command c.args.place.now.exchange.reply)
+
+pub returns-in-InForeign-2-clause-judged : goal.returns-in-InForeign-2-clause-judged
+returns-in-InForeign-2-clause-judged c =
+    λ levels sound. judged_at c.args.place.now _ c.args.from.now levels (Word c.args.at Controller c.args.word)
+    c.go_on_foreign.result c.in-InForeign-2.is (c.go_on_foreign.ensures levels)

@@ -1,0 +1,24 @@
+use Rattle.mdb_words.specs.declared.event.Event.TheVariants.{Word}
+use Rattle.mdb_words.specs.declared.word.Line.TheVariants.{Peripheral}
+use Rattle.mdb_bus.proofs.Verdicts.{judged_at}
+use Rattle.mdb_bus.proofs.judging.judge_peripheral.Goals as goal
+
+pub returns-in-Asked-clause-judged : goal.returns-in-Asked-clause-judged
+returns-in-Asked-clause-judged c =
+    judged_at c.args.place.now _ c.args.from.now c.args.levels (Word c.args.at Peripheral c.args.word) c.answer.result
+    c.in-Asked.is (c.answer.ensures c.args.levels)
+
+pub returns-in-Returned-clause-judged : goal.returns-in-Returned-clause-judged
+returns-in-Returned-clause-judged c =
+    judged_at c.args.place.now _ c.args.from.now c.args.levels (Word c.args.at Peripheral c.args.word)
+    c.begin_repeat.result c.in-Returned.is (c.begin_repeat.ensures c.args.levels)
+
+pub returns-in-InRepeat-clause-judged : goal.returns-in-InRepeat-clause-judged
+returns-in-InRepeat-clause-judged c =
+    judged_at c.args.place.now _ c.args.from.now c.args.levels (Word c.args.at Peripheral c.args.word)
+    c.go_on_repeating.result c.in-InRepeat.is (c.go_on_repeating.ensures.judged c.args.levels)
+
+pub returns-in-InForeign-clause-judged : goal.returns-in-InForeign-clause-judged
+returns-in-InForeign-clause-judged c =
+    judged_at c.args.place.now _ c.args.from.now c.args.levels (Word c.args.at Peripheral c.args.word)
+    c.go_on_foreign.result c.in-InForeign.is (c.go_on_foreign.ensures c.args.levels)

@@ -1,0 +1,5 @@
+use Rattle.mdb_bus.proofs.OneActList.{fronts}
+use Rattle.mdb_bus.proofs.laws.fronts_of_act_lists_have_act_lists.Goals as goal
+
+pub returns : goal.returns
+returns c = fronts c.grammar.ensures.open_front

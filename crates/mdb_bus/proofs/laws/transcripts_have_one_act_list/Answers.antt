@@ -1,0 +1,6 @@
+use Rattle.mdb_bus.proofs.OneActList.{one_act_list}
+use Rattle.mdb_bus.proofs.OneStep.{readings_of}
+use Rattle.mdb_bus.proofs.laws.transcripts_have_one_act_list.Goals as goal
+
+pub returns : goal.returns
+returns c = one_act_list c.grammar.ensures.open_front (readings_of c.grammar.ensures)

@@ -1,0 +1,289 @@
+-- Act lists: how a transcript divides into acts, and what may follow what (MDB/ICP 4.3, timing; the
+-- numbers are this profile's). Lists of pieces are written newest first, lists of events oldest
+-- first.
+use Rattle.std.specs.Prelude.{◌≡◌, ◌≢◌, ◌<◌, ◌≤◌, ◌⊎◌, ℕ, Bool, true, false, nat_le, List, [], ◌∷◌, ◌++◌, length, All, Option, Some, None}
+use Rattle.std.specs.List.{list_any}
+use Rattle.mdb_words.specs.declared.limits.TheConstants.{WORD_GAP_MIN, BLOCK_GAP_MAX, ANSWER_GAP_MAX, NEW_BLOCK_GAP_MIN, SETUP_GAP_MIN}
+use Rattle.mdb_words.specs.declared.event.Event.{Event}
+use Rattle.mdb_words.specs.declared.event.Event.TheVariants.{Break}
+use Rattle.mdb_words.specs.declared.word.Line.TheVariants.{Controller, Peripheral}
+use Rattle.mdb_words.specs.Event.{AtLeast, AtMost}
+use Rattle.mdb_blocks.specs.Block.{words_on}
+use Rattle.mdb_msgs.specs.declared.command.Command.{Command}
+use Rattle.mdb_msgs.specs.declared.command.Command.TheVariants as commands
+use Rattle.mdb_msgs.specs.declared.command.ReaderCommand.TheVariants as readers
+use Rattle.mdb_msgs.specs.declared.command.ReaderUnit.TheVariants.{First, Second}
+use Rattle.mdb_msgs.specs.declared.reply.Reply.{Reply}
+use Rattle.mdb_msgs.specs.declared.reply.Reply.TheVariants as replies
+use Rattle.mdb_msgs.specs.declared.reply.reader.ReaderMsg.{ReaderMsg}
+use Rattle.mdb_msgs.specs.declared.reply.reader.ReaderMsg.TheVariants as messages
+use Rattle.mdb_msgs.specs.Answers.{MayHaveData}
+use Rattle.mdb_msgs.specs.Commands.{IsByte, Spells}
+use Rattle.mdb_bus.specs.declared.act.Act.{Act}
+use Rattle.mdb_bus.specs.declared.act.Act.TheVariants as acts
+use Rattle.mdb_bus.specs.declared.levels.Levels.{Levels}
+use Rattle.mdb_bus.specs.Acts.{IsAct, IsBlockWord, IsForeignWord, Say, reply_words}
+
+-- A piece of a transcript with its events: a whole act; or a tail, the words of an act that has
+-- begun and not ended, with the bytes that they have.
+pub data Piece : Type 0 where
+  Whole : Act → List Event → Piece
+  -- of an ask, or of a foreign EXPANSION: its first byte begins an ask too
+  AskTail : List ℕ → List Event → Piece
+  -- of a reply to a command
+  ReplyTail : Command → List ℕ → List Event → Piece
+  -- of a repeat of a reply
+  RepeatTail : Command → Reply → List ℕ → List Event → Piece
+
+-- the events of a piece
+abbrev pub piece_events : Piece → List Event
+piece_events (Whole act events) = events
+piece_events (AskTail bytes events) = events
+piece_events (ReplyTail command bytes events) = events
+piece_events (RepeatTail command reply bytes events) = events
+
+-- the gaps between the words of one act
+abbrev pub AreSpaced : List Event → Type 0
+AreSpaced [] = Unit {0}
+AreSpaced (event ∷ []) = Unit {0}
+AreSpaced (event ∷ next ∷ events) =
+    AtLeast WORD_GAP_MIN event next × AtMost BLOCK_GAP_MAX event next × AreSpaced (next ∷ events)
+
+-- bytes that begin a command's block, and don't end it
+pub record IsAskFront (bytes : List ℕ) : Type 0 where
+  pub some : bytes ≢ []
+  pub command : Command
+  pub rest : List ℕ
+  pub open_end : rest ≢ []
+  pub spelled : Spells command (bytes ++ rest)
+
+-- bytes that a reply to the command may begin with: what it says is judged at its marked word
+pub record IsReplyFront (command : Command) (bytes : List ℕ) : Type 0 where
+  pub allowed : MayHaveData command
+  pub some : 1 ≤ length bytes
+  pub few : length bytes ≤ 35
+  pub in_range : All IsByte bytes
+
+-- words that begin those of a reply, and don't end them
+pub record IsRepeatFront (reply : Reply) (words : List ℕ) : Type 0 where
+  pub some : words ≢ []
+  pub rest : List ℕ
+  pub open_end : rest ≢ []
+  pub same : words ++ rest ≡ reply_words reply
+
+-- the words of a piece are right by themselves
+abbrev pub IsSaid : Piece → Type 0
+IsSaid (Whole act events) = IsAct act events
+IsSaid (AskTail bytes events) = IsAskFront bytes × Say Controller (words_on Controller bytes) events
+IsSaid (ReplyTail command bytes events) = IsReplyFront command bytes × Say Peripheral bytes events
+IsSaid (RepeatTail command reply words events) = IsRepeatFront reply words
+    × Say Peripheral words events
+
+-- a piece by itself: its words, and the gaps between them
+pub record IsPiece (piece : Piece) : Type 0 where
+  pub said : IsSaid piece
+  pub spaced : AreSpaced (piece_events piece)
+
+-- Where the bus is: what the last act has left open, or what a tail has said.
+pub data Position : Type 0 where
+  -- nothing is open
+  Quiet : Position
+  -- the bytes so far of a block of the controller
+  InAsk : List ℕ → Position
+  -- a command, whose answer is open
+  Asked : Command → Position
+  -- the bytes so far of a reply to a command
+  InReply : Command → List ℕ → Position
+  -- a reply to a command: the controller's answer is open
+  Replied : Command → Reply → Position
+  -- RET was sent: the repeat is open
+  Returned : Command → Reply → Position
+  -- the words so far of the repeat
+  InRepeat : Command → Reply → List ℕ → Position
+  -- a foreign block was opened: its further words are open
+  InForeign : Position
+
+-- what an act leaves open
+abbrev pub left_open : Act → Position
+left_open (acts.Ask command) = Asked command
+left_open (acts.Ack command) = Quiet
+left_open (acts.Nak command) = Quiet
+left_open (acts.Reply command reply) = Replied command reply
+left_open (acts.VmcAck command reply) = Quiet
+left_open (acts.VmcNak command reply) = Quiet
+left_open (acts.VmcRet command reply) = Returned command reply
+left_open (acts.Repeat command reply) = Replied command reply
+left_open acts.Foreign = InForeign
+left_open (acts.Break length) = Quiet
+
+-- where the bus is behind pieces
+abbrev pub position_of : List Piece → Position
+position_of [] = Quiet
+position_of (Whole act events ∷ pieces) = left_open act
+position_of (AskTail bytes events ∷ pieces) = InAsk bytes
+position_of (ReplyTail command bytes events ∷ pieces) = InReply command bytes
+position_of (RepeatTail command reply words events ∷ pieces) = InRepeat command reply words
+
+-- the gap from the row before, if there is one, is at least, at most so long; it counts from a
+-- word's start and a break's end
+abbrev pub NotBefore : ℕ → Option Event → Event → Type 0
+NotBefore least None to = Unit {0}
+NotBefore least (Some from) to = AtLeast least from to
+
+abbrev pub NotBehind : ℕ → Option Event → Event → Type 0
+NotBehind most None to = Unit {0}
+NotBehind most (Some from) to = AtMost most from to
+
+-- how long a block waits behind a row that leaves nothing open: behind a break for the setup of the
+-- devices
+abbrev pub rest_before_block : Option Event → ℕ
+rest_before_block (Some (Break at length)) = SETUP_GAP_MIN
+rest_before_block _ = WORD_GAP_MIN
+
+-- how long a break waits: behind a break not at all
+abbrev pub rest_before_break : Option Event → ℕ
+rest_before_break (Some (Break at length)) = 0
+rest_before_break _ = WORD_GAP_MIN
+
+-- an answer, or a repeat, begins in its time
+abbrev pub InTime : Option Event → Event → Type 0
+InTime from to = NotBefore WORD_GAP_MIN from to × NotBehind ANSWER_GAP_MAX from to
+
+-- a block of the controller may begin: an ask, or a foreign opening
+abbrev pub BlockMayCome : Position → Option Event → Event → Type 0
+BlockMayCome Quiet from to = NotBefore (rest_before_block from) from to
+BlockMayCome (InAsk bytes) from to = ⊥
+BlockMayCome (Asked command) from to = NotBefore NEW_BLOCK_GAP_MIN from to
+BlockMayCome (InReply command bytes) from to = ⊥
+BlockMayCome (Replied command reply) from to = NotBefore NEW_BLOCK_GAP_MIN from to
+BlockMayCome (Returned command reply) from to = NotBefore NEW_BLOCK_GAP_MIN from to
+BlockMayCome (InRepeat command reply words) from to = ⊥
+BlockMayCome InForeign from to = NotBefore WORD_GAP_MIN from to
+
+-- a peripheral's ACK, NAK or reply to a command may come
+abbrev pub AnswerMayCome : Command → Position → Option Event → Event → Type 0
+AnswerMayCome command position from to = (position ≡ Asked command) × InTime from to
+
+-- the controller's ACK, NAK or RET to a reply may come
+abbrev pub VmcAnswerMayCome : Command → Reply → Position → Option Event → Event → Type 0
+VmcAnswerMayCome command reply position from to = (position ≡ Replied command reply)
+    × InTime from to
+
+-- a repeat of a reply may come
+abbrev pub RepeatMayCome : Command → Reply → Position → Option Event → Event → Type 0
+RepeatMayCome command reply position from to = (position ≡ Returned command reply) × InTime from to
+
+-- a foreign act may come: a block where its first event is a marked word of the controller, and
+-- else a further word
+abbrev pub ForeignMayCome : Position → Option Event → Event → Type 0
+ForeignMayCome position from to =
+    (IsBlockWord to × BlockMayCome position from to)
+    ⊎ (IsForeignWord to × (position ≡ InForeign) × NotBefore WORD_GAP_MIN from to)
+
+-- a break may come: everywhere, in a tail too
+abbrev pub BreakMayCome : Option Event → Event → Type 0
+BreakMayCome from to = NotBefore (rest_before_break from) from to
+
+-- What may come where the bus is, and how long after the row before it.
+abbrev pub MayCome : Piece → Position → Option Event → Event → Type 0
+MayCome (Whole (acts.Ask command) events) = BlockMayCome
+MayCome (Whole (acts.Ack command) events) = AnswerMayCome command
+MayCome (Whole (acts.Nak command) events) = AnswerMayCome command
+MayCome (Whole (acts.Reply command reply) events) = AnswerMayCome command
+MayCome (Whole (acts.VmcAck command reply) events) = VmcAnswerMayCome command reply
+MayCome (Whole (acts.VmcNak command reply) events) = VmcAnswerMayCome command reply
+MayCome (Whole (acts.VmcRet command reply) events) = VmcAnswerMayCome command reply
+MayCome (Whole (acts.Repeat command reply) events) = RepeatMayCome command reply
+MayCome (Whole acts.Foreign events) = ForeignMayCome
+MayCome (Whole (acts.Break length) events) = λ position. BreakMayCome
+MayCome (AskTail bytes events) = BlockMayCome
+MayCome (ReplyTail command bytes events) = AnswerMayCome command
+MayCome (RepeatTail command reply words events) = RepeatMayCome command reply
+
+-- the last row
+abbrev pub last_of : List Event → Option Event
+last_of [] = None
+last_of (event ∷ []) = Some event
+last_of (event ∷ next ∷ events) = last_of (next ∷ events)
+
+-- the events of pieces
+abbrev pub events_of : List Piece → List Event
+events_of [] = []
+events_of (piece ∷ pieces) = events_of pieces ++ piece_events piece
+
+-- what the controller has last told each reader of its feature level (Y2), once an ask is whole
+abbrev pub levels_after : Command → Levels → Levels
+levels_after (commands.Reader First (readers.SetupConfig level columns rows display)) levels =
+    record levels { first = Some level }
+levels_after (commands.Reader Second (readers.SetupConfig level columns rows display)) levels =
+    record levels { second = Some level }
+levels_after _ levels = levels
+
+-- the same behind pieces: the level of the last whole SETUP config ask to each reader
+abbrev pub levels_of : List Piece → Levels
+levels_of [] = record { first = None; second = None }
+levels_of (Whole (acts.Ask command) events ∷ pieces) = levels_after command (levels_of pieces)
+levels_of (piece ∷ pieces) = levels_of pieces
+
+-- what was told to the reader of a command
+abbrev pub level_for : Command → Levels → Option ℕ
+level_for (commands.Reader First command) levels = levels.first
+level_for (commands.Reader Second command) levels = levels.second
+level_for _ levels = None
+
+-- whether a message tells of a feature level of 2 or more, and whether one in a reply does
+abbrev pub is_high : ReaderMsg → Bool
+is_high (messages.Config level code scale decimals response options) = nat_le 2 level
+is_high _ = false
+
+abbrev pub tells_high : Reply → Bool
+tells_high (replies.Reader list) = list_any is_high list.messages.items
+tells_high _ = false
+
+-- Levels: where the controller has last told a reader 2 or more, no reply of that reader tells 2 or
+-- more.
+abbrev pub IsLow : Option ℕ → Type 0
+IsLow None = Unit {0}
+IsLow (Some level) = level < 2
+
+abbrev pub FitsLevels : Levels → Act → Type 0
+FitsLevels levels (acts.Reply command reply) = tells_high reply ≡ true
+    → IsLow (level_for command levels)
+FitsLevels levels _ = Unit {0}
+
+abbrev pub PieceFitsLevels : Levels → Piece → Type 0
+PieceFitsLevels levels (Whole act events) = FitsLevels levels act
+PieceFitsLevels levels _ = Unit {0}
+
+-- a piece may stand behind the pieces before it
+pub record MayStand (pieces : List Piece) (piece : Piece) : Type 0 where
+  pub first : Event
+  pub others : List Event
+  pub begins : piece_events piece ≡ first ∷ others
+  pub comes : MayCome piece (position_of pieces) (last_of (events_of pieces)) first
+  pub levels : PieceFitsLevels (levels_of pieces) piece
+
+-- pieces, each right by itself and behind those before it
+abbrev pub ArePieces : List Piece → Type 0
+ArePieces [] = Unit {0}
+ArePieces (piece ∷ pieces) = IsPiece piece × MayStand pieces piece × ArePieces pieces
+
+-- an act list of a transcript: pieces in order which together have all its rows and no others
+pub record IsActList (pieces : List Piece) (events : List Event) : Type 0 where
+  pub in_order : ArePieces pieces
+  pub whole : events_of pieces ≡ events
+
+-- the transcript has an act list
+abbrev pub HasActList : List Event → Type 0
+HasActList events = (pieces : List Piece) × IsActList pieces events
+
+-- the acts of pieces, the newest first: tails have no effect
+abbrev pub acts_of : List Piece → List Act
+acts_of [] = []
+acts_of (Whole act events ∷ pieces) = act ∷ acts_of pieces
+acts_of (piece ∷ pieces) = acts_of pieces
+
+-- acts with one more, if there is one
+abbrev pub with_act : Option Act → List Act → List Act
+with_act None acts = acts
+with_act (Some act) acts = act ∷ acts

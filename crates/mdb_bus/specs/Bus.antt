@@ -1,0 +1,53 @@
+-- What a bus stands for: it never stores the rows that it was fed.
+use Rattle.std.specs.Prelude.{◌≡◌, List, [], ◌∷◌, ◌++◌, take, Option, Some, None}
+use Rattle.mdb_words.specs.declared.event.Event.{Event}
+use Rattle.mdb_bus.specs.declared.act.Act.{Act}
+use Rattle.mdb_bus.specs.declared.bus.Bus.{Bus}
+use Rattle.mdb_bus.specs.declared.place.Place.{Place}
+use Rattle.mdb_bus.specs.declared.place.Exchange.{Exchange}
+use Rattle.mdb_bus.specs.declared.place.Phase.{Phase}
+use Rattle.mdb_bus.specs.declared.place.Phase.TheVariants as phase
+use Rattle.mdb_bus.specs.Step.{Step}
+use Rattle.mdb_bus.specs.Acts.{reply_words}
+use Rattle.mdb_bus.specs.ActLists.{Piece, Position, Quiet, InAsk, Asked, InReply, Replied, Returned, InRepeat, InForeign, ArePieces, acts_of, events_of, last_of, levels_of, position_of, with_act}
+use Rattle.mdb_bus.specs.LinkFaults.{asked_device}
+use Rattle.mdb_bus.specs.Steps.{HasAdvanced, asked_behind, levels_behind}
+
+-- the position that a phase is, with the last exchange
+abbrev pub position_in : Phase → Exchange → Position
+position_in phase.Quiet exchange = Quiet
+position_in (phase.InAsk bytes) exchange = InAsk bytes
+position_in (phase.Asked command) exchange = Asked command
+position_in (phase.InReply command bytes) exchange = InReply command bytes
+position_in phase.Replied exchange = Replied exchange.command exchange.reply
+position_in phase.Returned exchange = Returned exchange.command exchange.reply
+position_in (phase.InRepeat said) exchange =
+    InRepeat exchange.command exchange.reply (take said (reply_words exchange.reply))
+position_in phase.InForeign exchange = InForeign
+
+-- the position that a place is
+abbrev pub position_at : Place → Position
+position_at place = position_in place.phase place.exchange
+
+-- A bus stands for pieces: they are in order, and the bus is where they leave it.
+pub record StandsFor (bus : Bus) (pieces : List Piece) : Type 0 where
+  pub in_order : ArePieces pieces
+  pub position : position_of pieces ≡ position_at bus.place
+  pub last : last_of (events_of pieces) ≡ bus.last
+  pub levels : levels_of pieces ≡ bus.levels
+  pub asked : asked_device pieces ≡ bus.asked
+
+-- A bus stands for one row more, and tells the act that the row ends, if it ends one.
+pub record GoesOn (bus : Bus) (pieces : List Piece) (row : Event) (act : Option Act) : Type 0 where
+  pub longer : List Piece
+  pub stands : StandsFor bus longer
+  pub rows : events_of longer ≡ events_of pieces ++ row ∷ []
+  pub acts : acts_of longer ≡ with_act act (acts_of pieces)
+
+-- A bus has gone a step by a row. This serves its private functions.
+pub record HasGone (old : Bus) (next : Step) (row : Event) (new : Bus)
+    (act : Option Act) : Type 0 where
+  pub advanced : HasAdvanced (position_at old.place) next (position_at new.place) act
+  pub last : new.last ≡ Some row
+  pub levels : new.levels ≡ levels_behind old.levels next
+  pub asked : new.asked ≡ asked_behind old.asked next

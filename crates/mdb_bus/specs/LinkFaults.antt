@@ -1,0 +1,271 @@
+-- Which rule of the link a row breaks, and who is to blame (this profile, by the format and timing
+-- of MDB/ICP 4.3).
+use Rattle.std.specs.Prelude.{◌≡◌, ◌≢◌, ◌+◌, ◌%◌, ◌<◌, ◌≤◌, ◌⊎◌, ℕ, true, List, [], ◌∷◌, ◌++◌, length, sum, Option, Some, None}
+use Rattle.mdb_words.specs.declared.limits.TheConstants.{WORD_GAP_MIN, BLOCK_GAP_MAX, ANSWER_GAP_MAX, NEW_BLOCK_GAP_MIN, BREAK_LENGTH_MIN}
+use Rattle.mdb_words.specs.declared.event.Event.{Event}
+use Rattle.mdb_words.specs.declared.event.Event.TheVariants.{Word, Break}
+use Rattle.mdb_words.specs.declared.word.Line.TheVariants.{Controller, Peripheral}
+use Rattle.mdb_words.specs.Event.{start_of, end_of}
+use Rattle.mdb_blocks.specs.Answer.{answer_word}
+use Rattle.mdb_blocks.specs.declared.answer.Answer.{Answer}
+use Rattle.mdb_blocks.specs.declared.answer.Answer.TheVariants as answers
+use Rattle.mdb_msgs.specs.declared.command.Command.{Command}
+use Rattle.mdb_msgs.specs.declared.command.Device.{Device}
+use Rattle.mdb_msgs.specs.declared.command.Device.TheVariants as device
+use Rattle.mdb_msgs.specs.declared.fault.MsgFault.TheVariants as reading
+use Rattle.mdb_msgs.specs.declared.needs.Need.TheVariants as need
+use Rattle.mdb_msgs.specs.declared.reply.Reply.{Reply}
+use Rattle.mdb_msgs.specs.Answers.{HasDataAnswer, MayHaveData}
+use Rattle.mdb_msgs.specs.Commands.{device_of}
+use Rattle.mdb_msgs.specs.Needs.{needed}
+use Rattle.mdb_msgs.specs.Replies.{IsReadFault, reply_bytes}
+use Rattle.mdb_bus.specs.declared.act.Act.TheVariants as acts
+use Rattle.mdb_bus.specs.declared.fault.Blame.{Blame}
+use Rattle.mdb_bus.specs.declared.fault.Blame.TheVariants as blame
+use Rattle.mdb_bus.specs.declared.fault.Rule.{Rule}
+use Rattle.mdb_bus.specs.declared.fault.Rule.TheVariants as rule
+use Rattle.mdb_bus.specs.declared.levels.Levels.{Levels}
+use Rattle.mdb_bus.specs.Acts.{IsReply, reply_words}
+use Rattle.mdb_bus.specs.ActLists.{Piece, Whole, Position, Quiet, InAsk, Asked, InReply, Replied, Returned, InRepeat, IsLow, events_of, last_of, level_for, levels_of, position_of, rest_before_block, rest_before_break, tells_high}
+
+-- What the rows so far leave for the next one.
+pub record Situation : Type 0 where
+  -- where the bus is
+  pub position : Position
+  -- the last row
+  pub last : Option Event
+  -- the feature levels that the controller has last told the readers
+  pub levels : Levels
+
+abbrev pub situation_of : List Piece → Situation
+situation_of pieces = record {
+  position = position_of pieces;
+  last = last_of (events_of pieces);
+  levels = levels_of pieces;
+}
+
+-- the device of the last whole ask, unless a break or a foreign block came since
+abbrev pub asked_device : List Piece → Option Device
+asked_device [] = None
+asked_device (Whole (acts.Ask command) events ∷ pieces) = Some (device_of command)
+asked_device (Whole acts.Foreign events ∷ pieces) = None
+asked_device (Whole (acts.Break length) events ∷ pieces) = None
+asked_device (piece ∷ pieces) = asked_device pieces
+
+-- the gap from the row before, if there is one, is less, more than so long
+abbrev pub IsBefore : ℕ → Option Event → Event → Type 0
+IsBefore least None to = ⊥
+IsBefore least (Some from) to = start_of to < end_of from + least
+
+abbrev pub IsBehind : ℕ → Option Event → Event → Type 0
+IsBehind most None to = ⊥
+IsBehind most (Some from) to = end_of from + most < start_of to
+
+-- Order: a row doesn't start after the row before it.
+abbrev pub OutOfOrder : Option Event → Event → Type 0
+OutOfOrder None to = ⊥
+OutOfOrder (Some from) to = start_of to ≤ start_of from
+
+-- Speaker: a side sends where the other one has the bus. The controller has to leave a peripheral's
+-- block alone for as long as its next word may come.
+abbrev pub WrongSpeaker : Position → Option Event → Event → Type 0
+WrongSpeaker Quiet from (Word at Peripheral word) = Unit {0}
+WrongSpeaker (InAsk bytes) from (Word at Peripheral word) = Unit {0}
+WrongSpeaker (Replied command reply) from (Word at Peripheral word) = Unit {0}
+WrongSpeaker (InReply command bytes) from (Word at Controller word) =
+    ¬ IsBehind BLOCK_GAP_MAX from (Word at Controller word)
+WrongSpeaker (InRepeat command reply words) from (Word at Controller word) =
+    ¬ IsBehind BLOCK_GAP_MAX from (Word at Controller word)
+WrongSpeaker _ from _ = ⊥
+
+-- Mode: a block of the controller begins with an unmarked word, or goes on with a marked one.
+abbrev pub WrongMode : Position → Event → Type 0
+WrongMode Quiet (Word at Controller word) = word < 256
+WrongMode (Asked command) (Word at Controller word) = word < 256
+WrongMode (Returned command reply) (Word at Controller word) = word < 256
+WrongMode (InAsk bytes) (Word at Controller word) = 256 ≤ word
+WrongMode _ _ = ⊥
+
+-- Early: a row comes too soon, or a new block does while an answer or a repeat may still come.
+abbrev pub TooEarly : Position → Option Event → Event → Type 0
+TooEarly position from (Break at length) = IsBefore (rest_before_break from) from (Break at length)
+TooEarly Quiet from to = IsBefore (rest_before_block from) from to
+TooEarly (Asked command) from (Word at Controller word) =
+    IsBefore NEW_BLOCK_GAP_MIN from (Word at Controller word)
+TooEarly (Replied command reply) from (Word at Controller word) =
+    ((256 ≤ word) × IsBefore NEW_BLOCK_GAP_MIN from (Word at Controller word))
+    ⊎ ((word < 256) × IsBefore WORD_GAP_MIN from (Word at Controller word))
+TooEarly (Returned command reply) from (Word at Controller word) =
+    IsBefore NEW_BLOCK_GAP_MIN from (Word at Controller word)
+TooEarly position from to = IsBefore WORD_GAP_MIN from to
+
+-- Late: an answer or a repeat begins after its time.
+abbrev pub TooLate : Position → Option Event → Event → Type 0
+TooLate (Asked command) from (Word at Peripheral word) =
+    IsBehind ANSWER_GAP_MAX from (Word at Peripheral word)
+TooLate (Replied command reply) from (Word at Controller word) =
+    (word < 256) × IsBehind ANSWER_GAP_MAX from (Word at Controller word)
+TooLate (Returned command reply) from (Word at Peripheral word) =
+    IsBehind ANSWER_GAP_MAX from (Word at Peripheral word)
+TooLate _ from _ = ⊥
+
+-- Spacing: the words of a block are too far apart, or the controller's word finds a peripheral's
+-- block left open.
+abbrev pub TooFarApart : Position → Option Event → Event → Type 0
+TooFarApart (InAsk bytes) from (Word at Controller word) =
+    IsBehind BLOCK_GAP_MAX from (Word at Controller word)
+TooFarApart (InReply command bytes) from (Word at line word) =
+    IsBehind BLOCK_GAP_MAX from (Word at line word)
+TooFarApart (InRepeat command reply words) from (Word at line word) =
+    IsBehind BLOCK_GAP_MAX from (Word at line word)
+TooFarApart _ from _ = ⊥
+
+-- Length: a reply's 36th word is unmarked, or the command isn't answered by so many data bytes.
+abbrev pub WrongLength : Position → Event → Type 0
+WrongLength (InReply command bytes) (Word at Peripheral word) =
+    ((word < 256) × (35 ≤ length bytes)) ⊎ ((256 ≤ word) × ¬ HasDataAnswer command (length bytes))
+WrongLength _ _ = ⊥
+
+-- Sum: a block's last byte isn't the sum of the bytes before it.
+abbrev pub WrongSum : Position → Event → Type 0
+WrongSum (InAsk bytes) (Word at Controller word) =
+    (needed bytes ≡ need.Exactly (length bytes + 1)) × (word ≢ sum bytes % 256)
+WrongSum (InReply command bytes) (Word at Peripheral word) =
+    (256 ≤ word) × (word ≢ 256 + sum bytes % 256)
+WrongSum _ _ = ⊥
+
+-- Break: a break is too short.
+abbrev pub TooShort : Event → Type 0
+TooShort (Break at length) = length < BREAK_LENGTH_MIN
+TooShort (Word at line word) = ⊥
+
+-- a word is no answer of a peripheral: marked, and neither its ACK nor its NAK
+abbrev pub IsNoAnswer : ℕ → Type 0
+IsNoAnswer word =
+    (256 ≤ word) × (word ≢ answer_word Peripheral answers.Ack)
+    × (word ≢ answer_word Peripheral answers.Nak)
+
+-- a word is no answer of the controller: unmarked, and neither its ACK, its NAK nor its RET
+abbrev pub IsNoVmcAnswer : ℕ → Type 0
+IsNoVmcAnswer word = (word < 256) × ((answer : Answer) → word ≢ answer_word Controller answer)
+
+-- Answer: an answer that the command cannot have, or a controller's answer that no reply can have.
+abbrev pub WrongAnswer : Position → Event → Type 0
+WrongAnswer (Asked command) (Word at Peripheral word) =
+    IsNoAnswer word ⊎ ((word < 256) × ¬ MayHaveData command)
+WrongAnswer (InReply command bytes) (Word at Peripheral word) =
+    (256 ≤ word) × IsReadFault command bytes reading.Answer
+WrongAnswer (Replied command reply) (Word at Controller word) = IsNoVmcAnswer word
+WrongAnswer _ _ = ⊥
+
+-- Message: the leftmost message of a reply that can't be taken can't be read.
+abbrev pub HasBadMessage : Position → Event → Type 0
+HasBadMessage (InReply command bytes) (Word at Peripheral word) =
+    (256 ≤ word) × IsReadFault command bytes reading.Message
+HasBadMessage _ _ = ⊥
+
+-- a word comes next in words of which some were said
+abbrev pub IsNext : List ℕ → List ℕ → ℕ → Type 0
+IsNext words said word = (rest : List ℕ) × (said ++ word ∷ rest ≡ words)
+
+-- Same: a word of a repeat differs from the reply's word.
+abbrev pub IsChanged : Position → Event → Type 0
+IsChanged (Returned command reply) (Word at Peripheral word) = ¬ IsNext (reply_words reply) [] word
+IsChanged (InRepeat command reply words) (Word at Peripheral word) =
+    ¬ IsNext (reply_words reply) words word
+IsChanged _ _ = ⊥
+
+-- the marked word of a block that this profile leaves out
+abbrev pub IsOutside : ℕ → Type 0
+IsOutside word = (byte : ℕ) × (word ≡ 256 + byte) × (needed (byte ∷ []) ≡ need.Outside)
+
+-- a reader tells of a feature level of 2 or more, and the controller has last told it so too
+abbrev pub HasHighLevels : Command → List ℕ → Levels → Type 0
+HasHighLevels command bytes levels =
+    (reply : Reply) × IsReply command reply × (bytes ≡ reply_bytes reply)
+    × (tells_high reply ≡ true)
+    × ¬ IsLow (level_for command levels)
+
+-- Profile: what this profile leaves out: commands, messages, and a feature level of 2 or more on
+-- both sides.
+abbrev pub IsLeftOut : Position → Levels → Event → Type 0
+IsLeftOut (InAsk bytes) levels (Word at Controller word) =
+    (needed bytes ≡ need.More) × (needed (bytes ++ word ∷ []) ≡ need.Outside)
+IsLeftOut (InReply command bytes) levels (Word at Peripheral word) =
+    (256 ≤ word) × (IsReadFault command bytes reading.Profile ⊎ HasHighLevels command bytes levels)
+IsLeftOut (InReply command bytes) levels _ = ⊥
+IsLeftOut (InRepeat command reply words) levels _ = ⊥
+IsLeftOut position levels (Word at Controller word) = IsOutside word
+IsLeftOut _ levels _ = ⊥
+
+-- A row breaks a rule, each for itself; which of them counts their order decides. The rules of the
+-- devices are none of the link.
+abbrev pub RowBreaks : Situation → Event → Rule → Type 0
+RowBreaks s row rule.Order = OutOfOrder s.last row
+RowBreaks s row rule.Speaker = WrongSpeaker s.position s.last row
+RowBreaks s row rule.Mode = WrongMode s.position row
+RowBreaks s row rule.Early = TooEarly s.position s.last row
+RowBreaks s row rule.Late = TooLate s.position s.last row
+RowBreaks s row rule.Spacing = TooFarApart s.position s.last row
+RowBreaks s row rule.Length = WrongLength s.position row
+RowBreaks s row rule.Sum = WrongSum s.position row
+RowBreaks s row rule.Break = TooShort row
+RowBreaks s row rule.Answer = WrongAnswer s.position row
+RowBreaks s row rule.Message = HasBadMessage s.position row
+RowBreaks s row rule.Same = IsChanged s.position row
+RowBreaks s row rule.Profile = IsLeftOut s.position s.levels row
+RowBreaks s row rule.Changer = ⊥
+RowBreaks s row rule.Bill = ⊥
+RowBreaks s row rule.Cashless = ⊥
+
+-- a rule's place in the order
+abbrev pub place_of : Rule → ℕ
+place_of rule.Order = 1
+place_of rule.Speaker = 2
+place_of rule.Mode = 3
+place_of rule.Early = 4
+place_of rule.Late = 5
+place_of rule.Spacing = 6
+place_of rule.Length = 7
+place_of rule.Sum = 8
+place_of rule.Break = 9
+place_of rule.Answer = 10
+place_of rule.Message = 11
+place_of rule.Same = 12
+place_of rule.Profile = 13
+place_of rule.Changer = 14
+place_of rule.Bill = 15
+place_of rule.Cashless = 16
+
+-- the first rule of the order that a row breaks
+pub record IsFirstBroken (s : Situation) (row : Event) (broken : Rule) : Type 0 where
+  pub breaks : RowBreaks s row broken
+  pub first : (other : Rule) → RowBreaks s row other → place_of broken ≤ place_of other
+
+-- a device as the one to blame, and `other` where none was asked
+abbrev pub blame_on : Option Device → Blame
+blame_on None = blame.Other
+blame_on (Some device.Changer) = blame.Changer
+blame_on (Some device.Bill) = blame.Bill
+blame_on (Some device.Cashless) = blame.Cashless
+blame_on (Some device.Cashless2) = blame.Cashless2
+
+-- who is to blame for a row of the controller
+abbrev pub vmc_blame : Position → Option Device → Rule → Blame
+vmc_blame (InReply command bytes) asked rule.Spacing = blame_on asked
+vmc_blame (InRepeat command reply words) asked rule.Spacing = blame_on asked
+vmc_blame position asked broken = blame.Controller
+
+-- Who is to blame: whoever sent the row, a peripheral by the device that was asked. Where the
+-- controller's word shows that a peripheral left its block open for too long, though, it is that
+-- device.
+abbrev pub blame_of : Position → Option Device → Event → Rule → Blame
+blame_of position asked (Word at Peripheral word) broken = blame_on asked
+blame_of position asked (Word at Controller word) broken = vmc_blame position asked broken
+blame_of position asked (Break at length) broken = blame.Controller
+
+-- the fault of a row behind pieces
+pub record IsLinkFault (pieces : List Piece) (row : Event) (broken : Rule)
+    (blamed : Blame) : Type 0 where
+  pub rule : IsFirstBroken (situation_of pieces) row broken
+  pub blame : blamed ≡ blame_of (position_of pieces) (asked_device pieces) row broken

@@ -1,0 +1,298 @@
+-- How a row leads from one situation to the next. This file serves the private functions of the bus
+-- and the proofs: no public clause cites it but by what a bus stands for.
+use Rattle.std.specs.Prelude.{◌≡◌, ◌≢◌, ◌+◌, ◌%◌, ◌<◌, ◌≤◌, ◌⊎◌, ℕ, true, List, [], ◌∷◌, ◌++◌, length, slice_get, sum, Option, Some, None, Result, Ok, Err}
+use Rattle.mdb_words.specs.declared.limits.TheConstants.{WORD_GAP_MIN, BLOCK_GAP_MAX, BREAK_LENGTH_MIN}
+use Rattle.mdb_words.specs.declared.event.Event.{Event}
+use Rattle.mdb_words.specs.declared.event.Event.TheVariants.{Word, Break}
+use Rattle.mdb_words.specs.declared.word.Line.{Line}
+use Rattle.mdb_words.specs.declared.word.Line.TheVariants.{Controller, Peripheral}
+use Rattle.mdb_blocks.specs.Answer.{answer_word}
+use Rattle.mdb_blocks.specs.declared.answer.Answer.TheVariants as answers
+use Rattle.mdb_msgs.specs.declared.command.Command.{Command}
+use Rattle.mdb_msgs.specs.declared.command.Device.{Device}
+use Rattle.mdb_msgs.specs.declared.reply.Reply.{Reply}
+use Rattle.mdb_msgs.specs.declared.fault.MsgFault.{MsgFault}
+use Rattle.mdb_msgs.specs.declared.fault.MsgFault.TheVariants as reading
+use Rattle.mdb_msgs.specs.declared.needs.Need.TheVariants as need
+use Rattle.mdb_msgs.specs.Answers.{HasDataAnswer, MayHaveData}
+use Rattle.mdb_msgs.specs.Commands.{Spells, device_of}
+use Rattle.mdb_msgs.specs.Needs.{needed}
+use Rattle.mdb_msgs.specs.Replies.{IsReadFault, reply_bytes}
+use Rattle.mdb_bus.specs.declared.act.Act.{Act}
+use Rattle.mdb_bus.specs.declared.act.Act.TheVariants as acts
+use Rattle.mdb_bus.specs.declared.fault.Rule.{Rule}
+use Rattle.mdb_bus.specs.declared.fault.Rule.TheVariants as rule
+use Rattle.mdb_bus.specs.declared.levels.Levels.{Levels}
+use Rattle.mdb_bus.specs.declared.place.Place.{Place}
+use Rattle.mdb_bus.specs.declared.place.Phase.{Phase}
+use Rattle.mdb_bus.specs.declared.place.Phase.TheVariants as phase
+use Rattle.mdb_bus.specs.declared.judged.Judged.{Judged}
+use Rattle.mdb_bus.specs.declared.judged.Judged.TheVariants as judged
+use Rattle.mdb_bus.specs.Step.{Step, SomeStep}
+use Rattle.mdb_bus.specs.Step as step
+use Rattle.mdb_bus.specs.Acts.{IsForeignOpening, IsReply, reply_words}
+use Rattle.mdb_bus.specs.ActLists.{Piece, Whole, AskTail, ReplyTail, RepeatTail, Position, Quiet, InAsk, Asked, InReply, Replied, Returned, InRepeat, InForeign, BlockMayCome, BreakMayCome, InTime, IsAskFront, IsLow, IsRepeatFront, IsReplyFront, NotBefore, NotBehind, level_for, levels_after, position_of, tells_high}
+use Rattle.mdb_bus.specs.LinkFaults.{HasHighLevels, IsBefore, IsFirstBroken, IsOutside, Situation}
+
+-- in the time of the next word of a block
+abbrev pub InBlock : Option Event → Event → Type 0
+InBlock from to = NotBefore WORD_GAP_MIN from to × NotBehind BLOCK_GAP_MAX from to
+
+-- a marked word of the controller begins a block
+abbrev pub Opens : Position → Option Event → Event → ℕ → Step → Type 0
+Opens position from to word (step.AskByte byte) =
+    (word ≡ 256 + byte) × IsAskFront (byte ∷ []) × BlockMayCome position from to
+Opens position from to word step.Foreign =
+    (byte : ℕ) × (word ≡ 256 + byte) × IsForeignOpening (byte ∷ []) × BlockMayCome position from to
+Opens position from to word _ = ⊥
+
+-- a word goes on with a block of the controller, or ends it
+abbrev pub GoesOnAsking : List ℕ → Option Event → Event → ℕ → Step → Type 0
+GoesOnAsking bytes from to word (step.AskByte byte) =
+    (word ≡ byte) × (word < 256) × IsAskFront (bytes ++ byte ∷ []) × InBlock from to
+GoesOnAsking bytes from to word (step.Ask command) =
+    (word < 256) × Spells command (bytes ++ word ∷ []) × InBlock from to
+GoesOnAsking bytes from to word step.Foreign =
+    (word < 256) × IsForeignOpening (bytes ++ word ∷ []) × InBlock from to
+GoesOnAsking bytes from to word _ = ⊥
+
+-- a word answers a command, or begins to
+abbrev pub Answers : Command → Option Event → Event → ℕ → Step → Type 0
+Answers command from to word step.Ack = (word ≡ answer_word Peripheral answers.Ack) × InTime from to
+Answers command from to word step.Nak = (word ≡ answer_word Peripheral answers.Nak) × InTime from to
+Answers command from to word (step.ReplyByte byte) =
+    (word ≡ byte) × (word < 256) × MayHaveData command × InTime from to
+Answers command from to word _ = ⊥
+
+-- a word goes on with a reply, or ends it
+abbrev pub GoesOnReplying : Command → List ℕ → Option Event → Levels → Event → ℕ → Step → Type 0
+GoesOnReplying command bytes from levels to word (step.ReplyByte byte) =
+    (word ≡ byte) × (word < 256) × (length bytes < 35) × InBlock from to
+GoesOnReplying command bytes from levels to word (step.Reply reply) =
+    (word ≡ 256 + sum bytes % 256) × IsReply command reply × (bytes ≡ reply_bytes reply)
+    × (tells_high reply ≡ true → IsLow (level_for command levels)) × InBlock from to
+GoesOnReplying command bytes from levels to word _ = ⊥
+
+-- a word of the controller answers a reply, or begins a block
+abbrev pub AnswersReply : Command → Reply → Option Event → Event → ℕ → Step → Type 0
+AnswersReply command reply from to word step.VmcAck =
+    (word ≡ answer_word Controller answers.Ack) × InTime from to
+AnswersReply command reply from to word step.VmcNak =
+    (word ≡ answer_word Controller answers.Nak) × InTime from to
+AnswersReply command reply from to word step.VmcRet =
+    (word ≡ answer_word Controller answers.Ret) × InTime from to
+AnswersReply command reply from to word next = Opens (Replied command reply) from to word next
+
+-- a word begins a repeat
+abbrev pub BeginsRepeat : Reply → Option Event → Event → ℕ → Step → Type 0
+BeginsRepeat reply from to word (step.RepeatWord said) =
+    (word ≡ said) × IsRepeatFront reply (word ∷ []) × InTime from to
+BeginsRepeat reply from to word _ = ⊥
+
+-- a word goes on with a repeat, or ends it
+abbrev pub GoesOnRepeating : Reply → List ℕ → Option Event → Event → ℕ → Step → Type 0
+GoesOnRepeating reply words from to word (step.RepeatWord said) =
+    (word ≡ said) × IsRepeatFront reply (words ++ word ∷ []) × InBlock from to
+GoesOnRepeating reply words from to word step.Repeat =
+    (words ++ word ∷ [] ≡ reply_words reply) × InBlock from to
+GoesOnRepeating reply words from to word _ = ⊥
+
+-- a further word of foreign traffic
+abbrev pub GoesOnForeign : Option Event → Event → Step → Type 0
+GoesOnForeign from to step.Foreign = NotBefore WORD_GAP_MIN from to
+GoesOnForeign from to _ = ⊥
+
+-- where a word leads
+abbrev pub WordLeads : Position → Option Event → Levels → Event → Line → ℕ → Step → Type 0
+WordLeads Quiet from levels to Controller word next = Opens Quiet from to word next
+WordLeads Quiet from levels to Peripheral word next = ⊥
+WordLeads (InAsk bytes) from levels to Controller word next = GoesOnAsking bytes from to word next
+WordLeads (InAsk bytes) from levels to Peripheral word next = ⊥
+WordLeads (Asked command) from levels to Controller word next =
+    Opens (Asked command) from to word next
+WordLeads (Asked command) from levels to Peripheral word next = Answers command from to word next
+WordLeads (InReply command bytes) from levels to Controller word next = ⊥
+WordLeads (InReply command bytes) from levels to Peripheral word next =
+    GoesOnReplying command bytes from levels to word next
+WordLeads (Replied command reply) from levels to Controller word next =
+    AnswersReply command reply from to word next
+WordLeads (Replied command reply) from levels to Peripheral word next = ⊥
+WordLeads (Returned command reply) from levels to Controller word next =
+    Opens (Returned command reply) from to word next
+WordLeads (Returned command reply) from levels to Peripheral word next =
+    BeginsRepeat reply from to word next
+WordLeads (InRepeat command reply words) from levels to Controller word next = ⊥
+WordLeads (InRepeat command reply words) from levels to Peripheral word next =
+    GoesOnRepeating reply words from to word next
+WordLeads InForeign from levels to Controller word next =
+    Opens InForeign from to word next ⊎ ((word < 256) × GoesOnForeign from to next)
+WordLeads InForeign from levels to Peripheral word next = GoesOnForeign from to next
+
+-- where a row leads
+abbrev pub Leads : Situation → Event → Step → Type 0
+Leads s (Word at line word) next =
+    WordLeads s.position s.last s.levels (Word at line word) line word next
+Leads s (Break at length) (step.Break lasted) =
+    (lasted ≡ length) × (BREAK_LENGTH_MIN ≤ length) × BreakMayCome s.last (Break at length)
+Leads s (Break at length) _ = ⊥
+
+-- what is made of a row: where it leads, or the first rule that it breaks
+abbrev pub IsJudged : Situation → Event → Result Judged Rule → Type 0
+IsJudged s row (Ok found) = SomeStep found (Leads s row)
+IsJudged s row (Err broken) = IsFirstBroken s row broken
+
+-- the rule that a block breaks whose content can't be read
+abbrev pub rule_of : MsgFault → Rule
+rule_of reading.Length = rule.Length
+rule_of reading.Message = rule.Message
+rule_of reading.Profile = rule.Profile
+rule_of reading.Answer = rule.Answer
+
+-- what is made of a word of the controller where a block may begin so long after the row before
+abbrev pub IsOpened : ℕ → Option Event → Event → ℕ → Result Judged Rule → Type 0
+IsOpened least from to word (Ok (judged.AskByte byte)) =
+    (word ≡ 256 + byte) × IsAskFront (byte ∷ []) × NotBefore least from to
+IsOpened least from to word (Ok judged.Foreign) =
+    (byte : ℕ) × (word ≡ 256 + byte) × IsForeignOpening (byte ∷ []) × NotBefore least from to
+IsOpened least from to word (Ok _) = ⊥
+IsOpened least from to word (Err rule.Mode) = word < 256
+IsOpened least from to word (Err rule.Early) = (256 ≤ word) × IsBefore least from to
+IsOpened least from to word (Err rule.Profile) = IsOutside word × NotBefore least from to
+IsOpened least from to word (Err _) = ⊥
+
+-- what is made of an unmarked word that comes in time inside a block of the controller
+abbrev pub IsGoingOn : List ℕ → ℕ → Result Judged Rule → Type 0
+IsGoingOn bytes word (Ok (judged.AskByte byte)) = (word ≡ byte) × IsAskFront (bytes ++ byte ∷ [])
+IsGoingOn bytes word (Ok (judged.Ask command)) = Spells command (bytes ++ word ∷ [])
+IsGoingOn bytes word (Ok judged.Foreign) = IsForeignOpening (bytes ++ word ∷ [])
+IsGoingOn bytes word (Ok _) = ⊥
+IsGoingOn bytes word (Err rule.Sum) =
+    (needed bytes ≡ need.Exactly (length bytes + 1)) × (word ≢ sum bytes % 256)
+IsGoingOn bytes word (Err rule.Profile) =
+    (needed bytes ≡ need.More) × (needed (bytes ++ word ∷ []) ≡ need.Outside)
+IsGoingOn bytes word (Err _) = ⊥
+
+-- bytes of an allowed number and their sum, which are no reply for a reason
+abbrev pub IsUnread : Command → List ℕ → ℕ → MsgFault → Type 0
+IsUnread command bytes word fault =
+    HasDataAnswer command (length bytes) × (word ≡ 256 + sum bytes % 256)
+    × IsReadFault command bytes fault
+
+-- what is made of the marked word of a reply that comes in time
+abbrev pub IsReplyEnd : Command → List ℕ → Levels → ℕ → Result Judged Rule → Type 0
+IsReplyEnd command bytes levels word (Ok judged.Reply) =
+    (reply : Reply) × (word ≡ 256 + sum bytes % 256) × IsReply command reply
+    × (bytes ≡ reply_bytes reply)
+    × (tells_high reply ≡ true → IsLow (level_for command levels))
+IsReplyEnd command bytes levels word (Ok _) = ⊥
+IsReplyEnd command bytes levels word (Err rule.Length) = ¬ HasDataAnswer command (length bytes)
+IsReplyEnd command bytes levels word (Err rule.Sum) =
+    HasDataAnswer command (length bytes) × (word ≢ 256 + sum bytes % 256)
+IsReplyEnd command bytes levels word (Err rule.Message) =
+    IsUnread command bytes word reading.Message
+IsReplyEnd command bytes levels word (Err rule.Answer) = IsUnread command bytes word reading.Answer
+IsReplyEnd command bytes levels word (Err rule.Profile) =
+    IsUnread command bytes word reading.Profile
+    ⊎ ((word ≡ 256 + sum bytes % 256) × HasHighLevels command bytes levels)
+IsReplyEnd command bytes levels word (Err _) = ⊥
+
+-- a position that the bus can be in: a block has begun well
+abbrev pub IsSound : Position → Type 0
+IsSound (InAsk bytes) = IsAskFront bytes
+IsSound (InReply command bytes) = IsReplyFront command bytes
+IsSound _ = Unit {0}
+
+-- there is room for what a step adds
+abbrev pub HasRoom : Phase → Judged → Type 0
+HasRoom (phase.InAsk bytes) (judged.AskByte byte) = length bytes < 35
+HasRoom (phase.InReply command bytes) (judged.ReplyByte byte) = length bytes < 35
+HasRoom (phase.InRepeat said) (judged.RepeatWord word) = said < 35
+HasRoom _ _ = Unit {0}
+
+-- the word at an index of a reply's block
+abbrev pub word_at : Reply → ℕ → Option ℕ
+word_at reply index = slice_get (reply_words reply) index
+
+-- The newest piece behind a step, with its events. What no step leads to stands as a foreign act.
+abbrev pub piece_after : Position → Step → List Event → Piece
+piece_after (InAsk bytes) (step.AskByte byte) = AskTail (bytes ++ byte ∷ [])
+piece_after position (step.AskByte byte) = AskTail (byte ∷ [])
+piece_after position (step.Ask command) = Whole (acts.Ask command)
+piece_after (Asked command) step.Ack = Whole (acts.Ack command)
+piece_after (Asked command) step.Nak = Whole (acts.Nak command)
+piece_after (Asked command) (step.ReplyByte byte) = ReplyTail command (byte ∷ [])
+piece_after (InReply command bytes) (step.ReplyByte byte) = ReplyTail command (bytes ++ byte ∷ [])
+piece_after (InReply command bytes) (step.Reply reply) = Whole (acts.Reply command reply)
+piece_after (Replied command reply) step.VmcAck = Whole (acts.VmcAck command reply)
+piece_after (Replied command reply) step.VmcNak = Whole (acts.VmcNak command reply)
+piece_after (Replied command reply) step.VmcRet = Whole (acts.VmcRet command reply)
+piece_after (Returned command reply) (step.RepeatWord word) = RepeatTail command reply (word ∷ [])
+piece_after (InRepeat command reply words) (step.RepeatWord word) =
+    RepeatTail command reply (words ++ word ∷ [])
+piece_after (InRepeat command reply words) step.Repeat = Whole (acts.Repeat command reply)
+piece_after position (step.Break length) = Whole (acts.Break length)
+piece_after position _ = Whole acts.Foreign
+
+-- pieces with one row more: a tail goes on, and a new piece stands behind a whole act
+abbrev pub grown : List Piece → Event → (List Event → Piece) → List Piece
+grown (AskTail bytes events ∷ pieces) row piece = piece (events ++ row ∷ []) ∷ pieces
+grown (ReplyTail command bytes events ∷ pieces) row piece = piece (events ++ row ∷ []) ∷ pieces
+grown (RepeatTail command reply words events ∷ pieces) row piece =
+    piece (events ++ row ∷ []) ∷ pieces
+grown pieces row piece = piece (row ∷ []) ∷ pieces
+
+-- pieces behind a step: a break stands behind a tail too
+abbrev pub pieces_after : List Piece → Event → Step → List Piece
+pieces_after pieces row (step.Break length) = Whole (acts.Break length) (row ∷ []) ∷ pieces
+pieces_after pieces row next = grown pieces row (piece_after (position_of pieces) next)
+
+-- where the bus is behind a step
+abbrev pub position_after : Position → Step → Position
+position_after position next = position_of (piece_after position next [] ∷ [])
+
+-- the act that a piece is, if it is a whole one
+abbrev pub act_in : Piece → Option Act
+act_in (Whole act events) = Some act
+act_in _ = None
+
+-- the act that a step ends
+abbrev pub act_after : Position → Step → Option Act
+act_after position next = act_in (piece_after position next [])
+
+-- the levels behind a step, and the device that was asked last
+abbrev pub levels_behind : Levels → Step → Levels
+levels_behind levels (step.Ask command) = levels_after command levels
+levels_behind levels _ = levels
+
+abbrev pub asked_behind : Option Device → Step → Option Device
+asked_behind asked (step.Ask command) = Some (device_of command)
+asked_behind asked step.Foreign = None
+asked_behind asked (step.Break length) = None
+asked_behind asked _ = asked
+
+-- a step belongs to a position
+abbrev pub IsAt : Position → Step → Type 0
+IsAt position (step.AskByte byte) = Unit {0}
+IsAt position (step.Ask command) = Unit {0}
+IsAt position step.Foreign = Unit {0}
+IsAt (Asked command) step.Ack = Unit {0}
+IsAt (Asked command) step.Nak = Unit {0}
+IsAt (Asked command) (step.ReplyByte byte) = Unit {0}
+IsAt (InReply command bytes) (step.ReplyByte byte) = Unit {0}
+IsAt (InReply command bytes) (step.Reply reply) = IsReply command reply
+    × (bytes ≡ reply_bytes reply)
+IsAt (Replied command reply) step.VmcAck = Unit {0}
+IsAt (Replied command reply) step.VmcNak = Unit {0}
+IsAt (Replied command reply) step.VmcRet = Unit {0}
+IsAt (Returned command reply) (step.RepeatWord word) = IsRepeatFront reply (word ∷ [])
+IsAt (InRepeat command reply words) (step.RepeatWord word) =
+    IsRepeatFront reply (words ++ word ∷ [])
+IsAt (InRepeat command reply words) step.Repeat = Unit {0}
+IsAt position (step.Break length) = Unit {0}
+IsAt _ _ = ⊥
+
+-- where a step has led, and the act that it ended
+pub record HasAdvanced (old : Position) (next : Step) (new : Position)
+    (ended : Option Act) : Type 0 where
+  pub position : new ≡ position_after old next
+  pub act : ended ≡ act_after old next

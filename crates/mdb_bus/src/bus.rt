@@ -1,0 +1,126 @@
+//! The bus: which rows may follow which, and the acts that they are.
+
+ghost use Rattle.std.specs.Prelude.{◌≡◌, [], ◌∷◌, ◌++◌, ℕ, List, IfOk, IfErr, OnErr};
+ghost use Rattle.mdb_bus.specs.Step.{EachStep};
+ghost use Rattle.mdb_bus.specs.Steps as steps;
+
+use super::act::Act;
+use super::fault::{Blame, LinkFault, Rule};
+use super::judged::Judged;
+use super::judging::judge;
+use super::laws;
+use super::levels::Levels;
+use super::place::{Exchange, Phase, Place};
+use mdb_msgs::Device;
+use mdb_words::{Event, Line};
+
+/// The bus behind the rows that it was fed.
+///
+/// It keeps where the bus is, and no rows: its size doesn't depend on how many there were.
+#[derive(Drop)]
+pub struct Bus {
+    place: Place,
+    last: Option<Event>,
+    levels: Levels,
+    asked: Option<Device>,
+}
+
+impl Bus {
+    ghost use Rattle.mdb_bus.specs.ActLists.{HasActList, Piece, events_of};
+    ghost use Rattle.mdb_bus.specs.Bus.{GoesOn, HasGone, StandsFor, position_at};
+    ghost use Rattle.mdb_bus.specs.LinkFaults.{IsLinkFault, blame_of};
+    ghost use Rattle.mdb_bus.specs.Steps.{HasRoom, IsAt};
+
+    /// The bus before its first row: recording began at power-on or at a break.
+    pub fn new() -> Bus
+        ensures { StandsFor result [] }
+    {
+        Bus {
+            place: Place {
+                phase: Phase::Quiet,
+                exchange: Exchange::none(),
+            },
+            last: None,
+            levels: Levels::NONE,
+            asked: None,
+        }
+    }
+
+    /// Takes the next row, and answers the act that it ends, if it ends one.
+    ///
+    /// # Errors
+    ///
+    /// The fault of a row that cannot follow the rows before it: the first rule of the link that it
+    /// breaks, and who is to blame. The bus is then as it was.
+    pub fn feed(&mut self, event: Event) -> Result<Option<Act>, LinkFault>
+        ensures goes_on { (pieces : List Piece) → StandsFor self.old pieces
+            → IfOk result (λ act. GoesOn self.new pieces event act) }
+        ensures faults { (pieces : List Piece) → StandsFor self.old pieces
+            → IfErr result (λ fault. IsLinkFault pieces event fault.rule fault.blame) }
+        ensures impossible { (pieces : List Piece) → StandsFor self.old pieces
+            → OnErr result (HasActList (events_of pieces ++ event ∷ []) → ⊥) }
+        ensures unchanged { OnErr result (self.new ≡ self.old) }
+    {
+        laws::rows_that_break_a_rule_end_the_act_list();
+        match judge(&self.place, self.levels, &self.last, &event) {
+            Ok(judged) => Ok(self.go(judged, event)),
+            Err(rule) => Err(self.fault(rule, &event)),
+        }
+    }
+
+    /// Goes a step by a row, and answers the act that it ends.
+    fn go(&mut self, judged: Judged, event: Event) -> Option<Act>
+        requires { HasRoom self.old.place.phase judged }
+        ensures { EachStep judged (λ next. IsAt (position_at self.old.place) next
+            → HasGone self.old next event self.new result) }
+    {
+        self.levels = levels_behind(&self.levels, &judged);
+        self.asked = asked_behind(&self.asked, &judged);
+        self.last = Some(event);
+        self.place.advance(judged)
+    }
+
+    /// The fault of a row that breaks a rule.
+    fn fault(&self, rule: Rule, event: &Event) -> LinkFault
+        ensures rule { result.rule ≡ rule }
+        ensures blame { result.blame ≡ blame_of (position_at self.now.place) self.now.asked event.now rule }
+    {
+        let blame = match *event {
+            Event::Word { line, .. } => self.blame(line, rule),
+            Event::Break { .. } => Blame::Controller,
+        };
+        LinkFault { rule, blame }
+    }
+    /// Who is to blame for a word on a line.
+    fn blame(&self, line: Line, rule: Rule) -> Blame
+        ensures { (at word : ℕ)
+            → result ≡ blame_of (position_at self.now.place) self.now.asked (Event.Word at line word) rule }
+    {
+        match (line, &self.place.phase, rule) {
+            (Line::Peripheral, _, _) => Blame::on(self.asked),
+            (_, Phase::InReply(..) | Phase::InRepeat(_), Rule::Spacing) => Blame::on(self.asked),
+            _ => Blame::Controller,
+        }
+    }
+}
+
+/// The levels behind a step.
+fn levels_behind(levels: &Levels, judged: &Judged) -> Levels
+    ensures { EachStep judged.now (λ next. result ≡ steps.levels_behind levels.now next) }
+{
+    match judged {
+        Judged::Ask(command) => levels.after(*command),
+        _ => *levels,
+    }
+}
+
+/// The device that was asked last, behind a step.
+fn asked_behind(asked: &Option<Device>, judged: &Judged) -> Option<Device>
+    ensures { EachStep judged.now (λ next. result ≡ steps.asked_behind asked.now next) }
+{
+    match judged {
+        Judged::Ask(command) => Some(command.device()),
+        Judged::Foreign | Judged::Break(_) => None,
+        _ => *asked,
+    }
+}

@@ -1,0 +1,35 @@
+//! What a row that breaks no rule does.
+
+use mdb_msgs::Command;
+use mdb_words::Word;
+
+/// What a row does that breaks no rule.
+#[derive(Clone, Copy, PartialEq, Eq, Debug)]
+pub enum Judged {
+    /// A byte of a command's block, which has more to come: its first, or a further one.
+    AskByte(u8),
+    /// The last word of a command's block.
+    Ask(Command),
+    /// What opens a foreign block, or a word behind it.
+    Foreign,
+    /// The peripheral's ACK.
+    Ack,
+    /// The peripheral's NAK.
+    Nak,
+    /// A byte of a reply, which has more to come: its first, or a further one.
+    ReplyByte(u8),
+    /// The last word of a reply, which the bytes so far tell.
+    Reply,
+    /// The controller's ACK.
+    VmcAck,
+    /// The controller's NAK.
+    VmcNak,
+    /// The controller's RET.
+    VmcRet,
+    /// A word of a repeat, which has more to come: its first, or a further one.
+    RepeatWord(Word),
+    /// The last word of a repeat.
+    Repeat,
+    /// A break of so many microseconds.
+    Break(u64),
+}

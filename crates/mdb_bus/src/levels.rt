@@ -1,0 +1,99 @@
+//! The feature levels of controller and cashless readers.
+
+ghost use Rattle.std.specs.Prelude.{◌≡◌, ◌↔◌, IsTrue};
+ghost use Rattle.std.specs.List.{list_any};
+ghost use Rattle.mdb_bus.specs.ActLists.{is_high, tells_high};
+
+use mdb_msgs::{Command, ReaderCommand, ReaderMsg, ReaderUnit, Reply};
+
+/// The feature level (Y2 of SETUP config) that the controller has last told each reader; `None`
+/// where it told none.
+#[derive(Clone, Copy, PartialEq, Eq, Debug)]
+pub struct Levels {
+    /// What it told the reader at 10H.
+    pub first: Option<u8>,
+    /// What it told the reader at 60H.
+    pub second: Option<u8>,
+}
+
+impl Levels {
+    ghost use Rattle.std.specs.Prelude.{true};
+    ghost use Rattle.std.specs.Bool.{OnTrue, OnFalse};
+    ghost use Rattle.mdb_bus.specs.ActLists.{IsLow, level_for, levels_after};
+
+    /// No level told yet.
+    pub(crate) const NONE: Levels = Levels {
+        first: None,
+        second: None,
+    };
+
+    /// The levels behind a whole ask.
+    pub(crate) fn after(self, command: Command) -> Levels
+        ensures { result ≡ levels_after command self }
+    {
+        match command {
+            Command::Reader(ReaderUnit::First, ReaderCommand::SetupConfig { level, .. }) => Levels {
+                first: Some(level),
+                second: self.second,
+            },
+            Command::Reader(ReaderUnit::Second, ReaderCommand::SetupConfig { level, .. }) =>
+                Levels {
+                    first: self.first,
+                    second: Some(level),
+                },
+            _ => self,
+        }
+    }
+
+    /// Whether a reply to a command fits these levels: it tells of no level of 2 or more, or the
+    /// controller has told the reader of none.
+    pub(crate) fn fit(self, command: Command, reply: &Reply) -> bool
+        ensures low { OnTrue result (tells_high reply.now ≡ true → IsLow (level_for command self)) }
+        ensures high { OnFalse result ((tells_high reply.now ≡ true)
+            × (IsLow (level_for command self) → ⊥)) }
+    {
+        !tells_high(reply) || self.is_low_for(command)
+    }
+
+    /// Whether the controller has told the reader of a command no level of 2 or more.
+    fn is_low_for(self, command: Command) -> bool
+        ensures { IsTrue result ↔ IsLow (level_for command self) }
+    {
+        let level = match command {
+            Command::Reader(ReaderUnit::First, _) => self.first,
+            Command::Reader(ReaderUnit::Second, _) => self.second,
+            _ => None,
+        };
+        match level {
+            None => true,
+            Some(level) => level < 2,
+        }
+    }
+}
+
+/// Whether a reader's reply tells of a feature level of 2 or more (Z2 of a config message).
+fn tells_high(reply: &Reply) -> bool
+    ensures { result ≡ tells_high reply.now }
+{
+    match reply {
+        Reply::Reader(list) => tell_high(list.messages.as_slice()),
+        _ => false,
+    }
+}
+
+/// Whether one of a reader's messages tells of a feature level of 2 or more.
+fn tell_high(messages: &[ReaderMsg]) -> bool
+    ensures { result ≡ list_any is_high messages.now }
+{
+    messages.iter().any(|message| is_high(*message))
+}
+
+/// Whether a message tells of a feature level of 2 or more.
+fn is_high(message: ReaderMsg) -> bool
+    ensures { result ≡ is_high message }
+{
+    match message {
+        ReaderMsg::Config { level, .. } => level >= 2,
+        _ => false,
+    }
+}

@@ -1,0 +1,293 @@
+//! Where the bus is.
+
+ghost use Rattle.std.specs.Prelude.{◌≡◌, ◌≤◌, ◌<◌, [], ◌∷◌, ◌++◌, length, IfSome};
+ghost use Rattle.mdb_blocks.specs.Block.{block_of};
+ghost use Rattle.mdb_msgs.specs.Replies.{reply_bytes};
+
+use super::act::Act;
+use super::judged::Judged;
+use arrayvec::ArrayVec;
+use mdb_blocks::{Block, seal};
+use mdb_msgs::{ChangerCommand, ChangerMsg, Command, Reply, read_reply};
+use mdb_words::Word;
+use std::marker::Model;
+use std::mem;
+
+/// The most bytes of a block beside its last.
+const CONTENT_MAX: usize = 35;
+
+/// The bytes so far of a block that has begun: 1 to 35.
+///
+/// A clause sees them as a list.
+#[derive(Drop)]
+pub struct Begun {
+    bytes: ArrayVec<u8, CONTENT_MAX>,
+}
+
+impl Model for Begun {
+    ghost use Rattle.std.specs.Prelude.{List, ℕ, ◌≤◌, length};
+
+    ghost Value = { List ℕ };
+
+    ghost view = { λ b. b.bytes.items };
+
+    ghost invariant = { λ b. 1 ≤ length b.bytes.items };
+}
+
+impl Begun {
+    /// A block that begins with this byte.
+    pub(crate) fn with(first: u8) -> Begun
+        ensures { result ≡ first ∷ [] }
+    {
+        let mut bytes = ArrayVec::new();
+        bytes.push(first);
+        Begun { bytes }
+    }
+
+    /// Adds the next byte.
+    pub(crate) fn push(&mut self, byte: u8)
+        requires { length self.old < CONTENT_MAX }
+        ensures { self.new ≡ self.old ++ byte ∷ [] }
+    {
+        self.bytes.push(byte);
+    }
+
+    /// The bytes.
+    pub(crate) fn as_slice(&self) -> &[u8]
+        ensures bytes { result.now ≡ self.now }
+        ensures some { 1 ≤ length self.now }
+        ensures few { length self.now ≤ CONTENT_MAX }
+    {
+        self.bytes.as_slice()
+    }
+
+    /// The block that ends with their sum.
+    pub(crate) fn sealed(&self) -> Block
+        ensures { result ≡ block_of self.now }
+    {
+        seal(self.bytes.as_slice()).unwrap()
+    }
+}
+
+/// A command and its reply.
+#[derive(Drop)]
+pub struct Exchange {
+    /// The command.
+    pub command: Command,
+    /// The reply.
+    pub reply: Reply,
+    /// The data bytes of the reply, without their sum.
+    pub bytes: Begun,
+    ghost spelled: { bytes ≡ reply_bytes reply },
+}
+
+impl Exchange {
+    /// What stands for the last exchange before the first one: no phase asks for it.
+    pub(crate) fn none() -> Exchange {
+        let mut messages = ArrayVec::new();
+        messages.push(ChangerMsg::Status(0));
+        Exchange {
+            command: Command::Changer(ChangerCommand::Poll),
+            reply: Reply::ChangerPoll(messages),
+            bytes: Begun::with(0),
+        }
+    }
+}
+
+/// What the last act has left open, or what was said since. The exchange that a phase means stands
+/// beside it.
+#[derive(Drop)]
+pub enum Phase {
+    /// Nothing is open.
+    Quiet,
+    /// The controller has sent these bytes of a block.
+    InAsk(Begun),
+    /// A command was asked, and may be answered.
+    Asked(Command),
+    /// The peripheral has sent these bytes of a reply to the command.
+    InReply(Command, Begun),
+    /// The command of the exchange was answered by data, and the controller may answer that.
+    Replied,
+    /// The controller has asked for the reply again.
+    Returned,
+    /// The peripheral has sent so many words of the repeat.
+    InRepeat(usize),
+    /// A foreign block was opened.
+    InForeign,
+}
+
+/// Where the bus is. The last exchange stays where it is until the next one, since it is large.
+#[derive(Drop)]
+pub struct Place {
+    /// The phase.
+    pub phase: Phase,
+    /// The last exchange.
+    pub exchange: Exchange,
+}
+
+impl Place {
+    ghost use Rattle.mdb_bus.specs.ActLists as lists;
+    ghost use Rattle.mdb_bus.specs.Bus.{position_at};
+    ghost use Rattle.mdb_bus.specs.Step as step;
+    ghost use Rattle.mdb_bus.specs.Step.{EachStep};
+    ghost use Rattle.mdb_bus.specs.Steps.{HasAdvanced, HasRoom, IsAt};
+
+    /// Goes a step, and answers the act that it ends.
+    pub(crate) fn advance(&mut self, judged: Judged) -> Option<Act>
+        requires { HasRoom self.old.phase judged }
+        ensures { EachStep judged (λ next. IsAt (position_at self.old) next
+            → HasAdvanced (position_at self.old) next (position_at self.new) result) }
+    {
+        match judged {
+            Judged::AskByte(byte) => {
+                self.add_to_ask(byte);
+                None
+            }
+            Judged::Ask(command) => {
+                self.phase = Phase::Asked(command);
+                Some(Act::Ask(command))
+            }
+            Judged::Foreign => {
+                self.phase = Phase::InForeign;
+                Some(Act::Foreign)
+            }
+            Judged::Ack => self.answered().map(Act::Ack),
+            Judged::Nak => self.answered().map(Act::Nak),
+            Judged::ReplyByte(byte) => {
+                self.add_to_reply(byte);
+                None
+            }
+            Judged::Reply => self.end_reply(),
+            Judged::VmcAck => self.acknowledge(),
+            Judged::VmcNak => self.refuse(),
+            Judged::VmcRet => self.return_reply(),
+            Judged::RepeatWord(word) => {
+                self.add_to_repeat(word);
+                None
+            }
+            Judged::Repeat => self.end_repeat(),
+            Judged::Break(length) => {
+                self.phase = Phase::Quiet;
+                Some(Act::Break(length))
+            }
+        }
+    }
+
+    /// Adds a byte to the controller's block, or begins one with it.
+    fn add_to_ask(&mut self, byte: u8)
+        requires { HasRoom self.old.phase (Judged.AskByte byte) }
+        ensures { HasAdvanced (position_at self.old) (step.AskByte byte) (position_at self.new) None }
+    {
+        match &mut self.phase {
+            Phase::InAsk(bytes) => bytes.push(byte),
+            _ => self.phase = Phase::InAsk(Begun::with(byte)),
+        }
+    }
+
+    /// Adds a byte to the reply, or begins one with it.
+    fn add_to_reply(&mut self, byte: u8)
+        requires { HasRoom self.old.phase (Judged.ReplyByte byte) }
+        ensures { IsAt (position_at self.old) (step.ReplyByte byte)
+            → HasAdvanced (position_at self.old) (step.ReplyByte byte) (position_at self.new) None }
+    {
+        match &mut self.phase {
+            Phase::InReply(_, bytes) => bytes.push(byte),
+            Phase::Asked(command) => self.phase = Phase::InReply(*command, Begun::with(byte)),
+            _ => {}
+        }
+    }
+
+    /// The command whose answer is open, which is settled with it.
+    fn answered(&mut self) -> Option<Command>
+        ensures some { (command : Command) → position_at self.old ≡ lists.Asked command
+            → result ≡ Some command }
+        ensures settled { IfSome result (λ command. position_at self.new ≡ lists.Quiet) }
+    {
+        let Phase::Asked(command) = self.phase else {
+            return None;
+        };
+        self.phase = Phase::Quiet;
+        Some(command)
+    }
+
+    /// The reply has ended.
+    fn end_reply(&mut self) -> Option<Act>
+        ensures { (reply : Reply) → IsAt (position_at self.old) (step.Reply reply)
+            → HasAdvanced (position_at self.old) (step.Reply reply) (position_at self.new) result }
+    {
+        match mem::replace(&mut self.phase, Phase::Replied) {
+            Phase::InReply(command, bytes) => {
+                let reply = read_reply(&command, &bytes.sealed()).ok()?;
+                let act = Act::Reply(command, reply.copy());
+                self.exchange = Exchange {
+                    command,
+                    reply,
+                    bytes,
+                };
+                Some(act)
+            }
+            _ => None,
+        }
+    }
+
+    /// The controller acknowledges the reply.
+    fn acknowledge(&mut self) -> Option<Act>
+        ensures { IsAt (position_at self.old) step.VmcAck
+            → HasAdvanced (position_at self.old) step.VmcAck (position_at self.new) result }
+    {
+        let Phase::Replied = self.phase else {
+            return None;
+        };
+        self.phase = Phase::Quiet;
+        Some(Act::VmcAck(self.exchange.command, self.exchange.reply.copy()))
+    }
+
+    /// The controller didn't receive the reply well.
+    fn refuse(&mut self) -> Option<Act>
+        ensures { IsAt (position_at self.old) step.VmcNak
+            → HasAdvanced (position_at self.old) step.VmcNak (position_at self.new) result }
+    {
+        let Phase::Replied = self.phase else {
+            return None;
+        };
+        self.phase = Phase::Quiet;
+        Some(Act::VmcNak(self.exchange.command, self.exchange.reply.copy()))
+    }
+
+    /// The controller asks for the reply again.
+    fn return_reply(&mut self) -> Option<Act>
+        ensures { IsAt (position_at self.old) step.VmcRet
+            → HasAdvanced (position_at self.old) step.VmcRet (position_at self.new) result }
+    {
+        let Phase::Replied = self.phase else {
+            return None;
+        };
+        self.phase = Phase::Returned;
+        Some(Act::VmcRet(self.exchange.command, self.exchange.reply.copy()))
+    }
+
+    /// A word of the repeat, which has more to come.
+    fn add_to_repeat(&mut self, word: Word)
+        requires { HasRoom self.old.phase (Judged.RepeatWord word) }
+        ensures { IsAt (position_at self.old) (step.RepeatWord word)
+            → HasAdvanced (position_at self.old) (step.RepeatWord word) (position_at self.new) None }
+    {
+        match self.phase {
+            Phase::Returned => self.phase = Phase::InRepeat(1),
+            Phase::InRepeat(said) => self.phase = Phase::InRepeat(said + 1),
+            _ => {}
+        }
+    }
+
+    /// The repeat has ended.
+    fn end_repeat(&mut self) -> Option<Act>
+        ensures { IsAt (position_at self.old) step.Repeat
+            → HasAdvanced (position_at self.old) step.Repeat (position_at self.new) result }
+    {
+        let Phase::InRepeat(_) = self.phase else {
+            return None;
+        };
+        self.phase = Phase::Replied;
+        Some(Act::Repeat(self.exchange.command, self.exchange.reply.copy()))
+    }
+}

@@ -1,0 +1,293 @@
+-- Bytes are messages, or there is a leftmost place where no message stands.
+use Rattle.std.proofs.Common.{◌≡◌, ◌≢◌, ℕ, zero, suc, ◌+◌, ◌-◌, ◌*◌, ◌/◌, ◌%◌, ◌<◌, ◌≤◌, ◌⊎◌, inl, inr, List, [], ◌∷◌, ◌++◌, length, take, drop, All, refl, sym, ap, ◌∙◌, arith, append_assoc, append-nil, replicate}
+use Rattle.std.specs.List.{flat_map, AllByRecursion}
+use Rattle.std.proofs.lemmas.List.{length-take-le, length-drop, take-append-drop}
+use Rattle.std.proofs.lemmas.List.Elements.{All-drop, All-nil}
+use Rattle.mdb_msgs.specs.declared.fault.MsgFault.{MsgFault}
+use Rattle.mdb_msgs.specs.declared.fault.MsgFault.TheVariants.{Message, Profile}
+use Rattle.mdb_msgs.specs.declared.reply.bill.BillMsg.{BillMsg}
+use Rattle.mdb_msgs.specs.declared.reply.bill.BillMsg.TheVariants as bill
+use Rattle.mdb_msgs.specs.declared.reply.changer.ChangerMsg.{ChangerMsg}
+use Rattle.mdb_msgs.specs.declared.reply.changer.ChangerMsg.TheVariants as changer
+use Rattle.mdb_msgs.specs.declared.reply.reader.ReaderMsg.{ReaderMsg}
+use Rattle.mdb_msgs.specs.declared.reply.reader.ReaderMsg.TheVariants as reader
+use Rattle.mdb_msgs.specs.declared.reply.reader.ReaderList.{ReaderList}
+use Rattle.mdb_msgs.specs.Bill.{bill_msg_bytes, IsBillMsg, NoBillMsg}
+use Rattle.mdb_msgs.specs.Changer.{changer_msg_bytes, IsChangerMsg, NoChangerMsg}
+use Rattle.mdb_msgs.specs.Commands.{IsByte}
+use Rattle.mdb_msgs.specs.Lists.{StopsAt}
+use Rattle.mdb_msgs.specs.Reader.{head_bytes, reader_list_bytes, IsReaderList, NoReaderMsg, ReaderStopsAt}
+use Rattle.mdb_msgs.specs.ReaderSteps.{IsTextOf, with_message}
+use Rattle.mdb_msgs.specs.TwoBytes.{two_bytes}
+use Rattle.mdb_msgs.proofs.ReaderReading.{Taken, takes_next, stops_next, all_read}
+
+-- which of two, by a limit
+pub split : (limit n : ℕ) → (n < limit) ⊎ (limit ≤ n)
+split zero n = inr (omega arith)
+split (suc limit) zero = inl (omega arith)
+split (suc limit) (suc n) = step (split limit n)
+  where
+    step : (n < limit) ⊎ (limit ≤ n) → (suc n < suc limit) ⊎ (suc limit ≤ suc n)
+    step (inl low) = inl (omega (arith, low))
+    step (inr high) = inr (omega (arith, high))
+
+-- whether two numbers are the same
+pub same_or_not : (m n : ℕ) → (m ≡ n) ⊎ (m ≢ n)
+same_or_not m n = by (split n m) (split (suc n) m)
+  where
+    by : (m < n) ⊎ (n ≤ m) → (m < suc n) ⊎ (suc n ≤ m) → (m ≡ n) ⊎ (m ≢ n)
+    by (inl less) other = inr (λ is. omega (arith, less, is))
+    by (inr least) (inl most) = inl (omega (arith, least, most))
+    by (inr least) (inr more) = inr (λ is. omega (arith, more, is))
+
+-- two bytes are those of their number
+pub pair_bytes : (high low : ℕ) → low < 256 → high ∷ low ∷ [] ≡ two_bytes (256 * high + low)
+pair_bytes high low small =
+    let first : high ≡ (256 * high + low) / 256 = omega arith in
+    let second : low ≡ (256 * high + low) % 256 = omega arith in
+    cc
+
+-- bytes are messages
+pub record Reads {M : Type 0} (f : M → List ℕ) (Is : M → Type 0) (bytes : List ℕ) : Type 0 where
+  pub list : List M
+  pub messages : AllByRecursion Is list
+  pub spelled : bytes ≡ flat_map f list
+
+-- a message stands at the front of bytes
+record Front {M : Type 0} (f : M → List ℕ) (Is : M → Type 0) (bytes : List ℕ) : Type 0 where
+  message : M
+  rest : List ℕ
+  right : Is message
+  spelled : bytes ≡ f message ++ rest
+  shorter : length rest < length bytes
+  low : All IsByte rest
+
+-- a message that can't be taken is the leftmost such
+abbrev pub Stops : {M : Type 0} → (M → List ℕ) → (M → Type 0) → (List ℕ → MsgFault → Type 0) → List ℕ → Type 0
+Stops {M} f Is No bytes = StopsAt f Is No bytes Message ⊎ StopsAt f Is No bytes Profile
+
+-- a message in front
+in_front : {M : Type 0} (f : M → List ℕ) (Is : M → Type 0) (No : List ℕ → MsgFault → Type 0) (message : M) (bytes rest : List ℕ) (fault : MsgFault) → Is message → bytes ≡ f message ++ rest → StopsAt f Is No rest fault → StopsAt f Is No bytes fault
+in_front f Is No message bytes rest fault right is stops =
+    (message ∷ stops.0, stops.1, (right, stops.2), is ∙ (ap (λ l. f message ++ l) stops.3 ∙ sym (append_assoc (f message) (flat_map f stops.0) stops.1)), stops.4)
+
+goes_on : {M : Type 0} (f : M → List ℕ) (Is : M → Type 0) (No : List ℕ → MsgFault → Type 0) (bytes : List ℕ) (front : Front f Is bytes) → Reads f Is front.rest ⊎ Stops f Is No front.rest → Reads f Is bytes ⊎ Stops f Is No bytes
+goes_on f Is No bytes front (inl reads) =
+    inl (record { list = front.message ∷ reads.list; messages = (front.right, reads.messages); spelled = front.spelled ∙ ap (λ l. f front.message ++ l) reads.spelled })
+goes_on f Is No bytes front (inr (inl stops)) = inr (inl (in_front f Is No front.message bytes front.rest Message front.right front.spelled stops))
+goes_on f Is No bytes front (inr (inr stops)) = inr (inr (in_front f Is No front.message bytes front.rest Profile front.right front.spelled stops))
+
+-- what stands at the front of bytes
+abbrev Step : {M : Type 0} → (M → List ℕ) → (M → Type 0) → (List ℕ → MsgFault → Type 0) → Type 0
+Step {M} f Is No = (first : ℕ) (behind : List ℕ) → All IsByte (first ∷ behind) → Front f Is (first ∷ behind) ⊎ (No (first ∷ behind) Message ⊎ No (first ∷ behind) Profile)
+
+reads : {M : Type 0} (f : M → List ℕ) (Is : M → Type 0) (No : List ℕ → MsgFault → Type 0) → Step f Is No → (fuel : ℕ) (bytes : List ℕ) → length bytes ≤ fuel → All IsByte bytes → Reads f Is bytes ⊎ Stops f Is No bytes
+reads f Is No step fuel [] short low = inl (record { list = []; messages = tt; spelled = refl })
+reads f Is No step zero (first ∷ behind) short low = absurd (omega arith)
+reads f Is No step (suc fuel) (first ∷ behind) short low = by (reads f Is No step fuel) (step first behind low)
+  where
+    by : ((bytes : List ℕ) → length bytes ≤ fuel → All IsByte bytes → Reads f Is bytes ⊎ Stops f Is No bytes) → Front f Is (first ∷ behind) ⊎ (No (first ∷ behind) Message ⊎ No (first ∷ behind) Profile) → Reads f Is (first ∷ behind) ⊎ Stops f Is No (first ∷ behind)
+    by more (inl front) = goes_on f Is No (first ∷ behind) front (more front.rest (let shorter = front.shorter in omega arith) front.low)
+    by more (inr (inl none)) = inr (inl ([], first ∷ behind, tt, refl, none))
+    by more (inr (inr none)) = inr (inr ([], first ∷ behind, tt, refl, none))
+
+-- the changer's messages
+changer_one : (first : ℕ) (behind : List ℕ) (message : ChangerMsg) → All IsByte (first ∷ behind) → IsChangerMsg message → first ∷ [] ≡ changer_msg_bytes message → Front changer_msg_bytes IsChangerMsg (first ∷ behind)
+changer_one first behind message low right is = record { message = message; rest = behind; right = right; spelled = ap (λ l. l ++ behind) is; shorter = omega arith; low = All-drop IsByte 1 (first ∷ behind) low }
+
+changer_two : (first second : ℕ) (rest : List ℕ) (message : ChangerMsg) → All IsByte (first ∷ second ∷ rest) → IsChangerMsg message → first ∷ second ∷ [] ≡ changer_msg_bytes message → Front changer_msg_bytes IsChangerMsg (first ∷ second ∷ rest)
+changer_two first second rest message low right is = record { message = message; rest = rest; right = right; spelled = ap (λ l. l ++ rest) is; shorter = omega arith; low = All-drop IsByte 2 (first ∷ second ∷ rest) low }
+
+changer_status : (first : ℕ) (behind : List ℕ) → All IsByte (first ∷ behind) → first < 27 → (first ≡ 11) ⊎ (first ≢ 11) → Front changer_msg_bytes IsChangerMsg (first ∷ behind)
+changer_status first behind low small (inl reset) = changer_one first behind changer.Reset low tt (ap (λ b. b ∷ []) reset)
+changer_status first behind low small (inr other) = changer_one first behind (changer.Status first) low (small, other) refl
+
+changer_pair : (first : ℕ) (behind : List ℕ) → All IsByte (first ∷ behind) → 64 ≤ first → Front changer_msg_bytes IsChangerMsg (first ∷ behind) ⊎ (NoChangerMsg (first ∷ behind) Message ⊎ NoChangerMsg (first ∷ behind) Profile)
+changer_pair first [] low least = inr (inl (inr (least, refl)))
+changer_pair first (second ∷ rest) low least = by (split 80 first) (split 96 first) (split 112 first) (split 128 first)
+  where
+    front : (n : ℕ) → first ≡ n → first ∷ second ∷ [] ≡ n ∷ second ∷ []
+    front n is = ap (λ b. b ∷ second ∷ []) is
+
+    by : (first < 80) ⊎ (80 ≤ first) → (first < 96) ⊎ (96 ≤ first) → (first < 112) ⊎ (112 ≤ first) → (first < 128) ⊎ (128 ≤ first) → Front changer_msg_bytes IsChangerMsg (first ∷ second ∷ rest) ⊎ (NoChangerMsg (first ∷ second ∷ rest) Message ⊎ NoChangerMsg (first ∷ second ∷ rest) Profile)
+    by (inl a) b c d = inl (changer_two first second rest (changer.CashBox (first - 64) second) low (omega (arith, a)) (front (64 + (first - 64)) (omega arith)))
+    by (inr a) (inl b) c d = inl (changer_two first second rest (changer.Tube (first - 80) second) low (omega (arith, a, b)) (front (80 + (first - 80)) (omega (arith, a))))
+    by (inr a) (inr b) (inl c) d = inr (inl (inl (b, c)))
+    by (inr a) (inr b) (inr c) (inl d) = inl (changer_two first second rest (changer.Rejected (first - 112) second) low (omega (arith, c, d)) (front (112 + (first - 112)) (omega (arith, c))))
+    by (inr a) (inr b) (inr c) (inr d) =
+        let small : first < 256 = low 0 0 (omega arith) in
+        inl (changer_two first second rest (changer.ManualDispense ((first - 128) / 16) ((first - 128) % 16) second) low (omega (arith, d), omega arith) (front (128 + 16 * ((first - 128) / 16) + (first - 128) % 16) (omega (arith, d))))
+
+changer_step : Step changer_msg_bytes IsChangerMsg NoChangerMsg
+changer_step first behind low = by (split 27 first) (split 32 first) (split 64 first)
+  where
+    by : (first < 27) ⊎ (27 ≤ first) → (first < 32) ⊎ (32 ≤ first) → (first < 64) ⊎ (64 ≤ first) → Front changer_msg_bytes IsChangerMsg (first ∷ behind) ⊎ (NoChangerMsg (first ∷ behind) Message ⊎ NoChangerMsg (first ∷ behind) Profile)
+    by (inl a) b c = inl (changer_status first behind low a (same_or_not first 11))
+    by (inr a) (inl b) c = inr (inr (a, b))
+    by (inr a) (inr b) (inl c) = inl (changer_one first behind (changer.Slugs (first - 32)) low (omega (arith, b, c)) (let is : first ≡ 32 + (first - 32) = omega (arith, b) in ap (λ x. x ∷ []) is))
+    by (inr a) (inr b) (inr c) = changer_pair first behind low c
+
+pub changer_reads : (bytes : List ℕ) → All IsByte bytes → Reads changer_msg_bytes IsChangerMsg bytes ⊎ Stops changer_msg_bytes IsChangerMsg NoChangerMsg bytes
+changer_reads bytes low = reads changer_msg_bytes IsChangerMsg NoChangerMsg changer_step (length bytes) bytes (omega arith) low
+
+-- the validator's messages
+bill_one : (first : ℕ) (behind : List ℕ) (message : BillMsg) → All IsByte (first ∷ behind) → IsBillMsg message → first ∷ [] ≡ bill_msg_bytes message → Front bill_msg_bytes IsBillMsg (first ∷ behind)
+bill_one first behind message low right is = record { message = message; rest = behind; right = right; spelled = ap (λ l. l ++ behind) is; shorter = omega arith; low = All-drop IsByte 1 (first ∷ behind) low }
+
+bill_status : (first : ℕ) (behind : List ℕ) → All IsByte (first ∷ behind) → (first < 27) ⊎ ((32 ≤ first) × (first < 64)) → (first ≡ 6) ⊎ (first ≢ 6) → Front bill_msg_bytes IsBillMsg (first ∷ behind)
+bill_status first behind low small (inl reset) = bill_one first behind bill.Reset low tt (ap (λ b. b ∷ []) reset)
+bill_status first behind low small (inr other) = bill_one first behind (bill.Status first) low (other, small) refl
+
+bill_step : Step bill_msg_bytes IsBillMsg NoBillMsg
+bill_step first behind low = low_half (split 27 first) (split 32 first) (split 64 first) (split 96 first) (split 128 first)
+  where
+    front : (n : ℕ) → first ≡ n → first ∷ [] ≡ n ∷ []
+    front n is = ap (λ b. b ∷ []) is
+
+    high_half : 128 ≤ first → (first < 144) ⊎ (144 ≤ first) → (first < 160) ⊎ (160 ≤ first) → (first < 176) ⊎ (176 ≤ first) → (first < 192) ⊎ (192 ≤ first) → (first < 208) ⊎ (208 ≤ first) → Front bill_msg_bytes IsBillMsg (first ∷ behind) ⊎ (NoBillMsg (first ∷ behind) Message ⊎ NoBillMsg (first ∷ behind) Profile)
+    high_half least (inl a) b c d e = inl (bill_one first behind (bill.Stacked (first - 128)) low (omega (arith, a, least)) (front (128 + (first - 128)) (omega (arith, least))))
+    high_half least (inr a) (inl b) c d e = inl (bill_one first behind (bill.Escrow (first - 144)) low (omega (arith, a, b)) (front (144 + (first - 144)) (omega (arith, a))))
+    high_half least (inr a) (inr b) (inl c) d e = inl (bill_one first behind (bill.Returned (first - 160)) low (omega (arith, b, c)) (front (160 + (first - 160)) (omega (arith, b))))
+    high_half least (inr a) (inr b) (inr c) (inl d) e = inr (inr (inr (inl (c, d))))
+    high_half least (inr a) (inr b) (inr c) (inr d) (inl e) = inl (bill_one first behind (bill.Rejected (first - 192)) low (omega (arith, d, e)) (front (192 + (first - 192)) (omega (arith, d))))
+    high_half least (inr a) (inr b) (inr c) (inr d) (inr e) = inr (inr (inr (inr e)))
+
+    low_half : (first < 27) ⊎ (27 ≤ first) → (first < 32) ⊎ (32 ≤ first) → (first < 64) ⊎ (64 ≤ first) → (first < 96) ⊎ (96 ≤ first) → (first < 128) ⊎ (128 ≤ first) → Front bill_msg_bytes IsBillMsg (first ∷ behind) ⊎ (NoBillMsg (first ∷ behind) Message ⊎ NoBillMsg (first ∷ behind) Profile)
+    low_half (inl a) b c d e = inl (bill_status first behind low (inl a) (same_or_not first 6))
+    low_half (inr a) (inl b) c d e = inr (inr (inl (a, b)))
+    low_half (inr a) (inr b) (inl c) d e = inl (bill_status first behind low (inr (b, c)) (same_or_not first 6))
+    low_half (inr a) (inr b) (inr c) (inl d) e = inl (bill_one first behind (bill.Attempts (first - 64)) low (omega (arith, c, d)) (front (64 + (first - 64)) (omega (arith, c))))
+    low_half (inr a) (inr b) (inr c) (inr d) (inl e) = inr (inl (d, e))
+    low_half (inr a) (inr b) (inr c) (inr d) (inr e) = high_half e (split 144 first) (split 160 first) (split 176 first) (split 192 first) (split 208 first)
+
+pub bill_reads : (bytes : List ℕ) → All IsByte bytes → Reads bill_msg_bytes IsBillMsg bytes ⊎ Stops bill_msg_bytes IsBillMsg NoBillMsg bytes
+bill_reads bytes low = reads bill_msg_bytes IsBillMsg NoBillMsg bill_step (length bytes) bytes (omega arith) low
+
+-- a reader's message stands at the front of bytes
+record ReaderFront (first : ℕ) (behind : List ℕ) : Type 0 where
+  message : ReaderMsg
+  text : List ℕ
+  rest : List ℕ
+  is_text : IsTextOf message text rest
+  spelled : first ∷ behind ≡ head_bytes message ++ text ++ rest
+  shorter : length rest ≤ length behind
+  low : All IsByte rest
+
+abbrev NoFront : ℕ → List ℕ → Type 0
+NoFront first behind = NoReaderMsg (first ∷ behind) Message ⊎ NoReaderMsg (first ∷ behind) Profile
+
+-- a message of one byte
+short_message : (first : ℕ) (behind : List ℕ) (message : ReaderMsg) → All IsByte (first ∷ behind) → IsTextOf message [] behind → first ∷ [] ≡ head_bytes message → ReaderFront first behind ⊎ NoFront first behind
+short_message first behind message low none is =
+    inl (record { message = message; text = []; rest = behind; is_text = none; spelled = ap (λ l. l ++ behind) is ∙ ap (λ l. l ++ behind) (sym (append-nil (head_bytes message))); shorter = omega arith; low = All-drop IsByte 1 (first ∷ behind) low })
+
+config : (behind : List ℕ) → All IsByte (1 ∷ behind) → ReaderFront 1 behind ⊎ NoFront 1 behind
+config (a ∷ b ∷ c ∷ d ∷ e ∷ f ∷ g ∷ rest) low =
+    let small : c < 256 = low 3 0 (omega arith) in
+    inl (record {
+      message = reader.Config a (256 * b + c) d e f g;
+      text = [];
+      rest = rest;
+      is_text = refl;
+      spelled = ap (λ l. 1 ∷ a ∷ (l ++ (d ∷ e ∷ f ∷ g ∷ rest))) (pair_bytes b c small);
+      shorter = omega arith;
+      low = All-drop IsByte 8 (1 ∷ a ∷ b ∷ c ∷ d ∷ e ∷ f ∷ g ∷ rest) low;
+    })
+config behind low = inr (inl (inl (refl, omega arith)))
+
+display : (behind : List ℕ) → All IsByte (2 ∷ behind) → ReaderFront 2 behind ⊎ NoFront 2 behind
+display [] low = inr (inl (inr (inl (refl, inl refl))))
+display (time ∷ text) low = by (split 33 (length text))
+  where
+    by : (length text < 33) ⊎ (33 ≤ length text) → ReaderFront 2 (time ∷ text) ⊎ NoFront 2 (time ∷ text)
+    by (inl short) = inl (record {
+      message = reader.Display time;
+      text = text;
+      rest = [];
+      is_text = (omega (arith, short), refl);
+      spelled = ap (λ l. 2 ∷ time ∷ l) (sym (append-nil text));
+      shorter = omega arith;
+      low = All-nil IsByte;
+    })
+    by (inr long) = inr (inl (inr (inl (refl, inr (omega (arith, long))))))
+
+session : (behind : List ℕ) → All IsByte (3 ∷ behind) → ReaderFront 3 behind ⊎ NoFront 3 behind
+session (a ∷ b ∷ rest) low =
+    let small : b < 256 = low 2 0 (omega arith) in
+    inl (record { message = reader.BeginSession (256 * a + b); text = []; rest = rest; is_text = refl; spelled = ap (λ l. 3 ∷ (l ++ rest)) (pair_bytes a b small); shorter = omega arith; low = All-drop IsByte 3 (3 ∷ a ∷ b ∷ rest) low })
+session behind low = inr (inl (inr (inr (inl (inl refl, omega arith)))))
+
+approved : (behind : List ℕ) → All IsByte (5 ∷ behind) → ReaderFront 5 behind ⊎ NoFront 5 behind
+approved (a ∷ b ∷ rest) low =
+    let small : b < 256 = low 2 0 (omega arith) in
+    inl (record { message = reader.VendApproved (256 * a + b); text = []; rest = rest; is_text = refl; spelled = ap (λ l. 5 ∷ (l ++ rest)) (pair_bytes a b small); shorter = omega arith; low = All-drop IsByte 3 (5 ∷ a ∷ b ∷ rest) low })
+approved behind low = inr (inl (inr (inr (inl (inr refl, omega arith)))))
+
+identification : (behind : List ℕ) → All IsByte (9 ∷ behind) → (length behind < 29) ⊎ (29 ≤ length behind) → ReaderFront 9 behind ⊎ NoFront 9 behind
+identification behind low (inl short) = inr (inl (inr (inr (inr (inl (refl, short))))))
+identification behind low (inr long) =
+    inl (record {
+      message = reader.PeripheralId;
+      text = take 29 behind;
+      rest = drop 29 behind;
+      is_text = length-take-le 29 behind long;
+      spelled = ap (λ l. 9 ∷ l) (sym (take-append-drop 29 behind));
+      shorter = omega (arith, length-drop 29 behind);
+      low = All-drop IsByte 30 (9 ∷ behind) low;
+    })
+
+malfunction : (behind : List ℕ) → All IsByte (10 ∷ behind) → ReaderFront 10 behind ⊎ NoFront 10 behind
+malfunction [] low = inr (inl (inr (inr (inr (inr (refl, refl))))))
+malfunction (code ∷ rest) low =
+    inl (record { message = reader.Malfunction code; text = []; rest = rest; is_text = refl; spelled = refl; shorter = omega arith; low = All-drop IsByte 2 (10 ∷ code ∷ rest) low })
+
+reader_step : (first : ℕ) (behind : List ℕ) → All IsByte (first ∷ behind) → ReaderFront first behind ⊎ NoFront first behind
+reader_step zero behind low = short_message 0 behind reader.JustReset low refl refl
+reader_step (suc zero) behind low = config behind low
+reader_step (suc (suc zero)) behind low = display behind low
+reader_step (suc (suc (suc zero))) behind low = session behind low
+reader_step (suc (suc (suc (suc zero)))) behind low = short_message 4 behind reader.CancelRequest low refl refl
+reader_step (suc (suc (suc (suc (suc zero))))) behind low = approved behind low
+reader_step (suc (suc (suc (suc (suc (suc zero)))))) behind low = short_message 6 behind reader.VendDenied low refl refl
+reader_step (suc (suc (suc (suc (suc (suc (suc zero))))))) behind low = short_message 7 behind reader.EndSession low refl refl
+reader_step (suc (suc (suc (suc (suc (suc (suc (suc zero)))))))) behind low = short_message 8 behind reader.Cancelled low refl refl
+reader_step (suc (suc (suc (suc (suc (suc (suc (suc (suc zero))))))))) behind low = identification behind low (split 29 (length behind))
+reader_step (suc (suc (suc (suc (suc (suc (suc (suc (suc (suc zero)))))))))) behind low = malfunction behind low
+reader_step (suc (suc (suc (suc (suc (suc (suc (suc (suc (suc (suc zero))))))))))) behind low = short_message 11 behind reader.OutOfSequence low refl refl
+reader_step (suc (suc (suc (suc (suc (suc (suc (suc (suc (suc (suc (suc first)))))))))))) behind low = inr (inr (omega arith))
+
+-- bytes are a reader's list
+pub record ReadsList (bytes : List ℕ) : Type 0 where
+  pub list : ReaderList
+  pub is_list : IsReaderList list
+  pub spelled : bytes ≡ reader_list_bytes list
+
+abbrev pub ReaderStops : List ℕ → Type 0
+ReaderStops bytes = ReaderStopsAt bytes Message ⊎ ReaderStopsAt bytes Profile
+
+reader_goes_on : (whole : List ℕ) → length whole ≤ 35 → (fuel : ℕ) (list : ReaderList) (rest : List ℕ) → length rest ≤ fuel → All IsByte rest → Taken whole list rest → ReadsList whole ⊎ ReaderStops whole
+reader_goes_on whole few fuel list [] short low taken = inl (record { list = list; is_list = taken.is_list; spelled = all_read whole list [] taken refl })
+reader_goes_on whole few zero list (first ∷ behind) short low taken = absurd (omega arith)
+reader_goes_on whole few (suc fuel) list (first ∷ behind) short low taken = by (reader_goes_on whole few fuel) (reader_step first behind low)
+  where
+    by : ((list : ReaderList) (rest : List ℕ) → length rest ≤ fuel → All IsByte rest → Taken whole list rest → ReadsList whole ⊎ ReaderStops whole) → ReaderFront first behind ⊎ NoFront first behind → ReadsList whole ⊎ ReaderStops whole
+    by more (inl front) =
+        more (with_message list front.message front.text) front.rest (let shorter = front.shorter in omega arith) front.low
+        (takes_next whole list (first ∷ behind) first behind front.message front.text front.rest few taken refl front.spelled front.shorter front.is_text)
+    by more (inr (inl none)) = inr (inl (stops_next whole list (first ∷ behind) first behind Message taken refl none))
+    by more (inr (inr none)) = inr (inr (stops_next whole list (first ∷ behind) first behind Profile taken refl none))
+
+empty_list : ReaderList
+empty_list = record { messages = record { items = [] }; id = replicate 29 0; text = record { items = [] } }
+
+nothing_taken : (bytes : List ℕ) → Taken bytes empty_list bytes
+unfolding empty_list
+nothing_taken bytes = record {
+  spelled = refl;
+  room = omega arith;
+  is_list = record { id_length = refl; text_length = omega arith; last = tt; no_id = λ _. refl; no_text = λ _. refl };
+  bare = λ _. tt;
+}
+
+pub reader_reads : (bytes : List ℕ) → length bytes ≤ 35 → All IsByte bytes → ReadsList bytes ⊎ ReaderStops bytes
+reader_reads bytes few low = reader_goes_on bytes few (length bytes) empty_list bytes (omega arith) low (nothing_taken bytes)
