@@ -128,8 +128,9 @@ fn word_of(byte: u8, marked: bool) -> Word
     Word::new(value).unwrap()
 }
 
-/// The sum of bytes modulo 256.
-fn sum_of(bytes: &[u8]) -> u8
+/// The sum of bytes modulo 256: what a block that carries them ends with (MDB/ICP 4.3, block
+/// format).
+pub fn sum_of(bytes: &[u8]) -> u8
     ensures { result ≡ sum bytes.now % 256 }
 {
     bytes.iter().fold(0, |sum, byte| sum.wrapping_add(*byte))

@@ -7,7 +7,7 @@ mod block;
 pub mod laws;
 
 pub use answer::Answer;
-pub use block::{Block, BlockFault, seal, unseal};
+pub use block::{Block, BlockFault, seal, sum_of, unseal};
 
 #[cfg(test)]
 mod tests;

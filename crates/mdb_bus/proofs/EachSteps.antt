@@ -4,27 +4,26 @@ use Rattle.mdb_bus.specs.declared.judged.Judged.TheVariants as judged
 use Rattle.mdb_bus.specs.Step.{EachStep, SomeStep, Step}
 use Rattle.mdb_bus.specs.Step as step
 
--- what each step has by three facts that each has
-pub each_three : (found : Judged) (One Two Three All : Step → Type 0) → ((next : Step) → One next → Two next → Three next → All next)
-    → EachStep found One → EachStep found Two → EachStep found Three → EachStep found All
-each_three (judged.AskByte byte) One Two Three All all one two three = all (step.AskByte byte) one two three
-each_three (judged.Ask command) One Two Three All all one two three = all (step.Ask command) one two three
-each_three judged.Foreign One Two Three All all one two three = all step.Foreign one two three
-each_three judged.Ack One Two Three All all one two three = all step.Ack one two three
-each_three judged.Nak One Two Three All all one two three = all step.Nak one two three
-each_three (judged.ReplyByte byte) One Two Three All all one two three = all (step.ReplyByte byte) one two three
-each_three judged.Reply One Two Three All all one two three = λ reply. all (step.Reply reply) (one reply) (two reply) (three reply)
-each_three judged.VmcAck One Two Three All all one two three = all step.VmcAck one two three
-each_three judged.VmcNak One Two Three All all one two three = all step.VmcNak one two three
-each_three judged.VmcRet One Two Three All all one two three = all step.VmcRet one two three
-each_three (judged.RepeatWord word) One Two Three All all one two three = all (step.RepeatWord word) one two three
-each_three judged.Repeat One Two Three All all one two three = all step.Repeat one two three
-each_three (judged.Break length) One Two Three All all one two three = all (step.Break length) one two three
+-- what each step has by what each has
+pub each : (found : Judged) (One All : Step → Type 0) → ((next : Step) → One next → All next) → EachStep found One → EachStep found All
+each (judged.AskByte byte) One All all one = all (step.AskByte byte) one
+each judged.Ask One All all one = λ command. all (step.Ask command) (one command)
+each judged.Foreign One All all one = all step.Foreign one
+each judged.Ack One All all one = all step.Ack one
+each judged.Nak One All all one = all step.Nak one
+each (judged.ReplyByte byte) One All all one = all (step.ReplyByte byte) one
+each judged.Reply One All all one = λ reply. all (step.Reply reply) (one reply)
+each judged.VmcAck One All all one = all step.VmcAck one
+each judged.VmcNak One All all one = all step.VmcNak one
+each judged.VmcRet One All all one = all step.VmcRet one
+each (judged.RepeatWord word) One All all one = all (step.RepeatWord word) one
+each judged.Repeat One All all one = all step.Repeat one
+each (judged.Break length) One All all one = all (step.Break length) one
 
 -- a step that has what some step has and what each step has
 pub some_each : (found : Judged) (One Two : Step → Type 0) → SomeStep found One → EachStep found Two → (next : Step) × One next × Two next
 some_each (judged.AskByte byte) One Two one two = (step.AskByte byte, one, two)
-some_each (judged.Ask command) One Two one two = (step.Ask command, one, two)
+some_each judged.Ask One Two one two = (step.Ask one.0, one.1, two one.0)
 some_each judged.Foreign One Two one two = (step.Foreign, one, two)
 some_each judged.Ack One Two one two = (step.Ack, one, two)
 some_each judged.Nak One Two one two = (step.Nak, one, two)

@@ -1,9 +1,14 @@
 -- The bus behind a row: what it stands for, and why a row is refused.
-use Rattle.std.proofs.Common.{ap, sym, subst, ◌∙◌, ◌≡◌, ℕ, List, [], ◌∷◌, ◌++◌, Option, inl, inr}
+use Rattle.std.proofs.Common.{refl, ap, sym, subst, sum, ◌∙◌, ◌≡◌, ◌%◌, ℕ, List, [], ◌∷◌, ◌++◌, Option, inl, inr}
 use Rattle.mdb_words.specs.declared.event.Event.{Event}
 use Rattle.mdb_words.specs.declared.event.Event.TheVariants.{Word, Break}
 use Rattle.mdb_words.specs.declared.word.Line.{Line}
 use Rattle.mdb_words.specs.declared.word.Line.TheVariants.{Controller, Peripheral}
+use Rattle.std.proofs.lemmas.List.{same_from_push}
+use Rattle.mdb_blocks.specs.Block.{block_of}
+use Rattle.mdb_msgs.specs.declared.command.Command.{Command}
+use Rattle.mdb_msgs.specs.declared.command.Device.{Device}
+use Rattle.mdb_msgs.specs.Commands.{Spells, command_bytes}
 use Rattle.mdb_bus.specs.declared.act.Act.{Act}
 use Rattle.mdb_bus.specs.declared.bus.Bus.{Bus}
 use Rattle.mdb_bus.specs.declared.fault.Blame.{Blame}
@@ -14,7 +19,7 @@ use Rattle.mdb_bus.specs.Step as step
 use Rattle.mdb_bus.specs.ActLists.{Piece, Position, Quiet, InAsk, Asked, InReply, Replied, Returned, InRepeat, InForeign, IsRepeatFront, acts_of, with_act, events_of, last_of, levels_of, position_of}
 use Rattle.mdb_bus.specs.Bus.{GoesOn, HasGone, StandsFor, position_at}
 use Rattle.mdb_bus.specs.LinkFaults.{IsFirstBroken, IsLinkFault, Situation, asked_device, blame_of, situation_of}
-use Rattle.mdb_bus.specs.Steps.{IsAt, IsSound, Leads, WordLeads, act_after, asked_behind, levels_behind, pieces_after, position_after}
+use Rattle.mdb_bus.specs.Steps.{IsAt, IsSound, Leads, WordLeads, act_after, asked_behind, asked_with, levels_behind, levels_with, pieces_after, position_after}
 use Rattle.mdb_bus.specs.declared.judged.Judged.{Judged}
 use Rattle.mdb_bus.specs.Step.{EachStep, SomeStep}
 use Rattle.mdb_bus.proofs.EachSteps.{some_each}
@@ -33,11 +38,20 @@ same_situation bus pieces stands =
     ∙ (ap (λ l. make (position_at bus.place) l (levels_of pieces)) stands.last
     ∙ ap (λ v. make (position_at bus.place) bus.last v) stands.levels)
 
+-- the block of a command is its bytes so far and their sum
+sealed : (bytes : List ℕ) (word : ℕ) (command : Command) → Spells command (bytes ++ word ∷ []) → Spells command (block_of bytes)
+sealed bytes word command spelled =
+    let content = command_bytes command in
+    record {
+      fields = spelled.fields;
+      bytes = ap block_of (same_from_push bytes content word (sum content % 256) spelled.bytes).0;
+    }
+
 -- a step belongs to the position that it leads from
 word_at : (at : Position) (from : Option Event) (levels : Levels) (to : Event) (line : Line) (word : ℕ) (next : Step)
     → WordLeads at from levels to line word next → IsAt at next
 word_at at from levels to line word (step.AskByte byte) leads = tt
-word_at at from levels to line word (step.Ask command) leads = tt
+word_at (InAsk bytes) from levels to Controller word (step.Ask command) leads = sealed bytes word command leads.1
 word_at at from levels to line word step.Foreign leads = tt
 word_at at from levels to line word (step.Break length) leads = tt
 word_at (Asked command) from levels to line word step.Ack leads = tt
@@ -75,6 +89,55 @@ pub leads_at : (s : Situation) (row : Event) (next : Step) → Leads s row next 
 leads_at s (Word at line word) next leads = word_at s.position s.last s.levels (Word at line word) line word next leads
 leads_at s (Break at length) (step.Break lasted) leads = tt
 leads_at s (Break at length) next leads = absurd leads
+
+-- what the act that a step ends tells of the levels and of the device asked is what the step tells
+pub told : (at : Position) (next : Step) (levels : Levels) (asked : Option Device) → IsAt at next
+    → (levels_with (act_after at next) levels ≡ levels_behind levels next)
+    × (asked_with (act_after at next) asked ≡ asked_behind asked next)
+told Quiet (step.AskByte byte) levels asked there = (refl, refl)
+told Quiet step.Foreign levels asked there = (refl, refl)
+told Quiet (step.Break length) levels asked there = (refl, refl)
+told Quiet next levels asked there = absurd there
+told (InAsk bytes) (step.AskByte byte) levels asked there = (refl, refl)
+told (InAsk bytes) (step.Ask command) levels asked there = (refl, refl)
+told (InAsk bytes) step.Foreign levels asked there = (refl, refl)
+told (InAsk bytes) (step.Break length) levels asked there = (refl, refl)
+told (InAsk bytes) next levels asked there = absurd there
+told (Asked command) (step.AskByte byte) levels asked there = (refl, refl)
+told (Asked command) step.Ack levels asked there = (refl, refl)
+told (Asked command) step.Nak levels asked there = (refl, refl)
+told (Asked command) (step.ReplyByte byte) levels asked there = (refl, refl)
+told (Asked command) step.Foreign levels asked there = (refl, refl)
+told (Asked command) (step.Break length) levels asked there = (refl, refl)
+told (Asked command) next levels asked there = absurd there
+told (InReply command bytes) (step.AskByte byte) levels asked there = (refl, refl)
+told (InReply command bytes) (step.ReplyByte byte) levels asked there = (refl, refl)
+told (InReply command bytes) (step.Reply reply) levels asked there = (refl, refl)
+told (InReply command bytes) step.Foreign levels asked there = (refl, refl)
+told (InReply command bytes) (step.Break length) levels asked there = (refl, refl)
+told (InReply command bytes) next levels asked there = absurd there
+told (Replied command reply) (step.AskByte byte) levels asked there = (refl, refl)
+told (Replied command reply) step.VmcAck levels asked there = (refl, refl)
+told (Replied command reply) step.VmcNak levels asked there = (refl, refl)
+told (Replied command reply) step.VmcRet levels asked there = (refl, refl)
+told (Replied command reply) step.Foreign levels asked there = (refl, refl)
+told (Replied command reply) (step.Break length) levels asked there = (refl, refl)
+told (Replied command reply) next levels asked there = absurd there
+told (Returned command reply) (step.AskByte byte) levels asked there = (refl, refl)
+told (Returned command reply) (step.RepeatWord word) levels asked there = (refl, refl)
+told (Returned command reply) step.Foreign levels asked there = (refl, refl)
+told (Returned command reply) (step.Break length) levels asked there = (refl, refl)
+told (Returned command reply) next levels asked there = absurd there
+told (InRepeat command reply words) (step.AskByte byte) levels asked there = (refl, refl)
+told (InRepeat command reply words) (step.RepeatWord word) levels asked there = (refl, refl)
+told (InRepeat command reply words) step.Repeat levels asked there = (refl, refl)
+told (InRepeat command reply words) step.Foreign levels asked there = (refl, refl)
+told (InRepeat command reply words) (step.Break length) levels asked there = (refl, refl)
+told (InRepeat command reply words) next levels asked there = absurd there
+told InForeign (step.AskByte byte) levels asked there = (refl, refl)
+told InForeign step.Foreign levels asked there = (refl, refl)
+told InForeign (step.Break length) levels asked there = (refl, refl)
+told InForeign next levels asked there = absurd there
 
 -- the bus stands for one row more
 stands_by : (old new : Bus) (pieces : List Piece) (row : Event) (next : Step) (act : Option Act) → StandsFor old pieces

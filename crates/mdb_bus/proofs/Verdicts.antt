@@ -1,6 +1,5 @@
 -- What is made of a word, position by position.
 use Rattle.std.proofs.Common.{rules, arith, refl, ap, sym, subst, ◌∙◌, ◌≡◌, ◌≢◌, ◌+◌, ◌<◌, ◌≤◌, ◌%◌, ◌⊎◌, inl, inr, ℕ, zero, suc, List, [], ◌∷◌, ◌++◌, length, take, drop, slice_index, slice_get, sum, Option, Some, None, Result, Ok, Err, get_or, append_assoc, length-append, length-drop, Fits, w8}
-use Rattle.std.proofs.lemmas.List.{same_from_push}
 use Rattle.std.proofs.lemmas.List.Elements.{All-append, All-from_get_or, All-from_recursion}
 use Rattle.std.proofs.lemmas.Option.{slice_get-get_or, slice_get_past, slice_get_within}
 use Rattle.std.proofs.Math.Seq.{get_or-append_seam}
@@ -12,7 +11,7 @@ use Rattle.mdb_words.specs.declared.word.Line.TheVariants.{Controller, Periphera
 use Rattle.mdb_blocks.specs.Answer.{answer_byte}
 use Rattle.mdb_blocks.specs.declared.answer.Answer.{Answer}
 use Rattle.mdb_blocks.specs.declared.answer.Answer.TheVariants as answers
-use Rattle.mdb_blocks.specs.Block.{IsContent, block_of, controller_words, peripheral_words}
+use Rattle.mdb_blocks.specs.Block.{IsContent, block_of, peripheral_words}
 use Rattle.mdb_msgs.specs.declared.command.Command.{Command}
 use Rattle.mdb_msgs.specs.declared.fault.MsgFault.{MsgFault}
 use Rattle.mdb_msgs.specs.declared.fault.MsgFault.TheVariants as reading
@@ -24,15 +23,13 @@ use Rattle.mdb_msgs.specs.Answers.{HasDataAnswer, IsDataLength}
 use Rattle.mdb_msgs.specs.Commands.{IsByte, Spells}
 use Rattle.mdb_msgs.specs.Laws.{BytesHaveOneFault, FrontIsOpen, OpenIsAFront, ReplyHasNoFault}
 use Rattle.mdb_msgs.specs.Needs.{IsOpen, IsShort, needed}
-use Rattle.mdb_msgs.specs.Replies.{IsReadFault, SpellsReply, form_of_reply, reply_bytes}
+use Rattle.mdb_msgs.specs.Replies.{IsReadFault, IsReplyTo, form_of_reply, reply_bytes}
 use Rattle.mdb_bus.specs.declared.fault.Rule.{Rule}
 use Rattle.mdb_bus.specs.declared.fault.Rule.TheVariants as rule
 use Rattle.mdb_bus.specs.declared.levels.Levels.{Levels}
 use Rattle.mdb_bus.specs.declared.place.Place.{Place}
-use Rattle.mdb_bus.specs.Step.{Step}
 use Rattle.mdb_bus.specs.declared.judged.Judged.{Judged}
 use Rattle.mdb_bus.specs.declared.judged.Judged.TheVariants as judged
-use Rattle.mdb_bus.specs.Step as step
 use Rattle.mdb_bus.specs.Acts.{IsForeignOpening, IsReply, reply_words}
 use Rattle.mdb_bus.specs.ActLists.{Asked, InAsk, InReply, IsAskFront, IsRepeatFront, NotBefore, NotBehind}
 use Rattle.mdb_bus.specs.declared.place.Phase.{Phase}
@@ -208,24 +205,13 @@ pub further_end : FrontIsOpen → (bytes : List ℕ) (told : Need) → 2 ≤ len
 further_end law bytes told two is most front =
     ended bytes (needed bytes) two refl (open_front law bytes front) (λ n exact. most n (is ∙ exact))
 
--- the last word of a block of the controller
-pub ask_sum : (bytes : List ℕ) → 0 < length bytes
-    → slice_index (controller_words (block_of bytes)) (length bytes) ≡ sum bytes % 256
-ask_sum [] some = absurd (omega arith)
-ask_sum (byte ∷ bytes) some = get_or-append_seam bytes (sum (byte ∷ bytes) % 256) [] 0
-
-pub ask_whole : (bytes content block : List ℕ) (word last : ℕ) (command : Command) → content ≡ bytes
-    → 0 < length content → block ≡ block_of bytes
-    → last ≡ slice_index (controller_words block) (length content) → word ≡ last → Spells command block
-    → Spells command (bytes ++ word ∷ [])
-ask_whole bytes content block word last command is some sealed ends same spelled =
-    let here : last ≡ slice_index (controller_words (block_of bytes)) (length content) =
-    ends ∙ ap (λ b. slice_index (controller_words b) (length content)) sealed in
-    let there : last ≡ slice_index (controller_words (block_of bytes)) (length bytes) =
-    here ∙ ap (λ bs. slice_index (controller_words (block_of bytes)) (length bs)) is in
-    let total : word ≡ sum bytes % 256 = same ∙ (there ∙ ask_sum bytes (omega (arith, ap length is))) in
-    let P : List ℕ → Type 0 = λ b. Spells command b in
-    subst P (sealed ∙ ap (λ w. bytes ++ w ∷ []) (sym total)) spelled
+-- bytes that need their sum alone are with it the block of a command
+pub ask_whole : WhatItNeeds → (bytes : List ℕ) (word : ℕ) → All IsByte bytes → needed bytes ≡ Exactly (length bytes + 1)
+    → word ≡ sum bytes % 256 → (command : Command) × Spells command (bytes ++ word ∷ [])
+ask_whole law bytes word low told total =
+    let found = law bytes low told in
+    let P : List ℕ → Type 0 = λ b. Spells found.0 b in
+    (found.0, subst P (ap (λ w. bytes ++ w ∷ []) (sym total)) found.1)
 
 -- a controller's word inside its block breaks a rule
 abbrev AskBreaks : List ℕ → Option Event → ℕ → ℕ → Levels → Rule → Type 0
@@ -241,10 +227,10 @@ going_on bytes from at word levels (Ok (judged.AskByte byte)) order early late s
     let soon = in_time WORD_GAP_MIN from (Word at Controller word) early in
     let near = not_late BLOCK_GAP_MAX from (Word at Controller word) late in
     (h.0, small, h.1, (soon, near))
-going_on bytes from at word levels (Ok (judged.Ask command)) order early late small h =
+going_on bytes from at word levels (Ok judged.Ask) order early late small h =
     let soon = in_time WORD_GAP_MIN from (Word at Controller word) early in
     let near = not_late BLOCK_GAP_MAX from (Word at Controller word) late in
-    (small, h, (soon, near))
+    (h.0, (small, h.1, (soon, near)))
 going_on bytes from at word levels (Ok judged.Foreign) order early late small h =
     let soon = in_time WORD_GAP_MIN from (Word at Controller word) early in
     let near = not_late BLOCK_GAP_MAX from (Word at Controller word) late in
@@ -281,53 +267,12 @@ pub reply_sum : (bytes : List ℕ)
 reply_sum bytes = ap (λ words. slice_index words (length bytes)) (peripheral_push bytes (sum bytes % 256))
     ∙ get_or-append_seam bytes (256 + sum bytes % 256) [] 0
 
-pub right_sum : (bytes content block : List ℕ) (word last : ℕ) → content ≡ bytes → block ≡ block_of bytes
-    → last ≡ slice_index (peripheral_words block) (length content)
-    → word ≡ last → word ≡ 256 + sum bytes % 256
-right_sum bytes content block word last is sealed ends same =
-    let here : last ≡ slice_index (peripheral_words (block_of bytes)) (length content) =
-    ends ∙ ap (λ b. slice_index (peripheral_words b) (length content)) sealed in
-    let there : last ≡ slice_index (peripheral_words (block_of bytes)) (length bytes) =
-    here ∙ ap (λ bs. slice_index (peripheral_words (block_of bytes)) (length bs)) is in
-    same ∙ (there ∙ reply_sum bytes)
-
-pub wrong_sum : (bytes content block : List ℕ) (word last : ℕ) → content ≡ bytes → block ≡ block_of bytes
-    → last ≡ slice_index (peripheral_words block) (length content)
-    → (word ≡ last → ⊥) → word ≢ 256 + sum bytes % 256
-wrong_sum bytes content block word last is sealed ends other total =
-    other (total ∙ sym (right_sum bytes content block last last is sealed ends refl))
-
--- two contents of one block are one
-pub same_content : (one other : List ℕ) → block_of one ≡ block_of other → one ≡ other
-same_content one other is = (same_from_push one other (sum one % 256) (sum other % 256) is).0
-
--- the content of a sealed block
-pub sealed_content : (bytes content block : List ℕ) → block ≡ block_of content → block ≡ block_of bytes
-    → content ≡ bytes
-sealed_content bytes content block is sealed = same_content content bytes (sym is ∙ sealed)
-
--- a reply that a block spells is one with the block's content
-pub is_reply : (command : Command) (bytes content block : List ℕ) (reply : Reply) → IsContent content
-    → block ≡ block_of content → block ≡ block_of bytes
-    → SpellsReply command reply block → IsReply command reply × (bytes ≡ reply_bytes reply)
-is_reply command bytes content block reply is whole sealed spelled =
-    let same : bytes ≡ reply_bytes reply = sealed_content (reply_bytes reply) bytes block sealed spelled.bytes in
-    let here : content ≡ reply_bytes reply = sealed_content (reply_bytes reply) content block whole spelled.bytes in
+-- a reply with the bytes of a block is one with the block's content
+pub is_reply : (command : Command) (bytes : List ℕ) (reply : Reply) → IsContent bytes → IsReplyTo command reply
+    → bytes ≡ reply_bytes reply → IsReply command reply
+is_reply command bytes reply is answers same =
     let P : List ℕ → Type 0 = λ bs. IsContent bs in
-    (record { answers = spelled.answers; content = subst P here is }, same)
-
--- a block that is as long as it needs to be has a command
-pub is_read : WhatItNeeds → (bytes content block : List ℕ) (read : Result Command MsgFault) (fault : MsgFault)
-    → IsContent content → block ≡ block_of content → block ≡ block_of bytes
-    → needed bytes ≡ Exactly (length bytes + 1) → ((command : Command) → Spells command block → read ≡ Ok command)
-    → read ≡ Err fault → ⊥
-is_read law bytes content block read fault is whole sealed told only bad =
-    let Low : List ℕ → Type 0 = λ bs. All IsByte bs in
-    let found = law bytes (subst Low (sealed_content bytes content block whole sealed) is.in_range) told in
-    let P : List ℕ → Type 0 = λ b. Spells found.0 b in
-    let good : read ≡ Ok found.0 = only found.0 (subst P (sym sealed) found.1) in
-    let clash : Ok found.0 ≡ Err fault = sym good ∙ bad in
-    cc
+    record { answers = answers; content = subst P same is }
 
 -- what isn't read of an allowed number of bytes has no fault in that number
 length_read : (command : Command) (bytes : List ℕ) → HasDataAnswer command (length bytes)
@@ -372,14 +317,12 @@ unread_by command bytes levels word reading.Message has total bad = (has, total,
 unread_by command bytes levels word reading.Profile has total bad = inl (has, total, bad)
 unread_by command bytes levels word reading.Answer has total bad = (has, total, bad)
 
-pub unread : (command : Command) (bytes block : List ℕ) (levels : Levels) (word : ℕ) (fault : MsgFault) (told : Rule)
-    → HasDataAnswer command (length bytes)
-    → word ≡ 256 + sum bytes % 256 → block ≡ block_of bytes
-    → ((content : List ℕ) → block ≡ block_of content → IsReadFault command content fault) → told ≡ rule_of fault
-    → IsReplyEnd command bytes levels word (Err told)
-unread command bytes block levels word fault told has total sealed bad is =
+pub unread : (command : Command) (bytes : List ℕ) (levels : Levels) (word : ℕ) (fault : MsgFault) (told : Rule)
+    → HasDataAnswer command (length bytes) → word ≡ 256 + sum bytes % 256
+    → IsReadFault command bytes fault → told ≡ rule_of fault → IsReplyEnd command bytes levels word (Err told)
+unread command bytes levels word fault told has total bad is =
     let P : Rule → Type 0 = λ r. IsReplyEnd command bytes levels word (Err r) in
-    subst P (sym is) (unread_by command bytes levels word fault has total (bad bytes sealed))
+    subst P (sym is) (unread_by command bytes levels word fault has total bad)
 
 -- a marked word ends a reply of a right number of bytes
 length_right : (command : Command) (bytes : List ℕ) (at word : ℕ) → 256 ≤ word → HasDataAnswer command (length bytes)

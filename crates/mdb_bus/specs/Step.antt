@@ -6,7 +6,7 @@ use Rattle.mdb_msgs.specs.declared.reply.Reply.{Reply as Data}
 use Rattle.mdb_bus.specs.declared.judged.Judged.{Judged}
 use Rattle.mdb_bus.specs.declared.judged.Judged.TheVariants as judged
 
--- A step of the bus. The last word of a reply tells the reply.
+-- A step of the bus. The last word of a block tells its command, and that of a reply the reply.
 pub data Step : Type 0 where
   AskByte : ℕ → Step
   Ask : Command → Step
@@ -22,10 +22,10 @@ pub data Step : Type 0 where
   Repeat : Step
   Break : ℕ → Step
 
--- the step that was judged has this, whichever reply it tells
+-- the step that was judged has this, whichever command or reply it tells
 abbrev pub EachStep : Judged → (Step → Type 0) → Type 0
 EachStep (judged.AskByte byte) Has = Has (AskByte byte)
-EachStep (judged.Ask command) Has = Has (Ask command)
+EachStep judged.Ask Has = (command : Command) → Has (Ask command)
 EachStep judged.Foreign Has = Has Foreign
 EachStep judged.Ack Has = Has Ack
 EachStep judged.Nak Has = Has Nak
@@ -38,11 +38,11 @@ EachStep (judged.RepeatWord word) Has = Has (RepeatWord word)
 EachStep judged.Repeat Has = Has Repeat
 EachStep (judged.Break length) Has = Has (Break length)
 
--- the step that was judged has this, for some reply that it tells
+-- the step that was judged has this, for some command or reply that it tells
 abbrev pub SomeStep : Judged → (Step → Type 0) → Type 0
 SomeStep judged.Reply Has = (reply : Data) × Has (Reply reply)
 SomeStep (judged.AskByte byte) Has = Has (AskByte byte)
-SomeStep (judged.Ask command) Has = Has (Ask command)
+SomeStep judged.Ask Has = (command : Command) × Has (Ask command)
 SomeStep judged.Foreign Has = Has Foreign
 SomeStep judged.Ack Has = Has Ack
 SomeStep judged.Nak Has = Has Nak

@@ -7,6 +7,7 @@ use Rattle.mdb_words.specs.declared.event.Event.TheVariants.{Word, Break}
 use Rattle.mdb_words.specs.declared.word.Line.{Line}
 use Rattle.mdb_words.specs.declared.word.Line.TheVariants.{Controller, Peripheral}
 use Rattle.mdb_blocks.specs.Answer.{answer_word}
+use Rattle.mdb_blocks.specs.Block.{block_of}
 use Rattle.mdb_blocks.specs.declared.answer.Answer.TheVariants as answers
 use Rattle.mdb_msgs.specs.declared.command.Command.{Command}
 use Rattle.mdb_msgs.specs.declared.command.Device.{Device}
@@ -23,7 +24,6 @@ use Rattle.mdb_bus.specs.declared.act.Act.TheVariants as acts
 use Rattle.mdb_bus.specs.declared.fault.Rule.{Rule}
 use Rattle.mdb_bus.specs.declared.fault.Rule.TheVariants as rule
 use Rattle.mdb_bus.specs.declared.levels.Levels.{Levels}
-use Rattle.mdb_bus.specs.declared.place.Place.{Place}
 use Rattle.mdb_bus.specs.declared.place.Phase.{Phase}
 use Rattle.mdb_bus.specs.declared.place.Phase.TheVariants as phase
 use Rattle.mdb_bus.specs.declared.judged.Judged.{Judged}
@@ -163,7 +163,7 @@ IsOpened least from to word (Err _) = ⊥
 -- what is made of an unmarked word that comes in time inside a block of the controller
 abbrev pub IsGoingOn : List ℕ → ℕ → Result Judged Rule → Type 0
 IsGoingOn bytes word (Ok (judged.AskByte byte)) = (word ≡ byte) × IsAskFront (bytes ++ byte ∷ [])
-IsGoingOn bytes word (Ok (judged.Ask command)) = Spells command (bytes ++ word ∷ [])
+IsGoingOn bytes word (Ok judged.Ask) = (command : Command) × Spells command (bytes ++ word ∷ [])
 IsGoingOn bytes word (Ok judged.Foreign) = IsForeignOpening (bytes ++ word ∷ [])
 IsGoingOn bytes word (Ok _) = ⊥
 IsGoingOn bytes word (Err rule.Sum) =
@@ -270,10 +270,21 @@ asked_behind asked step.Foreign = None
 asked_behind asked (step.Break length) = None
 asked_behind asked _ = asked
 
+-- the same, told from the act that the step ends
+abbrev pub levels_with : Option Act → Levels → Levels
+levels_with (Some (acts.Ask command)) levels = levels_after command levels
+levels_with _ levels = levels
+
+abbrev pub asked_with : Option Act → Option Device → Option Device
+asked_with (Some (acts.Ask command)) asked = Some (device_of command)
+asked_with (Some acts.Foreign) asked = None
+asked_with (Some (acts.Break length)) asked = None
+asked_with _ asked = asked
+
 -- a step belongs to a position
 abbrev pub IsAt : Position → Step → Type 0
 IsAt position (step.AskByte byte) = Unit {0}
-IsAt position (step.Ask command) = Unit {0}
+IsAt (InAsk bytes) (step.Ask command) = Spells command (block_of bytes)
 IsAt position step.Foreign = Unit {0}
 IsAt (Asked command) step.Ack = Unit {0}
 IsAt (Asked command) step.Nak = Unit {0}

@@ -2,7 +2,7 @@
 
 ghost use Rattle.std.specs.Prelude.{◌≡◌, [], ◌∷◌, ◌++◌, ℕ, List, IfOk, IfErr, OnErr};
 ghost use Rattle.mdb_bus.specs.Step.{EachStep};
-ghost use Rattle.mdb_bus.specs.Steps as steps;
+ghost use Rattle.mdb_bus.specs.Steps.{asked_with, levels_with};
 
 use super::act::Act;
 use super::fault::{Blame, LinkFault, Rule};
@@ -74,10 +74,11 @@ impl Bus {
         ensures { EachStep judged (λ next. IsAt (position_at self.old.place) next
             → HasGone self.old next event self.new result) }
     {
-        self.levels = levels_behind(&self.levels, &judged);
-        self.asked = asked_behind(&self.asked, &judged);
+        let act = self.place.advance(judged);
+        self.levels = levels_behind(self.levels, &act);
+        self.asked = asked_behind(self.asked, &act);
         self.last = Some(event);
-        self.place.advance(judged)
+        act
     }
 
     /// The fault of a row that breaks a rule.
@@ -91,6 +92,7 @@ impl Bus {
         };
         LinkFault { rule, blame }
     }
+
     /// Who is to blame for a word on a line.
     fn blame(&self, line: Line, rule: Rule) -> Blame
         ensures { (at word : ℕ)
@@ -104,23 +106,23 @@ impl Bus {
     }
 }
 
-/// The levels behind a step.
-fn levels_behind(levels: &Levels, judged: &Judged) -> Levels
-    ensures { EachStep judged.now (λ next. result ≡ steps.levels_behind levels.now next) }
+/// The levels behind the act that a row ends, if it ends one.
+fn levels_behind(levels: Levels, act: &Option<Act>) -> Levels
+    ensures { result ≡ levels_with act.now levels }
 {
-    match judged {
-        Judged::Ask(command) => levels.after(*command),
-        _ => *levels,
+    match act {
+        Some(Act::Ask(command)) => levels.after(*command),
+        _ => levels,
     }
 }
 
-/// The device that was asked last, behind a step.
-fn asked_behind(asked: &Option<Device>, judged: &Judged) -> Option<Device>
-    ensures { EachStep judged.now (λ next. result ≡ steps.asked_behind asked.now next) }
+/// The device that was asked last, behind the act that a row ends, if it ends one.
+fn asked_behind(asked: Option<Device>, act: &Option<Act>) -> Option<Device>
+    ensures { result ≡ asked_with act.now asked }
 {
-    match judged {
-        Judged::Ask(command) => Some(command.device()),
-        Judged::Foreign | Judged::Break(_) => None,
-        _ => *asked,
+    match act {
+        Some(Act::Ask(command)) => Some(command.device()),
+        Some(Act::Foreign | Act::Break(_)) => None,
+        _ => asked,
     }
 }

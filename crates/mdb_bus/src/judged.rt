@@ -1,6 +1,5 @@
 //! What a row that breaks no rule does.
 
-use mdb_msgs::Command;
 use mdb_words::Word;
 
 /// What a row does that breaks no rule.
@@ -8,8 +7,8 @@ use mdb_words::Word;
 pub enum Judged {
     /// A byte of a command's block, which has more to come: its first, or a further one.
     AskByte(u8),
-    /// The last word of a command's block.
-    Ask(Command),
+    /// The last word of a command's block, which the bytes so far tell.
+    Ask,
     /// What opens a foreign block, or a word behind it.
     Foreign,
     /// The peripheral's ACK.

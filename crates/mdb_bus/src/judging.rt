@@ -1,9 +1,10 @@
 //! What is made of a row: one small function for each place of the bus and each side.
 
-ghost use Rattle.std.specs.Prelude.{◌≡◌, ◌+◌, ◌<◌, ◌≤◌, ◌^◌, ◌∷◌, [], ℕ, List, length, IfOk, IsErr};
+ghost use Rattle.std.specs.Prelude.{◌≡◌, ◌+◌, ◌<◌, ◌≤◌, ◌^◌, ◌∷◌, [], ℕ, List, All, length, IfOk, IsErr};
 ghost use Rattle.mdb_msgs.specs.declared.command.Command.{Command};
 ghost use Rattle.mdb_msgs.specs.declared.needs.Need.TheVariants.{Exactly};
 ghost use Rattle.mdb_msgs.specs.declared.reply.Reply.{Reply};
+ghost use Rattle.mdb_msgs.specs.Commands.{IsByte};
 ghost use Rattle.mdb_msgs.specs.Needs.{needed};
 ghost use Rattle.mdb_bus.specs.declared.levels.Levels.{Levels};
 ghost use Rattle.mdb_bus.specs.declared.place.Phase.{Phase};
@@ -19,8 +20,8 @@ use super::gaps::{is_before, is_behind, is_out_of_order};
 use super::judged::Judged;
 use super::levels::Levels;
 use super::place::{Begun, Exchange, Phase, Place};
-use mdb_blocks::Answer;
-use mdb_msgs::{Command, MsgFault, Need, laws, need_of, read_command, read_reply};
+use mdb_blocks::{Answer, sum_of};
+use mdb_msgs::{Command, MsgFault, Need, laws, need_of, reply_of};
 use mdb_words::{
     ANSWER_GAP_MAX, BLOCK_GAP_MAX, BREAK_LENGTH_MIN, Event, Line, NEW_BLOCK_GAP_MIN, SETUP_GAP_MIN,
     Span, Time, WORD_GAP_MIN, Word,
@@ -245,15 +246,18 @@ fn end_ask(bytes: &Begun, word: Word) -> Result<Judged, Rule>
     ensures room { IfOk result (HasRoom (Phase.InAsk bytes.now)) }
 {
     laws::what_it_needs_is_a_command();
-    let block = bytes.sealed();
-    if word != block.word(Line::Controller, block.content().len()) {
-        return Err(Rule::Sum);
-    }
-    match read_command(&block) {
-        Ok(command) => Ok(Judged::Ask(command)),
-        Err(fault) => Err(rule_of(fault)),
+    see_bytes(bytes.as_slice());
+    if word.byte() == sum_of(bytes.as_slice()) {
+        Ok(Judged::Ask)
+    } else {
+        Err(Rule::Sum)
     }
 }
+
+/// Each element of the slice is a byte, as its type says.
+fn see_bytes(_bytes: &[u8])
+    ensures { All IsByte _bytes.now }
+{}
 
 /// A peripheral's first word in answer to a command.
 fn answer(command: Command, from: &Option<Event>, at: Time, word: Word) -> Result<Judged, Rule>
@@ -366,11 +370,11 @@ fn end_reply(command: Command, bytes: &Begun, levels: Levels, word: Word) -> Res
     if !command.has_data_answer(bytes.as_slice().len()) {
         return Err(Rule::Length);
     }
-    let block = bytes.sealed();
-    if word != block.word(Line::Peripheral, block.content().len()) {
+    see_bytes(bytes.as_slice());
+    if word.byte() != sum_of(bytes.as_slice()) {
         return Err(Rule::Sum);
     }
-    match read_reply(&command, &block) {
+    match reply_of(&command, bytes.as_slice()) {
         Err(fault) => Err(rule_of(fault)),
         Ok(reply) => {
             if levels.fit(command, &reply) {

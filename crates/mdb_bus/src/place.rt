@@ -8,7 +8,7 @@ use super::act::Act;
 use super::judged::Judged;
 use arrayvec::ArrayVec;
 use mdb_blocks::{Block, seal};
-use mdb_msgs::{ChangerCommand, ChangerMsg, Command, Reply, read_reply};
+use mdb_msgs::{ChangerCommand, ChangerMsg, Command, Reply, command_of, reply_of};
 use mdb_words::Word;
 use std::marker::Model;
 use std::mem;
@@ -143,10 +143,7 @@ impl Place {
                 self.add_to_ask(byte);
                 None
             }
-            Judged::Ask(command) => {
-                self.phase = Phase::Asked(command);
-                Some(Act::Ask(command))
-            }
+            Judged::Ask => self.end_ask(),
             Judged::Foreign => {
                 self.phase = Phase::InForeign;
                 Some(Act::Foreign)
@@ -184,6 +181,19 @@ impl Place {
         }
     }
 
+    /// The controller's block has ended.
+    fn end_ask(&mut self) -> Option<Act>
+        ensures { (command : Command) → IsAt (position_at self.old) (step.Ask command)
+            → HasAdvanced (position_at self.old) (step.Ask command) (position_at self.new) result }
+    {
+        let Phase::InAsk(bytes) = &self.phase else {
+            return None;
+        };
+        let command = command_of(bytes.as_slice()).ok()?;
+        self.phase = Phase::Asked(command);
+        Some(Act::Ask(command))
+    }
+
     /// Adds a byte to the reply, or begins one with it.
     fn add_to_reply(&mut self, byte: u8)
         requires { HasRoom self.old.phase (Judged.ReplyByte byte) }
@@ -217,7 +227,7 @@ impl Place {
     {
         match mem::replace(&mut self.phase, Phase::Replied) {
             Phase::InReply(command, bytes) => {
-                let reply = read_reply(&command, &bytes.sealed()).ok()?;
+                let reply = reply_of(&command, bytes.as_slice()).ok()?;
                 let act = Act::Reply(command, reply.copy());
                 self.exchange = Exchange {
                     command,

@@ -223,6 +223,13 @@ only_reply command block content (Err a) e is fault other h =
     let P : List ℕ → Type 0 = λ x. IsReadFault command x a in
     absurd (reply_has_no_fault command other a h.answers (subst P (one_content content (reply_bytes other) (sym e ∙ h.bytes)) fault))
 
+-- bytes are read as the only reply that they are
+pub only_content : (command : Command) (content : List ℕ) (result : Result Reply MsgFault) → IfOk result (IsReplyTo command) → IfOk result (λ found. content ≡ reply_bytes found) → IfErr result (IsReadFault command content) → (other : Reply) → IsReplyTo command other → content ≡ reply_bytes other → result ≡ Ok other
+only_content command content (Ok found) is spelled fault other to same = ap Ok (one_answer command found other is.answer to.answer (sym spelled ∙ same))
+only_content command content (Err a) is spelled fault other to same =
+    let P : List ℕ → Type 0 = λ x. IsReadFault command x a in
+    absurd (reply_has_no_fault command other a to (subst P same fault))
+
 -- the fault in reading a block is that of its content, which is one
 pub read_fault : (command : Command) (block content : List ℕ) (result : Result Reply MsgFault) → block ≡ block_of content → IfErr result (IsReadFault command content) → IfErr result (λ fault. (other : List ℕ) → block ≡ block_of other → IsReadFault command other fault)
 read_fault command block content (Ok found) e fault = fault

@@ -24,8 +24,22 @@ pub fn read_command(block: &Block) -> Result<Command, MsgFault>
     command_of(block.content())
 }
 
-/// The command whose bytes these are.
-fn command_of(content: &[u8]) -> Result<Command, MsgFault>
+/// The command whose block carries these bytes, its sum left out: `read_command` for one who has
+/// the bytes alone. The faults are those of the block that carries them.
+pub fn command_of(content: &[u8]) -> Result<Command, MsgFault>
+    requires { 0 < length content.now }
+    ensures command { IfOk result (λ command. Spells command (block_of content.now)) }
+    ensures only { (command : Command) →
+        Spells command (block_of content.now) → result ≡ Ok command }
+    ensures fault { IfErr result (IsCommandFault (block_of content.now)) }
+    ensures refused { (fault : MsgFault) →
+        IsCommandFault (block_of content.now) fault → result ≡ Err fault }
+{
+    device_command(content)
+}
+
+/// The command of a device whose bytes these are.
+fn device_command(content: &[u8]) -> Result<Command, MsgFault>
     requires { 0 < length content.now }
     ensures command { IfOk result (λ command. Spells command (block_of content.now)) }
     ensures fault { IfErr result (IsCommandFault (block_of content.now)) }

@@ -15,7 +15,7 @@ mod two_bytes;
 
 pub use answer::AnswerForm;
 pub use command::{BillCommand, ChangerCommand, Command, Device, ReaderCommand, ReaderUnit};
-pub use command_reading::read_command;
+pub use command_reading::{command_of, read_command};
 pub use command_writing::write_command;
 pub use fault::MsgFault;
 pub use needs::{Need, need_of};
@@ -23,4 +23,4 @@ pub use reply::bill::BillMsg;
 pub use reply::changer::ChangerMsg;
 pub use reply::reader::{ReaderList, ReaderMsg};
 pub use reply::setup::{BillSetup, ChangerSetup, Stacker, TubeStatus};
-pub use reply::{Reply, read_reply, write_reply};
+pub use reply::{Reply, read_reply, reply_of, write_reply};

@@ -182,6 +182,20 @@ fn read_form(form: AnswerForm, bytes: &[u8]) -> Result<Reply, MsgFault>
     })
 }
 
+/// The reply to a command that these data bytes are, their sum left out: `read_reply` for one who
+/// has the bytes alone, with the same faults.
+pub fn reply_of(command: &Command, content: &[u8]) -> Result<Reply, MsgFault>
+    ensures found { IfOk result (IsReplyTo command.now) }
+    ensures spelled { IfOk result (λ reply. content.now ≡ reply_bytes reply) }
+    ensures only { (reply : Reply) →
+        IsReplyTo command.now reply → content.now ≡ reply_bytes reply → result ≡ Ok reply }
+    ensures fault { IfErr result (IsReadFault command.now content.now) }
+    ensures refused { (fault : MsgFault) →
+        IsReadFault command.now content.now fault → result ≡ Err fault }
+{
+    read_content(command, content)
+}
+
 /// The reply to a command that these data bytes are.
 fn read_content(command: &Command, content: &[u8]) -> Result<Reply, MsgFault>
     ensures found { IfOk result (IsReplyTo command.now) }
@@ -218,7 +232,7 @@ pub fn read_reply(command: &Command, block: &Block) -> Result<Reply, MsgFault>
         block.now ≡ block_of content → IsReadFault command.now content fault →
         result ≡ Err fault }
 {
-    read_content(command, block.content())
+    reply_of(command, block.content())
 }
 
 /// The block that carries bytes, of which there are 1 to 35.

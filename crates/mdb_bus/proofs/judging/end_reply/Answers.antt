@@ -1,53 +1,33 @@
-use Rattle.std.proofs.Common.{rules, ◌≡◌, ◌+◌, ◌%◌, length, sum, inr, true}
-use Rattle.mdb_msgs.specs.Answers.{HasDataAnswer}
+use Rattle.std.proofs.Common.{rules, sym, subst, ◌∙◌, ◌≡◌, ◌+◌, ◌%◌, ◌≤◌, length, List, ℕ, All, sum, inr, true}
+use Rattle.mdb_blocks.specs.Block.{IsContent}
+use Rattle.mdb_msgs.specs.Commands.{IsByte}
 use Rattle.mdb_bus.specs.ActLists.{IsLow, level_for, tells_high}
-use Rattle.mdb_bus.proofs.Verdicts.{is_reply, right_sum, sealed_content, unread, wrong_sum}
+use Rattle.mdb_bus.proofs.Verdicts.{is_reply}
 use Rattle.mdb_bus.proofs.judging.end_reply.Goals as goal
 
-pub returns-then-ne : goal.returns-then-ne
-returns-then-ne c =
-    let content = sealed_content c.args.bytes.now c.content.result.now c.sealed-block.result c.content.ensures.block
-    c.sealed-block.ensures in
-    let other : c.args.word ≡ c.word.result → ⊥ = search rules in (
-      search rules,
-      wrong_sum c.args.bytes.now c.content.result.now c.sealed-block.result c.args.word c.word.result
-          content c.sealed-block.ensures c.word.ensures other,
-    )
-
-pub returns-in-Err : goal.returns-in-Err
-returns-in-Err c =
-    let content = sealed_content c.args.bytes.now c.content.result.now c.sealed-block.result c.content.ensures.block
-    c.sealed-block.ensures in
-    let same : c.args.word ≡ c.word.result = search rules in
-    let total : c.args.word ≡ 256 + sum c.args.bytes.now % 256 =
-    right_sum c.args.bytes.now c.content.result.now c.sealed-block.result c.args.word c.word.result content
-    c.sealed-block.ensures c.word.ensures same in
-    let has : HasDataAnswer c.args.command (length c.args.bytes.now) = search rules in
-    unread c.args.command c.args.bytes.now c.sealed-block.result c.args.levels c.args.word c.in-Err.fault
-    c.rule_of.result has total c.sealed-block.ensures c.in-Err.ensures.fault c.rule_of.ensures
+-- the bytes of a begun block are the content of one
+pub content : (bytes slice : List ℕ) → slice ≡ bytes → All IsByte slice → 1 ≤ length bytes → length bytes ≤ 35
+    → IsContent bytes
+content bytes slice same low some few =
+    let Low : List ℕ → Type 0 = λ bs. All IsByte bs in
+    record { at_least = some; at_most = few; in_range = subst Low same low }
 
 pub returns-then-fit : goal.returns-then-fit
 returns-then-fit c =
-    let content = sealed_content c.args.bytes.now c.content.result.now c.sealed-block.result c.content.ensures.block
-    c.sealed-block.ensures in
-    let same : c.args.word ≡ c.word.result = search rules in
-    let total : c.args.word ≡ 256 + sum c.args.bytes.now % 256 =
-    right_sum c.args.bytes.now c.content.result.now c.sealed-block.result c.args.word c.word.result content
-    c.sealed-block.ensures c.word.ensures same in
-    let reply = is_reply c.args.command c.args.bytes.now c.content.result.now c.sealed-block.result c.in-Ok.reply
-    c.content.ensures.content c.content.ensures.block c.sealed-block.ensures c.in-Ok.ensures.found in
-    (c.in-Ok.reply, total, reply.0, reply.1, search rules)
+    let is = content c.args.bytes.now c.as_slice-2.result.now c.as_slice-2.ensures.bytes
+    c.see_bytes.ensures c.as_slice.ensures.some c.as_slice.ensures.few in
+    let total : c.args.word ≡ 256 + sum c.args.bytes.now % 256 = search rules in
+    let same = sym c.as_slice-4.ensures.bytes ∙ c.in-Ok.ensures.spelled in
+    let reply = is_reply c.args.command c.args.bytes.now c.in-Ok.reply is c.in-Ok.ensures.found same in
+    (c.in-Ok.reply, total, reply, same, search rules)
 
 pub returns-else-fit : goal.returns-else-fit
 returns-else-fit c =
-    let content = sealed_content c.args.bytes.now c.content.result.now c.sealed-block.result c.content.ensures.block
-    c.sealed-block.ensures in
-    let same : c.args.word ≡ c.word.result = search rules in
-    let total : c.args.word ≡ 256 + sum c.args.bytes.now % 256 =
-    right_sum c.args.bytes.now c.content.result.now c.sealed-block.result c.args.word c.word.result content
-    c.sealed-block.ensures c.word.ensures same in
-    let reply = is_reply c.args.command c.args.bytes.now c.content.result.now c.sealed-block.result c.in-Ok.reply
-    c.content.ensures.content c.content.ensures.block c.sealed-block.ensures c.in-Ok.ensures.found in
+    let is = content c.args.bytes.now c.as_slice-2.result.now c.as_slice-2.ensures.bytes
+    c.see_bytes.ensures c.as_slice.ensures.some c.as_slice.ensures.few in
+    let total : c.args.word ≡ 256 + sum c.args.bytes.now % 256 = search rules in
+    let same = sym c.as_slice-4.ensures.bytes ∙ c.in-Ok.ensures.spelled in
+    let reply = is_reply c.args.command c.args.bytes.now c.in-Ok.reply is c.in-Ok.ensures.found same in
     let both : (tells_high c.in-Ok.reply ≡ true) × (IsLow (level_for c.args.command c.args.levels) → ⊥) =
     search rules in
-    inr (total, (c.in-Ok.reply, reply.0, reply.1, both.0, both.1))
+    inr (total, (c.in-Ok.reply, reply, same, both.0, both.1))

@@ -1,16 +1,23 @@
-use Rattle.std.proofs.Common.{◌≡◌, refl}
-use Rattle.mdb_bus.specs.Bus.{HasGone, position_at}
-use Rattle.mdb_bus.specs.Step.{Step}
-use Rattle.mdb_bus.specs.Steps.{HasAdvanced, IsAt, asked_behind, levels_behind}
-use Rattle.mdb_bus.proofs.EachSteps.{each_three}
+use Rattle.std.proofs.Common.{refl, ap, ◌∙◌}
+use Rattle.mdb_bus.specs.Bus.{position_at}
+use Rattle.mdb_bus.specs.Steps.{HasAdvanced, IsAt, asked_with, levels_with}
+use Rattle.mdb_bus.proofs.EachSteps.{each}
+use Rattle.mdb_bus.proofs.Feed.{told}
 use Rattle.mdb_bus.proofs.bus.Bus.go.Goals as goal
 
 pub returns : goal.returns
 returns c =
-    each_three c.args.judged (λ next. c.levels_behind-self.result ≡ levels_behind c.args.self.now.levels next)
-    (λ next. c.asked_behind-self.result ≡ asked_behind c.args.self.now.asked next)
-    (λ next. IsAt (position_at c.args.self.now.place) next
-    → HasAdvanced (position_at c.args.self.now.place) next (position_at c.advance.new.self) c.advance.result)
+    let old = position_at c.args.self.now.place in
+    each c.args.judged
+    (λ next. IsAt old next → HasAdvanced old next (position_at c.advance-act.new.self) c.advance-act.result)
     _
-    (λ next levels asked advanced at. record { advanced = advanced at; last = refl; levels = levels; asked = asked })
-    c.levels_behind-self.ensures c.asked_behind-self.ensures c.advance.ensures
+    (λ next advanced at. (
+      let tells = told old next c.args.self.now.levels c.args.self.now.asked at in
+      record {
+        advanced = advanced at;
+        last = refl;
+        levels = c.levels_behind-self.ensures ∙ (ap (λ a. levels_with a c.args.self.now.levels) (advanced at).act ∙ tells.0);
+        asked = c.asked_behind-self.ensures ∙ (ap (λ a. asked_with a c.args.self.now.asked) (advanced at).act ∙ tells.1);
+      }
+    ))
+    c.advance-act.ensures
