@@ -84,7 +84,8 @@ impl Bus {
     /// The fault of a row that breaks a rule.
     fn fault(&self, rule: Rule, event: &Event) -> LinkFault
         ensures rule { result.rule ≡ rule }
-        ensures blame { result.blame ≡ blame_of (position_at self.now.place) self.now.asked event.now rule }
+        ensures blame { result.blame
+            ≡ blame_of (position_at self.now.place) self.now.asked event.now rule }
     {
         let blame = match *event {
             Event::Word { line, .. } => self.blame(line, rule),
@@ -96,7 +97,8 @@ impl Bus {
     /// Who is to blame for a word on a line.
     fn blame(&self, line: Line, rule: Rule) -> Blame
         ensures { (at word : ℕ)
-            → result ≡ blame_of (position_at self.now.place) self.now.asked (Event.Word at line word) rule }
+            → result ≡ blame_of (position_at self.now.place) self.now.asked
+            (Event.Word at line word) rule }
     {
         match (line, &self.place.phase, rule) {
             (Line::Peripheral, _, _) => Blame::on(self.asked),

@@ -173,7 +173,8 @@ impl Place {
     /// Adds a byte to the controller's block, or begins one with it.
     fn add_to_ask(&mut self, byte: u8)
         requires { HasRoom self.old.phase (Judged.AskByte byte) }
-        ensures { HasAdvanced (position_at self.old) (step.AskByte byte) (position_at self.new) None }
+        ensures { HasAdvanced (position_at self.old) (step.AskByte byte)
+            (position_at self.new) None }
     {
         match &mut self.phase {
             Phase::InAsk(bytes) => bytes.push(byte),
@@ -280,7 +281,8 @@ impl Place {
     fn add_to_repeat(&mut self, word: Word)
         requires { HasRoom self.old.phase (Judged.RepeatWord word) }
         ensures { IsAt (position_at self.old) (step.RepeatWord word)
-            → HasAdvanced (position_at self.old) (step.RepeatWord word) (position_at self.new) None }
+            → HasAdvanced (position_at self.old) (step.RepeatWord word)
+            (position_at self.new) None }
     {
         match self.phase {
             Phase::Returned => self.phase = Phase::InRepeat(1),

@@ -45,4 +45,5 @@ abbrev pub report_text : Outcome → List ℕ
 report_text (Yes report) = line (codes "verdict yes") ++ line (codes "rows " ++ decimal report.rows)
 report_text (No offence) =
     line (codes "verdict no") ++ line (codes "row " ++ decimal offence.row)
-    ++ line (codes "rule " ++ rule_word offence.rule) ++ line (codes "blame " ++ blame_word offence.blame)
+    ++ line (codes "rule " ++ rule_word offence.rule)
+    ++ line (codes "blame " ++ blame_word offence.blame)

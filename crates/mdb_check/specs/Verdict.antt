@@ -32,7 +32,8 @@ abbrev pub report_of : ℕ → Report
 report_of count = record {
   rows = count;
   decimals = replicate 4 None;
-  accounts = replicate 7 (record { device = no_range; controller = no_range; difference = no_range });
+  accounts = replicate 7
+      (record { device = no_range; controller = no_range; difference = no_range });
   silences = replicate 4 0;
 }
 
@@ -46,7 +47,8 @@ pub record IsPossible (records : List (List (List ℕ))) (report : Report) : Typ
   pub telling : report ≡ report_of (length rows)
 
 -- Rows that can be lead up to a record.
-pub record LeadUpTo (records : List (List (List ℕ))) (rows : List Event) (fields : List (List ℕ)) : Type 0 where
+pub record LeadUpTo (records : List (List (List ℕ))) (rows : List Event)
+    (fields : List (List ℕ)) : Type 0 where
   pub done : List (List (List ℕ))
   pub rest : List (List (List ℕ))
   pub split : records ≡ done ++ fields ∷ rest

@@ -49,7 +49,8 @@ pub fn run<R: Read + Drop, W: Write, E: Write>(
 ) -> u8
     ensures status { result < 3 }
     ensures says { IfSome (R.remaining reader)
-        (λ text. Says (records default_config (strip_bom text)) (W.contents out.old) (W.contents out.new) result) }
+        (λ text. Says (records default_config (strip_bom text)) (W.contents out.old)
+        (W.contents out.new) result) }
     ensures silent { result < 2 → err.new ≡ err.old }
 {
     match task_of(alloc, words.as_slice()) {

@@ -12,12 +12,12 @@ returns c =
     (λ next. IsAt old next → HasAdvanced old next (position_at c.advance-act.new.self) c.advance-act.result)
     _
     (λ next advanced at. (
-      let tells = told old next c.args.self.now.levels c.args.self.now.asked at in
-      record {
-        advanced = advanced at;
-        last = refl;
-        levels = c.levels_behind-self.ensures ∙ (ap (λ a. levels_with a c.args.self.now.levels) (advanced at).act ∙ tells.0);
-        asked = c.asked_behind-self.ensures ∙ (ap (λ a. asked_with a c.args.self.now.asked) (advanced at).act ∙ tells.1);
-      }
+    let tells = told old next c.args.self.now.levels c.args.self.now.asked at in
+    record {
+      advanced = advanced at;
+      last = refl;
+      levels = c.levels_behind-self.ensures ∙ (ap (λ a. levels_with a c.args.self.now.levels) (advanced at).act ∙ tells.0);
+      asked = c.asked_behind-self.ensures ∙ (ap (λ a. asked_with a c.args.self.now.asked) (advanced at).act ∙ tells.1);
+    }
     ))
     c.advance-act.ensures
