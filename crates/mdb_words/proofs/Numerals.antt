@@ -1,9 +1,9 @@
 -- Fields of digits: std's words of digits are those of `specs/Digits.antt`.
-use Rattle.std.proofs.Common.{◌≡◌, ℕ, zero, suc, ◌+◌, ◌*◌, ◌/◌, ◌%◌, ◌^◌, ◌<◌, ◌≤◌, true, Option, None, Some, List, [], ◌∷◌, ◌++◌, append_assoc, length, get_or, map, take, length-take, length-append, mul-le-mul_left, All, refl, sym, ap, ◌∙◌, arith}
-use Rattle.std.proofs.Math.Nat.{pow-zero, pow-succ', pow-le-pow_left, pow-le-pow_right}
+use Rattle.std.proofs.Common.{◌≡◌, ℕ, zero, suc, ◌+◌, ◌*◌, ◌/◌, ◌%◌, ◌^◌, ◌<◌, ◌≤◌, true, Option, None, Some, List, [], ◌∷◌, ◌++◌, append_assoc, length, get_or, map, take, length-take, length-append, All, refl, sym, ap, ◌∙◌, arith}
+use Rattle.std.proofs.Math.Nat.{pow-zero, pow-succ', pow-le-pow_right}
 use Rattle.std.proofs.Math.ListN.{length-map}
 use Rattle.std.proofs.lemmas.Bool.Decides.{nat_tests}
-use Rattle.std.proofs.lemmas.Int.Digits.{digits_value-lt}
+use Rattle.std.proofs.lemmas.Int.Digits.{digits_more, digits_value-lt, digits_value_more}
 use Rattle.std.proofs.lemmas.Fmt.{decimal_is_IsNumeral, decimal_digit, decimal_step, length-decimal-le}
 use Rattle.std.proofs.lemmas.List.Elements.{All-nil, All-cons, All-head, All-tail}
 use Rattle.std.proofs.lemmas.Str.{digit_value_digit}
@@ -12,25 +12,12 @@ use Rattle.std.specs.Char.{IsAsciiDigit, IsAsciiHexdigit, digit_value}
 use Rattle.std.specs.Fmt.{decimal, digit_glyph}
 use Rattle.std.specs.Option.{SomeIff, IfSome, IfNone}
 use Rattle.std.specs.Str.Parse.{AllDigits, digits_value, digits_value_after}
+use Rattle.mdb_words.proofs.Entries.{IsHexEntry, hex_digit, hex_entry}
 use Rattle.mdb_words.specs.Digits.{IsDecimal, IsHexWord, hex_word, positional}
 
 -- numbers of digits in a base
 
-number_small : (base : ℕ) (ds : List ℕ) → base ≤ 16 → AllDigits base ds → length ds ≤ 14 → digits_value base ds < 2 ^ 56
-number_small base ds sixteen all few =
-    let below = digits_value-lt base ds all in
-    let left = pow-le-pow_left sixteen (length ds) in
-    let right : 16 ^ length ds ≤ 16 ^ 14 = pow-le-pow_right (omega arith) few in
-    omega arith
-
--- one digit more fits 64 bits
-pub number_room : (base : ℕ) (ds : List ℕ) (i n : ℕ) → base ≤ 16 → length ds ≤ 15 → i < length ds → AllDigits base (take i ds) → n ≡ digits_value base (take i ds) → n * base + 16 < 2 ^ 64
-number_room base ds i n sixteen few in_range all is =
-    let short : length (take i ds) ≤ 14 = omega (arith, length-take i ds) in
-    let small : n < 2 ^ 56 = omega (arith, number_small base (take i ds) sixteen all short) in
-    omega (arith, mul-le-mul_left n sixteen)
-
-pub AllDigits-at : (base : ℕ) (ds : List ℕ) (i : ℕ) → AllDigits base ds → i < length ds → digit_value (get_or ds i 0) < base
+AllDigits-at : (base : ℕ) (ds : List ℕ) (i : ℕ) → AllDigits base ds → i < length ds → digit_value (get_or ds i 0) < base
 AllDigits-at base [] i all in_range = absurd (omega arith)
 AllDigits-at base (c ∷ cs) zero all in_range = all.0
 AllDigits-at base (c ∷ cs) (suc i) all in_range = AllDigits-at base cs i all.1 (omega arith)
@@ -71,6 +58,55 @@ IsDecimal-decimal most n some few small =
     let is = decimal_is_IsNumeral n small in
     IsDecimal-from most (decimal n) n is.0.0 (length-decimal-le most n some few small) is.0.1 (sym is.1)
 
+-- a number read so far, and four digits more
+
+abbrev pub IsSoFar : List ℕ → ℕ → ℕ → Type 0
+IsSoFar ds i n = AllDigits 10 (take i ds) × (n ≡ digits_value 10 (take i ds))
+
+digit_more : (ds : List ℕ) (i j n : ℕ) → j ≡ i + 1 → i < length ds → IsSoFar ds i n → digit_value (get_or ds i 0) < 10 → IsSoFar ds j (n * 10 + digit_value (get_or ds i 0))
+digit_more ds i j n next in_range read digit =
+    rw next (digits_more 10 ds i in_range read.0 digit, omega (arith, digits_value_more 10 ds i in_range, read.1))
+
+-- four digits from an index on
+abbrev four_from : List ℕ → ℕ → List ℕ
+four_from ds i = get_or ds i 0 ∷ get_or ds (i + 1) 0 ∷ get_or ds (i + 2) 0 ∷ get_or ds (i + 3) 0 ∷ []
+
+pub four_more : (ds : List ℕ) (i j n four : ℕ) → j ≡ i + 4 → i + 3 < length ds → IsSoFar ds i n → AllDigits 10 (four_from ds i) × (four ≡ digits_value 10 (four_from ds i)) → IsSoFar ds j (n * 10000 + four)
+four_more ds i j n four next in_range read is =
+    let a = digit_more ds i (i + 1) _ (omega arith) (omega arith) read is.0.0 in
+    let b = digit_more ds (i + 1) (i + 2) _ (omega arith) (omega arith) a is.0.1.0 in
+    let c = digit_more ds (i + 2) (i + 3) _ (omega arith) (omega arith) b is.0.1.1.0 in
+    let d = digit_more ds (i + 3) j _ (omega arith) (omega arith) c is.0.1.1.1.0 in
+    (d.0, omega (arith, d.1, is.1))
+
+pub four_bad : (ds : List ℕ) (i : ℕ) → i + 3 < length ds → (AllDigits 10 (four_from ds i) → ⊥) → AllDigits 10 ds → ⊥
+four_bad ds i in_range bad all =
+    bad (AllDigits-at 10 ds i all (omega arith), (AllDigits-at 10 ds (i + 1) all (omega arith), (AllDigits-at 10 ds (i + 2) all (omega arith), (AllDigits-at 10 ds (i + 3) all in_range, tt))))
+
+pub four_room : (ds : List ℕ) (i n : ℕ) → length ds ≤ 15 → i + 3 < length ds → IsSoFar ds i n → n * 10000 + 10000 < 2 ^ 64
+four_room ds i n few in_range read =
+    let below = digits_value-lt 10 (take i ds) read.0 in
+    let short : length (take i ds) ≤ 11 = omega (arith, length-take i ds) in
+    let right : 10 ^ length (take i ds) ≤ 10 ^ 11 = pow-le-pow_right (omega arith) short in
+    omega (arith, read.1)
+
+pub four_small : (ds : List ℕ) (i four : ℕ) → AllDigits 10 (four_from ds i) × (four ≡ digits_value 10 (four_from ds i)) → four < 10000
+four_small ds i four is = omega (arith, is.1, is.0.0, is.0.1.0, is.0.1.1.0, is.0.1.1.1.0)
+
+-- the first digits
+
+pub AllDigits-take : (base k : ℕ) (ds : List ℕ) → AllDigits base ds → AllDigits base (take k ds)
+AllDigits-take base zero ds all = tt
+AllDigits-take base (suc k) [] all = tt
+AllDigits-take base (suc k) (c ∷ cs) all = (all.0, AllDigits-take base k cs all.1)
+
+pub first_three : (ds : List ℕ) (k : ℕ) (read : Option ℕ) → k ≡ 3 → 3 ≤ length ds → SomeIff read (AllDigits 10 (48 ∷ get_or ds 0 0 ∷ get_or ds 1 0 ∷ get_or ds 2 0 ∷ [])) (digits_value 10 (48 ∷ get_or ds 0 0 ∷ get_or ds 1 0 ∷ get_or ds 2 0 ∷ [])) → SomeIff read (AllDigits 10 (take k ds)) (digits_value 10 (take k ds))
+first_three [] k read three some h = absurd (omega arith)
+first_three (a ∷ []) k read three some h = absurd (omega arith)
+first_three (a ∷ b ∷ []) k read three some h = absurd (omega arith)
+first_three (a ∷ b ∷ c ∷ ds) k None three some h = rw three (λ all. h (omega arith, all))
+first_three (a ∷ b ∷ c ∷ ds) k (Some n) three some h = rw three (h.0.1, h.1)
+
 -- what reading a field answers
 
 pub decimal_some : (most : ℕ) (field : List ℕ) (read : Option ℕ) → 1 ≤ length field → length field ≤ most → SomeIff read (AllDigits 10 field) (digits_value 10 field) → IfSome read (IsDecimal most field)
@@ -80,11 +116,6 @@ decimal_some most field (Some n) some few h = IsDecimal-from most field n some f
 pub decimal_none : (most : ℕ) (field : List ℕ) (read : Option ℕ) → SomeIff read (AllDigits 10 field) (digits_value 10 field) → IfNone read ((n : ℕ) → IsDecimal most field n → ⊥)
 decimal_none most field None h = λ n decimal. h (values_from_digits field decimal.digits)
 decimal_none most field (Some n) h = tt
-
--- a number of `most` digits is never too large
-pub decimal_capped : (most n : ℕ) (field : List ℕ) (made : Option ℕ) → IsDecimal most field n → SomeIff made (n < 10 ^ most) n → IfNone made ((m : ℕ) → IsDecimal most field m → ⊥)
-decimal_capped most n field None decimal h = λ _ _. h (IsDecimal-lt most field n decimal)
-decimal_capped most n field (Some m) decimal h = tt
 
 -- decimals as they are appended
 
@@ -147,16 +178,30 @@ IsHexWord-from field word three all is small =
 pub IsHexWord-digits : (field : List ℕ) (word : ℕ) → IsHexWord field word → AllDigits 16 field × (word ≡ digits_value 16 field)
 IsHexWord-digits field word h = (values_from_hex field h.digits, h.value ∙ positional_is 16 field)
 
-pub hex_small : (field : List ℕ) → length field ≡ 3 → AllDigits 16 field → digits_value 16 field < 4096
-hex_small field three all = omega (arith, digits_value-lt 16 field all, ap (λ k. 16 ^ k) three)
+-- what the entries of a field's three bytes tell
 
-pub hex_some : (field : List ℕ) (n : ℕ) (made : Option ℕ) → length field ≡ 3 → AllDigits 16 field × (n ≡ digits_value 16 field) → SomeIff made (n < 512) n → IfSome made (IsHexWord field)
-hex_some field n None three read h = tt
-hex_some field n (Some m) three read h = IsHexWord-from field m three read.0 (h.1 ∙ read.1) (omega arith)
+pub hex_some : (field : List ℕ) (a b c : ℕ) → length field ≡ 3 → IsHexEntry (get_or field 0 0) a → IsHexEntry (get_or field 1 0) b → IsHexEntry (get_or field 2 0) c → a * 256 + b * 16 + c < 512 → IsHexWord field (a * 256 + b * 16 + c)
+hex_some [] a b c three first second third small = absurd (omega arith)
+hex_some (x ∷ []) a b c three first second third small = absurd (omega arith)
+hex_some (x ∷ y ∷ []) a b c three first second third small = absurd (omega arith)
+hex_some (x ∷ y ∷ z ∷ w ∷ rest) a b c three first second third small = absurd (omega arith)
+hex_some (x ∷ y ∷ z ∷ []) a b c three first second third small =
+    let p = hex_digit a (digit_value x) first (omega arith) in
+    let q = hex_digit b (digit_value y) second (omega arith) in
+    let r = hex_digit c (digit_value z) third (omega arith) in
+    IsHexWord-from (x ∷ y ∷ z ∷ []) _ refl (p.0, (q.0, (r.0, tt))) (omega (arith, p.1, q.1, r.1)) small
 
-pub hex_none : (field : List ℕ) (n : ℕ) (made : Option ℕ) → AllDigits 16 field × (n ≡ digits_value 16 field) → SomeIff made (n < 512) n → IfNone made ((word : ℕ) → IsHexWord field word → ⊥)
-hex_none field n None read h = λ word hex. h (let is = (IsHexWord-digits field word hex).1 in omega (arith, is, read.1, hex.small))
-hex_none field n (Some m) read h = tt
+pub hex_none : (field : List ℕ) (a b c : ℕ) → IsHexEntry (get_or field 0 0) a → IsHexEntry (get_or field 1 0) b → IsHexEntry (get_or field 2 0) c → 512 ≤ a * 256 + b * 16 + c → (word : ℕ) → IsHexWord field word → ⊥
+hex_none [] a b c first second third large word hex = absurd (let three = hex.three in omega arith)
+hex_none (x ∷ []) a b c first second third large word hex = absurd (let three = hex.three in omega arith)
+hex_none (x ∷ y ∷ []) a b c first second third large word hex = absurd (let three = hex.three in omega arith)
+hex_none (x ∷ y ∷ z ∷ w ∷ rest) a b c first second third large word hex = absurd (let three = hex.three in omega arith)
+hex_none (x ∷ y ∷ z ∷ []) a b c first second third large word hex =
+    let read = IsHexWord-digits (x ∷ y ∷ z ∷ []) word hex in
+    let p = hex_entry a (digit_value x) first read.0.0 in
+    let q = hex_entry b (digit_value y) second read.0.1.0 in
+    let r = hex_entry c (digit_value z) third read.0.1.1.0 in
+    omega (arith, p, q, r, read.1, hex.small)
 
 glyph_value : (d : ℕ) → d < 16 → digit_value (digit_glyph true d) ≡ d
 glyph_value d h = grind (arith, nat_tests)

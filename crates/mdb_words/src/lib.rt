@@ -10,6 +10,7 @@ mod event;
 pub mod laws;
 mod limits;
 mod row;
+mod tables;
 mod time;
 mod word;
 

@@ -45,7 +45,8 @@ impl Time {
         ensures some { IfSome result (IsDecimal 15 field.now) }
         ensures none { IfNone result ((n : ℕ) → IsDecimal 15 field.now n → ⊥) }
     {
-        Time::new(read_decimal(field, 15)?)
+        let micros = read_decimal(field, 15)?;
+        Some(Time { micros })
     }
 
     /// The microseconds.
@@ -95,7 +96,8 @@ impl Span {
         ensures some { IfSome result (IsDecimal 9 field.now) }
         ensures none { IfNone result ((n : ℕ) → IsDecimal 9 field.now n → ⊥) }
     {
-        Span::new(read_decimal(field, 9)?)
+        let micros = read_decimal(field, 9)?;
+        Some(Span { micros })
     }
 
     /// The microseconds.

@@ -4,7 +4,7 @@ ghost use Rattle.std.specs.Prelude.{◌≡◌, ◌%◌, ◌<◌, ◌≤◌, ◌�
 ghost use Rattle.std.specs.Option.{SomeIff};
 ghost use Rattle.mdb_words.specs.Digits.{IsHexWord};
 
-use super::digits::number_of;
+use super::digits::read_hex_word;
 use std::marker::Model;
 
 /// Who sends on a line: the controller (VMC) on its transmit line, all peripherals on theirs.
@@ -54,10 +54,8 @@ impl Word {
         ensures some { IfSome result (IsHexWord field.now) }
         ensures none { IfNone result ((word : ℕ) → IsHexWord field.now word → ⊥) }
     {
-        if field.len() != 3 {
-            return None;
-        }
-        Word::new(number_of(field, 16)? as u16)
+        let value = read_hex_word(field)?;
+        Some(Word { value })
     }
 
     /// The nine bits as a number.

@@ -1,26 +1,25 @@
-use Rattle.std.proofs.Common.{arith}
-use Rattle.std.proofs.lemmas.Int.Digits.{digits_more, digits_value_more}
-use Rattle.mdb_words.proofs.Numerals.{AllDigits-at, number_room}
+use Rattle.std.proofs.Common.{◌+◌, ◌*◌, ◌%◌, length, arith}
+use Rattle.mdb_words.proofs.Numerals.{AllDigits-take, four_bad, four_more, four_room, four_small}
 use Rattle.mdb_words.proofs.digits.number_of.Goals as goal
+
+pub returns-in_err-number : goal.returns-in_err-number
+returns-in_err-number c =
+    rw c.from_residual.ensures
+    (λ all. c.in_err-number.ensures (AllDigits-take 10 (length c.args.digits.now % 4) c.args.digits.now all))
+
+pub returns-in_err-four : goal.returns-in_err-four
+returns-in_err-four c =
+    rw c.from_residual-in_err-four.ensures
+    (four_bad c.args.digits.now (length c.args.digits.now % 4 + 4 * c.loop-turn.turn) (omega arith) c.in_err-four.ensures)
 
 pub overflow_mul-number : goal.overflow_mul-number
 overflow_mul-number c =
-    let room = number_room c.args.base c.args.digits.now c.loop-byte.byte-index c.loop-byte.number c.requires.sixteen c.requires.few c.loop-byte-test.true c.loop-byte.invariant.0 c.loop-byte.invariant.1 in
-    rw c.from-in-loop-byte.ensures (omega arith)
-
-pub returns-in_err-digit : goal.returns-in_err-digit
-returns-in_err-digit c =
-    rw c.from_residual.ensures
-    (λ all. c.in_err-digit.ensures.value (rw c.from.ensures (AllDigits-at c.args.base c.args.digits.now c.loop-byte.byte-index all c.loop-byte-test.true)))
+    omega (arith, four_room c.args.digits.now (length c.args.digits.now % 4 + 4 * c.loop-turn.turn) c.loop-turn.number c.requires (omega arith) c.loop-turn.invariant)
 
 pub overflow_add-number : goal.overflow_add-number
 overflow_add-number c =
-    let room = number_room c.args.base c.args.digits.now c.loop-byte.byte-index c.loop-byte.number c.requires.sixteen c.requires.few c.loop-byte-test.true c.loop-byte.invariant.0 c.loop-byte.invariant.1 in
-    rw c.from-in-loop-byte.ensures (omega (arith, c.in_ok-digit.ensures.value))
+    omega (arith, four_small c.args.digits.now (length c.args.digits.now % 4 + 4 * c.loop-turn.turn) c.in_ok-four.four c.in_ok-four.ensures, four_room c.args.digits.now (length c.args.digits.now % 4 + 4 * c.loop-turn.turn) c.loop-turn.number c.requires (omega arith) c.loop-turn.invariant)
 
-pub loop-byte-preserved : goal.loop-byte-preserved
-loop-byte-preserved c =
-    let more = digits_value_more c.args.base c.args.digits.now c.loop-byte.byte-index c.loop-byte-test.true in (
-      digits_more c.args.base c.args.digits.now c.loop-byte.byte-index c.loop-byte-test.true c.loop-byte.invariant.0 (rw c.from.ensures at c.in_ok-digit.ensures.value.0),
-      cc (c.in_ok-digit.ensures.value.1),
-    )
+pub loop-turn-preserved : goal.loop-turn-preserved
+loop-turn-preserved c =
+    four_more c.args.digits.now (length c.args.digits.now % 4 + 4 * c.loop-turn.turn) _ c.loop-turn.number c.in_ok-four.four (omega arith) (omega arith) c.loop-turn.invariant c.in_ok-four.ensures

@@ -1,6 +1,5 @@
-use Rattle.mdb_words.proofs.Numerals.{decimal_capped}
+use Rattle.mdb_words.proofs.Numerals.{IsDecimal-lt}
 use Rattle.mdb_words.proofs.time.Time.read.Goals as goal
 
-pub returns-clause-none : goal.returns-clause-none
-returns-clause-none c =
-    decimal_capped 15 c.in_ok-read_decimal.field-0 c.args.field.now c.new.result c.in_ok-read_decimal.ensures.some c.new.ensures
+pub invariant_of-result : goal.invariant_of-result
+invariant_of-result c = IsDecimal-lt 15 c.args.field.now c.in_ok-micros.micros c.in_ok-micros.ensures.some
