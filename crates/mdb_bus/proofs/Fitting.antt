@@ -1,52 +1,64 @@
--- Each act list has a loss that fits: the rows of an act are damaged where the act behind it tells so.
-use Rattle.std.proofs.Common.{arith, refl, ap, sym, ◌∙◌, ◌≡◌, ◌+◌, ◌<◌, ◌≤◌, ℕ, Bool, true, false, List, [], ◌∷◌, ◌++◌, Option, length, length-append}
+-- Each act list has a loss that fits, whichever free acts are to be heard: the rows of an act are damaged where the act
+-- behind it tells so, and where it tells nothing and the act is not to be heard.
+use Rattle.std.proofs.Common.{arith, refl, ap, sym, ◌∙◌, ◌≡◌, ◌+◌, ◌<◌, ◌≤◌, ◌↔◌, ℕ, Bool, true, false, List, [], ◌∷◌, ◌++◌, Option, length, length-append}
 use Rattle.std.proofs.Math.Dec.{leb}
 use Rattle.std.proofs.lemmas.Bool.{le-leb, lt-leb}
 use Rattle.mdb_words.specs.declared.event.Event.{Event}
 use Rattle.mdb_bus.specs.declared.act.Act.{Act}
 use Rattle.mdb_bus.specs.declared.act.Act.TheVariants as acts
-use Rattle.mdb_bus.specs.ActLists.{Piece, Whole, AskTail, ReplyTail, RepeatTail, ArePieces, MayCome, MayStand, events_of, left_open}
-use Rattle.mdb_bus.specs.Loss.{AllArrive, FitsBehind, Heard, Hearing, IsAsTold, IsHeard, Loss, LossFits, Open, Unheard, told_by}
+use Rattle.mdb_bus.specs.ActLists.{Piece, Whole, ArePieces, MayCome, MayStand, Quiet, events_of, left_open, piece_events}
+use Rattle.mdb_bus.specs.Choice.{Choice, HearsFreeAsChosen, HearsAsChosen, IsAck, IsFree, nothing_told}
+use Rattle.mdb_bus.specs.Loss.{AllArrive, FitsBehind, Heard, Hearing, IsAsTold, IsHeard, Loss, LossFits, Open, Unheard, told_by, told_by_block}
 
--- one of two tests
+-- the first of two tests or the second
 abbrev pick : Bool → Bool → Bool → Bool
 pick true first second = first
 pick false first second = second
 
--- whether an act is told not to have been heard
-abbrev is_unheard : Hearing → Bool
-is_unheard Heard = false
-is_unheard Unheard = true
-is_unheard Open = false
+-- whether the rows of an act are damaged: as it is told, and where nothing is told, as it is chosen
+abbrev is_damaged : Hearing → Bool → Bool
+is_damaged Heard chosen = false
+is_damaged Unheard chosen = true
+is_damaged Open true = false
+is_damaged Open false = true
 
--- The loss of pieces, where what is behind them tells so of their newest act. All rows of an act that is told not to
--- have been heard are damaged, and no others.
-abbrev damage : List Piece → (Act → Hearing) → Loss
-damage [] tells = λ row. false
-damage (Whole act events ∷ pieces) tells = λ row.
-    pick (leb row (length (events_of pieces))) (damage pieces (told_by act) row) (is_unheard (tells act))
-damage (AskTail bytes events ∷ pieces) tells = damage pieces (λ act. Open)
-damage (ReplyTail command bytes events ∷ pieces) tells = damage pieces (λ act. Open)
-damage (RepeatTail command reply words events ∷ pieces) tells = damage pieces (λ act. Open)
-
--- the rows before the newest act have the loss that this act tells of
-early : (act : Act) (events : List Event) (pieces : List Piece) (tells : Act → Hearing) (row : ℕ)
-    → row ≤ length (events_of pieces)
-    → damage pieces (told_by act) row ≡ damage (Whole act events ∷ pieces) tells row
-early act events pieces tells row h =
-    ap (λ b. pick b (damage pieces (told_by act) row) (is_unheard (tells act)))
-    (sym (le-leb row (length (events_of pieces)) h))
-
--- its own rows have the loss that is told of it
-late : (act : Act) (events : List Event) (pieces : List Piece) (tells : Act → Hearing) (row : ℕ)
-    → length (events_of pieces) < row → damage (Whole act events ∷ pieces) tells row ≡ is_unheard (tells act)
-late act events pieces tells row h =
-    ap (λ b. pick b (damage pieces (told_by act) row) (is_unheard (tells act)))
-    (lt-leb row (length (events_of pieces)) h)
+-- The loss of pieces, where what is behind them tells so of their newest act. The rows of an act are all damaged, or
+-- none is.
+abbrev damage : Choice → List Piece → (Act → Hearing) → Loss
+damage choice [] tells = λ row. false
+damage choice (Whole act events ∷ pieces) tells = λ row.
+    pick (leb row (length (events_of pieces))) (damage choice pieces (told_by act) row)
+    (is_damaged (tells act) (choice (length (events_of pieces))))
+damage choice (piece ∷ pieces) tells = damage choice pieces nothing_told
 
 -- two losses agree on so many rows
 abbrev Agree : Loss → Loss → ℕ → Type 0
 Agree one other rows = (row : ℕ) → row ≤ rows → one row ≡ other row
+
+-- of so many rows behind the first `before` ones, all are damaged or none is
+abbrev AreAll : Loss → ℕ → ℕ → Bool → Type 0
+AreAll loss before count damaged = (row : ℕ) → before < row → row ≤ before + count → loss row ≡ damaged
+
+-- losses that agree on all rows agree on those before the newest piece
+agree_before : (one other : Loss) (rows events : List Event) → Agree one other (length (rows ++ events))
+    → Agree one other (length rows)
+agree_before one other rows events agree = λ row h. agree row (omega (arith, h, length-append rows events))
+
+-- a loss that picks one of two at a row has the first up to there
+agree_early : (first other : Loss) (second : Bool) (rows events : List Event)
+    → Agree (λ row. pick (leb row (length rows)) (first row) second) other (length (rows ++ events))
+    → Agree first other (length rows)
+agree_early first other second rows events agree = λ row h.
+    sym (ap (λ b. pick b (first row) second) (le-leb row (length rows) h))
+    ∙ agree_before (λ row. pick (leb row (length rows)) (first row) second) other rows events agree row h
+
+-- and the second behind it
+agree_late : (first other : Loss) (second : Bool) (rows events : List Event)
+    → Agree (λ row. pick (leb row (length rows)) (first row) second) other (length (rows ++ events))
+    → AreAll other (length rows) (length events) second
+agree_late first other second rows events agree = λ row low high.
+    sym (agree row (omega (arith, high, length-append rows events)))
+    ∙ ap (λ b. pick b (first row) second) (lt-leb row (length rows) low)
 
 -- an act whose words have all arrived was heard
 heard_where : (loss : Loss) (act : Act) (before count : ℕ) → AllArrive loss before count
@@ -54,116 +66,162 @@ heard_where : (loss : Loss) (act : Act) (before count : ℕ) → AllArrive loss 
 heard_where loss (acts.Break length) before count all = tt
 heard_where loss act before count all = all
 
--- what arrives hangs on the rows of the act alone
-same_arrive : (one other : Loss) (before count rows : ℕ) → Agree one other rows → before + count ≤ rows
-    → AllArrive one before count → AllArrive other before count
-same_arrive one other before count rows agree within all =
-    λ row low high. sym (agree row (omega (arith, within, high))) ∙ all row low high
-
-same_heard : (one other : Loss) (act : Act) (before count rows : ℕ) → Agree one other rows → before + count ≤ rows
-    → IsHeard one act before count → IsHeard other act before count
-same_heard one other (acts.Break length) before count rows agree within heard = tt
-same_heard one other act before count rows agree within heard =
-    same_arrive one other before count rows agree within heard
-
-as_told : (hearing : Hearing) (One Other : Type 0) → (One → Other) → (Other → One) → IsAsTold hearing One
-    → IsAsTold hearing Other
-as_told Heard One Other there back told = there told
-as_told Unheard One Other there back told = λ other. told (back other)
-as_told Open One Other there back told = tt
-
--- how a loss fits hangs on the rows of the pieces alone
-same_behind : (one other : Loss) (pieces : List Piece) (next : Act) → Agree one other (length (events_of pieces))
-    → FitsBehind one pieces next → FitsBehind other pieces next
-same_behind one other [] next agree fits = tt
-same_behind one other (Whole act events ∷ pieces) next agree fits =
-    let before = length (events_of pieces) in
-    let rows = length (events_of pieces ++ events) in
-    let within : before + length events ≤ rows = omega (arith, length-append (events_of pieces) events) in
-    as_told (told_by next act) (IsHeard one act before (length events)) (IsHeard other act before (length events))
-    (same_heard one other act before (length events) rows agree within)
-    (same_heard other one act before (length events) rows (λ row h. sym (agree row h)) within) fits
-same_behind one other (AskTail bytes events ∷ pieces) next agree fits = tt
-same_behind one other (ReplyTail command bytes events ∷ pieces) next agree fits = tt
-same_behind one other (RepeatTail command reply words events ∷ pieces) next agree fits = tt
-
--- losses that agree on all rows agree on those before the newest piece
-agree_before : (one other : Loss) (rows events : List Event) → Agree one other (length (rows ++ events))
-    → Agree one other (length rows)
-agree_before one other rows events agree = λ row h. agree row (omega (arith, h, length-append rows events))
-
-same_fits : (one other : Loss) (pieces : List Piece) → Agree one other (length (events_of pieces))
-    → LossFits one pieces → LossFits other pieces
-same_fits one other [] agree fits = tt
-same_fits one other (Whole act events ∷ pieces) agree fits =
-    let before = agree_before one other (events_of pieces) events agree in
-    (same_behind one other pieces act before fits.0, same_fits one other pieces before fits.1)
-same_fits one other (AskTail bytes events ∷ pieces) agree fits =
-    same_fits one other pieces (agree_before one other (events_of pieces) events agree) fits
-same_fits one other (ReplyTail command bytes events ∷ pieces) agree fits =
-    same_fits one other pieces (agree_before one other (events_of pieces) events agree) fits
-same_fits one other (RepeatTail command reply words events ∷ pieces) agree fits =
-    same_fits one other pieces (agree_before one other (events_of pieces) events agree) fits
-
--- rows that are all damaged where it is told so, and else not, are as it is told
-is_told : (hearing : Hearing) (loss : Loss) (act : Act) (before count : ℕ) → 1 ≤ count
-    → ((row : ℕ) → before < row → loss row ≡ is_unheard hearing)
-    → (hearing ≡ Unheard → IsHeard loss act before count → AllArrive loss before count)
-    → IsAsTold hearing (IsHeard loss act before count)
-is_told Heard loss act before count some rows arrive =
-    heard_where loss act before count (λ row low high. rows row low)
-is_told Unheard loss act before count some rows arrive = λ heard.
-    let arrived : loss (before + 1) ≡ false =
-    arrive refl heard (before + 1) (omega arith) (omega (arith, some)) in
-    let damaged : loss (before + 1) ≡ true = rows (before + 1) (omega arith) in
+-- of rows that are all damaged, the first didn't arrive
+none_arrive : (loss : Loss) (before count : ℕ) → 1 ≤ count → AreAll loss before count true
+    → AllArrive loss before count → ⊥
+none_arrive loss before count some rows all =
+    let arrived : loss (before + 1) ≡ false = all (before + 1) (omega arith) (omega (arith, some)) in
+    let damaged : loss (before + 1) ≡ true = rows (before + 1) (omega arith) (omega (arith, some)) in
     cc
-is_told Open loss act before count some rows arrive = tt
 
--- no act tells of a break that it wasn't heard
-no_break : (next : Act) (events : List Event) (length : ℕ) (from : Option Event) (to : Event)
-    → MayCome (Whole next events) (left_open (acts.Break length)) from to → told_by next (acts.Break length) ≡ Unheard
-    → ⊥
-no_break (acts.VmcNak command reply) events length from to comes told = let stands = comes.0 in cc
-no_break (acts.VmcRet command reply) events length from to comes told = let stands = comes.0 in cc
-no_break (acts.Ask command) events length from to comes told = cc
-no_break next events length from to comes told = cc
+-- a block tells nothing of an act that leaves nothing open
+no_block_tells : (act : Act) → left_open act ≡ Quiet → told_by_block act ≡ Open
+no_block_tells (acts.Reply command reply) quiet = cc
+no_block_tells (acts.Repeat command reply) quiet = cc
+no_block_tells act quiet = refl
 
--- an act that is told not to have been heard was heard only where all its words arrived
-arrives : (next : Act) (events : List Event) (act : Act) (from : Option Event) (to : Event) (loss : Loss)
-    (before count : ℕ) → MayCome (Whole next events) (left_open act) from to → told_by next act ≡ Unheard
+-- nothing is told of an act that leaves nothing open
+abbrev IsSparing : Hearing → Act → Type 0
+IsSparing hearing act = left_open act ≡ Quiet → hearing ≡ Open
+
+-- so it is with what an act tells that may come behind
+sparing_told : (next : Act) (events : List Event) (act : Act) (from : Option Event) (to : Event)
+    → MayCome (Whole next events) (left_open act) from to → IsSparing (told_by next act) act
+sparing_told (acts.Ask command) events act from to comes = no_block_tells act
+sparing_told (acts.Nak command) events act from to comes = λ quiet. refl
+sparing_told acts.Foreign events act from to comes = no_block_tells act
+sparing_told (acts.Break length) events act from to comes = λ quiet. refl
+sparing_told next events act from to comes = λ quiet. let stands = comes.0 in cc
+
+-- nothing is told of a free act
+free_open : (act : Act) (hearing : Hearing) → IsSparing hearing act → IsFree act hearing → hearing ≡ Open
+free_open (acts.Ack command) hearing sparing free = sparing refl
+free_open (acts.VmcAck command reply) hearing sparing free = sparing refl
+free_open (acts.Break length) hearing sparing free = absurd free
+free_open act hearing sparing free = free
+
+-- a free act was heard only where all its words arrived
+free_arrives : (act : Act) (hearing : Hearing) (loss : Loss) (before count : ℕ) → IsFree act hearing
     → IsHeard loss act before count → AllArrive loss before count
-arrives next events (acts.Break length) from to loss before count comes told heard =
-    absurd (no_break next events length from to comes told)
-arrives next events act from to loss before count comes told heard = heard
+free_arrives (acts.Break length) hearing loss before count free heard = absurd free
+free_arrives act hearing loss before count free heard = heard
+
+-- and so was an act that is told not to have been heard
+unheard_arrives : (act : Act) (loss : Loss) (before count : ℕ) → IsSparing Unheard act
+    → IsHeard loss act before count → AllArrive loss before count
+unheard_arrives (acts.Break length) loss before count sparing heard = let untold = sparing refl in cc
+unheard_arrives act loss before count sparing heard = heard
+
+-- an act whose rows are damaged as it is told, and else as it is chosen, is heard as it is told
+is_told : (hearing : Hearing) (chosen : Bool) (loss : Loss) (act : Act) (before count : ℕ) → 1 ≤ count
+    → AreAll loss before count (is_damaged hearing chosen) → IsSparing hearing act
+    → IsAsTold hearing (IsHeard loss act before count)
+is_told Heard chosen loss act before count some rows sparing = heard_where loss act before count rows
+is_told Unheard chosen loss act before count some rows sparing = λ heard.
+    none_arrive loss before count some rows (unheard_arrives act loss before count sparing heard)
+is_told Open chosen loss act before count some rows sparing = tt
+
+-- and where it is free, as it is chosen
+arrive_chosen : (hearing : Hearing) (chosen : Bool) (loss : Loss) (before count : ℕ) → 1 ≤ count
+    → AreAll loss before count (is_damaged hearing chosen) → hearing ≡ Open
+    → AllArrive loss before count ↔ (chosen ≡ true)
+arrive_chosen Open true loss before count some rows untold = (λ all. refl, λ is. rows)
+arrive_chosen Open false loss before count some rows untold =
+    (λ all. absurd (none_arrive loss before count some rows all), λ is. cc)
+arrive_chosen hearing chosen loss before count some rows untold = cc
+
+is_chosen : (hearing : Hearing) (chosen : Bool) (loss : Loss) (act : Act) (before count : ℕ) → 1 ≤ count
+    → AreAll loss before count (is_damaged hearing chosen) → IsSparing hearing act → IsFree act hearing
+    → IsHeard loss act before count ↔ (chosen ≡ true)
+is_chosen hearing chosen loss act before count some rows sparing free =
+    let untold = free_open act hearing sparing free in
+    let arrive = arrive_chosen hearing chosen loss before count some rows untold in (
+      λ heard. arrive.0 (free_arrives act hearing loss before count free heard),
+      λ is. heard_where loss act before count (arrive.1 is),
+    )
+
+-- what is behind pieces tells nothing of their newest act, if that leaves nothing open
+abbrev TellsSparingly : (Act → Hearing) → List Piece → Type 0
+TellsSparingly tells (Whole act events ∷ pieces) = IsSparing (tells act) act
+TellsSparingly tells _ = Unit {0}
+
+nothing_sparing : (pieces : List Piece) → TellsSparingly nothing_told pieces
+nothing_sparing (Whole act events ∷ pieces) = λ quiet. refl
+nothing_sparing _ = tt
+
+next_sparing : (pieces : List Piece) (next : Act) (events : List Event) → MayStand pieces (Whole next events)
+    → TellsSparingly (told_by next) pieces
+next_sparing (Whole act rows ∷ pieces) next events stands =
+    sparing_told next events act _ stands.first stands.comes
+next_sparing _ next events stands = tt
+
+-- a piece has a row
+has_row : (pieces : List Piece) (act : Act) (events : List Event) → MayStand pieces (Whole act events)
+    → 1 ≤ length events
+has_row pieces act events stands = omega (arith, ap length stands.begins)
 
 -- the loss of the newest piece is as the act behind it tells
-fits_behind : (pieces : List Piece) (next : Act) (events : List Event) → ArePieces pieces
-    → MayStand pieces (Whole next events) → FitsBehind (damage pieces (told_by next)) pieces next
-fits_behind [] next events are stands = tt
-fits_behind (Whole act rows ∷ pieces) next events are stands =
-    let stood = are.1 in
-    let loss : Loss = damage (Whole act rows ∷ pieces) (told_by next) in
+fits_behind : (choice : Choice) (loss : Loss) (pieces : List Piece) (next : Act)
+    → Agree (damage choice pieces (told_by next)) loss (length (events_of pieces)) → ArePieces pieces
+    → TellsSparingly (told_by next) pieces → FitsBehind loss pieces next
+fits_behind choice loss (Whole act rows ∷ pieces) next agree are sparing =
     let before = length (events_of pieces) in
-    let some : 1 ≤ length rows = omega (arith, ap length stood.begins) in
-    is_told (told_by next act) loss act before (length rows) some (λ row h. late act rows pieces (told_by next) row h)
-    (arrives next events act _ stands.first loss before (length rows) stands.comes)
-fits_behind (AskTail bytes rows ∷ pieces) next events are stands = tt
-fits_behind (ReplyTail command bytes rows ∷ pieces) next events are stands = tt
-fits_behind (RepeatTail command reply words rows ∷ pieces) next events are stands = tt
+    is_told (told_by next act) (choice before) loss act before (length rows) (has_row pieces act rows are.1)
+    (agree_late (damage choice pieces (told_by act)) loss _ (events_of pieces) rows agree) sparing
+fits_behind choice loss _ next agree are sparing = tt
 
 -- the loss fits, whatever is told of the newest act
-fits : (pieces : List Piece) (tells : Act → Hearing) → ArePieces pieces → LossFits (damage pieces tells) pieces
-fits [] tells are = tt
-fits (Whole act events ∷ pieces) tells are =
-    let inner : Loss = damage pieces (told_by act) in
-    let outer : Loss = damage (Whole act events ∷ pieces) tells in
-    let agree : Agree inner outer (length (events_of pieces)) = early act events pieces tells in (
-      same_behind inner outer pieces act agree (fits_behind pieces act events are.2 are.1),
-      same_fits inner outer pieces agree (fits pieces (told_by act) are.2),
+fits : (choice : Choice) (loss : Loss) (pieces : List Piece) (tells : Act → Hearing)
+    → Agree (damage choice pieces tells) loss (length (events_of pieces)) → ArePieces pieces → LossFits loss pieces
+fits choice loss [] tells agree are = tt
+fits choice loss (Whole act events ∷ pieces) tells agree are =
+    let early = agree_early (damage choice pieces (told_by act)) loss _ (events_of pieces) events agree in (
+      fits_behind choice loss pieces act early are.2 (next_sparing pieces act events are.1),
+      fits choice loss pieces (told_by act) early are.2,
     )
-fits (AskTail bytes events ∷ pieces) tells are = fits pieces (λ act. Open) are.2
-fits (ReplyTail command bytes events ∷ pieces) tells are = fits pieces (λ act. Open) are.2
-fits (RepeatTail command reply words events ∷ pieces) tells are = fits pieces (λ act. Open) are.2
+fits choice loss (piece ∷ pieces) tells agree are =
+    fits choice loss pieces nothing_told
+    (agree_before (damage choice pieces nothing_told) loss (events_of pieces) (piece_events piece) agree) are.2
 
-pub fitting : (pieces : List Piece) → ArePieces pieces → (loss : Loss) × LossFits loss pieces
-fitting pieces are = (damage pieces (λ act. Open), fits pieces (λ act. Open) are)
+-- the free acts are heard as chosen
+chosen : (choice : Choice) (loss : Loss) (pieces : List Piece) (tells : Act → Hearing)
+    → Agree (damage choice pieces tells) loss (length (events_of pieces)) → ArePieces pieces
+    → TellsSparingly tells pieces → HearsFreeAsChosen loss choice tells pieces
+chosen choice loss [] tells agree are sparing = tt
+chosen choice loss (Whole act events ∷ pieces) tells agree are sparing =
+    let before = length (events_of pieces) in
+    let inner : Loss = damage choice pieces (told_by act) in (
+      is_chosen (tells act) (choice before) loss act before (length events) (has_row pieces act events are.1)
+          (agree_late inner loss _ (events_of pieces) events agree) sparing,
+      chosen choice loss pieces (told_by act) (agree_early inner loss _ (events_of pieces) events agree) are.2
+          (next_sparing pieces act events are.1),
+    )
+chosen choice loss (piece ∷ pieces) tells agree are sparing =
+    chosen choice loss pieces nothing_told
+    (agree_before (damage choice pieces nothing_told) loss (events_of pieces) (piece_events piece) agree) are.2
+    (nothing_sparing pieces)
+
+pub fitting : (pieces : List Piece) → ArePieces pieces → (choice : Choice)
+    → (loss : Loss) × LossFits loss pieces × HearsFreeAsChosen loss choice nothing_told pieces
+fitting pieces are choice =
+    let loss : Loss = damage choice pieces nothing_told in (
+      loss,
+      fits choice loss pieces nothing_told (λ row h. refl) are,
+      chosen choice loss pieces nothing_told (λ row h. refl) are (nothing_sparing pieces),
+    )
+
+-- an ACK is free
+ack_free : (act : Act) (hearing : Hearing) → IsAck act → IsFree act hearing
+ack_free (acts.Ack command) hearing ack = tt
+ack_free (acts.VmcAck command reply) hearing ack = tt
+ack_free act hearing ack = absurd ack
+
+-- so an ACK is heard as chosen, where each free act is
+pub acks_chosen : (loss : Loss) (choice : Choice) (tells : Act → Hearing) (pieces : List Piece)
+    → HearsFreeAsChosen loss choice tells pieces → HearsAsChosen loss choice pieces
+acks_chosen loss choice tells [] free = tt
+acks_chosen loss choice tells (Whole act events ∷ pieces) free = (
+  λ ack. free.0 (ack_free act (tells act) ack),
+  acks_chosen loss choice (told_by act) pieces free.1,
+)
+acks_chosen loss choice tells (piece ∷ pieces) free = acks_chosen loss choice nothing_told pieces free

@@ -1,6 +1,7 @@
 pub mod Acts
 pub mod ActLists
 pub mod Bus
+pub mod Choice
 pub mod Grammar
 pub mod LinkFaults
 pub mod Loss

@@ -6,6 +6,7 @@ ghost use Rattle.mdb_words.specs.declared.event.Event.{Event};
 ghost use Rattle.mdb_bus.specs.declared.fault.Blame.{Blame};
 ghost use Rattle.mdb_bus.specs.declared.fault.Rule.{Rule};
 ghost use Rattle.mdb_bus.specs.ActLists.{ArePieces, HasActList, IsActList, Piece, events_of};
+ghost use Rattle.mdb_bus.specs.Choice.{Choice, HearsFreeAsChosen, HearsAsChosen, nothing_told};
 ghost use Rattle.mdb_bus.specs.Grammar.{Grammar};
 ghost use Rattle.mdb_bus.specs.LinkFaults.{IsFirstBroken, IsLinkFault, RowBreaks, situation_of};
 ghost use Rattle.mdb_bus.specs.Loss.{IsExplained, Loss, LossFits};
@@ -43,10 +44,27 @@ pub fn fronts_of_act_lists_have_act_lists()
     grammar();
 }
 
+/// Each act list has a loss that fits, whichever of its free acts are to be heard: nothing tells
+/// whether a free act was heard.
+pub fn free_acts_may_be_heard_or_not()
+    ensures { (pieces : List Piece) → ArePieces pieces → (choice : Choice) → (loss : Loss)
+        × LossFits loss pieces × HearsFreeAsChosen loss choice nothing_told pieces }
+{}
+
+/// Each act list has a loss that fits, whichever of its ACKs are to be heard.
+pub fn acks_may_be_heard_or_not()
+    ensures { (pieces : List Piece) → ArePieces pieces → (choice : Choice) → (loss : Loss)
+        × LossFits loss pieces × HearsAsChosen loss choice pieces }
+{
+    free_acts_may_be_heard_or_not();
+}
+
 /// Each act list has a loss that fits.
 pub fn act_lists_have_a_fitting_loss()
     ensures { (pieces : List Piece) → ArePieces pieces → (loss : Loss) × LossFits loss pieces }
-{}
+{
+    free_acts_may_be_heard_or_not();
+}
 
 /// Behind pieces, no act list goes on with a row that breaks a rule of the link, whichever rule
 /// that is.

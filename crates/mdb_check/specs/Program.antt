@@ -1,10 +1,10 @@
 -- What the program's exit status says.
-use Rattle.std.specs.Prelude.{◌≡◌, ℕ, List, Option, Result, Ok, Err}
+use Rattle.std.specs.Prelude.{◌≡◌, ◌⊎◌, ℕ, List, Option, Result, Ok, Err}
 use Rattle.std.specs.Io.KnownBytes.{Appends}
 use Rattle.mdb_check.specs.declared.offence.Offence.{Offence}
 use Rattle.mdb_check.specs.declared.outcome.Report.{Report}
 use Rattle.mdb_check.specs.Text.{report_text}
-use Rattle.mdb_check.specs.Verdict.{IsOffence, IsPossible}
+use Rattle.mdb_check.specs.Verdict.{HasOutcome, IsOffence, IsPossible}
 use Rattle.mdb_check.specs.declared.outcome.Outcome.{Outcome}
 use Rattle.mdb_check.specs.declared.outcome.Outcome.TheVariants.{Yes, No}
 use Rattle.mdb_check.specs.declared.outcome.RunFault.{RunFault}
@@ -15,11 +15,12 @@ status_of (Ok (Yes report)) = 0
 status_of (Ok (No offence)) = 1
 status_of (Err fault) = 2
 
--- What the statuses 0 and 1 say of the records of a text, and of the bytes that the writer held
--- before and after.
+-- What the statuses say of the records of a text, and of the bytes that the writer held before and
+-- after. At 2 nothing was written, or the text has a verdict that the writer failed to take.
 abbrev pub Says : List (List (List ℕ)) → Option (List ℕ) → Option (List ℕ) → ℕ → Type 0
 Says records before after status =
     (status ≡ 0 → (report : Report) × IsPossible records report
     × Appends before after (report_text (Yes report)))
     × (status ≡ 1 → (offence : Offence) × IsOffence records offence
     × Appends before after (report_text (No offence)))
+    × (status ≡ 2 → (after ≡ before) ⊎ HasOutcome records)

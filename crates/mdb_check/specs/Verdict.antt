@@ -105,6 +105,10 @@ IsOwnAnswer (Err Read) = ⊥
 IsOwnAnswer (Err Write) = ⊥
 IsOwnAnswer (Err Memory) = ⊥
 
+-- the records have a verdict
+abbrev pub HasOutcome : List (List (List ℕ)) → Type 0
+HasOutcome records = (outcome : Outcome) × IsAnswer records (Ok outcome)
+
 -- an answer that isn't yes
 abbrev pub IsNoYes : Result Outcome RunFault → Type 0
 IsNoYes (Ok (Yes report)) = ⊥

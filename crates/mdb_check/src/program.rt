@@ -38,8 +38,8 @@ enum Task {
 /// - 0: the transcript can have been, and its report is on `out`.
 /// - 1: it cannot, and the report on `out` says why.
 /// - 2: there is no verdict, for the fault that `check` met, or because the words aren't a command
-///   of the program, which   goes for those that ask for help or for the version too. One line on
-///   `err` says so; where `err` refuses the line,   the status is the same.
+///   of the program, which goes for those that ask for help or for the version too. One line on
+///   `err` says so; where `err` refuses the line, the status is the same.
 pub fn run<R: Read + Drop, W: Write, E: Write>(
     alloc: Global,
     words: Vec<String>,

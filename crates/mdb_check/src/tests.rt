@@ -9,8 +9,8 @@ use std::io::{ErrorKind, Read, Write};
 use std::test::Fail;
 
 /// A changer's RESET and ACK, a POLL, the answer that it was reset, and the controller's ACK.
-const ROWS: &[u8] =
-    b"1000,M,108\n2200,M,008\n4200,S,100\n24200,M,10B\n25400,M,00B\n27400,S,00B\n28600,S,10B\n30600,M,000\n";
+const ROWS: &[u8] = b"1000,M,108\n2200,M,008\n4200,S,100\n24200,M,10B\n\
+25400,M,00B\n27400,S,00B\n28600,S,10B\n30600,M,000\n";
 
 /// The report on `ROWS`.
 const REPORT: &[u8] = b"verdict yes\nrows 8\n";
@@ -21,6 +21,9 @@ const WRONG_SUM: &[u8] =
 
 /// The report on `WRONG_SUM`.
 const WRONG_SUM_REPORT: &[u8] = b"verdict no\nrow 7\nrule Sum\nblame changer\n";
+
+/// The polls of a long recording, each acknowledged: three rows.
+const POLLS: u64 = 50_000;
 
 /// More reads and writes than `check` makes of `ROWS` in small pieces.
 const CALLS: u64 = 1_000;
@@ -158,6 +161,22 @@ fn answers_yes_and_no(rt: HostRuntime) {
         Ok(Outcome::No(offence))
     );
     assert_eq!(rt; out.as_slice(), WRONG_SUM_REPORT);
+}
+
+/// Nothing but what the byte limit says ends a long recording early.
+#[test]
+fn follows_a_long_recording_to_its_end(rt: HostRuntime) -> Result<(), Fail> {
+    let mut text = Vec::new(rt.alloc());
+    for poll in 1..=POLLS {
+        let at = poll * 20_000;
+        writeln!(text, "{at},M,10B")?;
+        writeln!(text, "{},M,00B", at + 1_200)?;
+        writeln!(text, "{},S,100", at + 3_200)?;
+    }
+    let mut out = Vec::new(rt.alloc());
+    let answer = check(rt.alloc(), text.as_slice(), &mut out);
+    assert_eq!(rt; rows_of(answer), Some(3 * POLLS));
+    Ok(())
 }
 
 #[test]

@@ -1,12 +1,12 @@
 //! The verdict on a transcript.
 
-ghost use Rattle.std.specs.Prelude.{◌≡◌, ◌≢◌, ◌<◌, List, ℕ, IfOk, IfErr, IfSome, Ok, length};
+ghost use Rattle.std.specs.Prelude.{◌≡◌, ◌≢◌, ◌<◌, ◌≤◌, List, ℕ, IfOk, IfErr, IfSome, None, Ok, Err, length};
 ghost use Rattle.std.specs.Io.KnownBytes.{Appends};
 ghost use Rattle.csv.specs.Reading.{default_config, records, strip_bom};
 ghost use Rattle.csv.specs.Records.{field_at, fields_of};
-ghost use Rattle.mdb_records.specs.ToCome.{IsOverLimit, ToCome, fault_of};
+ghost use Rattle.mdb_records.specs.ToCome.{IsOverLimit, IsUncut, ToCome, fault_of};
 ghost use Rattle.mdb_check.specs.Text.{report_text};
-ghost use Rattle.mdb_check.specs.Verdict.{IsAnswer, HasMet, IsNoYes};
+ghost use Rattle.mdb_check.specs.Verdict.{IsAnswer, HasMet, HasOutcome, IsNoYes};
 ghost use Rattle.mdb_words.specs.Row.{Tells};
 
 use super::offence::Offence;
@@ -50,8 +50,10 @@ pub fn check<R: Read + Drop, W: Write>(
         (W.contents writer.new) (report_text outcome)) }
     ensures nothing_written { IfErr result (λ fault. fault ≢ RunFault.Write
         → writer.new ≡ writer.old) }
+    ensures had_one { IfSome (R.remaining reader) (λ text. result ≡ Err RunFault.Write
+        → HasOutcome (records default_config (strip_bom text))) }
 {
-    let mut records = Records::new(alloc, reader, BYTES_MAX);
+    let mut records = records_of(alloc, reader);
     let outcome = verdict_on(&mut records)?;
     let Ok(text) = text_of(alloc, &outcome) else {
         return Err(RunFault::Memory);
@@ -60,6 +62,19 @@ pub fn check<R: Read + Drop, W: Write>(
         Ok(()) => Ok(outcome),
         Err(_) => Err(RunFault::Write),
     }
+}
+
+/// The records of the text that a reader has left, up to [`BYTES_MAX`] and no less.
+fn records_of<R: Read + Drop>(alloc: Global, reader: R) -> Records<R>
+    ensures records { IfSome (R.remaining reader) (λ text.
+        ToCome R.remaining result (records default_config (strip_bom text))) }
+    ensures over { IfSome (R.remaining reader) (λ text.
+        BYTES_MAX < length text → IsOverLimit R.remaining result) }
+    ensures within { IfSome (R.remaining reader) (λ text.
+        length text ≤ BYTES_MAX → IsUncut R.remaining result (strip_bom text)) }
+    ensures going { fault_of result ≡ None }
+{
+    Records::new(alloc, reader, BYTES_MAX)
 }
 
 /// The verdict on the records that are still to come.
