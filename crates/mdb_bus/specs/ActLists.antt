@@ -1,7 +1,7 @@
 -- Act lists: how a transcript divides into acts, and what may follow what (MDB/ICP 4.3, timing; the
 -- numbers are this profile's). Lists of pieces are written newest first, lists of events oldest
 -- first.
-use Rattle.std.specs.Prelude.{◌≡◌, ◌≢◌, ◌<◌, ◌≤◌, ◌⊎◌, ℕ, Bool, true, false, nat_le, List, [], ◌∷◌, ◌++◌, length, All, Option, Some, None}
+use Rattle.std.specs.Prelude.{◌≡◌, ◌≢◌, ◌<◌, ◌≤◌, ◌⊎◌, ℕ, Bool, true, false, List, [], ◌∷◌, ◌++◌, length, All, Option, Some, None}
 use Rattle.std.specs.List.{list_any}
 use Rattle.mdb_words.specs.declared.limits.TheConstants.{WORD_GAP_MIN, BLOCK_GAP_MAX, ANSWER_GAP_MAX, NEW_BLOCK_GAP_MIN, SETUP_GAP_MIN}
 use Rattle.mdb_words.specs.declared.event.Event.{Event}
@@ -15,10 +15,9 @@ use Rattle.mdb_msgs.specs.declared.command.ReaderCommand.TheVariants as readers
 use Rattle.mdb_msgs.specs.declared.command.ReaderUnit.TheVariants.{First, Second}
 use Rattle.mdb_msgs.specs.declared.reply.Reply.{Reply}
 use Rattle.mdb_msgs.specs.declared.reply.Reply.TheVariants as replies
-use Rattle.mdb_msgs.specs.declared.reply.reader.ReaderMsg.{ReaderMsg}
-use Rattle.mdb_msgs.specs.declared.reply.reader.ReaderMsg.TheVariants as messages
 use Rattle.mdb_msgs.specs.Answers.{MayHaveData}
 use Rattle.mdb_msgs.specs.Commands.{IsByte, Spells}
+use Rattle.mdb_msgs.specs.Reader.{tells_level}
 use Rattle.mdb_bus.specs.declared.act.Act.{Act}
 use Rattle.mdb_bus.specs.declared.act.Act.TheVariants as acts
 use Rattle.mdb_bus.specs.declared.levels.Levels.{Levels}
@@ -231,13 +230,9 @@ level_for (commands.Reader First command) levels = levels.first
 level_for (commands.Reader Second command) levels = levels.second
 level_for _ levels = None
 
--- whether a message tells of a feature level of 2 or more, and whether one in a reply does
-abbrev pub is_high : ReaderMsg → Bool
-is_high (messages.Config level code scale decimals response options) = nat_le 2 level
-is_high _ = false
-
+-- whether a message of a reply tells of a feature level of 2 or more
 abbrev pub tells_high : Reply → Bool
-tells_high (replies.Reader list) = list_any is_high list.messages.items
+tells_high (replies.Reader list) = list_any (tells_level 2) list.messages
 tells_high _ = false
 
 -- Levels: where the controller has last told a reader 2 or more, no reply of that reader tells 2 or

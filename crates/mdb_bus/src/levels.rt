@@ -1,10 +1,9 @@
 //! The feature levels of controller and cashless readers.
 
 ghost use Rattle.std.specs.Prelude.{◌≡◌, ◌↔◌, IsTrue};
-ghost use Rattle.std.specs.List.{list_any};
-ghost use Rattle.mdb_bus.specs.ActLists.{is_high, tells_high};
+ghost use Rattle.mdb_bus.specs.ActLists.{tells_high};
 
-use mdb_msgs::{Command, ReaderCommand, ReaderMsg, ReaderUnit, Reply};
+use mdb_msgs::{Command, ReaderCommand, ReaderUnit, Reply};
 
 /// The feature level (Y2 of SETUP config) that the controller has last told each reader; `None`
 /// where it told none.
@@ -52,7 +51,7 @@ impl Levels {
         ensures high { OnFalse result ((tells_high reply.now ≡ true)
             × (IsLow (level_for command self) → ⊥)) }
     {
-        !tells_high(reply) || self.is_low_for(command)
+        self.is_low_for(command) || !tells_high(reply)
     }
 
     /// Whether the controller has told the reader of a command no level of 2 or more.
@@ -76,24 +75,7 @@ fn tells_high(reply: &Reply) -> bool
     ensures { result ≡ tells_high reply.now }
 {
     match reply {
-        Reply::Reader(list) => tell_high(list.messages.as_slice()),
-        _ => false,
-    }
-}
-
-/// Whether one of a reader's messages tells of a feature level of 2 or more.
-fn tell_high(messages: &[ReaderMsg]) -> bool
-    ensures { result ≡ list_any is_high messages.now }
-{
-    messages.iter().any(|message| is_high(*message))
-}
-
-/// Whether a message tells of a feature level of 2 or more.
-fn is_high(message: ReaderMsg) -> bool
-    ensures { result ≡ is_high message }
-{
-    match message {
-        ReaderMsg::Config { level, .. } => level >= 2,
+        Reply::Reader(list) => list.tells_level(2),
         _ => false,
     }
 }

@@ -6,6 +6,7 @@ pub mod OneReply
 pub mod OneCommand
 pub mod Prefixes
 pub mod Fronts
+pub mod ReaderBytes
 pub mod ReaderReading
 pub mod ReaderWriting
 pub mod Reading

@@ -1,67 +1,18 @@
 -- Bytes have one reading as a reader's answer.
-use Rattle.std.proofs.Common.{◌≡◌, ◌≢◌, ℕ, ◌+◌, ◌*◌, ◌/◌, ◌%◌, ◌≤◌, ◌⊎◌, inl, inr, nat_eq, if◌then◌else◌, Bool, true, false, ◌||◌, List, [], ◌∷◌, ◌++◌, length, get_or, refl, sym, ap, ◌∙◌, arith, append_assoc, append-nil, length-append, subst}
-use Rattle.std.specs.List.{flat_map, list_any, AllByRecursion}
+use Rattle.std.proofs.Common.{◌≡◌, ◌≢◌, ℕ, ◌≤◌, ◌⊎◌, inl, inr, false, List, [], ◌∷◌, ◌++◌, length, get_or, refl, sym, ap, ◌∙◌, arith, append_assoc, append-nil, length-append, subst, replicate, Result, Ok, Err, IfOk, IfErr, IfSome, IsNone, Bor}
+use Rattle.std.specs.Result.{result_ok}
+use Rattle.std.specs.List.{flat_map, AllByRecursion}
 use Rattle.std.proofs.lemmas.Grind.{flat_map-append}
 use Rattle.std.proofs.lemmas.List.{append_cancel_left}
-use Rattle.std.proofs.lemmas.List.Folds.{list_any-append}
 use Rattle.mdb_msgs.specs.declared.fault.MsgFault.{MsgFault}
 use Rattle.mdb_msgs.specs.declared.fault.MsgFault.TheVariants as faults
 use Rattle.mdb_msgs.specs.declared.reply.reader.ReaderMsg.{ReaderMsg}
 use Rattle.mdb_msgs.specs.declared.reply.reader.ReaderMsg.TheVariants.{JustReset, Config, Display, BeginSession, CancelRequest, VendApproved, VendDenied, EndSession, Cancelled, PeripheralId, Malfunction, OutOfSequence}
-use Rattle.mdb_msgs.specs.declared.reply.reader.ReaderList.{ReaderList}
-use Rattle.mdb_msgs.specs.Reader.{head_bytes, is_display, is_id, text_of, reader_msg_bytes, reader_list_bytes, IsDisplayLast, IsReaderList, NotDisplay, NoReaderMsg, ReaderStopsAt}
+use Rattle.mdb_msgs.specs.Reader.{ReaderMessages, head_bytes, is_display, text_of, reader_msg_bytes, reader_list_bytes, IsDisplayLast, IsReaderList, NotDisplay, NoReaderMsg, ReaderStopsAt}
+use Rattle.mdb_msgs.specs.ReaderBytes.{front_message, messages_of}
+use Rattle.mdb_msgs.specs.ReaderSteps.{IsTextOf, IsNextMessage, StandAsMessages}
 use Rattle.mdb_msgs.proofs.OneReading.{NoEnd, Ends, one_list, same_fault}
-use Rattle.mdb_msgs.proofs.ReaderReading.{or_first}
-
--- the message that begins with these bytes, but for its text
-number : ℕ → ℕ → ℕ
-number high low = 256 * high + low
-
-reader_front : ℕ → ℕ → ℕ → ℕ → ℕ → ℕ → ℕ → ℕ → ReaderMsg
-reader_front a b c d e f g h =
-    if nat_eq a 0 then JustReset
-    else (if nat_eq a 1 then Config b (256 * c + d) e f g h
-    else (if nat_eq a 2 then Display b
-    else (if nat_eq a 3 then BeginSession (256 * b + c)
-    else (if nat_eq a 4 then CancelRequest
-    else (if nat_eq a 5 then VendApproved (256 * b + c)
-    else (if nat_eq a 6 then VendDenied
-    else (if nat_eq a 7 then EndSession
-    else (if nat_eq a 8 then Cancelled
-    else (if nat_eq a 9 then PeripheralId
-    else (if nat_eq a 10 then Malfunction b
-    else OutOfSequence))))))))))
-
-reader_find : List ℕ → ReaderMsg
-reader_find x = reader_front (get_or x 0 0) (get_or x 1 0) (get_or x 2 0) (get_or x 3 0) (get_or x 4 0) (get_or x 5 0) (get_or x 6 0) (get_or x 7 0)
-
-whole : (n : ℕ) → 256 * (n / 256) + n % 256 ≡ n
-whole n = omega arith
-
-reader_found : (m : ReaderMsg) (x : List ℕ) → reader_find (head_bytes m ++ x) ≡ m
-unfolding reader_find reader_front
-reader_found JustReset x = refl
-reader_found (Config level code scale decimals response options) x = ap (λ n. Config level n scale decimals response options) (whole code)
-reader_found (Display time) x = refl
-reader_found (BeginSession funds) x = ap BeginSession (whole funds)
-reader_found CancelRequest x = refl
-reader_found (VendApproved amount) x = ap VendApproved (whole amount)
-reader_found VendDenied x = refl
-reader_found EndSession x = refl
-reader_found Cancelled x = refl
-reader_found PeripheralId x = refl
-reader_found (Malfunction code) x = refl
-reader_found OutOfSequence x = refl
-
--- lists of one length are the same where they begin the same bytes
-pub same_fronts : (s t x y : List ℕ) → length s ≡ length t → s ++ x ≡ t ++ y → (s ≡ t) × (x ≡ y)
-same_fronts [] [] x y l e = (refl, e)
-same_fronts [] (b ∷ t) x y l e = absurd (omega arith)
-same_fronts (a ∷ s) [] x y l e = absurd (omega arith)
-same_fronts (a ∷ s) (b ∷ t) x y l e =
-    let rest : s ++ x ≡ t ++ y = cc in
-    let same = same_fronts s t x y (omega arith) rest in
-    (cc, same.1)
+use Rattle.mdb_msgs.proofs.ReaderBytes.{front_found, next_is, reads_list, same_fronts}
 
 -- the texts of a message that is no display request have one length
 text_lengths : (id text other words : List ℕ) (m : ReaderMsg) → length id ≡ length other → is_display m ≡ false → length (text_of id text m) ≡ length (text_of other words m)
@@ -75,7 +26,7 @@ one_message id text other words l a b x y h e =
     let ta = text_of id text a in
     let tb = text_of other words b in
     let long : head_bytes a ++ (ta ++ x) ≡ head_bytes b ++ (tb ++ y) = sym (append_assoc (head_bytes a) ta x) ∙ e ∙ append_assoc (head_bytes b) tb y in
-    let same : a ≡ b = sym (reader_found a (ta ++ x)) ∙ ap reader_find long ∙ reader_found b (tb ++ y) in
+    let same : a ≡ b = sym (front_found a (ta ++ x)) ∙ ap front_message long ∙ front_found b (tb ++ y) in
     let back : ta ++ x ≡ text_of other words a ++ y = append_cancel_left (head_bytes a) (ta ++ x) (text_of other words a ++ y) (long ∙ ap (λ m. head_bytes m ++ (text_of other words m ++ y)) (sym same)) in
     let parts = same_fronts ta (text_of other words a) x y (text_lengths id text other words a l h) back in
     (same, parts.0, parts.1)
@@ -153,115 +104,28 @@ tail_ends id text tail (inl e) = inl (inl (ap (flat_map (reader_msg_bytes id tex
 tail_ends id text tail (inr shown) =
     inr (shown.0, text, ap (flat_map (reader_msg_bytes id text)) shown.1 ∙ append-nil (2 ∷ shown.0 ∷ text))
 
--- two ends that spell the same are one, with one text
-one_tail : (id text other words : List ℕ) (xs ys : List ReaderMsg) → (xs ≡ []) ⊎ ((time : ℕ) × (xs ≡ Display time ∷ [])) → (ys ≡ []) ⊎ ((time : ℕ) × (ys ≡ Display time ∷ [])) → flat_map (reader_msg_bytes id text) xs ≡ flat_map (reader_msg_bytes other words) ys → (xs ≡ ys) × (list_any is_display xs ≡ true → text ≡ words)
-one_tail id text other words xs ys (inl a) (inl b) e = (a ∙ sym b, λ h. let no : list_any is_display xs ≡ false = ap (list_any is_display) a in absurd (cc))
-one_tail id text other words xs ys (inl a) (inr b) e =
-    let left : flat_map (reader_msg_bytes id text) xs ≡ [] = ap (flat_map (reader_msg_bytes id text)) a in
-    let right : flat_map (reader_msg_bytes other words) ys ≡ 2 ∷ b.0 ∷ (words ++ []) = ap (flat_map (reader_msg_bytes other words)) b.1 in
-    absurd (cc)
-one_tail id text other words xs ys (inr a) (inl b) e =
-    let left : flat_map (reader_msg_bytes id text) xs ≡ 2 ∷ a.0 ∷ (text ++ []) = ap (flat_map (reader_msg_bytes id text)) a.1 in
-    let right : flat_map (reader_msg_bytes other words) ys ≡ [] = ap (flat_map (reader_msg_bytes other words)) b in
-    absurd (cc)
-one_tail id text other words xs ys (inr a) (inr b) e =
-    let left : flat_map (reader_msg_bytes id text) xs ≡ 2 ∷ a.0 ∷ (text ++ []) = ap (flat_map (reader_msg_bytes id text)) a.1 in
-    let right : flat_map (reader_msg_bytes other words) ys ≡ 2 ∷ b.0 ∷ (words ++ []) = ap (flat_map (reader_msg_bytes other words)) b.1 in
-    let times : a.0 ≡ b.0 = cc in
-    let texts : text ++ [] ≡ words ++ [] = cc in
-    let first = a.1 in
-    let second = b.1 in
-    let same : text ≡ words = sym (append-nil text) ∙ texts ∙ append-nil words in
-    (first ∙ ap (λ time. Display time ∷ []) times ∙ sym second, λ _. same)
-
--- where a list has an identification, its bytes tell it
-one_id : (id text other words : List ℕ) → length id ≡ length other → (xs : List ReaderMsg) (p q : List ℕ) → AllByRecursion NotDisplay xs → flat_map (reader_msg_bytes id text) xs ++ p ≡ flat_map (reader_msg_bytes other words) xs ++ q → list_any is_id xs ≡ true → id ≡ other
-one_id id text other words l [] p q bare e h = absurd (cc)
-one_id id text other words l (x ∷ xs) p q bare e h =
-    let f = reader_msg_bytes id text in
-    let g = reader_msg_bytes other words in
-    let parts = one_message id text other words l x x (flat_map f xs ++ p) (flat_map g xs ++ q) bare.0 (sym (append_assoc (f x) (flat_map f xs) p) ∙ e ∙ append_assoc (g x) (flat_map g xs) q) in
-    elim (is_id x) as (λ b. is_id x ≡ b → id ≡ other) [
-      | true ↦ λ k. id_told x k parts.1
-      | false ↦ λ k. one_id id text other words l xs p q bare.1 parts.2 (or_first (is_id x) (list_any is_id xs) h k)
-    ] refl
-  where
-    id_told : (m : ReaderMsg) → is_id m ≡ true → text_of id text m ≡ text_of other words m → id ≡ other
-    id_told PeripheralId k e = e
-    id_told _ k e = absurd (cc)
-
-bare_none : (xs : List ReaderMsg) → AllByRecursion NotDisplay xs → list_any is_display xs ≡ false
-bare_none [] h = refl
-bare_none (x ∷ xs) h = or_both (is_display x) (list_any is_display xs) h.0 (bare_none xs h.1)
-  where
-    or_both : (a b : Bool) → a ≡ false → b ≡ false → (a || b) ≡ false
-    or_both true b h k = h
-    or_both false b h k = k
-
--- the end has no identification
-tail_no_id : (tail : List ReaderMsg) → (tail ≡ []) ⊎ ((time : ℕ) × (tail ≡ Display time ∷ [])) → list_any is_id tail ≡ false
-tail_no_id tail (inl e) = ap (list_any is_id) e
-tail_no_id tail (inr e) = ap (list_any is_id) e.1
-
-or_left : (a b : Bool) → (a || b) ≡ true → b ≡ false → a ≡ true
-or_left true b h e = refl
-or_left false b h e = absurd (cc)
-
-made : List ReaderMsg → List ℕ → List ℕ → ReaderList
-made messages id text = record { messages = record { items = messages }; id = id; text = record { items = text } }
-
-same_parts : (a b : ReaderList) → a.messages.items ≡ b.messages.items → a.id ≡ b.id → a.text.items ≡ b.text.items → a ≡ b
-unfolding made
-same_parts a b e d f =
-    let one : made a.messages.items a.id a.text.items ≡ made b.messages.items b.id b.text.items = cc in
-    one
-
 -- two answers of a reader with the same bytes are one
-pub one_reader_list : (a b : ReaderList) → IsReaderList a → IsReaderList b → reader_list_bytes a ≡ reader_list_bytes b → a ≡ b
-one_reader_list a b ha hb e =
-    let f = reader_msg_bytes a.id a.text.items in
-    let g = reader_msg_bytes b.id b.text.items in
-    let ca = cut a.messages.items ha.last in
-    let cb = cut b.messages.items hb.last in
-    let left : flat_map f a.messages.items ≡ flat_map f ca.front ++ flat_map f ca.tail = ap (flat_map f) ca.joined ∙ flat_map-append f ca.front ca.tail in
-    let right : flat_map g b.messages.items ≡ flat_map g cb.front ++ flat_map g cb.tail = ap (flat_map g) cb.joined ∙ flat_map-append g cb.front cb.tail in
-    let both : flat_map f ca.front ++ flat_map f ca.tail ≡ flat_map g cb.front ++ flat_map g cb.tail = sym left ∙ e ∙ right in
-    let fronts = one_bare a.id a.text.items b.id b.text.items ha.id_length hb.id_length ca.front cb.front _ _ ca.bare cb.bare both (tail_ends a.id a.text.items ca.tail ca.ends) (tail_ends b.id b.text.items cb.tail cb.ends) in
-    let tails = one_tail a.id a.text.items b.id b.text.items ca.tail cb.tail ca.ends cb.ends fronts.1 in
-    let messages : a.messages.items ≡ b.messages.items = ca.joined ∙ ap (λ x. x ++ ca.tail) fronts.0 ∙ ap (λ x. cb.front ++ x) tails.0 ∙ sym cb.joined in
-    let again : flat_map f ca.front ++ flat_map f ca.tail ≡ flat_map g ca.front ++ flat_map g cb.tail = both ∙ ap (λ x. flat_map g x ++ flat_map g cb.tail) (sym fronts.0) in
-    let id_front : list_any is_id a.messages.items ≡ true → list_any is_id ca.front ≡ true =
-    λ h. or_left (list_any is_id ca.front) (list_any is_id ca.tail) (sym (list_any-append is_id ca.front ca.tail) ∙ sym (ap (list_any is_id) ca.joined) ∙ h) (tail_no_id ca.tail ca.ends) in
-    let shown : list_any is_display a.messages.items ≡ true → list_any is_display ca.tail ≡ true =
-    λ h. or_first (list_any is_display ca.front) (list_any is_display ca.tail) (sym (list_any-append is_display ca.front ca.tail) ∙ sym (ap (list_any is_display) ca.joined) ∙ h) (bare_none ca.front ca.bare) in
-    let ids : a.id ≡ b.id = elim (list_any is_id a.messages.items) as (λ v. list_any is_id a.messages.items ≡ v → a.id ≡ b.id) [
-      | true ↦ λ h. one_id a.id a.text.items b.id b.text.items (ha.id_length ∙ sym hb.id_length) ca.front _ _ ca.bare again (id_front h)
-      | false ↦ λ h. ha.no_id h ∙ sym (hb.no_id (ap (list_any is_id) (sym messages) ∙ h))
-    ] refl in
-    let texts : a.text.items ≡ b.text.items = elim (list_any is_display a.messages.items) as (λ v. list_any is_display a.messages.items ≡ v → a.text.items ≡ b.text.items) [
-      | true ↦ λ h. tails.1 (shown h)
-      | false ↦ λ h. ha.no_text h ∙ sym (hb.no_text (ap (list_any is_display) (sym messages) ∙ h))
-    ] refl in
-    same_parts a b messages ids texts
+pub one_reader_list : (a b : ReaderMessages) → IsReaderList a → IsReaderList b → reader_list_bytes a ≡ reader_list_bytes b → a ≡ b
+one_reader_list a b ha hb e = sym (reads_list a ha) ∙ ap messages_of e ∙ reads_list b hb
 
--- an answer isn't one where reading stops
-pub reader_no_stop : (a : ReaderList) (fault : MsgFault) → IsReaderList a → ReaderStopsAt (reader_list_bytes a) fault → ⊥
-reader_no_stop a fault ha stop =
-    let f = reader_msg_bytes a.id a.text.items in
+-- messages aren't bytes where reading stops
+messages_no_stop : (a : ReaderMessages) (fault : MsgFault) → length a.id ≡ 29 → length a.text ≤ 32 → IsDisplayLast a.messages → ReaderStopsAt (reader_list_bytes a) fault → ⊥
+messages_no_stop a fault id_length text_length last stop =
+    let f = reader_msg_bytes a.id a.text in
     let g = reader_msg_bytes stop.0 [] in
-    let ca = cut a.messages.items ha.last in
-    let left : flat_map f a.messages.items ≡ flat_map f ca.front ++ flat_map f ca.tail = ap (flat_map f) ca.joined ∙ flat_map-append f ca.front ca.tail in
+    let ca = cut a.messages last in
+    let left : flat_map f a.messages ≡ flat_map f ca.front ++ flat_map f ca.tail = ap (flat_map f) ca.joined ∙ flat_map-append f ca.front ca.tail in
     let both : flat_map f ca.front ++ flat_map f ca.tail ≡ flat_map g stop.2.0 ++ stop.2.1 = sym left ∙ stop.2.3 in
-    let fronts = one_bare a.id a.text.items stop.0 [] ha.id_length stop.1 ca.front stop.2.0 _ _ ca.bare stop.2.2 both (tail_ends a.id a.text.items ca.tail ca.ends) (inl (inr (fault, stop.2.4))) in
+    let fronts = one_bare a.id a.text stop.0 [] id_length stop.1 ca.front stop.2.0 _ _ ca.bare stop.2.2 both (tail_ends a.id a.text ca.tail ca.ends) (inl (inr (fault, stop.2.4))) in
     let none : NoReaderMsg (flat_map f ca.tail) fault = subst (λ x. NoReaderMsg x fault) (sym fronts.1) stop.2.4 in
     at_tail ca.tail ca.ends none
   where
-    shown : (time : ℕ) (fault : MsgFault) → NoReaderMsg (2 ∷ time ∷ (a.text.items ++ [])) fault → ⊥
+    shown : (time : ℕ) (fault : MsgFault) → NoReaderMsg (2 ∷ time ∷ (a.text ++ [])) fault → ⊥
     shown time faults.Message (inl none) = absurd (omega (arith, none.0))
     shown time faults.Message (inr (inl (e, inl none))) = cc none
     shown time faults.Message (inr (inl (e, inr none))) =
-        let long : length (a.text.items ++ []) ≡ length a.text.items = ap length (append-nil a.text.items) in
-        let bound = ha.text_length in
+        let long : length (a.text ++ []) ≡ length a.text = ap length (append-nil a.text) in
+        let bound = text_length in
         omega (arith, none)
     shown time faults.Message (inr (inr (inl (inl three, short)))) = omega (arith, three)
     shown time faults.Message (inr (inr (inl (inr five, short)))) = omega (arith, five)
@@ -271,15 +135,38 @@ reader_no_stop a fault ha stop =
     shown time faults.Length none = none
     shown time faults.Answer none = none
 
-    at_tail : (tail : List ReaderMsg) → (tail ≡ []) ⊎ ((time : ℕ) × (tail ≡ Display time ∷ [])) → NoReaderMsg (flat_map (reader_msg_bytes a.id a.text.items) tail) fault → ⊥
-    at_tail tail (inl e) none = nothing fault (subst (λ x. NoReaderMsg x fault) (ap (flat_map (reader_msg_bytes a.id a.text.items)) e) none)
+    at_tail : (tail : List ReaderMsg) → (tail ≡ []) ⊎ ((time : ℕ) × (tail ≡ Display time ∷ [])) → NoReaderMsg (flat_map (reader_msg_bytes a.id a.text) tail) fault → ⊥
+    at_tail tail (inl e) none = nothing fault (subst (λ x. NoReaderMsg x fault) (ap (flat_map (reader_msg_bytes a.id a.text)) e) none)
       where
         nothing : (fault : MsgFault) → NoReaderMsg [] fault → ⊥
         nothing faults.Message h = h
         nothing faults.Profile h = h
         nothing faults.Length h = h
         nothing faults.Answer h = h
-    at_tail tail (inr e) none = shown e.0 fault (subst (λ x. NoReaderMsg x fault) (ap (flat_map (reader_msg_bytes a.id a.text.items)) e.1) none)
+    at_tail tail (inr e) none = shown e.0 fault (subst (λ x. NoReaderMsg x fault) (ap (flat_map (reader_msg_bytes a.id a.text)) e.1) none)
+
+-- an answer isn't one where reading stops
+pub reader_no_stop : (a : ReaderMessages) (fault : MsgFault) → IsReaderList a → ReaderStopsAt (reader_list_bytes a) fault → ⊥
+reader_no_stop a fault ha = messages_no_stop a fault ha.id_length ha.text_length ha.last
+
+-- where messages stand, one stands in front
+pub message_stands : (bytes : List ℕ) (fault : MsgFault) → StandAsMessages bytes → NoReaderMsg bytes fault → ⊥
+message_stands bytes fault stand none =
+    messages_no_stop stand.list fault stand.id_length stand.text_length stand.last
+    (subst (λ x. ReaderStopsAt x fault) stand.spelled (replicate 29 0, refl, ([], bytes, tt, refl, none)))
+
+-- so what stands behind an index is read: the next message, or none where nothing is left
+abbrev NextRead : Type 0
+NextRead = Result (ReaderMsg × Bor (List ℕ) × Bor (List ℕ)) MsgFault
+
+pub next_found : (bytes : List ℕ) (first : ℕ) (behind : List ℕ) → StandAsMessages bytes → bytes ≡ first ∷ behind → (read : NextRead) → IfOk read (λ x. first ∷ behind ≡ head_bytes x.0 ++ x.1.now ++ x.2.now) → IfOk read (λ x. IsTextOf x.0 x.1.now x.2.now) → IfSome (result_ok read) (λ x. IsNextMessage bytes x.0 x.1.now x.2.now)
+next_found bytes first behind stand e (Ok x) spelled is_text = next_is bytes x.0 x.1.now x.2.now stand (e ∙ spelled ∙ append_assoc (head_bytes x.0) x.1.now x.2.now) is_text
+next_found bytes first behind stand e (Err fault) spelled is_text = tt
+
+pub never_none : (bytes : List ℕ) (first : ℕ) (behind : List ℕ) → StandAsMessages bytes → bytes ≡ first ∷ behind → (read : NextRead) → IfErr read (NoReaderMsg (first ∷ behind)) → IsNone (result_ok read) → ⊥
+never_none bytes first behind stand e (Ok x) fault none = cc none
+never_none bytes first behind stand e (Err a) fault none =
+    message_stands bytes a stand (subst (λ x. NoReaderMsg x a) (sym e) fault)
 
 -- reading stops at one place, with one fault
 no_length : (rest : List ℕ) → NoReaderMsg rest faults.Length → ⊥

@@ -15,7 +15,8 @@ use Rattle.mdb_msgs.specs.declared.reply.setup.TubeStatus.{TubeStatus}
 use Rattle.mdb_msgs.specs.Answers.{IsDataLength}
 use Rattle.mdb_msgs.specs.Replies.{form_of_reply, reply_bytes, HasFields, has_kept, IsAnswerTo, IsReplyTo, NoReply, IsNoReplyTo, IsReadFault, IsWriteFault, SpellsReply}
 use Rattle.mdb_msgs.specs.Setup.{changer_setup_bytes, tube_status_bytes, bill_setup_bytes, stacker_bytes, IsStacker}
-use Rattle.mdb_msgs.proofs.OneReader.{same_fronts, one_reader_list, reader_no_stop, one_reader_stop}
+use Rattle.mdb_msgs.proofs.OneReader.{one_reader_list, reader_no_stop, one_reader_stop}
+use Rattle.mdb_msgs.proofs.ReaderBytes.{same_fronts}
 use Rattle.mdb_msgs.proofs.OneReading.{one_changer_list, one_bill_list, changer_no_stop, bill_no_stop, one_changer_stop, one_bill_stop}
 
 -- a number is told by its two bytes

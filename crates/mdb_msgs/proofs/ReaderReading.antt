@@ -4,18 +4,26 @@ use Rattle.std.specs.List.{flat_map, list_any, AllByRecursion}
 use Rattle.std.proofs.lemmas.List.Folds.{list_any-append}
 use Rattle.mdb_msgs.specs.declared.reply.reader.ReaderMsg.{ReaderMsg}
 use Rattle.mdb_msgs.specs.declared.reply.reader.ReaderMsg.TheVariants.{Display, PeripheralId}
-use Rattle.mdb_msgs.specs.declared.reply.reader.ReaderList.{ReaderList}
 use Rattle.mdb_msgs.specs.declared.fault.MsgFault.{MsgFault}
-use Rattle.mdb_msgs.specs.Reader.{head_bytes, is_display, is_id, text_of, reader_msg_bytes, reader_list_bytes, IsDisplayLast, IsReaderList, NotDisplay, NoReaderMsg, ReaderStopsAt}
+use Rattle.mdb_msgs.specs.Reader.{ReaderMessages, head_bytes, is_display, is_id, text_of, reader_msg_bytes, reader_list_bytes, IsDisplayLast, IsReaderList, NotDisplay, NoReaderMsg, ReaderStopsAt}
+use Rattle.mdb_msgs.specs.ReaderBytes.{no_messages}
 use Rattle.mdb_msgs.specs.ReaderSteps.{IsTextOf, with_message}
 use Rattle.mdb_msgs.proofs.Reading.{all_more, spelled_more}
 
 -- these messages were taken off the front, and this is the rest
-pub record Taken (whole : List ℕ) (list : ReaderList) (rest : List ℕ) : Type 0 where
+pub record Taken (whole : List ℕ) (list : ReaderMessages) (rest : List ℕ) : Type 0 where
   pub spelled : whole ≡ reader_list_bytes list ++ rest
-  pub room : length list.messages.items + length rest ≤ length whole
+  pub room : length list.messages + length rest ≤ length whole
   pub is_list : IsReaderList list
-  pub bare : 0 < length rest → AllByRecursion NotDisplay list.messages.items
+  pub bare : 0 < length rest → AllByRecursion NotDisplay list.messages
+
+pub nothing_taken : (bytes : List ℕ) → Taken bytes no_messages bytes
+nothing_taken bytes = record {
+  spelled = refl;
+  room = omega arith;
+  is_list = record { id_length = refl; text_length = omega arith; last = tt; no_id = λ _. refl; no_text = λ _. refl };
+  bare = λ _. tt;
+}
 
 pub or_parts : (a b : Bool) → (a || b) ≡ false → (a ≡ false) × (b ≡ false)
 or_parts true b h = absurd (cc)
@@ -70,10 +78,10 @@ last_more (x ∷ []) m h = (h.0, tt)
 last_more (x ∷ y ∷ ms) m h = (h.0, last_more (y ∷ ms) m h.1)
 
 -- one message more where nothing of a text changes
-pub takes_bare : (whole : List ℕ) (list : ReaderList) (rest : List ℕ) (m : ReaderMsg) (after : List ℕ) → Taken whole list rest → 0 < length rest → length after < length rest → is_display m ≡ false → text_of list.id list.text.items m ≡ [] → rest ≡ head_bytes m ++ [] ++ after → Taken whole (record list { messages = record { items = list.messages.items ++ m ∷ [] } }) after
+pub takes_bare : (whole : List ℕ) (list : ReaderMessages) (rest : List ℕ) (m : ReaderMsg) (after : List ℕ) → Taken whole list rest → 0 < length rest → length after < length rest → is_display m ≡ false → text_of list.id list.text m ≡ [] → rest ≡ head_bytes m ++ [] ++ after → Taken whole (record list { messages = list.messages ++ m ∷ [] }) after
 takes_bare whole list rest m after t left shorter plain none d =
-    let ms = list.messages.items in
-    let f = reader_msg_bytes list.id list.text.items in
+    let ms = list.messages in
+    let f = reader_msg_bytes list.id list.text in
     let bare : AllByRecursion NotDisplay ms = t.bare left in
     let front : rest ≡ f m ++ after = d ∙ ap (λ e. head_bytes m ++ e ++ after) (sym none) in
     record {
@@ -90,17 +98,17 @@ takes_bare whole list rest m after t left shorter plain none d =
     }
 
 -- the same for an identification, which can't be the second one
-pub takes_id : (whole : List ℕ) (list : ReaderList) (rest text after : List ℕ) → length whole ≤ 35 → Taken whole list rest → 0 < length rest → length text ≡ 29 → rest ≡ head_bytes PeripheralId ++ text ++ after → Taken whole (with_message list PeripheralId text) after
+pub takes_id : (whole : List ℕ) (list : ReaderMessages) (rest text after : List ℕ) → length whole ≤ 35 → Taken whole list rest → 0 < length rest → length text ≡ 29 → rest ≡ head_bytes PeripheralId ++ text ++ after → Taken whole (with_message list PeripheralId text) after
 takes_id whole list rest text after short t left l d =
-    let ms = list.messages.items in
+    let ms = list.messages in
     let bare : AllByRecursion NotDisplay ms = t.bare left in
     let long = length-append (9 ∷ text) after in
     let rest_long : length rest ≡ length (head_bytes PeripheralId ++ text ++ after) = ap length d in
     let whole_long : length whole ≡ length (reader_list_bytes list) + length rest = ap length t.spelled ∙ length-append (reader_list_bytes list) rest in
     let first : list_any is_id ms ≡ false = no_id_yet (list_any is_id ms) refl in
-    let same : flat_map (reader_msg_bytes list.id list.text.items) ms ≡ flat_map (reader_msg_bytes text list.text.items) ms = other_id list.id text list.text.items ms first in
+    let same : flat_map (reader_msg_bytes list.id list.text) ms ≡ flat_map (reader_msg_bytes text list.text) ms = other_id list.id text list.text ms first in
     record {
-      spelled = spelled_more (reader_msg_bytes text list.text.items) ms PeripheralId whole rest after (t.spelled ∙ ap (λ e. e ++ rest) same) d;
+      spelled = spelled_more (reader_msg_bytes text list.text) ms PeripheralId whole rest after (t.spelled ∙ ap (λ e. e ++ rest) same) d;
       room = let longer = length-append ms (PeripheralId ∷ []) in let room = t.room in omega (arith, length-append text after);
       is_list = record {
         id_length = l;
@@ -116,9 +124,9 @@ takes_id whole list rest text after short t left l d =
     no_true true h = cc
     no_true false h = cc
 
-    no_id_yet : (b : Bool) → list_any is_id list.messages.items ≡ b → list_any is_id list.messages.items ≡ false
+    no_id_yet : (b : Bool) → list_any is_id list.messages ≡ b → list_any is_id list.messages ≡ false
     no_id_yet true h =
-        let long = id_long list.id list.text.items list.messages.items t.is_list.id_length h in
+        let long = id_long list.id list.text list.messages t.is_list.id_length h in
         let tail = length-append (9 ∷ text) after in
         let rest_long = ap length d in
         let whole_long = ap length t.spelled ∙ length-append (reader_list_bytes list) rest in
@@ -126,11 +134,11 @@ takes_id whole list rest text after short t left l d =
     no_id_yet false h = h
 
 -- the same for a display request, behind which nothing stands
-pub takes_display : (whole : List ℕ) (list : ReaderList) (rest : List ℕ) (time : ℕ) (text after : List ℕ) → Taken whole list rest → 0 < length rest → length text ≤ 32 → after ≡ [] → rest ≡ head_bytes (Display time) ++ text ++ after → Taken whole (with_message list (Display time) text) after
+pub takes_display : (whole : List ℕ) (list : ReaderMessages) (rest : List ℕ) (time : ℕ) (text after : List ℕ) → Taken whole list rest → 0 < length rest → length text ≤ 32 → after ≡ [] → rest ≡ head_bytes (Display time) ++ text ++ after → Taken whole (with_message list (Display time) text) after
 takes_display whole list rest time text after t left l none d =
-    let ms = list.messages.items in
+    let ms = list.messages in
     let bare : AllByRecursion NotDisplay ms = t.bare left in
-    let same : flat_map (reader_msg_bytes list.id list.text.items) ms ≡ flat_map (reader_msg_bytes list.id text) ms = other_text list.id list.text.items text ms bare in
+    let same : flat_map (reader_msg_bytes list.id list.text) ms ≡ flat_map (reader_msg_bytes list.id text) ms = other_text list.id list.text text ms bare in
     let nothing : length after ≡ 0 = ap length none in
     record {
       spelled = spelled_more (reader_msg_bytes list.id text) ms (Display time) whole rest after (t.spelled ∙ ap (λ e. e ++ rest) same) d;
@@ -150,29 +158,30 @@ takes_display whole list rest time text after t left l none d =
     no_true false h = cc
 
 -- one message more
-pub takes : (whole : List ℕ) (list : ReaderList) (rest : List ℕ) (m : ReaderMsg) (text after : List ℕ) → length whole ≤ 35 → Taken whole list rest → 0 < length rest → length after < length rest → rest ≡ head_bytes m ++ text ++ after → IsTextOf m text after → Taken whole (with_message list m text) after
+pub takes : (whole : List ℕ) (list : ReaderMessages) (rest : List ℕ) (m : ReaderMsg) (text after : List ℕ) → length whole ≤ 35 → Taken whole list rest → 0 < length rest → length after < length rest → rest ≡ head_bytes m ++ text ++ after → IsTextOf m text after → Taken whole (with_message list m text) after
 takes whole list rest PeripheralId text after short t left shorter d h = takes_id whole list rest text after short t left h d
 takes whole list rest (Display time) text after short t left shorter d h = takes_display whole list rest time text after t left h.0 h.1 d
 takes whole list rest m text after short t left shorter d h =
     takes_bare whole list rest m after t left shorter refl refl (d ∙ ap (λ e. head_bytes m ++ e ++ after) h)
 
 -- where nothing is left, the list is all of the bytes
-pub all_read : (whole : List ℕ) (list : ReaderList) (rest : List ℕ) → Taken whole list rest → rest ≡ [] → whole ≡ reader_list_bytes list
-all_read whole list rest t e = t.spelled ∙ ap (λ r. reader_list_bytes list ++ r) e ∙ append-nil (reader_list_bytes list)
+pub all_read : (whole : List ℕ) (list : ReaderMessages) (rest : List ℕ) → Taken whole list rest → length rest ≡ 0 → whole ≡ reader_list_bytes list
+all_read whole list [] t e = t.spelled ∙ append-nil (reader_list_bytes list)
+all_read whole list (byte ∷ rest) t e = absurd (omega arith)
 
 -- where no message stands, reading stops
-pub stops_reading : (whole : List ℕ) (list : ReaderList) (rest : List ℕ) (fault : MsgFault) → Taken whole list rest → 0 < length rest → NoReaderMsg rest fault → ReaderStopsAt whole fault
+pub stops_reading : (whole : List ℕ) (list : ReaderMessages) (rest : List ℕ) (fault : MsgFault) → Taken whole list rest → 0 < length rest → NoReaderMsg rest fault → ReaderStopsAt whole fault
 stops_reading whole list rest fault t left none =
-    let same : reader_list_bytes list ≡ flat_map (reader_msg_bytes list.id []) list.messages.items = other_text list.id list.text.items [] list.messages.items (t.bare left) in
-    (list.id, t.is_list.id_length, (list.messages.items, rest, t.bare left, t.spelled ∙ ap (λ e. e ++ rest) same, none))
+    let same : reader_list_bytes list ≡ flat_map (reader_msg_bytes list.id []) list.messages = other_text list.id list.text [] list.messages (t.bare left) in
+    (list.id, t.is_list.id_length, (list.messages, rest, t.bare left, t.spelled ∙ ap (λ e. e ++ rest) same, none))
 
 -- the same two at a rest that is known by its first byte
-pub takes_next : (whole : List ℕ) (list : ReaderList) (rest : List ℕ) (first : ℕ) (behind : List ℕ) (m : ReaderMsg) (text after : List ℕ) → length whole ≤ 35 → Taken whole list rest → rest ≡ first ∷ behind → first ∷ behind ≡ head_bytes m ++ text ++ after → length after ≤ length behind → IsTextOf m text after → Taken whole (with_message list m text) after
+pub takes_next : (whole : List ℕ) (list : ReaderMessages) (rest : List ℕ) (first : ℕ) (behind : List ℕ) (m : ReaderMsg) (text after : List ℕ) → length whole ≤ 35 → Taken whole list rest → rest ≡ first ∷ behind → first ∷ behind ≡ head_bytes m ++ text ++ after → length after ≤ length behind → IsTextOf m text after → Taken whole (with_message list m text) after
 takes_next whole list rest first behind m text after short t e d shorter h =
     let longer : length rest ≡ length (first ∷ behind) = ap length e in
     takes whole list rest m text after short t (omega arith) (omega arith) (e ∙ d) h
 
-pub stops_next : (whole : List ℕ) (list : ReaderList) (rest : List ℕ) (first : ℕ) (behind : List ℕ) (fault : MsgFault) → Taken whole list rest → rest ≡ first ∷ behind → NoReaderMsg (first ∷ behind) fault → ReaderStopsAt whole fault
+pub stops_next : (whole : List ℕ) (list : ReaderMessages) (rest : List ℕ) (first : ℕ) (behind : List ℕ) (fault : MsgFault) → Taken whole list rest → rest ≡ first ∷ behind → NoReaderMsg (first ∷ behind) fault → ReaderStopsAt whole fault
 stops_next whole list rest first behind fault t e none =
     let longer : length rest ≡ length (first ∷ behind) = ap length e in
     stops_reading whole list rest fault t (omega arith) (subst (λ bytes. NoReaderMsg bytes fault) (sym e) none)

@@ -3,8 +3,7 @@ use Rattle.std.proofs.Common.{◌≡◌, ◌≤◌, ◌<◌, Bool, true, false, 
 use Rattle.std.specs.List.{flat_map, list_any}
 use Rattle.std.proofs.lemmas.List.Folds.{length-flat_map-take}
 use Rattle.mdb_msgs.specs.declared.reply.reader.ReaderMsg.{ReaderMsg}
-use Rattle.mdb_msgs.specs.Reader.{is_display, is_id, reader_msg_bytes, IsDisplayLast, IsReaderList}
-use Rattle.mdb_msgs.specs.declared.reply.reader.ReaderList.{ReaderList}
+use Rattle.mdb_msgs.specs.Reader.{ReaderMessages, is_display, is_id, reader_msg_bytes, IsDisplayLast, IsReaderList}
 use Rattle.mdb_msgs.proofs.ReaderReading.{or_parts}
 
 or_both : (a b : Bool) → a ≡ false → b ≡ false → (a || b) ≡ false
@@ -40,8 +39,15 @@ room_for_one id text ms i d bytes below e room =
     omega arith
 
 -- where the first two tests hold, the third decides
-pub valid_list : (list : ReaderList) (last id text : Bool) → (IsTrue last → IsDisplayLast list.messages.items) → last ≡ true → (IsTrue id → list_any is_id list.messages.items ≡ false → list.id ≡ replicate 29 0) → id ≡ true → (IsTrue text → list_any is_display list.messages.items ≡ false → list.text.items ≡ []) × ((list_any is_display list.messages.items ≡ false → list.text.items ≡ []) → IsTrue text) → length list.id ≡ 29 → length list.text.items ≤ 32 → (IsTrue text → IsReaderList list) × (IsReaderList list → IsTrue text)
+pub valid_list : (list : ReaderMessages) (last id text : Bool) → (IsTrue last → IsDisplayLast list.messages) → last ≡ true → (IsTrue id → list_any is_id list.messages ≡ false → list.id ≡ replicate 29 0) → id ≡ true → (IsTrue text → list_any is_display list.messages ≡ false → list.text ≡ []) × ((list_any is_display list.messages ≡ false → list.text ≡ []) → IsTrue text) → length list.id ≡ 29 → length list.text ≤ 32 → (IsTrue text → IsReaderList list) × (IsReaderList list → IsTrue text)
 valid_list list last id text on_last is_last on_id is_id on_text id_length text_length = (
   λ t. record { id_length = id_length; text_length = text_length; last = on_last is_last; no_id = on_id is_id; no_text = on_text.0 t },
   λ h. on_text.1 h.no_text,
 )
+
+-- and have none where the bytes with them are too many
+pub no_room : (id text : List ℕ) (ms : List ReaderMsg) (i : ℕ) (d : ReaderMsg) (bytes : List ℕ) → i < length ms → bytes ≡ flat_map (reader_msg_bytes id text) (take i ms) → 35 < length bytes + length (reader_msg_bytes id text (get_or ms i d)) → 35 < length (flat_map (reader_msg_bytes id text) ms)
+no_room id text ms i d bytes below e over =
+    let fits = length-flat_map-take (reader_msg_bytes id text) ms i d below in
+    let same : length bytes ≡ length (flat_map (reader_msg_bytes id text) (take i ms)) = ap length e in
+    omega arith

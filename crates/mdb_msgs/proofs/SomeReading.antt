@@ -1,5 +1,5 @@
 -- Bytes are messages, or there is a leftmost place where no message stands.
-use Rattle.std.proofs.Common.{◌≡◌, ◌≢◌, ℕ, zero, suc, ◌+◌, ◌-◌, ◌*◌, ◌/◌, ◌%◌, ◌<◌, ◌≤◌, ◌⊎◌, inl, inr, List, [], ◌∷◌, ◌++◌, length, take, drop, All, refl, sym, ap, ◌∙◌, arith, append_assoc, append-nil, replicate}
+use Rattle.std.proofs.Common.{◌≡◌, ◌≢◌, ℕ, zero, suc, ◌+◌, ◌-◌, ◌*◌, ◌/◌, ◌%◌, ◌<◌, ◌≤◌, ◌⊎◌, inl, inr, List, [], ◌∷◌, ◌++◌, length, take, drop, All, refl, sym, ap, ◌∙◌, arith, append_assoc, append-nil}
 use Rattle.std.specs.List.{flat_map, AllByRecursion}
 use Rattle.std.proofs.lemmas.List.{length-take-le, length-drop, take-append-drop}
 use Rattle.std.proofs.lemmas.List.Elements.{All-drop, All-nil}
@@ -11,15 +11,15 @@ use Rattle.mdb_msgs.specs.declared.reply.changer.ChangerMsg.{ChangerMsg}
 use Rattle.mdb_msgs.specs.declared.reply.changer.ChangerMsg.TheVariants as changer
 use Rattle.mdb_msgs.specs.declared.reply.reader.ReaderMsg.{ReaderMsg}
 use Rattle.mdb_msgs.specs.declared.reply.reader.ReaderMsg.TheVariants as reader
-use Rattle.mdb_msgs.specs.declared.reply.reader.ReaderList.{ReaderList}
 use Rattle.mdb_msgs.specs.Bill.{bill_msg_bytes, IsBillMsg, NoBillMsg}
 use Rattle.mdb_msgs.specs.Changer.{changer_msg_bytes, IsChangerMsg, NoChangerMsg}
 use Rattle.mdb_msgs.specs.Commands.{IsByte}
 use Rattle.mdb_msgs.specs.Lists.{StopsAt}
-use Rattle.mdb_msgs.specs.Reader.{head_bytes, reader_list_bytes, IsReaderList, NoReaderMsg, ReaderStopsAt}
+use Rattle.mdb_msgs.specs.Reader.{ReaderMessages, head_bytes, reader_list_bytes, IsReaderList, NoReaderMsg, ReaderStopsAt}
+use Rattle.mdb_msgs.specs.ReaderBytes.{no_messages}
 use Rattle.mdb_msgs.specs.ReaderSteps.{IsTextOf, with_message}
 use Rattle.mdb_msgs.specs.TwoBytes.{two_bytes}
-use Rattle.mdb_msgs.proofs.ReaderReading.{Taken, takes_next, stops_next, all_read}
+use Rattle.mdb_msgs.proofs.ReaderReading.{Taken, nothing_taken, takes_next, stops_next, all_read}
 
 -- which of two, by a limit
 pub split : (limit n : ℕ) → (n < limit) ⊎ (limit ≤ n)
@@ -258,36 +258,24 @@ reader_step (suc (suc (suc (suc (suc (suc (suc (suc (suc (suc (suc (suc first)))
 
 -- bytes are a reader's list
 pub record ReadsList (bytes : List ℕ) : Type 0 where
-  pub list : ReaderList
+  pub list : ReaderMessages
   pub is_list : IsReaderList list
   pub spelled : bytes ≡ reader_list_bytes list
 
 abbrev pub ReaderStops : List ℕ → Type 0
 ReaderStops bytes = ReaderStopsAt bytes Message ⊎ ReaderStopsAt bytes Profile
 
-reader_goes_on : (whole : List ℕ) → length whole ≤ 35 → (fuel : ℕ) (list : ReaderList) (rest : List ℕ) → length rest ≤ fuel → All IsByte rest → Taken whole list rest → ReadsList whole ⊎ ReaderStops whole
+reader_goes_on : (whole : List ℕ) → length whole ≤ 35 → (fuel : ℕ) (list : ReaderMessages) (rest : List ℕ) → length rest ≤ fuel → All IsByte rest → Taken whole list rest → ReadsList whole ⊎ ReaderStops whole
 reader_goes_on whole few fuel list [] short low taken = inl (record { list = list; is_list = taken.is_list; spelled = all_read whole list [] taken refl })
 reader_goes_on whole few zero list (first ∷ behind) short low taken = absurd (omega arith)
 reader_goes_on whole few (suc fuel) list (first ∷ behind) short low taken = by (reader_goes_on whole few fuel) (reader_step first behind low)
   where
-    by : ((list : ReaderList) (rest : List ℕ) → length rest ≤ fuel → All IsByte rest → Taken whole list rest → ReadsList whole ⊎ ReaderStops whole) → ReaderFront first behind ⊎ NoFront first behind → ReadsList whole ⊎ ReaderStops whole
+    by : ((list : ReaderMessages) (rest : List ℕ) → length rest ≤ fuel → All IsByte rest → Taken whole list rest → ReadsList whole ⊎ ReaderStops whole) → ReaderFront first behind ⊎ NoFront first behind → ReadsList whole ⊎ ReaderStops whole
     by more (inl front) =
         more (with_message list front.message front.text) front.rest (let shorter = front.shorter in omega arith) front.low
         (takes_next whole list (first ∷ behind) first behind front.message front.text front.rest few taken refl front.spelled front.shorter front.is_text)
     by more (inr (inl none)) = inr (inl (stops_next whole list (first ∷ behind) first behind Message taken refl none))
     by more (inr (inr none)) = inr (inr (stops_next whole list (first ∷ behind) first behind Profile taken refl none))
 
-empty_list : ReaderList
-empty_list = record { messages = record { items = [] }; id = replicate 29 0; text = record { items = [] } }
-
-nothing_taken : (bytes : List ℕ) → Taken bytes empty_list bytes
-unfolding empty_list
-nothing_taken bytes = record {
-  spelled = refl;
-  room = omega arith;
-  is_list = record { id_length = refl; text_length = omega arith; last = tt; no_id = λ _. refl; no_text = λ _. refl };
-  bare = λ _. tt;
-}
-
 pub reader_reads : (bytes : List ℕ) → length bytes ≤ 35 → All IsByte bytes → ReadsList bytes ⊎ ReaderStops bytes
-reader_reads bytes few low = reader_goes_on bytes few (length bytes) empty_list bytes (omega arith) low (nothing_taken bytes)
+reader_reads bytes few low = reader_goes_on bytes few (length bytes) no_messages bytes (omega arith) low (nothing_taken bytes)

@@ -7,6 +7,8 @@ use Rattle.mdb_msgs.specs.declared.reply.Reply.{Reply}
 use Rattle.mdb_msgs.specs.Answers.{HasDataAnswer}
 use Rattle.mdb_msgs.specs.Commands.{IsByte, Spells}
 use Rattle.mdb_msgs.specs.Needs.{IsOpen}
+use Rattle.mdb_msgs.specs.Reader.{ReaderMessages, reader_list_bytes, IsReaderList}
+use Rattle.mdb_msgs.specs.ReaderBytes.{messages_of}
 use Rattle.mdb_msgs.specs.Replies.{reply_bytes, IsReplyTo, IsReadFault, IsWriteFault, SpellsReply}
 
 -- open bytes are the front of some command's block
@@ -76,3 +78,8 @@ abbrev pub WrittenHasNoFault : Type 0
 WrittenHasNoFault =
     (command : Command) (reply : Reply) (fault : MsgFault)
     → IsReplyTo command reply → IsWriteFault command reply fault → ⊥
+
+-- a reader's answer is what its bytes are read as
+abbrev pub AnswerIsReadFromItsBytes : Type 0
+AnswerIsReadFromItsBytes =
+    (list : ReaderMessages) → IsReaderList list → messages_of (reader_list_bytes list) ≡ list

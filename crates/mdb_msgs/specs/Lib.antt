@@ -7,6 +7,7 @@ pub mod Laws
 pub mod Lists
 pub mod Needs
 pub mod Reader
+pub mod ReaderBytes
 pub mod ReaderSteps
 pub mod Replies
 pub mod Setup

@@ -1,13 +1,19 @@
 -- The messages of a reader's answer, byte by byte (MDB/ICP 4.3, cashless device).
-use Rattle.std.specs.Prelude.{◌≡◌, ℕ, ◌<◌, ◌≤◌, ◌⊎◌, Bool, true, false, List, [], ◌∷◌, ◌++◌, length, replicate}
+use Rattle.std.specs.Prelude.{◌≡◌, ℕ, ◌<◌, ◌≤◌, ◌⊎◌, Bool, true, false, nat_le, List, [], ◌∷◌, ◌++◌, length, replicate}
 use Rattle.std.specs.List.{flat_map, list_any}
 use Rattle.mdb_msgs.specs.declared.fault.MsgFault.{MsgFault}
 use Rattle.mdb_msgs.specs.declared.fault.MsgFault.TheVariants.{Message, Profile}
 use Rattle.mdb_msgs.specs.declared.reply.reader.ReaderMsg.{ReaderMsg}
 use Rattle.mdb_msgs.specs.declared.reply.reader.ReaderMsg.TheVariants.{JustReset, Config, Display, BeginSession, CancelRequest, VendApproved, VendDenied, EndSession, Cancelled, PeripheralId, Malfunction, OutOfSequence}
-use Rattle.mdb_msgs.specs.declared.reply.reader.ReaderList.{ReaderList}
 use Rattle.mdb_msgs.specs.Lists.{StopsAt}
 use Rattle.mdb_msgs.specs.TwoBytes.{two_bytes}
+
+-- a reader's answer: its messages in order, and beside them the two long texts, of which a block
+-- holds at most one each: the bytes of the identification, and the text of the display request
+pub record ReaderMessages : Type 0 where
+  pub messages : List ReaderMsg
+  pub id : List ℕ
+  pub text : List ℕ
 
 -- the bytes of a message, but for its text
 abbrev pub head_bytes : ReaderMsg → List ℕ
@@ -43,6 +49,11 @@ is_kept VendDenied = true
 is_kept EndSession = true
 is_kept _ = false
 
+-- whether a message tells of a feature level of `least` or more (Z2 of a config message)
+abbrev pub tells_level : ℕ → ReaderMsg → Bool
+tells_level least (Config level code scale decimals response options) = nat_le least level
+tells_level least _ = false
+
 -- the text of a message, where the list's identification and display text are these
 abbrev pub text_of : List ℕ → List ℕ → ReaderMsg → List ℕ
 text_of id text PeripheralId = id
@@ -54,8 +65,8 @@ abbrev pub reader_msg_bytes : List ℕ → List ℕ → ReaderMsg → List ℕ
 reader_msg_bytes id text message = head_bytes message ++ text_of id text message
 
 -- the bytes of a list: its messages put end to end
-abbrev pub reader_list_bytes : ReaderList → List ℕ
-reader_list_bytes list = flat_map (reader_msg_bytes list.id list.text.items) list.messages.items
+abbrev pub reader_list_bytes : ReaderMessages → List ℕ
+reader_list_bytes list = flat_map (reader_msg_bytes list.id list.text) list.messages
 
 -- no display request stands before another message
 abbrev pub IsDisplayLast : List ReaderMsg → Type 0
@@ -66,12 +77,16 @@ IsDisplayLast (message ∷ next ∷ messages) =
 
 -- the texts have their lengths, and are blank where no message has them; a display request is last
 -- (this profile)
-pub record IsReaderList (list : ReaderList) : Type 0 where
+pub record IsReaderList (list : ReaderMessages) : Type 0 where
   pub id_length : length list.id ≡ 29
-  pub text_length : length list.text.items ≤ 32
-  pub last : IsDisplayLast list.messages.items
-  pub no_id : list_any is_id list.messages.items ≡ false → list.id ≡ replicate 29 0
-  pub no_text : list_any is_display list.messages.items ≡ false → list.text.items ≡ []
+  pub text_length : length list.text ≤ 32
+  pub last : IsDisplayLast list.messages
+  pub no_id : list_any is_id list.messages ≡ false → list.id ≡ replicate 29 0
+  pub no_text : list_any is_display list.messages ≡ false → list.text ≡ []
+
+-- a list whose bytes a block can carry beside their sum
+abbrev pub IsReaderBlock : ReaderMessages → Type 0
+IsReaderBlock list = IsReaderList list × (length (reader_list_bytes list) ≤ 35)
 
 -- a message that isn't a display request may have messages behind it
 abbrev pub NotDisplay : ReaderMsg → Type 0

@@ -52,7 +52,7 @@ HasFields _ = Unit {0}
 
 -- whether it tells of sessions and sales
 abbrev pub has_kept : Reply → Bool
-has_kept (reply.Reader list) = list_any is_kept list.messages.items
+has_kept (reply.Reader list) = list_any is_kept list.messages
 has_kept _ = false
 
 -- a reply of the form that the command asks for, of an allowed number of bytes

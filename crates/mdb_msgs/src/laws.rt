@@ -6,7 +6,7 @@ ghost use Rattle.mdb_msgs.specs.declared.command.Command.{Command};
 ghost use Rattle.mdb_msgs.specs.declared.needs.Need.TheVariants.{Exactly};
 ghost use Rattle.mdb_msgs.specs.Commands.{IsByte, Spells};
 ghost use Rattle.mdb_msgs.specs.Needs.{TellsLength, needed};
-ghost use Rattle.mdb_msgs.specs.Laws.{OpenIsAFront, FrontIsOpen, BlockHasOneReply, ReplyHasItsLength, DataFitsABlock, SpelledReplyIsContent, DataIsAReplyOrHasAFault, ReplyHasNoFault, BytesHaveOneFault, ReplyHasOneWriteFault, WrittenHasNoFault};
+ghost use Rattle.mdb_msgs.specs.Laws.{OpenIsAFront, FrontIsOpen, BlockHasOneReply, ReplyHasItsLength, DataFitsABlock, SpelledReplyIsContent, DataIsAReplyOrHasAFault, ReplyHasNoFault, BytesHaveOneFault, ReplyHasOneWriteFault, WrittenHasNoFault, AnswerIsReadFromItsBytes};
 
 /// A block has at most one command.
 pub fn block_has_one_command()
@@ -85,4 +85,9 @@ pub fn reply_has_one_write_fault()
 /// A reply that may answer a command has no fault in writing.
 pub fn written_has_no_fault()
     ensures { WrittenHasNoFault }
+{}
+
+/// The bytes of a reader's answer are read as that answer.
+pub fn answer_is_read_from_its_bytes()
+    ensures { AnswerIsReadFromItsBytes }
 {}

@@ -100,11 +100,11 @@ impl Reply {
             Reply::Stacker(_) => 2,
             Reply::BillIdentification(id) => id.as_slice().len(),
             Reply::BillIdentificationWithOptions(id) => id.as_slice().len(),
-            Reply::Reader(list) => list.count(),
+            Reply::Reader(list) => list.bytes().len(),
         }
     }
 
-    /// Whether its fields are in their ranges, and a display request is last.
+    /// Whether its fields are in their ranges.
     fn is_valid(&self) -> bool
         ensures { IsTrue result ↔ HasFields self.now }
     {
@@ -133,7 +133,7 @@ impl Reply {
             Reply::Stacker(stacker) => stacker.bytes(),
             Reply::BillIdentification(id) => list_of(id),
             Reply::BillIdentificationWithOptions(id) => list_of(id),
-            Reply::Reader(list) => list.bytes(),
+            Reply::Reader(list) => list_of(list.bytes()),
         }
     }
 
@@ -206,11 +206,10 @@ fn read_content(command: &Command, content: &[u8]) -> Result<Reply, MsgFault>
     if !form.allows(content.len()) {
         return Err(MsgFault::Length);
     }
-    let reply = read_form(form, content)?;
-    if reply.has_kept() && !may_keep(command) {
-        return Err(MsgFault::Answer);
+    match read_form(form, content) {
+        Ok(reply) if !may_keep(command) && reply.has_kept() => Err(MsgFault::Answer),
+        read => read,
     }
-    Ok(reply)
 }
 
 /// The reply to a command that a block spells.
@@ -250,11 +249,10 @@ fn block_with(bytes: &[u8]) -> Block
 ///
 /// The first of these, and none where the command has a block of this reply: `Answer` where the
 /// command may have no data answer; `Length` where the bytes of the reply, whatever its form,
-/// aren't as many as the command allows; `Message` where the reply is of another command's form, a
-/// display request in it isn't last, a field is outside its range, or a text stands beside the list
-/// without its message; `Answer` for a reader's message of a session or a sale (03, 05, 06, 07) in
-/// an answer to another command than POLL and the five commands of a session, 13 00 to 13 04 or
-/// 63 00 to 63 04 (this profile).
+/// aren't as many as the command allows; `Message` where the reply is of another command's form, or
+/// a field is outside its range; `Answer` for a reader's message of a session or a sale (03, 05,
+/// 06, 07) in an answer to another command than POLL and the five commands of a session, 13 00 to
+/// 13 04 or 63 00 to 63 04 (this profile).
 pub fn write_reply(command: &Command, reply: &Reply) -> Result<Block, MsgFault>
     ensures exactly { IsOk result ↔ IsReplyTo command.now reply.now }
     ensures written { IfOk result (λ block. SpellsReply command.now reply.now block) }
@@ -279,7 +277,7 @@ fn written_bytes(command: &Command, reply: &Reply) -> Result<Bytes, MsgFault>
     if reply.form() != form || !reply.is_valid() {
         return Err(MsgFault::Message);
     }
-    if reply.has_kept() && !may_keep(command) {
+    if !may_keep(command) && reply.has_kept() {
         return Err(MsgFault::Answer);
     }
     Ok(reply.bytes())

@@ -1,17 +1,18 @@
 //! The messages of a reader's answer (MDB/ICP 4.3, cashless device).
 
-ghost use Rattle.std.specs.Prelude.{◌≡◌, ◌+◌, ◌≢◌, ◌≤◌, ◌<◌, true, false, [], ◌∷◌, ◌++◌, ◌↔◌, length, replicate, IsTrue, IfOk, IfErr};
-ghost use Rattle.std.specs.List.{list_any};
-ghost use Rattle.arrayvec.specs.ArrayVec.{array_vec_len};
+ghost use Rattle.std.specs.Prelude.{◌≡◌, ◌≢◌, ◌≤◌, ◌<◌, true, false, [], ◌∷◌, ◌++◌, ◌↔◌, length, replicate, IsTrue, IsSome, IsNone, IfSome, IfOk, IfErr};
+ghost use Rattle.std.specs.List.{flat_map, list_any};
 ghost use Rattle.mdb_msgs.specs.declared.fault.MsgFault.TheVariants.{Message};
 ghost use Rattle.mdb_msgs.specs.TwoBytes.{two_bytes};
-ghost use Rattle.mdb_msgs.specs.Reader.{head_bytes, reader_msg_bytes, reader_list_bytes, is_display, is_id, is_kept, text_of, IsDisplayLast, IsReaderList, NoReaderMsg, ReaderStopsAt};
-ghost use Rattle.mdb_msgs.specs.ReaderSteps.{IsTextOf, with_message};
+ghost use Rattle.mdb_msgs.specs.Reader.{head_bytes, reader_msg_bytes, reader_list_bytes, is_display, is_id, is_kept, tells_level, text_of, IsDisplayLast, IsReaderBlock, IsReaderList, NoReaderMsg, ReaderStopsAt};
+ghost use Rattle.mdb_msgs.specs.ReaderBytes.{messages_of, no_messages};
+ghost use Rattle.mdb_msgs.specs.ReaderSteps.{IsTextOf, IsNextMessage, StandAsMessages};
 
 use super::list::{Bytes, append, list_of};
 use crate::fault::MsgFault;
 use crate::two_bytes::{high, low, number};
 use arrayvec::ArrayVec;
+use std::marker::Model;
 
 /// A message of a reader's answer.
 #[derive(Clone, Copy, PartialEq, Eq, Debug, Default)]
@@ -81,6 +82,16 @@ impl ReaderMsg {
         )
     }
 
+    /// Whether the message tells of a feature level of `least` or more.
+    fn tells_level(self, least: u8) -> bool
+        ensures { result ≡ tells_level least self }
+    {
+        match self {
+            ReaderMsg::Config { level, .. } => level >= least,
+            _ => false,
+        }
+    }
+
     fn is_display(self) -> bool
         ensures { result ≡ is_display self }
     {
@@ -131,126 +142,200 @@ impl ReaderMsg {
 }
 
 /// A reader's answer: its messages in order, and beside them the two long texts, of which a block
-/// holds at most one each.
+/// holds at most one each. A display request is last (this profile).
+///
+/// It keeps the bytes of its messages, put end to end, and reads them when it is asked.
 #[derive(PartialEq, Eq, Debug, Drop)]
 pub struct ReaderList {
-    /// The messages in order.
-    pub messages: ArrayVec<ReaderMsg, 35>,
-    /// The 29 bytes of the message `PeripheralId`, all 0 where there is none.
-    pub id: [u8; 29],
-    /// The text of the message `Display`, empty where there is none.
-    pub text: ArrayVec<u8, 32>,
+    bytes: Bytes,
+}
+
+impl Model for ReaderList {
+    ghost use Rattle.mdb_msgs.specs.Reader.{ReaderMessages, reader_list_bytes};
+    ghost use Rattle.mdb_msgs.specs.ReaderBytes.{messages_of, AreMessages};
+
+    ghost Value = { ReaderMessages };
+
+    ghost view = { λ list. messages_of list.bytes.items };
+
+    ghost invariant = { λ list. AreMessages list.bytes.items };
+
+    ghost inverse = { λ list. record { bytes = record { items = reader_list_bytes list } } };
 }
 
 impl ReaderList {
+    /// The list of these messages, with the 29 bytes of the message `PeripheralId` and the text of
+    /// the message `Display`; each is blank, all 0 or empty, where no message has it.
+    ///
+    /// `None` where they are no such list: a display request isn't last (this profile), a text
+    /// stands beside the messages without its message, a display text has more than 32 bytes, or
+    /// all bytes are more than 35, which a block can't carry (MDB/ICP 4.3, block format).
+    pub fn new(messages: &[ReaderMsg], id: &[u8; 29], text: &[u8]) -> Option<Self>
+        ensures exactly { IsSome result ↔ IsReaderBlock
+            (record { messages = messages.now; id = id.now; text = text.now }) }
+        ensures list { IfSome result (λ list.
+            list ≡ record { messages = messages.now; id = id.now; text = text.now }) }
+    {
+        if !are_valid(messages, id, text) {
+            return None;
+        }
+        let bytes = bytes_of(messages, id, text)?;
+        Some(ReaderList { bytes })
+    }
+
     /// The same list again.
     pub fn copy(&self) -> Self
         ensures { result ≡ self.now }
     {
         ReaderList {
-            messages: list_of(self.messages.as_slice()),
-            id: self.id,
-            text: list_of(self.text.as_slice()),
+            bytes: list_of(self.bytes.as_slice()),
         }
+    }
+
+    /// The messages in order.
+    pub fn messages(&self) -> ArrayVec<ReaderMsg, 35>
+        ensures messages { result.items ≡ self.now.messages }
+        ensures list { IsReaderList self.now }
+    {
+        let mut messages = ArrayVec::new();
+        let mut rest = self.bytes.as_slice();
+        while let Some((message, _, after)) = next_message(rest) {
+            messages.push(message);
+            rest = after;
+        }
+        messages
+    }
+
+    /// The 29 bytes of the message `PeripheralId`, all 0 where there is none.
+    pub fn id(&self) -> [u8; 29]
+        ensures { result ≡ self.now.id }
+    {
+        let mut id = [0; 29];
+        let mut rest = self.bytes.as_slice();
+        while let Some((message, text, after)) = next_message(rest) {
+            if message.is_id() {
+                id.copy_from_slice(text);
+                return id;
+            }
+            rest = after;
+        }
+        id
+    }
+
+    /// The text of the message `Display`, empty where there is none.
+    pub fn text(&self) -> &[u8]
+        ensures { result.now ≡ self.now.text }
+    {
+        let mut rest = self.bytes.as_slice();
+        while let Some((message, text, after)) = next_message(rest) {
+            if message.is_display() {
+                return text;
+            }
+            rest = after;
+        }
+        &[]
+    }
+
+    /// Whether a config message tells of a feature level of `least` or more (Z2).
+    pub fn tells_level(&self, least: u8) -> bool
+        ensures { result ≡ list_any (tells_level least) self.now.messages }
+    {
+        let mut rest = self.bytes.as_slice();
+        while let Some((message, _, after)) = next_message(rest) {
+            if message.tells_level(least) {
+                return true;
+            }
+            rest = after;
+        }
+        false
     }
 
     /// Whether a message tells of a session or a sale.
     pub(crate) fn has_kept(&self) -> bool
-        ensures { result ≡ list_any is_kept self.now.messages.items }
+        ensures { result ≡ list_any is_kept self.now.messages }
     {
-        self.messages
-            .as_slice()
-            .iter()
-            .any(|message| message.is_kept())
-    }
-
-    /// The text of a message: the identification, the text of a display request, and else nothing.
-    fn text_of(&self, message: ReaderMsg) -> &[u8]
-        ensures value { result.now ≡ text_of self.now.id self.now.text.items message }
-        ensures fits { length result.now ≤ 32 }
-    {
-        match message {
-            ReaderMsg::PeripheralId => &self.id,
-            ReaderMsg::Display { .. } => self.text.as_slice(),
-            _ => &[],
+        let mut rest = self.bytes.as_slice();
+        while let Some((message, _, after)) = next_message(rest) {
+            if message.is_kept() {
+                return true;
+            }
+            rest = after;
         }
+        false
     }
 
-    /// How many bytes the messages have.
-    pub(crate) fn count(&self) -> usize
-        ensures { result ≡ length (reader_list_bytes self.now) }
-    {
-        let mut count = 0;
-        for message in self.messages.as_slice() {
-            count += message.head().len() + self.text_of(*message).len();
-        }
-        count
-    }
-
-    /// Whether the identification is blank where no message has it.
-    fn has_fitting_id(&self) -> bool
-        ensures { IsTrue result ↔
-            (list_any is_id self.now.messages.items ≡ false → self.now.id ≡ replicate 29 0) }
-    {
-        has_id(self.messages.as_slice()) || self.id == [0; 29]
-    }
-
-    /// Whether the text is empty where no message has it.
-    fn has_fitting_text(&self) -> bool
-        ensures fits { length self.now.text.items ≤ 32 }
-        ensures value { IsTrue result ↔
-            (list_any is_display self.now.messages.items ≡ false → self.now.text.items ≡ []) }
-    {
-        let text = self.text.as_slice();
-        has_display(self.messages.as_slice()) || text.is_empty()
-    }
-
-    /// Whether a display request is last, and each text is blank where no message has it.
+    /// Whether a display request is last, and each text is blank where no message has it: the type
+    /// keeps it so.
     pub(crate) fn is_valid(&self) -> bool
         ensures { IsTrue result ↔ IsReaderList self.now }
     {
-        is_display_last(self.messages.as_slice())
-            && self.has_fitting_id()
-            && self.has_fitting_text()
-    }
-
-    /// Adds the bytes of a message at the end.
-    fn append_to(&self, bytes: &mut Bytes, message: ReaderMsg)
-        requires { array_vec_len bytes.old
-            + length (reader_msg_bytes self.now.id self.now.text.items message) ≤ 35 }
-        ensures { bytes.new.items ≡
-            bytes.old.items ++ reader_msg_bytes self.now.id self.now.text.items message }
-    {
-        append(bytes, message.head().as_slice());
-        append(bytes, self.text_of(message));
+        // what the type promises of its bytes
+        let _ = &self.bytes;
+        true
     }
 
     /// The bytes of the messages, put end to end.
-    pub(crate) fn bytes(&self) -> Bytes
-        requires { length (reader_list_bytes self.now) ≤ 35 }
-        ensures { result.items ≡ reader_list_bytes self.now }
+    pub(crate) fn bytes(&self) -> &[u8]
+        ensures bytes { result.now ≡ reader_list_bytes self.now }
+        ensures fits { length result.now ≤ 35 }
     {
-        let mut bytes = Bytes::new();
-        for message in self.messages.as_slice() {
-            self.append_to(&mut bytes, *message);
-        }
-        bytes
+        self.bytes.as_slice()
     }
+}
 
-    /// Adds a message that was read, with its text.
-    fn add(&mut self, message: ReaderMsg, text: &[u8])
-        requires room { array_vec_len self.old.messages < 35 }
-        requires id { is_id message ≡ true → length text.now ≡ 29 }
-        requires text { is_display message ≡ true → length text.now ≤ 32 }
-        ensures { self.new ≡ with_message self.old message text.now }
-    {
-        match message {
-            ReaderMsg::PeripheralId => self.id.copy_from_slice(text),
-            ReaderMsg::Display { .. } => self.text = list_of(text),
-            _ => {}
-        }
-        self.messages.push(message);
+/// The text of a message: the identification, the text of a display request, and else nothing.
+fn text_of<'a>(message: ReaderMsg, id: &'a [u8; 29], text: &'a [u8]) -> &'a [u8]
+    ensures { result.now ≡ text_of id.now text.now message }
+{
+    match message {
+        ReaderMsg::PeripheralId => id,
+        ReaderMsg::Display { .. } => text,
+        _ => &[],
     }
+}
+
+/// The bytes of messages put end to end, where they are at most 35.
+fn bytes_of(messages: &[ReaderMsg], id: &[u8; 29], text: &[u8]) -> Option<Bytes>
+    ensures fits { IsSome result ↔
+        length (flat_map (reader_msg_bytes id.now text.now) messages.now) ≤ 35 }
+    ensures bytes { IfSome result (λ bytes.
+        bytes.items ≡ flat_map (reader_msg_bytes id.now text.now) messages.now) }
+{
+    let mut bytes = Bytes::new();
+    for message in messages {
+        let head = message.head();
+        let text = text_of(*message, id, text);
+        if bytes.remaining_capacity() < head.len() + text.len() {
+            return None;
+        }
+        append(&mut bytes, head.as_slice());
+        append(&mut bytes, text);
+    }
+    Some(bytes)
+}
+
+/// Whether a display request is last, and each text is blank where no message has it.
+fn are_valid(messages: &[ReaderMsg], id: &[u8; 29], text: &[u8]) -> bool
+    ensures { IsTrue result ↔
+        IsReaderList (record { messages = messages.now; id = id.now; text = text.now }) }
+{
+    is_display_last(messages) && has_fitting_id(messages, id) && has_fitting_text(messages, text)
+}
+
+/// Whether the identification is blank where no message has it.
+fn has_fitting_id(messages: &[ReaderMsg], id: &[u8; 29]) -> bool
+    ensures { IsTrue result ↔
+        (list_any is_id messages.now ≡ false → id.now ≡ replicate 29 0) }
+{
+    has_id(messages) || *id == [0; 29]
+}
+
+/// Whether the text fits a block, and is empty where no message has it.
+fn has_fitting_text(messages: &[ReaderMsg], text: &[u8]) -> bool
+    ensures { IsTrue result ↔ (length text.now ≤ 32)
+        × (list_any is_display messages.now ≡ false → text.now ≡ []) }
+{
+    text.len() <= 32 && (has_display(messages) || text.is_empty())
 }
 
 /// Whether one of the messages is a display request.
@@ -378,6 +463,17 @@ fn read_message(first: u8, behind: &[u8]) -> Result<(ReaderMsg, &[u8], &[u8]), M
     }
 }
 
+/// The message at the front of bytes that are messages, its text, and the bytes behind it; `None`
+/// where none are left.
+fn next_message(rest: &[u8]) -> Option<(ReaderMsg, &[u8], &[u8])>
+    requires { StandAsMessages rest.now }
+    ensures some { IfSome result (λ x. IsNextMessage rest.now x.0 x.1.now x.2.now) }
+    ensures none { IsNone result → messages_of rest.now ≡ no_messages }
+{
+    let (first, behind) = rest.split_first()?;
+    read_message(*first, behind).ok()
+}
+
 /// The messages that these bytes are, or the fault of the leftmost that can't be taken.
 pub(crate) fn read_messages(bytes: &[u8]) -> Result<ReaderList, MsgFault>
     requires { length bytes.now ≤ 35 }
@@ -385,16 +481,12 @@ pub(crate) fn read_messages(bytes: &[u8]) -> Result<ReaderList, MsgFault>
     ensures bytes { IfOk result (λ list. bytes.now ≡ reader_list_bytes list) }
     ensures err { IfErr result (ReaderStopsAt bytes.now) }
 {
-    let mut list = ReaderList {
-        messages: ArrayVec::new(),
-        id: [0; 29],
-        text: ArrayVec::new(),
-    };
     let mut rest = bytes;
     while let Some((first, behind)) = rest.split_first() {
-        let (message, text, after) = read_message(*first, behind)?;
-        list.add(message, text);
+        let (_, _, after) = read_message(*first, behind)?;
         rest = after;
     }
-    Ok(list)
+    Ok(ReaderList {
+        bytes: list_of(bytes),
+    })
 }

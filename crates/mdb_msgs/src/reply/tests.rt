@@ -1,5 +1,8 @@
 use super::{BillMsg, ChangerMsg, ChangerSetup, Reply, read_reply, write_reply};
-use crate::{BillCommand, ChangerCommand, Command, MsgFault, ReaderCommand, ReaderMsg, ReaderUnit};
+use crate::{
+    BillCommand, ChangerCommand, Command, MsgFault, ReaderCommand, ReaderList, ReaderMsg,
+    ReaderUnit,
+};
 use arrayvec::ArrayVec;
 use mdb_blocks::seal;
 
@@ -147,26 +150,54 @@ fn a_shortened_setup_is_another_reply(rt: HostRuntime) {
     assert_eq!(rt; written.bytes(), full.bytes());
 }
 
-/// A reader's answer of these messages, with a text.
-fn list_with(messages: &[ReaderMsg], text: &[u8]) -> Reply {
-    let mut list = super::ReaderList {
-        messages: ArrayVec::new(),
-        id: [0; 29],
-        text: ArrayVec::new(),
-    };
-    let _ = list.messages.try_extend_from_slice(messages);
-    let _ = list.text.try_extend_from_slice(text);
-    Reply::Reader(list)
+/// A reader's answer of these messages, with a text, if there is one.
+fn list_with(messages: &[ReaderMsg], text: &[u8]) -> Option<ReaderList> {
+    ReaderList::new(messages, &[0; 29], text)
+}
+
+#[test]
+fn a_list_has_a_display_request_last_and_no_loose_text(rt: HostRuntime) {
+    let shown = ReaderMsg::Display { time: 5 };
+    let id = ReaderMsg::PeripheralId;
+    assert!(rt; list_with(&[shown, ReaderMsg::JustReset], &[]).is_none());
+    assert!(rt; list_with(&[ReaderMsg::JustReset], &[65]).is_none());
+    assert!(rt; list_with(&[shown], &[65; 33]).is_none());
+    assert!(rt; list_with(&[ReaderMsg::JustReset; 36], &[]).is_none());
+    assert!(rt; ReaderList::new(&[], &[1; 29], &[]).is_none());
+    assert!(rt; list_with(&[id, shown], &[65; 4]).is_none());
+    assert!(rt; list_with(&[ReaderMsg::JustReset; 35], &[]).is_some());
+    assert!(rt; list_with(&[], &[]).is_some());
+}
+
+#[test]
+fn a_list_tells_what_it_was_made_of(rt: HostRuntime) {
+    let messages = [
+        ReaderMsg::Malfunction(7),
+        ReaderMsg::PeripheralId,
+        ReaderMsg::Display { time: 5 },
+    ];
+    let mut id = [0; 29];
+    id[0] = 65;
+    id[28] = 66;
+    let list = ReaderList::new(&messages, &id, &[67]).expect(&rt, "a list");
+    assert_eq!(rt; list.messages().as_slice(), messages.as_slice());
+    assert_eq!(rt; list.id(), id);
+    assert_eq!(rt; list.text(), [67].as_slice());
+    let bare = list_with(&[ReaderMsg::JustReset], &[]).expect(&rt, "a list");
+    assert_eq!(rt;
+        bare.messages().as_slice(),
+        [ReaderMsg::JustReset].as_slice()
+    );
+    assert_eq!(rt; bare.id(), [0; 29]);
+    assert!(rt; bare.text().is_empty());
 }
 
 #[test]
 fn a_display_request_needs_no_text(rt: HostRuntime) {
     let block = seal(&[0x02, 0x05]).expect(&rt, "a block");
     let shown = ReaderMsg::Display { time: 5 };
-    assert_eq!(rt;
-        read_reply(&READER_POLL, &block),
-        Ok(list_with(&[shown], &[]))
-    );
+    let list = list_with(&[shown], &[]).expect(&rt, "a list");
+    assert_eq!(rt; read_reply(&READER_POLL, &block), Ok(Reply::Reader(list)));
 }
 
 /// A validator's POLL answer of one message.
@@ -178,7 +209,7 @@ fn bill_poll(message: BillMsg) -> Reply {
 
 #[test]
 fn writing_refuses_the_first_fault(rt: HostRuntime) {
-    let shown = ReaderMsg::Display { time: 5 };
+    let denied = list_with(&[ReaderMsg::VendDenied], &[]).expect(&rt, "a list");
     let cases = [
         (&COIN_TYPE, setup_with(&[]), MsgFault::Answer),
         (
@@ -198,21 +229,7 @@ fn writing_refuses_the_first_fault(rt: HostRuntime) {
             bill_poll(BillMsg::Status(0x1B)),
             MsgFault::Message,
         ),
-        (
-            &READER_POLL,
-            list_with(&[shown, ReaderMsg::JustReset], &[]),
-            MsgFault::Message,
-        ),
-        (
-            &READER_POLL,
-            list_with(&[ReaderMsg::JustReset], &[65]),
-            MsgFault::Message,
-        ),
-        (
-            &READER_ENABLE,
-            list_with(&[ReaderMsg::VendDenied], &[]),
-            MsgFault::Answer,
-        ),
+        (&READER_ENABLE, Reply::Reader(denied), MsgFault::Answer),
     ];
     for (command, reply, fault) in &cases {
         assert_eq!(rt;

@@ -1,0 +1,15 @@
+use Rattle.std.proofs.Common.{◌≡◌, length}
+use Rattle.std.specs.List.{list_any}
+use Rattle.mdb_msgs.specs.Reader.{is_kept}
+use Rattle.mdb_msgs.specs.ReaderBytes.{messages_of}
+use Rattle.mdb_msgs.specs.ReaderSteps.{StandAsMessages}
+use Rattle.mdb_msgs.proofs.reply.reader.ReaderList.has_kept.Given as goal
+
+abbrev pub invariant-loop-message : goal.invariant-loop-message
+invariant-loop-message l = record {
+  stand : StandAsMessages l.rest;
+  same : list_any is_kept l.self.messages ≡ list_any is_kept (messages_of l.rest).messages;
+}
+
+abbrev pub decreases-loop-message : goal.decreases-loop-message
+decreases-loop-message l = length l.rest

@@ -1,0 +1,14 @@
+use Rattle.std.proofs.Common.{◌≡◌, length, replicate}
+use Rattle.mdb_msgs.specs.ReaderBytes.{messages_of}
+use Rattle.mdb_msgs.specs.ReaderSteps.{StandAsMessages}
+use Rattle.mdb_msgs.proofs.reply.reader.ReaderList.id.Given as goal
+
+abbrev pub invariant-loop-message : goal.invariant-loop-message
+invariant-loop-message l = record {
+  stand : StandAsMessages l.rest;
+  same : l.self.id ≡ (messages_of l.rest).id;
+  blank : l.id ≡ replicate 29 0;
+}
+
+abbrev pub decreases-loop-message : goal.decreases-loop-message
+decreases-loop-message l = length l.rest

@@ -1,0 +1,14 @@
+use Rattle.std.proofs.Common.{◌≡◌, ◌+◌, ◌≤◌, ◌++◌, length}
+use Rattle.mdb_msgs.specs.ReaderBytes.{messages_of}
+use Rattle.mdb_msgs.specs.ReaderSteps.{StandAsMessages}
+use Rattle.mdb_msgs.proofs.reply.reader.ReaderList.messages.Given as goal
+
+abbrev pub invariant-loop-message : goal.invariant-loop-message
+invariant-loop-message l = record {
+  stand : StandAsMessages l.rest;
+  taken : l.self.messages ≡ l.messages.items ++ (messages_of l.rest).messages;
+  room : length l.messages.items + length l.rest ≤ 35;
+}
+
+abbrev pub decreases-loop-message : goal.decreases-loop-message
+decreases-loop-message l = length l.rest

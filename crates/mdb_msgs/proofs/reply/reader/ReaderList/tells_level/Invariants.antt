@@ -1,0 +1,15 @@
+use Rattle.std.proofs.Common.{◌≡◌, length}
+use Rattle.std.specs.List.{list_any}
+use Rattle.mdb_msgs.specs.Reader.{tells_level}
+use Rattle.mdb_msgs.specs.ReaderBytes.{messages_of}
+use Rattle.mdb_msgs.specs.ReaderSteps.{StandAsMessages}
+use Rattle.mdb_msgs.proofs.reply.reader.ReaderList.tells_level.Given as goal
+
+abbrev pub invariant-loop-message : goal.invariant-loop-message
+invariant-loop-message l = record {
+  stand : StandAsMessages l.rest;
+  same : list_any (tells_level l.least) l.self.messages ≡ list_any (tells_level l.least) (messages_of l.rest).messages;
+}
+
+abbrev pub decreases-loop-message : goal.decreases-loop-message
+decreases-loop-message l = length l.rest

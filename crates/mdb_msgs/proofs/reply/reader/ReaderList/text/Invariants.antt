@@ -1,0 +1,13 @@
+use Rattle.std.proofs.Common.{◌≡◌, length}
+use Rattle.mdb_msgs.specs.ReaderBytes.{messages_of}
+use Rattle.mdb_msgs.specs.ReaderSteps.{StandAsMessages}
+use Rattle.mdb_msgs.proofs.reply.reader.ReaderList.text.Given as goal
+
+abbrev pub invariant-loop-message : goal.invariant-loop-message
+invariant-loop-message l = record {
+  stand : StandAsMessages l.rest;
+  same : l.self.text ≡ (messages_of l.rest).text;
+}
+
+abbrev pub decreases-loop-message : goal.decreases-loop-message
+decreases-loop-message l = length l.rest
