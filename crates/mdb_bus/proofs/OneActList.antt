@@ -7,10 +7,11 @@ use Rattle.mdb_msgs.specs.declared.command.Command.{Command}
 use Rattle.mdb_msgs.specs.declared.reply.Reply.{Reply}
 use Rattle.mdb_msgs.specs.Replies.{IsReplyTo, reply_bytes}
 use Rattle.mdb_blocks.specs.Block.{block_of}
-use Rattle.mdb_bus.specs.ActLists.{HasActList, IsActList, Piece, events_of, piece_events}
+use Rattle.mdb_bus.specs.ActLists.{GoesOnFrom, HasActList, IsActList, Piece, acts_of, events_of, piece_events, position_of}
 use Rattle.mdb_bus.specs.LinkFaults.{situation_of}
-use Rattle.mdb_bus.specs.Steps.{Leads, pieces_after}
+use Rattle.mdb_bus.specs.Steps.{Leads, act_after, pieces_after}
 use Rattle.mdb_bus.proofs.Backward.{backward, piece_some}
+use Rattle.mdb_bus.proofs.Forward.{forward}
 use Rattle.mdb_bus.proofs.Lists.{front_and_last, not_empty}
 use Rattle.mdb_bus.proofs.OneStep.{Readings, one_step}
 
@@ -77,3 +78,15 @@ fronts opens rows =
     (λ more row known list.
     known (without_last opens (rows ++ more) row
     (subst HasActList (sym (append_assoc rows more (row ∷ []))) list)))
+
+-- an act list of one row more goes on from one of the rows
+pub goes_on_from : (opens : OpenIsAFront) (rows : List Event) (row : Event) (pieces : List Piece)
+    → IsActList pieces (rows ++ row ∷ []) → GoesOnFrom rows pieces
+goes_on_from opens rows row pieces list =
+    let b = backward opens pieces rows row list.in_order list.whole in
+    record {
+      before = b.before;
+      act = act_after (position_of b.before) b.next;
+      act_list = record { in_order = b.in_order; whole = b.rows_before };
+      acts = ap acts_of b.is ∙ (forward b.before row b.next b.in_order b.leads).acts;
+    }

@@ -282,3 +282,10 @@ acts_of (piece ∷ pieces) = acts_of pieces
 abbrev pub with_act : Option Act → List Act → List Act
 with_act None acts = acts
 with_act (Some act) acts = act ∷ acts
+
+-- pieces go on from an act list of these rows, by an act or by none
+pub record GoesOnFrom (rows : List Event) (pieces : List Piece) : Type 0 where
+  pub before : List Piece
+  pub act : Option Act
+  pub act_list : IsActList before rows
+  pub acts : acts_of pieces ≡ with_act act (acts_of before)

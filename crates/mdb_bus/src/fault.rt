@@ -65,7 +65,7 @@ pub enum Blame {
 
 impl Blame {
     /// The device that was asked, or `Other` where none was.
-    pub(crate) fn on(asked: Option<Device>) -> Blame
+    pub fn on(asked: Option<Device>) -> Blame
         ensures { result ≡ blame_on asked }
     {
         match asked {

@@ -5,7 +5,7 @@ ghost use Rattle.std.specs.Prelude.{◌≡◌, List, [], ◌∷◌, ◌++◌};
 ghost use Rattle.mdb_words.specs.declared.event.Event.{Event};
 ghost use Rattle.mdb_bus.specs.declared.fault.Blame.{Blame};
 ghost use Rattle.mdb_bus.specs.declared.fault.Rule.{Rule};
-ghost use Rattle.mdb_bus.specs.ActLists.{ArePieces, HasActList, IsActList, Piece, events_of};
+ghost use Rattle.mdb_bus.specs.ActLists.{ArePieces, GoesOnFrom, HasActList, IsActList, Piece, events_of};
 ghost use Rattle.mdb_bus.specs.Choice.{Choice, HearsFreeAsChosen, HearsAsChosen, nothing_told};
 ghost use Rattle.mdb_bus.specs.Grammar.{Grammar};
 ghost use Rattle.mdb_bus.specs.LinkFaults.{IsFirstBroken, IsLinkFault, RowBreaks, situation_of};
@@ -40,6 +40,15 @@ pub fn transcripts_have_one_act_list()
 /// What was recorded up to any row of a possible transcript is possible too.
 pub fn fronts_of_act_lists_have_act_lists()
     ensures { (rows more : List Event) → HasActList (rows ++ more) → HasActList rows }
+{
+    grammar();
+}
+
+/// An act list of rows and one more goes on from an act list of the rows: by the act that the row
+/// ends, if it ends one.
+pub fn act_lists_go_on_row_by_row()
+    ensures { (rows : List Event) (row : Event) (pieces : List Piece)
+        → IsActList pieces (rows ++ row ∷ []) → GoesOnFrom rows pieces }
 {
     grammar();
 }

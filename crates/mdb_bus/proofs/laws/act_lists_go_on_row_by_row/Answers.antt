@@ -1,0 +1,5 @@
+use Rattle.mdb_bus.proofs.OneActList.{goes_on_from}
+use Rattle.mdb_bus.proofs.laws.act_lists_go_on_row_by_row.Goals as goal
+
+pub returns : goal.returns
+returns c = goes_on_from c.grammar.ensures.open_front

@@ -1,0 +1,6 @@
+pub mod Answered
+pub mod FactsBehind
+pub mod FirstBytes
+pub mod KeptLists
+pub mod Masks
+pub mod Ways

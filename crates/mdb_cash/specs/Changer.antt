@@ -1,0 +1,152 @@
+-- The changer and the controller's dealings with it (MDB/ICP 4.3, coin changer; states and sums,
+-- this profile). The accounts are coins-in and paid-out.
+use Rattle.std.specs.Prelude.{◌≡◌, ℕ, ◌*◌, ◌/◌, ◌%◌, Bool, true, false, ◌&&◌, List, Option, Some, None, ◌==◌, if◌then◌else◌, sum_by}
+use Rattle.std.specs.List.{AllByRecursion}
+use Rattle.mdb_msgs.specs.declared.command.Command.TheVariants as commands
+use Rattle.mdb_msgs.specs.declared.command.ChangerCommand.{ChangerCommand}
+use Rattle.mdb_msgs.specs.declared.command.ChangerCommand.TheVariants as changer
+use Rattle.mdb_msgs.specs.declared.reply.Reply.{Reply}
+use Rattle.mdb_msgs.specs.declared.reply.setup.ChangerSetup.{ChangerSetup}
+use Rattle.mdb_msgs.specs.Setup.{credit_of}
+use Rattle.mdb_bus.specs.declared.act.Act.{Act}
+use Rattle.mdb_bus.specs.declared.act.Act.TheVariants as acts
+use Rattle.mdb_cash.specs.declared.changer.state.ChangerState.{ChangerState}
+use Rattle.mdb_cash.specs.declared.changer.report.ChangerReport.{ChangerReport}
+use Rattle.mdb_cash.specs.declared.changer.report.ChangerReport.TheVariants.{Dispensed, CashBox, Tube}
+use Rattle.mdb_cash.specs.declared.gains.Gains.{Gains}
+use Rattle.mdb_cash.specs.declared.kept.Reading.{Reading}
+use Rattle.mdb_cash.specs.ChangerFacts.{Facts}
+use Rattle.mdb_cash.specs.ChangerMessages.{parts_of}
+use Rattle.mdb_cash.specs.Gains.{no_gains, controller_gains, device_gains}
+use Rattle.mdb_cash.specs.Kept.{IsNew, MayBeKept, MayBeRead, has_reset, held, holds_acked, holds_behind, holds_read, kept_of}
+
+-- the power-on state: nothing held, and no DISPENSE owed
+abbrev pub power_on : ChangerState
+power_on = record { holds = false; owed = false }
+
+-- what a credit byte counts: FF is a token, without value
+abbrev pub counted : ℕ → ℕ
+counted credit = if credit == 255 then 0 else credit
+
+-- the value of a coin type by a setup table: its scaling factor times the type's credit; 0 for a
+-- token, where the credit wasn't sent, and where there is no table yet
+abbrev pub coin_value : Option ChangerSetup → ℕ → ℕ
+coin_value None coin = 0
+coin_value (Some setup) coin = setup.scaling * counted (credit_of setup.credits.items coin)
+
+-- the value of what Y1 of DISPENSE asks for: the count in its high half, the type in its low half
+abbrev pub dispensed_value : Option ChangerSetup → ℕ → ℕ
+dispensed_value setup coins = (coins / 16) * coin_value setup (coins % 16)
+
+-- what a kept message adds to coins-in: a deposit to cash box or tube
+abbrev pub deposited : Option ChangerSetup → ChangerReport → ℕ
+deposited setup (CashBox coin) = coin_value setup coin
+deposited setup (Tube coin) = coin_value setup coin
+deposited setup (Dispensed count coin) = 0
+
+-- what it adds to paid-out: coins dispensed by hand
+abbrev pub paid_by_hand : Option ChangerSetup → ChangerReport → ℕ
+paid_by_hand setup (Dispensed count coin) = count * coin_value setup coin
+paid_by_hand setup _ = 0
+
+-- what kept messages add to coins-in and to paid-out
+abbrev pub all_deposited : Option ChangerSetup → List ChangerReport → ℕ
+all_deposited setup reports = sum_by (deposited setup) reports
+
+abbrev pub all_paid_by_hand : Option ChangerSetup → List ChangerReport → ℕ
+all_paid_by_hand setup reports = sum_by (paid_by_hand setup) reports
+
+-- a new deposit is of a type that is enabled; coins may be dispensed by hand at any time
+abbrev pub MayBeNew : Facts → ChangerReport → Type 0
+MayBeNew facts (CashBox coin) = facts.enabled coin ≡ true
+MayBeNew facts (Tube coin) = facts.enabled coin ≡ true
+MayBeNew facts (Dispensed count coin) = Unit {0}
+
+-- whether a command is POLL
+abbrev pub is_poll : ChangerCommand → Bool
+is_poll changer.Poll = true
+is_poll _ = false
+
+-- nothing changes
+abbrev pub Stays : ChangerState → ChangerState → Gains → Type 0
+Stays before after gains = (after ≡ before) × (gains ≡ no_gains)
+
+-- whether this is Y1 of the last DISPENSE asked
+abbrev pub is_last : Option ℕ → ℕ → Bool
+is_last None coins = false
+is_last (Some last) coins = last == coins
+
+-- The controller asks for coins. While a DISPENSE is owed, the same block is the same DISPENSE
+-- again; any other is new, and the controller has paid it out.
+abbrev pub DispenseStep : Facts → ℕ → ChangerState → ChangerState → Gains → Type 0
+DispenseStep facts coins before after gains =
+    (after ≡ record before { owed = true })
+    × (gains ≡ (if before.owed && is_last facts.dispense coins
+    then no_gains
+    else controller_gains 0 (dispensed_value facts.setup coins)))
+
+-- The controller asks: behind RESET nothing is owed.
+abbrev pub AskStep : Facts → ChangerCommand → ChangerState → ChangerState → Gains → Type 0
+AskStep facts (changer.Dispense coins) before after gains =
+    DispenseStep facts coins before after gains
+AskStep facts changer.Reset before after gains =
+    (after ≡ record before { owed = false }) × (gains ≡ no_gains)
+AskStep facts _ before after gains = Stays before after gains
+
+-- The changer acknowledges: by that it takes RESET, and holds nothing. It has dispensed what
+-- DISPENSE asked for, and that is owed no longer if the controller hears it. While it holds
+-- something, ACK is no answer to POLL.
+abbrev pub AckStep : Facts → ChangerCommand → Bool → ChangerState → ChangerState → Gains → Type 0
+AckStep facts changer.Reset heard before after gains =
+    (after ≡ record before { holds = false }) × (gains ≡ no_gains)
+AckStep facts (changer.Dispense coins) heard before after gains =
+    (after ≡ (if heard then record before { owed = false } else before))
+    × (gains ≡ device_gains 0 (dispensed_value facts.setup coins))
+AckStep facts changer.Poll heard before after gains =
+    (before.holds ≡ false) × Stays before after gains
+AckStep facts _ heard before after gains = Stays before after gains
+
+-- The changer replies with data, which is read as plain or as telling of a restart. What is new
+-- counts for the changer.
+pub record ReplyStep (facts : Facts) (command : ChangerCommand) (reply : Reply)
+    (reading : Reading) (before after : ChangerState) (gains : Gains) : Type 0 where
+  pub read : MayBeRead reading (parts_of reply)
+  pub reset : MayBeKept facts.reset_owed (parts_of reply)
+  pub news : List ChangerReport
+  pub new : IsNew (is_poll command) (held (holds_read reading before.holds) facts.kept)
+      (kept_of (parts_of reply)) news
+  pub enabled : AllByRecursion (MayBeNew facts) news
+  pub to : after ≡ record before {
+    holds = holds_behind (kept_of (parts_of reply)) (holds_read reading before.holds);
+  }
+  pub gained : gains ≡ device_gains (all_deposited facts.setup news)
+      (all_paid_by_hand facts.setup news)
+
+-- The controller acknowledges a reply. To POLL, all kept messages count for it, new or not, and
+-- behind a reset message it knows that nothing is owed.
+pub record VmcAckStep (facts : Facts) (command : ChangerCommand) (reply : Reply)
+    (heard : Bool) (before after : ChangerState) (gains : Gains) : Type 0 where
+  pub to : after ≡ record {
+    holds = holds_acked heard (kept_of (parts_of reply)) before.holds;
+    owed = if is_poll command && has_reset (parts_of reply) then false else before.owed;
+  }
+  pub gained : gains ≡ (if is_poll command
+      then controller_gains (all_deposited facts.setup (kept_of (parts_of reply)))
+      (all_paid_by_hand facts.setup (kept_of (parts_of reply)))
+      else no_gains)
+
+-- A step of the changer and the controller, behind acts that leave these facts. Whether the act was
+-- heard matters for an ACK alone, of either side, and the reading for a reply. NAK, RET, repeats,
+-- foreign traffic and the acts of other devices change nothing.
+abbrev pub ChangerStep : Facts → Act → Bool → Reading → ChangerState → ChangerState → Gains
+    → Type 0
+ChangerStep facts (acts.Ask (commands.Changer command)) heard reading = AskStep facts command
+ChangerStep facts (acts.Ack (commands.Changer command)) heard reading =
+    AckStep facts command heard
+ChangerStep facts (acts.Reply (commands.Changer command) reply) heard reading =
+    ReplyStep facts command reply reading
+ChangerStep facts (acts.VmcAck (commands.Changer command) reply) heard reading =
+    VmcAckStep facts command reply heard
+ChangerStep facts (acts.Break length) heard reading =
+    λ before after gains. (after ≡ power_on) × (gains ≡ no_gains)
+ChangerStep facts act heard reading = Stays

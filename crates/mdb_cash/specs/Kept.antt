@@ -1,0 +1,82 @@
+-- Kept messages, as they are for changer, validator and readers (this profile). A device keeps
+-- the messages on money and sessions until it hears the controller's ACK of their reply. `M` is
+-- what a kept message says: two messages are the same where they say the same.
+use Rattle.std.specs.Prelude.{◌≡◌, ◌⊎◌, Bool, true, false, List, [], ◌∷◌, ◌++◌, Option, Some, None, if◌then◌else◌}
+use Rattle.std.specs.List.{filter_map, list_any}
+use Rattle.mdb_cash.specs.declared.kept.Part.{Part}
+use Rattle.mdb_cash.specs.declared.kept.Part.TheVariants as part
+use Rattle.mdb_cash.specs.declared.kept.Reading.{Reading}
+use Rattle.mdb_cash.specs.declared.kept.Reading.TheVariants.{Plain, Restart}
+
+-- what a message says that is kept
+abbrev pub kept_by : {M : Type 0} → Part M → Option M
+kept_by (part.Kept message) = Some message
+kept_by _ = None
+
+-- whether a message is the device's reset message
+abbrev pub is_reset : {M : Type 0} → Part M → Bool
+is_reset part.Reset = true
+is_reset _ = false
+
+-- the kept list of a reply: its kept messages in order
+abbrev pub kept_of : {M : Type 0} → List (Part M) → List M
+kept_of parts = filter_map kept_by parts
+
+-- whether a reply has a reset message
+abbrev pub has_reset : {M : Type 0} → List (Part M) → Bool
+has_reset parts = list_any is_reset parts
+
+-- whether a kept message of a reply stands before its first reset message; where it has no reset
+-- message, whether it has a kept message at all
+abbrev pub keeps_early : {M : Type 0} → List (Part M) → Bool
+keeps_early [] = false
+keeps_early (part.Reset ∷ parts) = false
+keeps_early (part.Kept message ∷ parts) = true
+keeps_early (part.Other ∷ parts) = keeps_early parts
+
+-- what counts of the messages of a reply
+pub record IsSummary {M : Type 0} (kept : List M) (reset early : Bool)
+    (parts : List (Part M)) : Type 0 where
+  pub kept_is : kept ≡ kept_of parts
+  pub reset_is : reset ≡ has_reset parts
+  pub early_is : early ≡ keeps_early parts
+
+-- Each reply can be read as plain. It can be read as telling of a restart where it has a reset
+-- message and all its kept messages stand behind the first one.
+abbrev pub CanBeRead : Reading → Bool → Bool → Type 0
+CanBeRead Plain reset early = Unit {0}
+CanBeRead Restart reset early = (reset ≡ true) × (early ≡ false)
+
+abbrev pub MayBeRead : {M : Type 0} → Reading → List (Part M) → Type 0
+MayBeRead reading parts = CanBeRead reading (has_reset parts) (keeps_early parts)
+
+-- While a reset message is owed, no kept message comes before it, and none without it.
+abbrev pub MayBeKept : {M : Type 0} → Bool → List (Part M) → Type 0
+MayBeKept owed parts = owed ≡ true → keeps_early parts ≡ false
+
+-- whether a device still holds what it held, once a reply is read: behind a restart it doesn't
+abbrev pub holds_read : Reading → Bool → Bool
+holds_read Plain holds = holds
+holds_read Restart holds = false
+
+-- what a device holds: its last kept list that wasn't empty, or nothing
+abbrev pub held : {M : Type 0} → Bool → List M → List M
+held true last = last
+held false last = []
+
+-- Behind what the device holds, the rest of a kept list is new. An answer to another command than
+-- POLL may leave out what is held, and then it has no kept message.
+abbrev pub IsNew : {M : Type 0} → Bool → List M → List M → List M → Type 0
+IsNew poll held kept new =
+    (kept ≡ held ++ new) ⊎ ((poll ≡ false) × (kept ≡ []) × (new ≡ []))
+
+-- whether the device holds behind its reply: the kept list, and where it is empty what it held
+abbrev pub holds_behind : {M : Type 0} → List M → Bool → Bool
+holds_behind [] holds = holds
+holds_behind (message ∷ kept) holds = true
+
+-- whether the device holds behind the controller's ACK of a reply: an ACK of kept messages that it
+-- hears ends that, and any other leaves what is held
+abbrev pub holds_acked : {M : Type 0} → Bool → List M → Bool → Bool
+holds_acked heard [] holds = holds
+holds_acked heard (message ∷ kept) holds = if heard then false else holds

@@ -1,0 +1,10 @@
+pub mod Changer
+pub mod ChangerCodes
+pub mod ChangerFacts
+pub mod ChangerMessages
+pub mod ChangerValues
+pub mod ChangerWays
+pub mod Gains
+pub mod Kept
+pub mod Pair
+pub mod Past

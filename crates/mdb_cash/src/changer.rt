@@ -1,0 +1,98 @@
+//! The coin changer and the controller.
+
+ghost use Rattle.std.specs.Prelude.{◌≡◌, ◌<◌, List, [], ◌∷◌};
+ghost use Rattle.mdb_bus.specs.declared.act.Act.{Act};
+ghost use Rattle.mdb_cash.specs.Changer as spec;
+ghost use Rattle.mdb_cash.specs.ChangerCodes as codes;
+ghost use Rattle.mdb_cash.specs.ChangerFacts.{facts_of};
+ghost use Rattle.mdb_cash.specs.ChangerValues.{facts_in};
+ghost use Rattle.mdb_cash.specs.ChangerWays as ways;
+
+pub(crate) mod facts;
+pub(crate) mod report;
+pub(crate) mod state;
+mod steps;
+mod values;
+
+use crate::gains::Gains;
+use crate::kept::Reading;
+use crate::pair::Pair;
+pub use facts::ChangerFacts;
+use mdb_bus::Act;
+use mdb_msgs::Command;
+pub use report::ChangerReport;
+pub use state::ChangerState;
+use steps::step;
+
+/// The coin changer and the controller's dealings with it (MDB/ICP 4.3, coin changer). Its accounts
+/// are coins-in and paid-out.
+pub struct Changer;
+
+impl Pair for Changer {
+    const CODES: usize = 4;
+
+    ghost CODES = { 4 };
+
+    type Facts = ChangerFacts;
+
+    type State = ChangerState;
+
+    ghost code_of = { codes.code_of };
+
+    ghost first = { spec.power_on };
+
+    ghost stands_for = { λ facts acts. facts_in facts ≡ facts_of acts };
+
+    ghost may_step = { λ acts. spec.ChangerStep (facts_of acts) };
+
+    fn start() -> usize {
+        ChangerState::power_on().code()
+    }
+
+    fn facts_start() -> ChangerFacts {
+        ChangerFacts::start()
+    }
+
+    fn learn(facts: &mut ChangerFacts, act: &Act) {
+        facts.learn(act);
+    }
+
+    fn concerns(act: &Act) -> bool {
+        matches!(
+            act,
+            Act::Ask(Command::Changer(_))
+                | Act::Ack(Command::Changer(_))
+                | Act::Reply(Command::Changer(_), _)
+                | Act::VmcAck(Command::Changer(_), _)
+                | Act::Break(_)
+        )
+    }
+
+    fn code(state: ChangerState) -> usize {
+        state.code()
+    }
+
+    fn state(code: usize) -> ChangerState {
+        ChangerState::at(code)
+    }
+
+    fn outcome(
+        facts: &ChangerFacts,
+        act: &Act,
+        heard: bool,
+        reading: Reading,
+        before: ChangerState,
+    ) -> Option<(ChangerState, Gains)> {
+        step(facts, act, heard, reading, before)
+    }
+
+    ghost apart = { codes.apart };
+
+    ghost below = { codes.below };
+
+    ghost whole = { codes.whole };
+
+    ghost hearing = { λ acts. ways.hearing (facts_of acts) };
+
+    ghost readings = { λ acts. ways.readings (facts_of acts) };
+}

@@ -1,0 +1,46 @@
+//! The states of the changer and the controller.
+
+ghost use Rattle.std.specs.Prelude.{◌≡◌, ◌<◌};
+
+/// A state of the changer and the controller's dealings with it (this profile).
+#[derive(Clone, Copy, PartialEq, Eq, Debug)]
+pub struct ChangerState {
+    /// Whether the changer holds kept messages.
+    pub holds: bool,
+    /// Whether the controller owes a DISPENSE: it asked for one, and hasn't heard that it was done.
+    pub owed: bool,
+}
+
+impl ChangerState {
+    ghost use Rattle.mdb_cash.specs.Changer as spec;
+    ghost use Rattle.mdb_cash.specs.ChangerCodes.{code_of};
+
+    /// The state at power-on.
+    pub(crate) fn power_on() -> ChangerState
+        ensures { result ≡ spec.power_on }
+    {
+        ChangerState {
+            holds: false,
+            owed: false,
+        }
+    }
+
+    /// Its code.
+    pub(crate) fn code(self) -> usize
+        ensures code { result ≡ code_of self }
+        ensures below { result < 4 }
+    {
+        usize::from(self.holds) + 2 * usize::from(self.owed)
+    }
+
+    /// The state of a code.
+    pub(crate) fn at(code: usize) -> ChangerState
+        requires { code < 4 }
+        ensures { code_of result ≡ code }
+    {
+        ChangerState {
+            holds: code % 2 == 1,
+            owed: code >= 2,
+        }
+    }
+}

@@ -1,0 +1,81 @@
+//! What the changer's coins are worth (MDB/ICP 4.3, coin changer).
+
+ghost use Rattle.std.specs.Prelude.{◌≡◌, ◌≤◌, ◌<◌, ◌^◌, length};
+ghost use Rattle.mdb_cash.specs.Changer as spec;
+
+use super::report::ChangerReport;
+use mdb_msgs::ChangerSetup;
+
+/// What a credit byte counts: FF is a token, without value.
+fn counted(credit: u8) -> u8
+    ensures { result ≡ spec.counted credit }
+{
+    if credit == 0xFF { 0 } else { credit }
+}
+
+/// The value of a coin type by a setup table, in smallest units of money.
+fn coin_value(setup: &Option<ChangerSetup>, coin: u8) -> u64
+    ensures value { result ≡ spec.coin_value setup.now coin }
+    ensures small { result ≤ 65025 }
+{
+    match setup {
+        None => 0,
+        Some(setup) => u64::from(setup.scaling) * u64::from(counted(setup.credit(coin))),
+    }
+}
+
+/// The value of what Y1 of DISPENSE asks for.
+pub(crate) fn dispensed_value(setup: &Option<ChangerSetup>, coins: u8) -> u64
+    ensures value { result ≡ spec.dispensed_value setup.now coins }
+    ensures small { result ≤ 975375 }
+{
+    u64::from(coins / 16) * coin_value(setup, coins % 16)
+}
+
+/// What a kept message adds to coins-in.
+fn deposited(setup: &Option<ChangerSetup>, report: ChangerReport) -> u64
+    ensures value { result ≡ spec.deposited setup.now report }
+    ensures small { result ≤ 65025 }
+{
+    match report {
+        ChangerReport::CashBox(coin) | ChangerReport::Tube(coin) => coin_value(setup, coin),
+        ChangerReport::Dispensed { .. } => 0,
+    }
+}
+
+/// What a kept message adds to paid-out.
+fn paid_by_hand(setup: &Option<ChangerSetup>, report: ChangerReport) -> u64
+    ensures value { result ≡ spec.paid_by_hand setup.now report }
+    ensures small { result ≤ 16581375 }
+{
+    match report {
+        ChangerReport::Dispensed { count, coin } => u64::from(count) * coin_value(setup, coin),
+        _ => 0,
+    }
+}
+
+/// What kept messages add to coins-in.
+pub(crate) fn all_deposited(setup: &Option<ChangerSetup>, reports: &[ChangerReport]) -> u64
+    requires { length reports.now ≤ 16 }
+    ensures value { result ≡ spec.all_deposited setup.now reports.now }
+    ensures small { result < 2 ^ 32 }
+{
+    let mut total = 0;
+    for report in reports {
+        total += deposited(setup, *report);
+    }
+    total
+}
+
+/// What kept messages add to paid-out.
+pub(crate) fn all_paid_by_hand(setup: &Option<ChangerSetup>, reports: &[ChangerReport]) -> u64
+    requires { length reports.now ≤ 16 }
+    ensures value { result ≡ spec.all_paid_by_hand setup.now reports.now }
+    ensures small { result < 2 ^ 32 }
+{
+    let mut total = 0;
+    for report in reports {
+        total += paid_by_hand(setup, *report);
+    }
+    total
+}

@@ -1,0 +1,190 @@
+//! Kept messages: what a device tells again until it knows that the controller heard it.
+
+ghost use Rattle.std.specs.Prelude.{◌≡◌, ◌+◌, ◌++◌, ◌<◌, ◌≤◌, ◌↔◌, ◌||◌, ◌&&◌, not, IsTrue, IfSome, IfNone, length, List, [], ◌∷◌, false, true};
+ghost use Rattle.arrayvec.specs.ArrayVec.{array_vec_len};
+ghost use Rattle.mdb_cash.specs.Kept as spec;
+ghost use Rattle.mdb_cash.specs.declared.kept.Part.{Part};
+ghost use Rattle.mdb_cash.specs.Kept.{CanBeRead, IsNew, IsSummary};
+
+use arrayvec::ArrayVec;
+
+/// How a reply is read (this profile).
+#[derive(Clone, Copy, PartialEq, Eq, Debug)]
+pub enum Reading {
+    /// The device wasn't restarted before it.
+    Plain,
+    /// It tells that the device was restarted.
+    Restart,
+}
+
+impl Reading {
+    ghost use Rattle.mdb_cash.specs.Pair.{reading_of};
+
+    /// How a reply is read that has a mark, and that has none.
+    pub fn of_mark(marked: bool) -> Reading
+        ensures { result ≡ reading_of marked }
+    {
+        if marked {
+            Reading::Restart
+        } else {
+            Reading::Plain
+        }
+    }
+}
+
+/// What a message of a reply is to the device that keeps some of them (this profile).
+#[derive(Clone, Copy, PartialEq, Eq, Debug)]
+pub enum Part<M> {
+    /// The device tells that it was reset.
+    Reset,
+    /// It is kept, and says this.
+    Kept(M),
+    /// It is neither.
+    Other,
+}
+
+/// What a kept message says.
+pub trait KeptMessage: Copy + Default {
+    /// Whether both say the same.
+    fn is(self, other: Self) -> bool
+        ensures { IsTrue result ↔ (self ≡ other) };
+}
+
+/// What counts of the messages of a reply for what its device keeps.
+#[derive(Drop)]
+pub struct Summary<M: Drop, const CAP: usize> {
+    /// The kept messages.
+    pub kept: ArrayVec<M, CAP>,
+    /// Whether there is a reset message.
+    pub reset: bool,
+    /// Whether a kept message stands before the first reset message, or stands there without one.
+    pub early: bool,
+}
+
+impl<M: KeptMessage + Drop, const CAP: usize> Summary<M, CAP> {
+    /// No message.
+    pub fn new() -> Self
+        ensures summary { IsSummary result.kept.items result.reset result.early [] }
+        ensures room { array_vec_len result.kept ≡ 0 }
+    {
+        Summary {
+            kept: ArrayVec::new(),
+            reset: false,
+            early: false,
+        }
+    }
+
+    /// One message more.
+    pub fn add(&mut self, part: Part<M>)
+        requires room { array_vec_len self.old.kept < CAP }
+        ensures summary { (parts : List (Part M))
+            → IsSummary self.old.kept.items self.old.reset self.old.early parts
+            → IsSummary self.new.kept.items self.new.reset self.new.early (parts ++ part ∷ []) }
+        ensures room { array_vec_len self.new.kept ≤ array_vec_len self.old.kept + 1 }
+    {
+        self.put(part);
+    }
+
+    /// Puts one message behind the others.
+    fn put(&mut self, part: Part<M>)
+        requires room { array_vec_len self.old.kept < CAP }
+        ensures kept { self.new.kept.items ≡ self.old.kept.items ++ spec.kept_of (part ∷ []) }
+        ensures room { array_vec_len self.new.kept ≤ array_vec_len self.old.kept + 1 }
+        ensures reset { self.new.reset ≡ (self.old.reset || spec.has_reset (part ∷ [])) }
+        ensures early { self.new.early
+            ≡ (self.old.early || (not self.old.reset && spec.keeps_early (part ∷ []))) }
+    {
+        match part {
+            Part::Reset => self.reset = true,
+            Part::Kept(message) => {
+                self.early = self.early || !self.reset;
+                self.kept.push(message);
+            }
+            Part::Other => {}
+        }
+    }
+
+    /// Whether the reply can be read so.
+    pub fn may_be_read(&self, reading: Reading) -> bool
+        ensures { IsTrue result ↔ CanBeRead reading self.now.reset self.now.early }
+    {
+        match reading {
+            Reading::Plain => true,
+            Reading::Restart => self.reset && !self.early,
+        }
+    }
+
+    /// Whether its messages may come while a reset message is owed or isn't.
+    pub fn may_be_kept(&self, owed: bool) -> bool
+        ensures { IsTrue result ↔ (owed ≡ true → self.now.early ≡ false) }
+    {
+        !owed || !self.early
+    }
+}
+
+/// Whether a device still holds what it held, once its reply is read.
+pub fn holds_read(reading: Reading, holds: bool) -> bool
+    ensures { result ≡ spec.holds_read reading holds }
+{
+    match reading {
+        Reading::Plain => holds,
+        Reading::Restart => false,
+    }
+}
+
+/// What a device holds, of its last kept list.
+pub fn held<M>(holds: bool, last: &[M]) -> &[M]
+    ensures { result.now ≡ spec.held holds last.now }
+{
+    if holds { last } else { &[] }
+}
+
+/// Whether a device holds behind its reply, which has these kept messages.
+pub fn holds_behind<M>(kept: &[M], holds: bool) -> bool
+    ensures { result ≡ spec.holds_behind kept.now holds }
+{
+    holds || !kept.is_empty()
+}
+
+/// Whether a device holds behind the controller's ACK of a reply with these kept messages.
+pub fn holds_acked<M>(heard: bool, kept: &[M], holds: bool) -> bool
+    ensures { result ≡ spec.holds_acked heard kept.now holds }
+{
+    holds && (kept.is_empty() || !heard)
+}
+
+/// Whether two lists of as many messages are the same.
+fn are_same<M: KeptMessage>(one: &[M], other: &[M]) -> bool
+    requires { length one.now ≡ length other.now }
+    ensures { IsTrue result ↔ (one.now ≡ other.now) }
+{
+    for i in 0..one.len() {
+        if !one[i].is(other[i]) {
+            return false;
+        }
+    }
+    true
+}
+
+/// The kept messages of a reply that are new, behind those that its device holds; `None` where the
+/// device can't tell these.
+pub fn news<'a, M: KeptMessage>(is_poll: bool, held: &[M], kept: &'a [M]) -> Option<&'a [M]>
+    ensures found { IfSome result (λ new. IsNew is_poll held.now kept.now new.now) }
+    ensures only { IfSome result (λ new. (other : List M)
+        → IsNew is_poll held.now kept.now other → other ≡ new.now) }
+    ensures none { IfNone result ((other : List M)
+        → IsNew is_poll held.now kept.now other → ⊥) }
+{
+    if !is_poll && kept.is_empty() {
+        return Some(kept);
+    }
+    if kept.len() < held.len() {
+        return None;
+    }
+    let (front, rest) = kept.split_at(held.len());
+    if are_same(front, held) {
+        Some(rest)
+    } else {
+        None
+    }
+}

@@ -1,0 +1,18 @@
+//! What the devices and the controller may do, and the money that moves by it.
+//!
+//! A [`Pair`] is a device with the controller's dealings with it. It has a few states, each with a
+//! code, and tells for each act which steps may be taken and what they add to the sums. [`Changer`]
+//! is that of the coin changer. Nothing here takes memory.
+#![tactic(auto)]
+
+mod changer;
+mod gains;
+pub mod kept;
+pub mod laws;
+mod pair;
+pub mod past;
+
+pub use changer::{Changer, ChangerFacts, ChangerReport, ChangerState};
+pub use gains::Gains;
+pub use kept::Reading;
+pub use pair::Pair;

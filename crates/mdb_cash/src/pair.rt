@@ -1,0 +1,176 @@
+//! A device and the controller.
+
+ghost use Rattle.std.specs.Prelude.{◌≡◌, ◌<◌, ◌↔◌, ◌⊎◌, ℕ, Bool, true, false, not, ◌||◌, List, [], ◌∷◌, Contains, Some, IfSome};
+ghost use Rattle.std.specs.Bool.{OnFalse};
+ghost use Rattle.mdb_bus.specs.declared.act.Act.{Act};
+ghost use Rattle.mdb_cash.specs.declared.gains.Gains.{Gains};
+ghost use Rattle.mdb_cash.specs.declared.kept.Reading.{Reading};
+ghost use Rattle.mdb_cash.specs.Gains.{IsSmall, no_gains};
+ghost use Rattle.mdb_cash.specs.Pair.{IsMarkedStep, IsMove, IsOutcome, is_ack, is_reply};
+
+use super::gains::Gains;
+use super::kept::Reading;
+use arrayvec::ArrayVec;
+use mdb_bus::Act;
+
+/// A device and the controller's dealings with it: its states as codes, its facts, and its steps.
+///
+/// The facts are a running value: what counts of the acts so far, however many there were. Lists of
+/// acts are written newest first.
+pub trait Pair {
+    /// The number of states. Their codes are below it.
+    const CODES: usize;
+
+    ghost CODES: { ℕ };
+
+    /// What is known behind the acts so far.
+    type Facts: Drop;
+
+    /// The states.
+    type State: Copy;
+
+    /// The code of a state.
+    ghost code_of: { Self.State → ℕ };
+
+    /// The state at power-on.
+    ghost first: { Self.State };
+
+    /// The facts are those behind acts.
+    ghost stands_for: { Self.Facts → List Act → Type 0 };
+
+    /// Behind acts, a step by an act that was heard or not, in a reading, from a state to a state,
+    /// with its gains.
+    ghost may_step: { List Act → Act → Bool → Reading → Self.State → Self.State → Gains → Type 0 };
+
+    /// The code at power-on.
+    fn start() -> usize
+        ensures code { result ≡ code_of first }
+        ensures below { result < CODES };
+
+    /// The facts behind no act.
+    fn facts_start() -> Self::Facts
+        ensures { stands_for result [] };
+
+    /// Takes one act more into the facts.
+    fn learn(facts: &mut Self::Facts, act: &Act)
+        ensures { (acts : List Act) → stands_for facts.old acts
+            → stands_for facts.new (act.now ∷ acts) };
+
+    /// Whether an act may change a state or a sum. One that is no matter of this pair leaves both.
+    fn concerns(act: &Act) -> bool
+        ensures { OnFalse result ((acts : List Act) (heard : Bool) (reading : Reading)
+            (before after : Self.State) (gains : Gains)
+            → may_step acts act.now heard reading before after gains
+            ↔ (after ≡ before) × (gains ≡ no_gains)) };
+
+    /// The code of a state.
+    fn code(state: Self::State) -> usize
+        ensures { result ≡ code_of state };
+
+    /// The state of a code.
+    fn state(code: usize) -> Self::State
+        requires { code < CODES }
+        ensures { code_of result ≡ code };
+
+    /// The step by an act that was heard or not, in a reading, from a state: the state behind it,
+    /// and what it adds to the sums. `None` where there is no such step.
+    fn outcome(
+        facts: &Self::Facts,
+        act: &Act,
+        heard: bool,
+        reading: Reading,
+        before: Self::State,
+    ) -> Option<(Self::State, Gains)>
+        ensures outcome { (acts : List Act) → stands_for facts.now acts
+            → IsOutcome (may_step acts act.now heard reading before) result }
+        ensures small { IfSome result (λ outcome. IsSmall outcome.1) };
+
+    /// Two states have two codes.
+    ghost apart: { (one other : Self.State) → code_of one ≡ code_of other → one ≡ other };
+
+    /// Each state has a code below the number of states.
+    ghost below: { (state : Self.State) → code_of state < CODES };
+
+    /// Each code below the number of states is that of a state.
+    ghost whole: { (code : ℕ) → code < CODES → (state : Self.State) × (code_of state ≡ code) };
+
+    /// Only for an ACK it matters whether it was heard.
+    ghost hearing: { (acts : List Act) (act : Act) (one other : Bool) (reading : Reading)
+        (before after : Self.State) (gains : Gains) → is_ack act ≡ false
+        → may_step acts act one reading before after gains
+        → may_step acts act other reading before after gains };
+
+    /// Only for a reply it matters how it is read.
+    ghost readings: { (acts : List Act) (act : Act) (heard : Bool) (one other : Reading)
+        (before after : Self.State) (gains : Gains) → is_reply act ≡ false
+        → may_step acts act heard one before after gains
+        → may_step acts act heard other before after gains };
+
+    /// The step that an act is, from the state of a code, with a mark or without one: the code
+    /// behind it, and what it adds to the sums. `None` where there is no such step.
+    ///
+    /// An ACK with a mark wasn't heard, and a reply with a mark tells of a restart. To other acts a
+    /// mark says nothing.
+    final fn step(
+        facts: &Self::Facts,
+        act: &Act,
+        code: usize,
+        marked: bool,
+    ) -> Option<(usize, Gains)>
+        requires { code < CODES }
+        ensures steps { (acts : List Act) → stands_for facts.now acts → (next : ℕ) (gains : Gains)
+            → (result ≡ Some (next, gains))
+            ↔ IsMarkedStep code_of (may_step acts act.now) marked code next gains }
+        ensures below { IfSome result (λ move. (move.0 < CODES) × IsSmall move.1) }
+    {
+        let before = Self::state(code);
+        let outcome = Self::outcome(facts, act, !marked, Reading::of_mark(marked), before);
+        match outcome {
+            None => None,
+            Some((after, gains)) => Some((Self::code(after), gains)),
+        }
+    }
+
+    /// The steps that an act may be, from the state of a code, heard or not and in each reading:
+    /// the code behind each, and what it adds to the sums.
+    final fn moves(facts: &Self::Facts, act: &Act, code: usize) -> ArrayVec<(usize, Gains), 2>
+        requires { code < CODES }
+        ensures steps { (acts : List Act) → stands_for facts.now acts → (next : ℕ) (gains : Gains)
+            → Contains result.items (next, gains)
+            ↔ IsMove code_of (may_step acts act.now) code next gains }
+        ensures below { (next : ℕ) (gains : Gains) → Contains result.items (next, gains)
+            → (next < CODES) × IsSmall gains }
+    {
+        let plain = Self::step(facts, act, code, false);
+        if may_be_marked(act) {
+            both(plain, Self::step(facts, act, code, true))
+        } else {
+            both(plain, None)
+        }
+    }
+}
+
+/// Whether an act may have two steps from one state: an ACK, which was heard or not, or a reply,
+/// which may be read in two ways.
+fn may_be_marked(act: &Act) -> bool
+    ensures { result ≡ (is_ack act.now || is_reply act.now) }
+{
+    matches!(act, Act::Ack(_) | Act::Reply(..) | Act::VmcAck(..))
+}
+
+/// Two moves, or the one that both are.
+fn both(one: Option<(usize, Gains)>, other: Option<(usize, Gains)>) -> ArrayVec<(usize, Gains), 2>
+    ensures { (move : ℕ × Gains) → Contains result.items move
+        ↔ (one ≡ Some move) ⊎ (other ≡ Some move) }
+{
+    let mut moves = ArrayVec::new();
+    if let Some(step) = one {
+        moves.push(step);
+    }
+    if let Some(step) = other {
+        if one != other {
+            moves.push(step);
+        }
+    }
+    moves
+}
