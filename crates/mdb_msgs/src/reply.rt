@@ -51,6 +51,8 @@ pub enum Reply {
 
 impl Reply {
     /// The same reply again.
+    // Inlined, so that a caller that drops the copy doesn't pay for it.
+    #[inline(always)]
     pub fn copy(&self) -> Self
         ensures { result ≡ self.now }
     {
