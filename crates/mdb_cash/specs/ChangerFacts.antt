@@ -67,8 +67,8 @@ powers_on act = resets (taken_by act)
 pub record Facts : Type 0 where
   -- the last setup table
   pub setup : Option ChangerSetup
-  -- a coin type is enabled where the changer took a COIN TYPE with its bit since it was last put
-  -- into its power-on state
+  -- a coin type is enabled where the changer took a COIN TYPE with its bit since the last break or
+  -- RESET that it took; a restart that a message tells leaves this
   pub enabled : ℕ → Bool
   -- a reset message is owed where no reply has had one since then
   pub reset_owed : Bool

@@ -55,7 +55,8 @@ fn part_of(message: ChangerMsg) -> Part<ChangerReport>
 /// What counts of messages for what the changer keeps.
 fn summary_of(messages: &[ChangerMsg]) -> Summary<ChangerReport, 16>
     requires { length messages.now ≤ 16 }
-    ensures { IsSummary result.kept.items result.reset result.early (map spec.part_of messages.now) }
+    ensures { IsSummary result.kept.items result.reset result.early
+        (map spec.part_of messages.now) }
 {
     let mut summary = Summary::new();
     for message in messages {

@@ -1,0 +1,9 @@
+pub mod Ends
+pub mod Following
+pub mod Joining
+pub mod Led
+pub mod Limits
+pub mod Listed
+pub mod Places
+pub mod Reaching
+pub mod Ways

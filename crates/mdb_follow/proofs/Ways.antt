@@ -1,0 +1,238 @@
+-- Ways through one act more.
+use Rattle.std.proofs.Common.{◌≡◌, ◌⊎◌, inl, inr, ℕ, refl, sym, ◌∙◌, ap, subst, add-zero, Bool, true, List, [], ◌∷◌}
+use Rattle.std.specs.Prelude.{Contains, ◌↔◌}
+use Rattle.mdb_bus.specs.declared.act.Act.{Act}
+use Rattle.mdb_cash.specs.declared.gains.Gains.{Gains}
+use Rattle.mdb_cash.specs.declared.kept.Reading.{Reading}
+use Rattle.mdb_cash.specs.declared.kept.Reading.TheVariants.{Plain}
+use Rattle.mdb_cash.specs.Gains.{no_gains}
+use Rattle.mdb_cash.specs.Pair.{IsMove}
+use Rattle.mdb_follow.specs.declared.cell.Cell.{Cell}
+use Rattle.mdb_follow.specs.Arrivals.{Arrives, ArrivesAt, ArrivesAnywhere, Sums, added}
+use Rattle.mdb_follow.specs.Entries.{joined_cells}
+use Rattle.mdb_follow.specs.Ranges.{IsCell, joined_cell}
+use Rattle.mdb_follow.specs.Tables.{Bounds, IsTable}
+use Rattle.mdb_follow.proofs.Ends.{cell-joined, cell-same}
+use Rattle.mdb_follow.proofs.Led.{Led}
+use Rattle.mdb_follow.proofs.Listed.{bounds-same, contains-cases, contains-here, contains-none, contains-there}
+
+-- The steps from the entries of a table lead to what arrives behind one act more.
+pub table-led : {State : Type 0} (code_of : State → ℕ)
+    (Step : List Act → Act → Bool → Reading → State → State → Gains → Type 0) (first : State)
+    (act : Act) (acts : List Act) (from into : List (ℕ × Cell))
+    → ((one other : State) → code_of one ≡ code_of other → one ≡ other)
+    → IsTable code_of Step first acts from
+    → Bounds (Led (ArrivesAt code_of (Arrives Step first acts))
+    (IsMove code_of (Step acts act)) from) into
+    → Bounds (ArrivesAt code_of (Arrives Step first (act ∷ acts))) into
+table-led {State} code_of Step first act acts from into apart table led =
+    bounds-same _ _ into
+    (λ code sums l. record {
+      state = l.move.2.after;
+      is = l.move.2.ends;
+      way = record {
+        heard = l.move.0;
+        reading = l.move.1;
+        before = l.move.2.before;
+        sums_before = l.moved.before;
+        gains = l.gains;
+        way = subst (λ state. Arrives Step first acts state l.moved.before)
+            (apart l.moved.kind.state l.move.2.before (l.moved.kind.is ∙ sym l.move.2.starts))
+            l.moved.kind.way;
+        step = l.move.2.step;
+        adds = l.moved.adds;
+      };
+    })
+    (λ code sums a.
+    let from_at : ArrivesAt code_of (Arrives Step first acts) (code_of a.way.before)
+    a.way.sums_before =
+    record { state = a.way.before; is = refl; way = a.way.way } in
+    let there = table.bounds.whole (code_of a.way.before) a.way.sums_before from_at in
+    record {
+      code = code_of a.way.before;
+      cell = there.0;
+      listed = there.1;
+      gains = a.way.gains;
+      move = (
+        a.way.heard,
+        a.way.reading,
+        record {
+          before = a.way.before;
+          after = a.state;
+          starts = refl;
+          ends = a.is;
+          step = a.way.step;
+        },
+      );
+      moved = record { before = a.way.sums_before; kind = from_at; adds = a.way.adds };
+    })
+    led
+
+no-gains : (sums : Sums) → sums ≡ added sums no_gains
+no-gains sums = simp add-zero
+
+-- An act that is no matter of the pair leaves what arrives.
+pub table-same : {State : Type 0} (code_of : State → ℕ)
+    (Step : List Act → Act → Bool → Reading → State → State → Gains → Type 0) (first : State)
+    (act : Act) (acts : List Act) (entries : List (ℕ × Cell))
+    → ((acts : List Act) (heard : Bool) (reading : Reading) (before after : State) (gains : Gains)
+    → Step acts act heard reading before after gains ↔ (after ≡ before) × (gains ≡ no_gains))
+    → IsTable code_of Step first acts entries → IsTable code_of Step first (act ∷ acts) entries
+table-same {State} code_of Step first act acts entries steps table = record {
+  some = (
+    table.some.0,
+    table.some.1,
+    record {
+      heard = true;
+      reading = Plain;
+      before = table.some.0;
+      sums_before = table.some.1;
+      gains = no_gains;
+      way = table.some.2;
+      step = (steps acts true Plain table.some.0 table.some.0 no_gains).1 (refl, refl);
+      adds = no-gains table.some.1;
+    },
+  );
+  bounds = bounds-same _ _ entries
+      (λ code sums a. record {
+        state = a.state;
+        is = a.is;
+        way = record {
+          heard = true;
+          reading = Plain;
+          before = a.state;
+          sums_before = sums;
+          gains = no_gains;
+          way = a.way;
+          step = (steps acts true Plain a.state a.state no_gains).1 (refl, refl);
+          adds = no-gains sums;
+        };
+      })
+      (λ code sums a.
+      let s = (steps acts a.way.heard a.way.reading a.way.before a.state a.way.gains).0
+      a.way.step in
+      record {
+        state = a.state;
+        is = a.is;
+        way = subst (λ sums. Arrives Step first acts a.state sums)
+            (sym (a.way.adds ∙ ap (added a.way.sums_before) s.1 ∙ sym (no-gains a.way.sums_before)))
+            (subst (λ state. Arrives Step first acts state a.way.sums_before) (sym s.0) a.way.way);
+      })
+      table.bounds;
+}
+
+-- Where there is no entry, nothing arrives.
+pub nothing-arrives : {State : Type 0} (code_of : State → ℕ)
+    (Step : List Act → Act → Bool → Reading → State → State → Gains → Type 0) (first : State)
+    (acts : List Act) (entries : List (ℕ × Cell))
+    → Bounds (ArrivesAt code_of (Arrives Step first acts)) entries → entries ≡ []
+    → (state : State) (sums : Sums) → Arrives Step first acts state sums → ⊥
+nothing-arrives code_of Step first acts entries bounds none state sums way =
+    let there = bounds.whole (code_of state) sums
+    (record { state = state; is = refl; way = way }) in
+    contains-none (code_of state, there.0)
+    (subst (λ es. Contains es (code_of state, there.0)) none there.1)
+
+-- Where there is an entry, something arrives.
+pub table-some : {State : Type 0} (code_of : State → ℕ)
+    (Step : List Act → Act → Bool → Reading → State → State → Gains → Type 0) (first : State)
+    (acts : List Act) (entries : List (ℕ × Cell))
+    → Bounds (ArrivesAt code_of (Arrives Step first acts)) entries → (entries ≡ [] → ⊥)
+    → IsTable code_of Step first acts entries
+table-some code_of Step first acts [] bounds some = absurd (some refl)
+table-some code_of Step first acts (entry ∷ rest) bounds some =
+    let cell = bounds.exact entry.0 entry.1 (contains-here entry rest entry refl) in
+    let least = cell.first.device.least in
+    record { some = (least.1.state, least.0, least.1.way); bounds = bounds }
+
+-- some entry's code comes with these sums
+record SomeOf (Comes : ℕ → Sums → Type 0) (entries : List (ℕ × Cell)) (sums : Sums) : Type 0 where
+  pub code : ℕ
+  pub cell : Cell
+  pub listed : Contains entries (code, cell)
+  pub comes : Comes code sums
+
+cells-joined : (Comes : ℕ → Sums → Type 0) (entries : List (ℕ × Cell)) (Kind : Sums → Type 0)
+    (cell : Cell) → IsCell Kind cell
+    → ((code : ℕ) (cell : Cell) → Contains entries (code, cell) → IsCell (Comes code) cell)
+    → IsCell (λ sums. Kind sums ⊎ SomeOf Comes entries sums) (joined_cells cell entries)
+cells-joined Comes [] Kind cell is exact =
+    cell-same Kind _ cell (λ sums. inl)
+    (λ sums either. elim either [
+      | inl k ↦ k
+      | inr s ↦ absurd (contains-none (s.code, s.cell) s.listed)
+    ]) is
+cells-joined Comes (entry ∷ entries) Kind cell is exact =
+    cell-same (λ sums. (Kind sums ⊎ Comes entry.0 sums) ⊎ SomeOf Comes entries sums) _
+    (joined_cells (joined_cell cell entry.1) entries)
+    (λ sums either. elim either [
+      | inl first ↦ elim first [
+        | inl k ↦ inl k
+        | inr c ↦ inr (record {
+          code = entry.0;
+          cell = entry.1;
+          listed = contains-here entry entries entry refl;
+          comes = c;
+        })
+      ]
+      | inr s ↦ inr (record {
+        code = s.code;
+        cell = s.cell;
+        listed = contains-there entry entries (s.code, s.cell) s.listed;
+        comes = s.comes;
+      })
+    ])
+    (λ sums either. elim either [
+      | inl k ↦ inl (inl k)
+      | inr s ↦ elim (contains-cases entry entries (s.code, s.cell) s.listed) [
+        | inl same ↦ inl (inr
+            (subst (λ code. Comes code sums) (sym (ap (λ e. e.0) same)) s.comes))
+        | inr rest ↦ inr (record {
+          code = s.code;
+          cell = s.cell;
+          listed = rest;
+          comes = s.comes;
+        })
+      ]
+    ])
+    (cells-joined Comes entries (λ sums. Kind sums ⊎ Comes entry.0 sums)
+    (joined_cell cell entry.1)
+    (cell-joined Kind (Comes entry.0) cell entry.1 is
+    (exact entry.0 entry.1 (contains-here entry entries entry refl)))
+    (λ code cell in'. exact code cell (contains-there entry entries (code, cell) in')))
+
+-- The join of all entries of a table has what arrives anywhere.
+pub table-joined : {State : Type 0} (code_of : State → ℕ)
+    (Step : List Act → Act → Bool → Reading → State → State → Gains → Type 0) (first : State)
+    (acts : List Act) (entries : List (ℕ × Cell)) (result : Cell)
+    → ((entry : ℕ × Cell) (rest : List (ℕ × Cell)) → entries ≡ entry ∷ rest
+    → result ≡ joined_cells entry.1 rest)
+    → IsTable code_of Step first acts entries
+    → IsCell (ArrivesAnywhere (Arrives Step first acts)) result
+table-joined code_of Step first acts [] result joins table =
+    absurd (nothing-arrives code_of Step first acts [] table.bounds refl table.some.0
+    table.some.1 table.some.2)
+table-joined code_of Step first acts (entry ∷ rest) result joins table =
+    let At : ℕ → Sums → Type 0 = ArrivesAt code_of (Arrives Step first acts) in
+    subst (IsCell (ArrivesAnywhere (Arrives Step first acts))) (sym (joins entry rest refl))
+    (cell-same (λ sums. At entry.0 sums ⊎ SomeOf At rest sums) _ (joined_cells entry.1 rest)
+    (λ sums either. elim either [
+      | inl a ↦ record { state = a.state; way = a.way }
+      | inr s ↦ record { state = s.comes.state; way = s.comes.way }
+    ])
+    (λ sums a.
+    let at : At (code_of a.state) sums =
+    record { state = a.state; is = refl; way = a.way } in
+    let there = table.bounds.whole (code_of a.state) sums at in
+    elim (contains-cases entry rest (code_of a.state, there.0) there.1) [
+      | inl same ↦ inl (subst (λ code. At code sums) (sym (ap (λ e. e.0) same)) at)
+      | inr rest_has ↦ inr (record {
+        code = code_of a.state;
+        cell = there.0;
+        listed = rest_has;
+        comes = at;
+      })
+    ])
+    (cells-joined At rest (At entry.0) entry.1
+    (table.bounds.exact entry.0 entry.1 (contains-here entry rest entry refl))
+    (λ code cell in'. table.bounds.exact code cell (contains-there entry rest (code, cell) in'))))

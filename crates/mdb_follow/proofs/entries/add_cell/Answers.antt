@@ -1,0 +1,87 @@
+use Rattle.std.proofs.Common.{rules, ◌≡◌, ℕ, List, sym, ◌∙◌, subst, get_or}
+use Rattle.std.specs.Prelude.{IsTrue}
+use Rattle.std.proofs.lemmas.Bool.{false≢true}
+use Rattle.mdb_follow.specs.declared.cell.Cell.{Cell}
+use Rattle.mdb_follow.specs.Entries.{HasAt, IsKeyed, IsPlaced, Lacks}
+use Rattle.mdb_follow.proofs.Listed.{keyed-room, keyed-with_cell, with_cell-push, with_cell-written}
+use Rattle.mdb_follow.proofs.Places.{placed-front, placed-lacks, placed-push, placed-written}
+use Rattle.mdb_follow.proofs.entries.add_cell.Goals as goal
+
+-- what the test tells of the entries themselves
+has-told : (entries slice : List (ℕ × Cell)) (place code : ℕ) → slice ≡ entries
+    → HasAt slice place code → HasAt entries place code
+has-told entries slice place code is has = subst (λ s. HasAt s place code) is has
+
+pub returns-then-has_at-clause-entries : goal.returns-then-has_at-clause-entries
+returns-then-has_at-clause-entries g c =
+    let entries = c.args.entries.now.items in
+    let places = c.args.places.now in
+    let true' : IsTrue c.has_at.result = search rules in
+    with_cell-written entries c.deref.result.now c.deref_mut.result.now
+    (get_or places c.args.code 0) c.args.code c.args.cell.now c.joined-joined.result _
+    c.deref.ensures.0 c.deref_mut.ensures.value
+    (has-told entries c.as_slice.result.now _ _ c.as_slice.ensures.value
+    (c.has_at.ensures.0 true'))
+    (placed-front entries places c.args.code (0, c.args.cell.now) c.requires.placed)
+    c.joined-joined.ensures
+
+pub returns-then-has_at-clause-keyed : goal.returns-then-has_at-clause-keyed
+returns-then-has_at-clause-keyed g c =
+    subst (IsKeyed g.row.N) (sym (returns-then-has_at-clause-entries g c))
+    (keyed-with_cell g.row.N c.args.entries.now.items c.args.code c.args.cell.now
+    c.requires.below c.requires.keyed)
+
+pub returns-then-has_at-clause-placed : goal.returns-then-has_at-clause-placed
+returns-then-has_at-clause-placed g c =
+    let entries = c.args.entries.now.items in
+    let true' : IsTrue c.has_at.result = search rules in
+    placed-written entries c.deref_mut.result.now c.args.places.now _ c.args.code
+    c.joined-joined.result c.deref_mut.ensures.value
+    (has-told entries c.as_slice.result.now _ _ c.as_slice.ensures.value
+    (c.has_at.ensures.0 true'))
+    c.requires.placed
+
+-- what it tells where it fails
+lacks-told : (entries slice : List (ℕ × Cell)) (places : List ℕ) (code : ℕ) (cell : Cell)
+    → slice ≡ entries → IsPlaced entries places
+    → (HasAt slice (get_or places code 0) code → ⊥) → Lacks entries code
+lacks-told entries slice places code cell is placed not =
+    placed-lacks entries places code (0, cell) placed
+    (λ has. not (subst (λ s. HasAt s (get_or places code 0) code) (sym is) has))
+
+pub push-requires : goal.push-requires
+push-requires g c =
+    let entries = c.args.entries.now.items in
+    let lacks : Lacks entries c.args.code =
+    lacks-told entries c.as_slice.result.now c.args.places.now c.args.code c.args.cell.now
+    c.as_slice.ensures.value c.requires.placed
+    (λ has. false≢true (sym c.if-has_at.false ∙ c.has_at.ensures.1 has)) in (
+      search rules,
+      keyed-room _ entries c.args.code c.requires.keyed c.requires.below lacks c.args.cell.now,
+    )
+
+pub returns-else-has_at-clause-entries : goal.returns-else-has_at-clause-entries
+returns-else-has_at-clause-entries g c =
+    let entries = c.args.entries.now.items in
+    let lacks : Lacks entries c.args.code =
+    lacks-told entries c.as_slice.result.now c.args.places.now c.args.code c.args.cell.now
+    c.as_slice.ensures.value c.requires.placed
+    (λ has. false≢true (sym c.if-has_at.false ∙ c.has_at.ensures.1 has)) in
+    c.push.ensures.items ∙ sym (with_cell-push entries c.args.code c.args.cell.now lacks)
+
+pub returns-else-has_at-clause-keyed : goal.returns-else-has_at-clause-keyed
+returns-else-has_at-clause-keyed g c =
+    subst (IsKeyed g.row.N) (sym (returns-else-has_at-clause-entries g c))
+    (keyed-with_cell g.row.N c.args.entries.now.items c.args.code c.args.cell.now
+    c.requires.below c.requires.keyed)
+
+pub returns-else-has_at-clause-placed : goal.returns-else-has_at-clause-placed
+returns-else-has_at-clause-placed g c =
+    let entries = c.args.entries.now.items in
+    let lacks : Lacks entries c.args.code =
+    lacks-told entries c.as_slice.result.now c.args.places.now c.args.code c.args.cell.now
+    c.as_slice.ensures.value c.requires.placed
+    (λ has. false≢true (sym c.if-has_at.false ∙ c.has_at.ensures.1 has)) in
+    placed-push entries c.push.new.self.items c.args.places.now c.args.code c.len.result
+    c.args.cell.now c.requires.placed lacks (search rules) c.len.ensures.value
+    c.push.ensures.items

@@ -1,0 +1,22 @@
+use Rattle.std.proofs.Common.{ℕ, List, ◌+◌, ◌^◌, take}
+use Rattle.mdb_bus.specs.declared.act.Act.{Act}
+use Rattle.mdb_cash.specs.Pair.{IsMove}
+use Rattle.mdb_follow.specs.Arrivals.{Arrives, ArrivesAt}
+use Rattle.mdb_follow.specs.Entries.{IsKeyed, IsPlaced}
+use Rattle.mdb_follow.specs.Tables.{Bounds, IsTable, IsTableWithin}
+use Rattle.mdb_follow.proofs.Led.{Led}
+use Rattle.mdb_follow.proofs.table.fill.Given as goal
+
+abbrev pub invariant-loop-code : goal.invariant-loop-code
+invariant-loop-code g l =
+    let p = g.P.Pair in
+    record {
+      keyed : IsKeyed g.row.N l.into.items;
+      placed : IsPlaced l.into.items l.places;
+      led : (acts : List Act) → p.stands_for l.facts acts
+          → IsTable p.code_of p.may_step p.first acts l.from
+          → Bounds (Led (ArrivesAt p.code_of (Arrives p.may_step p.first acts))
+          (IsMove p.code_of (p.may_step acts l.act)) (take l.code-index l.from)) l.into.items;
+      within : (limit : ℕ) → IsTableWithin limit l.from
+          → IsTableWithin (limit + 2 ^ 32) l.into.items;
+    }

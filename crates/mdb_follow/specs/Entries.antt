@@ -1,0 +1,52 @@
+-- How the entries of a table are made. This serves private functions.
+use Rattle.std.specs.Prelude.{◌≡◌, ◌==◌, ◌<◌, ℕ, List, [], ◌∷◌, All, fold, if◌then◌else◌}
+use Rattle.std.specs.Prelude.{length, slice_index, slice_index_or}
+use Rattle.mdb_cash.specs.declared.gains.Gains.{Gains}
+use Rattle.mdb_follow.specs.declared.cell.Cell.{Cell}
+use Rattle.mdb_follow.specs.Ranges.{joined_cell, moved_cell}
+
+-- no entry has this code
+abbrev pub Lacks : List (ℕ × Cell) → ℕ → Type 0
+Lacks [] code = Unit {0}
+Lacks (entry ∷ entries) code = (entry.0 ≡ code → ⊥) × Lacks entries code
+
+-- no two entries have one code
+abbrev pub AreApart : List (ℕ × Cell) → Type 0
+AreApart [] = Unit {0}
+AreApart (entry ∷ entries) = Lacks entries entry.0 × AreApart entries
+
+-- all codes are below a number
+abbrev pub AreBelow : ℕ → List (ℕ × Cell) → Type 0
+AreBelow number entries = All (λ entry. entry.0 < number) entries
+
+-- entries that fit in so many places
+pub record IsKeyed (number : ℕ) (entries : List (ℕ × Cell)) : Type 0 where
+  pub apart : AreApart entries
+  pub below : AreBelow number entries
+
+-- The place of each entry is noted under its code.
+pub record IsPlaced (entries : List (ℕ × Cell)) (places : List ℕ) : Type 0 where
+  pub at : (k : ℕ) (d : ℕ × Cell) → k < length entries
+      → slice_index places (slice_index_or entries k d).0 ≡ k
+
+-- the entry at a place has this code
+abbrev pub HasAt : List (ℕ × Cell) → ℕ → ℕ → Type 0
+HasAt entries place code = (place < length entries)
+    × ((d : ℕ × Cell) → (slice_index_or entries place d).0 ≡ code)
+
+-- the entries with a cell more: joined to that of its code, else behind all
+abbrev pub with_cell : List (ℕ × Cell) → ℕ → Cell → List (ℕ × Cell)
+with_cell [] code cell = (code, cell) ∷ []
+with_cell (entry ∷ entries) code cell =
+    if entry.0 == code then (entry.0, joined_cell entry.1 cell) ∷ entries
+    else (entry ∷ with_cell entries code cell)
+
+-- the entries with the cells that the steps from a cell lead to
+abbrev pub with_moves : List (ℕ × Cell) → Cell → List (ℕ × Gains) → List (ℕ × Cell)
+with_moves entries cell [] = entries
+with_moves entries cell (move ∷ moves) =
+    with_moves (with_cell entries move.0 (moved_cell cell move.1)) cell moves
+
+-- the join of a cell and those of entries
+abbrev pub joined_cells : Cell → List (ℕ × Cell) → Cell
+joined_cells cell entries = fold (λ all entry. joined_cell all entry.1) cell entries

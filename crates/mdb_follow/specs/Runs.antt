@@ -1,0 +1,74 @@
+-- Runs: what the devices and the controller may have done behind the rows of a transcript, and the
+-- money that moved by it (this profile). Pieces and acts stand newest first.
+use Rattle.std.specs.Prelude.{◌≡◌, ◌↔◌, ℕ, Bool, true, List, [], ◌∷◌, length}
+use Rattle.mdb_words.specs.declared.event.Event.{Event}
+use Rattle.mdb_bus.specs.declared.act.Act.{Act}
+use Rattle.mdb_bus.specs.ActLists.{Piece, Whole, IsActList, acts_of, events_of}
+use Rattle.mdb_bus.specs.Loss.{IsHeard, Loss, LossFits}
+use Rattle.mdb_cash.specs.declared.changer.state.ChangerState.{ChangerState}
+use Rattle.mdb_cash.specs.declared.gains.Gains.{Gains}
+use Rattle.mdb_cash.specs.declared.kept.Reading.{Reading}
+use Rattle.mdb_cash.specs.Changer.{ChangerStep, power_on}
+use Rattle.mdb_cash.specs.ChangerFacts.{facts_of}
+use Rattle.mdb_follow.specs.Arrivals.{Sums, added, no_sums}
+
+-- The states of each device and the controller's dealings with it.
+pub record States : Type 0 where
+  pub changer : ChangerState
+
+abbrev pub at_power_on : States
+at_power_on = record { changer = power_on }
+
+-- what the accounts of each device have come to
+pub record AllSums : Type 0 where
+  pub changer : Sums
+
+abbrev pub nothing_yet : AllSums
+nothing_yet = record { changer = no_sums }
+
+-- a step of one device and the controller, and its gains in their sums
+pub record Goes {State : Type 0} (Step : State → State → Gains → Type 0) (before after : State)
+    (sums_before sums : Sums) : Type 0 where
+  pub gains : Gains
+  pub step : Step before after gains
+  pub adds : sums ≡ added sums_before gains
+
+-- A step of all by an act, behind other acts: the changer and the controller by the changer's
+-- machine.
+pub record AllGo (acts : List Act) (act : Act) (heard : Bool) (reading : Reading)
+    (before after : States) (sums_before sums : AllSums) : Type 0 where
+  pub changer : Goes (ChangerStep (facts_of acts) act heard reading) before.changer after.changer
+      sums_before.changer sums.changer
+
+-- A way goes on by one act: it was heard or not, as the loss of its rows has it, and is read in
+-- one of its readings.
+pub record GoesOnBy (loss : Loss) (pieces : List Piece) (act : Act) (count : ℕ)
+    (Before : States → AllSums → Type 0) (states : States) (sums : AllSums) : Type 0 where
+  pub heard : Bool
+  pub reading : Reading
+  pub before : States
+  pub sums_before : AllSums
+  pub way : Before before sums_before
+  pub as_lost : (heard ≡ true) ↔ IsHeard loss act (length (events_of pieces)) count
+  pub go : AllGo (acts_of pieces) act heard reading before states sums_before sums
+
+-- A way through pieces under a loss, from power-on, leads to these states with these sums. Tails
+-- change nothing.
+abbrev pub IsWay : Loss → List Piece → States → AllSums → Type 0
+IsWay loss [] states sums = (states ≡ at_power_on) × (sums ≡ nothing_yet)
+IsWay loss (Whole act events ∷ pieces) states sums =
+    GoesOnBy loss pieces act (length events) (IsWay loss pieces) states sums
+IsWay loss (piece ∷ pieces) states sums = IsWay loss pieces states sums
+
+-- a run of a transcript, and what the accounts come to in it
+pub record Run (events : List Event) (sums : AllSums) : Type 0 where
+  pub pieces : List Piece
+  pub act_list : IsActList pieces events
+  pub loss : Loss
+  pub fits : LossFits loss pieces
+  pub states : States
+  pub way : IsWay loss pieces states sums
+
+-- rows are reached where they have a run
+abbrev pub IsReached : List Event → Type 0
+IsReached events = (sums : AllSums) × Run events sums

@@ -1,0 +1,28 @@
+-- What a table says of the ways through acts.
+use Rattle.std.specs.Prelude.{ℕ, Bool, List, Contains, All}
+use Rattle.mdb_bus.specs.declared.act.Act.{Act}
+use Rattle.mdb_cash.specs.declared.gains.Gains.{Gains}
+use Rattle.mdb_cash.specs.declared.kept.Reading.{Reading}
+use Rattle.mdb_follow.specs.declared.cell.Cell.{Cell}
+use Rattle.mdb_follow.specs.Arrivals.{Arrives, ArrivesAt, Sums}
+use Rattle.mdb_follow.specs.Ranges.{IsCell, IsCellWithin}
+
+-- The cell of each code has the exact ranges of the sums that come with the code, and a code has a
+-- cell where some sums come with it.
+pub record Bounds (Comes : ℕ → Sums → Type 0) (entries : List (ℕ × Cell)) : Type 0 where
+  pub exact : (code : ℕ) (cell : Cell) → Contains entries (code, cell) → IsCell (Comes code) cell
+  pub whole : (code : ℕ) (sums : Sums) → Comes code sums
+      → (cell : Cell) × Contains entries (code, cell)
+
+-- A table is that behind acts, the newest first: some way leads through the acts, and the codes of
+-- the table are those of the states that the ways lead to, each with the exact ranges of the sums
+-- there.
+pub record IsTable {State : Type 0} (code_of : State → ℕ)
+    (Step : List Act → Act → Bool → Reading → State → State → Gains → Type 0) (first : State)
+    (acts : List Act) (entries : List (ℕ × Cell)) : Type 0 where
+  pub some : (state : State) × (sums : Sums) × Arrives Step first acts state sums
+  pub bounds : Bounds (ArrivesAt code_of (Arrives Step first acts)) entries
+
+-- all ends of a table are at most so far from 0
+abbrev pub IsTableWithin : ℕ → List (ℕ × Cell) → Type 0
+IsTableWithin limit entries = All (λ entry. IsCellWithin limit entry.1) entries

@@ -1,0 +1,80 @@
+//! The entries of a table: codes with their cells.
+
+ghost use Rattle.std.specs.Prelude.{◌≡◌, ◌<◌, ◌^◌, ◌∷◌, ◌↔◌, ℕ, List, All, IsTrue};
+ghost use Rattle.mdb_cash.specs.Gains.{IsSmall};
+ghost use Rattle.mdb_follow.specs.declared.cell.Cell.{Cell};
+ghost use Rattle.mdb_follow.specs.Entries.{HasAt, IsKeyed, IsPlaced};
+ghost use Rattle.mdb_follow.specs.Entries.{joined_cells, with_cell, with_moves};
+ghost use Rattle.mdb_follow.specs.Ranges.{IsCellWithin};
+
+use crate::Cell;
+use arrayvec::ArrayVec;
+use mdb_cash::Gains;
+
+/// Whether the entry at a place has a code.
+fn has_at(entries: &[(usize, Cell)], place: usize, code: usize) -> bool
+    ensures { IsTrue result ↔ HasAt entries.now place code }
+{
+    place < entries.len() && entries[place].0 == code
+}
+
+/// Takes in one cell more: joined to that of its code, else as an entry of its own. The places of
+/// the entries are noted under their codes; what is noted under other codes may be anything.
+fn add_cell<const N: usize>(
+    entries: &mut ArrayVec<(usize, Cell), N>,
+    places: &mut [usize; N],
+    code: usize,
+    cell: &Cell,
+)
+    requires below { code < N }
+    requires keyed { IsKeyed N entries.old.items }
+    requires placed { IsPlaced entries.old.items places.old }
+    ensures entries { entries.new.items ≡ with_cell entries.old.items code cell.now }
+    ensures keyed { IsKeyed N entries.new.items }
+    ensures placed { IsPlaced entries.new.items places.new }
+{
+    let place = places[code];
+    if has_at(entries.as_slice(), place, code) {
+        let joined = entries[place].1.joined(cell);
+        entries[place] = (code, joined);
+    } else {
+        places[code] = entries.len();
+        entries.push((code, *cell));
+    }
+}
+
+/// Takes in the cells that the steps from one cell lead to.
+pub(crate) fn add_moves<const N: usize>(
+    entries: &mut ArrayVec<(usize, Cell), N>,
+    places: &mut [usize; N],
+    cell: &Cell,
+    moves: &[(usize, Gains)],
+)
+    requires within { IsCellWithin (2 ^ 62) cell.now }
+    requires small { All (λ move. IsSmall move.1) moves.now }
+    requires below { All (λ move. move.0 < N) moves.now }
+    requires keyed { IsKeyed N entries.old.items }
+    requires placed { IsPlaced entries.old.items places.old }
+    ensures entries { entries.new.items ≡ with_moves entries.old.items cell.now moves.now }
+    ensures keyed { IsKeyed N entries.new.items }
+    ensures placed { IsPlaced entries.new.items places.new }
+{
+    for (next, gains) in moves {
+        add_cell(entries, places, *next, &cell.moved(gains));
+    }
+}
+
+/// The join of all cells; where there is none, all ranges are from 0 to 0.
+pub(crate) fn join_all(entries: &[(usize, Cell)]) -> Cell
+    ensures { (first : ℕ × Cell) (rest : List (ℕ × Cell)) → entries.now ≡ first ∷ rest
+        → result ≡ joined_cells first.1 rest }
+{
+    let Some(((_, first), rest)) = entries.split_first() else {
+        return Cell::default();
+    };
+    let mut all = *first;
+    for (_, cell) in rest {
+        all = all.joined(cell);
+    }
+    all
+}

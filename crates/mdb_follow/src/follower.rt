@@ -1,0 +1,222 @@
+//! The follower of a recording: every possible state of each device and the controller.
+
+ghost use Rattle.std.specs.Prelude.{◌≡◌, ◌<◌, ◌≤◌, ◌+◌, ◌*◌, ◌^◌, List, [], ◌∷◌, ◌++◌, ℕ, length, Some, None, Err, IfSome, IfOk, IfErr, IsOk, OnErr};
+ghost use Rattle.std.specs.Bool.{OnFalse, OnTrue};
+ghost use Rattle.mdb_words.specs.declared.event.Event.{Event};
+ghost use Rattle.mdb_bus.specs.declared.act.Act.{Act};
+ghost use Rattle.mdb_follow.specs.Arrivals.{Arrives, Sums};
+ghost use Rattle.mdb_follow.specs.Senders as spec;
+ghost use Rattle.mdb_follow.specs.Tables.{IsTable, IsTableWithin};
+
+use crate::{Offence, Report, Table, laws};
+use mdb_bus::{Act, Blame, Bus, LinkFault, Rule, laws as bus_laws};
+use mdb_cash::{Changer, ChangerFacts, Pair};
+use mdb_words::Event;
+
+/// The most rows of a recording (this profile).
+pub const ROWS_MAX: u64 = 100_000_000;
+
+/// What all that may have happened behind the rows so far comes to.
+///
+/// It keeps the bus, and of each device the facts and a table of its possible states; no rows.
+#[derive(Drop)]
+pub struct Follower {
+    bus: Bus,
+    facts: ChangerFacts,
+    table: Table<4>,
+    rows: u64,
+    offence: Option<Offence>,
+    ghost few: { rows ≤ 100000000 },
+    ghost within: { IsTableWithin (rows * 2 ^ 32) table },
+}
+
+impl Follower {
+    ghost use Rattle.mdb_bus.specs.Bus.{GoesOn};
+    ghost use Rattle.mdb_bus.specs.ActLists.{Piece};
+    ghost use Rattle.mdb_follow.specs.Runs.{IsReached};
+    ghost use Rattle.mdb_follow.specs.Follower.{HasFollowed, HasOffence, HasStopped, IsOffence, IsReport, StandsFor, offence_of, rows_of};
+
+    /// The follower before the first row: recording began at power-on or at a break.
+    pub fn new() -> Follower
+        ensures { StandsFor result [] }
+    {
+        Follower {
+            bus: Bus::new(),
+            facts: Changer::facts_start(),
+            table: Table::start::<Changer>(),
+            rows: 0,
+            offence: None,
+        }
+    }
+
+    /// How many rows were accepted.
+    pub fn rows(&self) -> u64
+        ensures { result ≡ rows_of self.now }
+    {
+        self.rows
+    }
+
+    /// Takes the next row.
+    ///
+    /// # Errors
+    ///
+    /// The offence of the first row that cannot be. From then on each call answers it again, and
+    /// nothing changes.
+    pub fn feed(&mut self, event: Event) -> Result<(), Offence>
+        requires { rows_of self.old < ROWS_MAX }
+        ensures reached { (events : List Event) → StandsFor self.old events
+            → IfOk result (λ _. StandsFor self.new (events ++ event ∷ [])) }
+        ensures is_reached { (events : List Event) → StandsFor self.old events
+            → IfOk result (λ _. IsReached (events ++ event ∷ [])) }
+        ensures offence { (events : List Event) → StandsFor self.old events
+            → IfErr result (IsOffence events event) }
+        ensures noted { IfErr result (λ offence. offence_of self.new ≡ Some offence) }
+        ensures counted { IfOk result (λ _. rows_of self.new ≡ rows_of self.old + 1) }
+        ensures uncounted { OnErr result (rows_of self.new ≡ rows_of self.old) }
+        ensures repeats { IfSome (offence_of self.old) (λ offence.
+            (result ≡ Err offence) × (self.new ≡ self.old)) }
+    {
+        laws::ways_join();
+        bus_laws::transcripts_have_one_act_list();
+        if let Some(offence) = self.offence {
+            return Err(offence);
+        }
+        match self.bus.feed(event) {
+            Err(fault) => Err(self.stop(fault)),
+            Ok(None) => {
+                self.rows += 1;
+                Ok(())
+            }
+            Ok(Some(act)) => self.follow(&act),
+        }
+    }
+
+    /// Takes the next rows, up to the first that cannot be.
+    ///
+    /// # Errors
+    ///
+    /// The offence of the first row that cannot be, as from `feed`, or one that was met before.
+    pub fn feed_all(&mut self, events: &[Event]) -> Result<(), Offence>
+        requires { rows_of self.old + length events.now ≤ ROWS_MAX }
+        ensures reached { (before : List Event) → StandsFor self.old before
+            → IfOk result (λ _. StandsFor self.new (before ++ events.now)) }
+        ensures is_reached { (before : List Event) → StandsFor self.old before
+            → IfOk result (λ _. IsReached (before ++ events.now)) }
+        ensures offence { (before : List Event) → StandsFor self.old before
+            → IfErr result (HasOffence before events.now) }
+        ensures noted { IfErr result (λ offence. offence_of self.new ≡ Some offence) }
+        ensures counted { IfOk result
+            (λ _. rows_of self.new ≡ rows_of self.old + length events.now) }
+        ensures fewer { OnErr result (rows_of self.new ≤ rows_of self.old + length events.now) }
+        ensures repeats { IfSome (offence_of self.old) (λ offence.
+            (result ≡ Err offence) × (self.new ≡ self.old)) }
+    {
+        laws::ways_join();
+        if let Some(offence) = self.offence {
+            return Err(offence);
+        }
+        for event in events {
+            self.feed(*event)?;
+        }
+        Ok(())
+    }
+
+    /// Follows an act that a row ended.
+    fn follow(&mut self, act: &Act) -> Result<(), Offence>
+        requires { rows_of self.old < ROWS_MAX }
+        ensures followed { IfOk result (λ _. HasFollowed self.old act.now self.new) }
+        ensures stopped { IfErr result (HasStopped self.old act.now self.new) }
+    {
+        if follow::<Changer, 4>(&mut self.facts, &mut self.table, act) {
+            self.rows += 1;
+            Ok(())
+        } else {
+            Err(self.stop(LinkFault {
+                rule: Rule::Changer,
+                blame: sender_of(act),
+            }))
+        }
+    }
+
+    /// Notes the offence of the next row.
+    fn stop(&mut self, fault: LinkFault) -> Offence
+        requires { rows_of self.old < ROWS_MAX }
+        ensures offence { result ≡ record {
+          row = rows_of self.old + 1;
+          rule = fault.rule;
+          blame = fault.blame;
+        } }
+        ensures noted { offence_of self.new ≡ Some result }
+        ensures uncounted { rows_of self.new ≡ rows_of self.old }
+    {
+        let offence = Offence {
+            row: self.rows + 1,
+            rule: fault.rule,
+            blame: fault.blame,
+        };
+        self.offence = Some(offence);
+        offence
+    }
+
+    /// What the rows so far tell.
+    ///
+    /// # Errors
+    ///
+    /// The offence of a row that cannot be.
+    pub fn report(&self) -> Result<Report, Offence>
+        ensures report { (events : List Event) → StandsFor self.now events
+            → IfOk result (IsReport events) }
+        ensures answers { (events : List Event) → StandsFor self.now events → IsOk result }
+        ensures offence { IfSome (offence_of self.now) (λ offence. result ≡ Err offence) }
+    {
+        laws::ways_join();
+        bus_laws::transcripts_have_one_act_list();
+        if let Some(offence) = self.offence {
+            return Err(offence);
+        }
+        let cell = self.table.ranges::<Changer>();
+        Ok(Report {
+            rows: self.rows,
+            coins_in: cell.first,
+            paid_out: cell.second,
+        })
+    }
+}
+
+/// Follows a pair by an act: its table and its facts. Where no way leads over the act, nothing
+/// changes, and the answer is `false`.
+fn follow<P: Pair, const N: usize>(facts: &mut P::Facts, table: &mut Table<N>, act: &Act) -> bool
+    requires size { N ≡ P.CODES }
+    requires within { IsTableWithin (2 ^ 62) table.old }
+    ensures facts { OnTrue result ((acts : List Act) → P.stands_for facts.old acts
+        → P.stands_for facts.new (act.now ∷ acts)) }
+    ensures table { OnTrue result ((acts : List Act) → P.stands_for facts.old acts
+        → IsTable P.code_of P.may_step P.first acts table.old
+        → IsTable P.code_of P.may_step P.first (act.now ∷ acts) table.new) }
+    ensures none { OnFalse result ((acts : List Act) → P.stands_for facts.old acts
+        → IsTable P.code_of P.may_step P.first acts table.old
+        → (state : P.State) (sums : Sums)
+        → Arrives P.may_step P.first (act.now ∷ acts) state sums → ⊥) }
+    ensures within { (limit : ℕ) → IsTableWithin limit table.old
+        → IsTableWithin (limit + 2 ^ 32) table.new }
+    ensures same { OnFalse result ((facts.new ≡ facts.old) × (table.new ≡ table.old)) }
+{
+    if !table.advance::<P>(facts, act) {
+        return false;
+    }
+    P::learn(facts, act);
+    true
+}
+
+/// Who sends an act: the controller, or the device that it asked.
+fn sender_of(act: &Act) -> Blame
+    ensures { result ≡ spec.sender_of act.now }
+{
+    match act {
+        Act::Ack(command) => Blame::on(Some(command.device())),
+        Act::Nak(command) => Blame::on(Some(command.device())),
+        Act::Reply(command, _) => Blame::on(Some(command.device())),
+        Act::Repeat(command, _) => Blame::on(Some(command.device())),
+        _ => Blame::Controller,
+    }
+}

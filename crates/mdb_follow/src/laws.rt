@@ -1,0 +1,49 @@
+//! What follows from the definitions of runs alone.
+
+ghost use Rattle.std.specs.Prelude.{List, [], ◌∷◌, ◌++◌};
+ghost use Rattle.mdb_words.specs.declared.event.Event.{Event};
+ghost use Rattle.mdb_bus.specs.ActLists.{ArePieces, Piece, acts_of};
+ghost use Rattle.mdb_bus.specs.Loss.{Loss, LossFits};
+ghost use Rattle.mdb_cash.specs.Changer.{ChangerStep, power_on};
+ghost use Rattle.mdb_cash.specs.ChangerFacts.{facts_of};
+ghost use Rattle.mdb_cash.specs.declared.changer.state.ChangerState.{ChangerState};
+ghost use Rattle.mdb_follow.specs.Arrivals.{Arrives, Sums};
+ghost use Rattle.mdb_follow.specs.declared.follower.Follower.{Follower};
+ghost use Rattle.mdb_follow.specs.Follower.{StandsFor};
+ghost use Rattle.mdb_follow.specs.Runs.{AllSums, IsReached, IsWay, States};
+
+use mdb_bus::laws;
+
+/// Each way of all is a way of the changer.
+pub fn ways_split()
+    ensures { (loss : Loss) (pieces : List Piece) (states : States) (sums : AllSums)
+        → IsWay loss pieces states sums
+        → Arrives (λ acts. ChangerStep (facts_of acts)) power_on (acts_of pieces) states.changer
+        sums.changer }
+{}
+
+/// Ways of each device are together a way of all, under one loss that fits.
+pub fn ways_join()
+    ensures { (pieces : List Piece) (changer : ChangerState) (sums : Sums) → ArePieces pieces
+        → Arrives (λ acts. ChangerStep (facts_of acts)) power_on (acts_of pieces) changer sums
+        → (loss : Loss) × LossFits loss pieces
+        × IsWay loss pieces (record { changer = changer }) (record { changer = sums }) }
+{
+    laws::acks_may_be_heard_or_not();
+}
+
+/// Where rows are reached, the rows before the last are too.
+pub fn reached_rows_stay_reached_without_the_last()
+    ensures { (rows : List Event) (row : Event) → IsReached (rows ++ row ∷ []) → IsReached rows }
+{
+    laws::act_lists_go_on_row_by_row();
+    ways_join();
+}
+
+/// The rows that a follower stands for are reached.
+pub fn followers_stand_for_reached_rows()
+    ensures { (follower : Follower) (rows : List Event) → StandsFor follower rows
+        → IsReached rows }
+{
+    ways_join();
+}

@@ -1,0 +1,18 @@
+//! What all that may have happened comes to.
+#![tactic(auto)]
+
+mod cell;
+mod entries;
+mod follower;
+pub mod laws;
+mod offence;
+mod range;
+mod report;
+mod table;
+
+pub use cell::{AccountRanges, Cell};
+pub use follower::{Follower, ROWS_MAX};
+pub use offence::Offence;
+pub use range::Range;
+pub use report::Report;
+pub use table::Table;

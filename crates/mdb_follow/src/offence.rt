@@ -1,0 +1,14 @@
+//! The first row that cannot be.
+
+use mdb_bus::{Blame, Rule};
+
+/// The first row that cannot be, the rule that it breaks, and who is to blame.
+#[derive(Clone, Copy, PartialEq, Eq, Debug)]
+pub struct Offence {
+    /// The row's number, from 1.
+    pub row: u64,
+    /// The rule.
+    pub rule: Rule,
+    /// Who is to blame.
+    pub blame: Blame,
+}

@@ -1,0 +1,38 @@
+//! The least and the greatest of a sum.
+
+ghost use Rattle.std.specs.Prelude.{◌≡◌, ◌^◌, ℤ, pos, neg_ℤ, ◌≤ℤ◌};
+ghost use Rattle.mdb_follow.specs.Ranges.{IsRangeWithin, joined_range, moved_range};
+
+/// The least and the greatest that a sum may be, in smallest units of money.
+#[derive(Clone, Copy, PartialEq, Eq, Debug, Default)]
+pub struct Range {
+    /// The least.
+    pub least: i64,
+    /// The greatest.
+    pub greatest: i64,
+}
+
+impl Range {
+    /// The range of the sum with so much added.
+    pub(crate) fn moved(self, by: i64) -> Range
+        requires within { IsRangeWithin (2 ^ 62) self }
+        requires low { neg_ℤ (pos (2 ^ 32)) ≤ℤ by }
+        requires high { by ≤ℤ pos (2 ^ 32) }
+        ensures { result ≡ moved_range self by }
+    {
+        Range {
+            least: self.least + by,
+            greatest: self.greatest + by,
+        }
+    }
+
+    /// The range of a sum that is in one of two.
+    pub(crate) fn joined(self, other: Range) -> Range
+        ensures { result ≡ joined_range self other }
+    {
+        Range {
+            least: self.least.min(other.least),
+            greatest: self.greatest.max(other.greatest),
+        }
+    }
+}

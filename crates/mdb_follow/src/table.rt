@@ -1,0 +1,147 @@
+//! The states that are possible now, with what the sums may be.
+
+ghost use Rattle.std.specs.Prelude.{◌≡◌, ◌<◌, ◌+◌, ◌^◌, ℕ, List, [], ◌∷◌, All};
+ghost use Rattle.std.specs.Bool.{OnFalse, OnTrue};
+ghost use Rattle.mdb_bus.specs.declared.act.Act.{Act};
+ghost use Rattle.mdb_follow.specs.Arrivals.{Arrives, ArrivesAnywhere, ArrivesAt, Sums};
+ghost use Rattle.mdb_follow.specs.Entries.{AreBelow};
+ghost use Rattle.mdb_follow.specs.Ranges.{IsCell};
+ghost use Rattle.mdb_follow.specs.Tables.{Bounds, IsTable, IsTableWithin};
+
+use crate::Cell;
+use crate::entries::{add_moves, join_all};
+use arrayvec::ArrayVec;
+use mdb_bus::Act;
+use mdb_cash::Pair;
+use std::marker::Model;
+
+/// The states of a pair that are possible now, by their codes, each with what the sums may be.
+///
+/// `N` is the number of the pair's states. A clause sees the codes with their cells as a list.
+#[derive(Drop)]
+pub struct Table<const N: usize> {
+    /// The entries, or room for the next ones.
+    one: ArrayVec<(usize, Cell), N>,
+    /// Room for the next entries, or the entries.
+    other: ArrayVec<(usize, Cell), N>,
+    /// Whether the entries are in `other`.
+    turned: bool,
+    /// Where the entry of each code stands, while entries are made.
+    places: [usize; N],
+}
+
+impl<const N: usize> Model for Table<N> {
+    ghost use Rattle.std.specs.Prelude.{ℕ, List, if◌then◌else◌};
+    ghost use Rattle.mdb_follow.specs.declared.cell.Cell.{Cell};
+    ghost use Rattle.mdb_follow.specs.Entries.{AreBelow};
+
+    ghost Value = { List (ℕ × Cell) };
+
+    ghost view = { λ t. if t.turned then t.other.items else t.one.items };
+
+    ghost invariant = { λ t. AreBelow N (if t.turned then t.other.items else t.one.items) };
+}
+
+impl<const N: usize> Table<N> {
+    /// The table behind no act: the first state, with all sums 0.
+    pub fn start<P: Pair>() -> Table<N>
+        requires { N ≡ P.CODES }
+        ensures table { IsTable P.code_of P.may_step P.first [] result }
+        ensures within { IsTableWithin 0 result }
+    {
+        let mut one = ArrayVec::new();
+        one.push((P::start(), Cell::default()));
+        Table {
+            one,
+            other: ArrayVec::new(),
+            turned: false,
+            places: [0; N],
+        }
+    }
+
+    /// Leads the table over an act, with the facts behind the acts before it. Where no way through
+    /// the acts leads over this one too, it answers `false`, and the table stays as it was.
+    pub fn advance<P: Pair>(&mut self, facts: &P::Facts, act: &Act) -> bool
+        requires size { N ≡ P.CODES }
+        requires within { IsTableWithin (2 ^ 62) self.old }
+        ensures table { OnTrue result ((acts : List Act) → P.stands_for facts.now acts
+            → IsTable P.code_of P.may_step P.first acts self.old
+            → IsTable P.code_of P.may_step P.first (act.now ∷ acts) self.new) }
+        ensures none { OnFalse result ((acts : List Act) → P.stands_for facts.now acts
+            → IsTable P.code_of P.may_step P.first acts self.old
+            → (state : P.State) (sums : Sums)
+            → Arrives P.may_step P.first (act.now ∷ acts) state sums → ⊥) }
+        ensures same { OnFalse result (self.new ≡ self.old) }
+        ensures within { (limit : ℕ) → IsTableWithin limit self.old
+            → IsTableWithin (limit + 2 ^ 32) self.new }
+    {
+        if !P::concerns(act) {
+            return true;
+        }
+        if self.turned {
+            fill::<P, N>(
+                facts,
+                act,
+                self.other.as_slice(),
+                &mut self.one,
+                &mut self.places,
+            );
+            if self.one.is_empty() {
+                return false;
+            }
+            self.turned = false;
+        } else {
+            fill::<P, N>(
+                facts,
+                act,
+                self.one.as_slice(),
+                &mut self.other,
+                &mut self.places,
+            );
+            if self.other.is_empty() {
+                return false;
+            }
+            self.turned = true;
+        }
+        true
+    }
+
+    /// What the sums may be, whatever the state is.
+    pub fn ranges<P: Pair>(&self) -> Cell
+        ensures { (acts : List Act) → IsTable P.code_of P.may_step P.first acts self.now
+            → IsCell (ArrivesAnywhere (Arrives P.may_step P.first acts)) result }
+    {
+        if self.turned {
+            join_all(self.other.as_slice())
+        } else {
+            join_all(self.one.as_slice())
+        }
+    }
+}
+
+/// Makes the entries behind an act from those before it. What the places hold at first is no
+/// matter.
+fn fill<P: Pair, const N: usize>(
+    facts: &P::Facts,
+    act: &Act,
+    from: &[(usize, Cell)],
+    into: &mut ArrayVec<(usize, Cell), N>,
+    places: &mut [usize; N],
+)
+    requires size { N ≡ P.CODES }
+    requires below { AreBelow N from.now }
+    requires within { IsTableWithin (2 ^ 62) from.now }
+    ensures table { (acts : List Act) → P.stands_for facts.now acts
+        → IsTable P.code_of P.may_step P.first acts from.now
+        → Bounds (ArrivesAt P.code_of (Arrives P.may_step P.first (act.now ∷ acts)))
+        into.new.items }
+    ensures below { AreBelow N into.new.items }
+    ensures within { (limit : ℕ) → IsTableWithin limit from.now
+        → IsTableWithin (limit + 2 ^ 32) into.new.items }
+{
+    into.clear();
+    for (code, cell) in from {
+        let moves = P::moves(facts, act, *code);
+        add_moves(into, places, cell, moves.as_slice());
+    }
+}
