@@ -2,3 +2,4 @@ pub mod Fields
 pub mod OneAnswer
 pub mod Reading
 pub mod Status
+pub mod Texts

@@ -5,35 +5,23 @@ use Rattle.std.proofs.lemmas.Grind.{common_steps}
 use Rattle.mdb_words.specs.declared.event.Event.{Event}
 use Rattle.mdb_words.specs.declared.row.RowFault.{RowFault}
 use Rattle.mdb_words.specs.Row.{IsRow, IsRefusal}
-use Rattle.mdb_bus.specs.declared.fault.Blame.{Blame}
-use Rattle.mdb_bus.specs.declared.fault.Rule.{Rule}
-use Rattle.mdb_bus.specs.ActLists.{ArePieces, HasActList, IsActList, Piece}
-use Rattle.mdb_bus.specs.LinkFaults.{IsLinkFault}
-use Rattle.mdb_bus.specs.Loss.{IsExplained, Loss, LossFits}
-use Rattle.mdb_check.specs.declared.offence.Offence.{Offence}
+use Rattle.mdb_follow.specs.declared.follower.TheConstants.{ROWS_MAX}
+use Rattle.mdb_follow.specs.declared.offence.Offence.{Offence}
+use Rattle.mdb_follow.specs.declared.report.Report.{Report}
+use Rattle.mdb_follow.specs.Offences.{IsOffence}
+use Rattle.mdb_follow.specs.Report.{IsReport}
+use Rattle.mdb_follow.specs.Runs.{IsReached}
 use Rattle.mdb_check.specs.declared.outcome.Outcome.{Outcome}
 use Rattle.mdb_check.specs.declared.outcome.Outcome.TheVariants.{Yes, No}
-use Rattle.mdb_check.specs.declared.outcome.Report.{Report}
 use Rattle.mdb_check.specs.declared.outcome.RunFault.{RunFault}
 use Rattle.mdb_check.specs.declared.outcome.RunFault.TheVariants.{BadRow, TooLong, Read, Write, Memory}
-use Rattle.mdb_check.specs.declared.verdict.TheConstants.{ROWS_MAX}
-use Rattle.mdb_check.specs.Verdict.{AreRows, IsAnswer, IsOwnAnswer, IsBadRow, IsOffence, IsPossible, IsTooLong, report_of}
+use Rattle.mdb_check.specs.Verdict.{AreRows, IsAnswer, IsOwnAnswer, IsBadRow, IsImpossible, IsPossible, IsTooLong}
 
--- what the laws of the bus say of act lists
-pub record BusLaws : Type 0 where
-  pub one : (rows : List Event) (one other : List Piece) → IsActList one rows → IsActList other rows → one ≡ other
-  pub fronts : (rows more : List Event) → HasActList (rows ++ more) → HasActList rows
-  pub fits : (pieces : List Piece) → ArePieces pieces → (loss : Loss) × LossFits loss pieces
-  pub one_fault : (pieces : List Piece) (row : Event) (r s : Rule) (a b : Blame) → IsLinkFault pieces row r a → IsLinkFault pieces row s b → (r ≡ s) × (a ≡ b)
-
--- rows are explained where they have an act list
-explained : BusLaws → (rows : List Event) → HasActList rows → IsExplained rows
-explained laws rows list =
-    let found = laws.fits list.0 list.1.in_order in
-    record { pieces = list.0; act_list = list.1; loss = found.0; fits = found.1 }
-
-listed : (rows : List Event) → IsExplained rows → HasActList rows
-listed rows is = (is.pieces, is.act_list)
+-- what the laws of runs say
+pub record RunLaws : Type 0 where
+  pub fronts : (rows more : List Event) → IsReached (rows ++ more) → IsReached rows
+  pub one_report : (rows : List Event) (a b : Report) → IsReport rows a → IsReport rows b → a ≡ b
+  pub one_offence : (rows : List Event) (row : Event) (a b : Offence) → IsOffence rows row a → IsOffence rows row b → a ≡ b
 
 -- fields are a row of one event at most, and a row is never refused
 row_one : (fields : List (List ℕ)) (a b : Event) → IsRow fields a → IsRow fields b → a ≡ b
@@ -46,15 +34,15 @@ row_not_refused fields event fault row refused = grind (arith, common_steps)
 one_refusal : (fields : List (List ℕ)) (a b : RowFault) → IsRefusal fields a → IsRefusal fields b → a ≡ b
 one_refusal fields a b p q = grind (arith, common_steps)
 
--- The rows at the front of the records that have an act list, where no more row goes on: there is no record behind them, it is
--- no row, no act list goes on with it, or it is one too many.
+-- The rows at the front of the records that are reached, where no more row goes on: there is no record behind them, it is no
+-- row, it isn't reached, or it is one too many.
 record Front (records : List (List (List ℕ))) (rows : List Event) (rest : List (List (List ℕ))) : Type 0 where
   done : List (List (List ℕ))
   split : records ≡ done ++ rest
   told : AreRows done rows
-  possible : HasActList rows
+  possible : IsReached rows
   few : length rows ≤ ROWS_MAX
-  ends : (fields : List (List ℕ)) (more : List (List (List ℕ))) (event : Event) → rest ≡ fields ∷ more → IsRow fields event → HasActList (rows ++ event ∷ []) → length rows < ROWS_MAX → ⊥
+  ends : (fields : List (List ℕ)) (more : List (List (List ℕ))) (event : Event) → rest ≡ fields ∷ more → IsRow fields event → IsReached (rows ++ event ∷ []) → length rows < ROWS_MAX → ⊥
 
 -- of two fronts of rows the longer one goes on behind the shorter one, with a record that is a row
 record GoesOn (rows longer : List Event) (rest : List (List (List ℕ))) : Type 0 where
@@ -103,14 +91,14 @@ compared done [] rest left rows (event ∷ events) told heard same = absurd hear
 compared done (fields ∷ others) rest left rows [] told heard same = absurd heard
 
 -- no such front is longer than another one
-no_longer : BusLaws → (records : List (List (List ℕ))) (rows events : List Event) (rest left : List (List (List ℕ))) → Front records rows rest → Front records events left → GoesOn rows events rest → ⊥
+no_longer : RunLaws → (records : List (List (List ℕ))) (rows events : List Event) (rest left : List (List (List ℕ))) → Front records rows rest → Front records events left → GoesOn rows events rest → ⊥
 no_longer laws records rows events rest left first second on =
     let split : events ≡ (rows ++ on.event ∷ []) ++ on.more = on.longer_is ∙ sym (append_assoc rows (on.event ∷ []) on.more) in
     let long : length events ≡ length rows + length (on.event ∷ on.more) = ap length on.longer_is ∙ length-append rows (on.event ∷ on.more) in
-    first.ends on.fields on.behind on.event on.record_is on.row (laws.fronts (rows ++ on.event ∷ []) on.more (subst HasActList split second.possible)) (omega (arith, second.few, long))
+    first.ends on.fields on.behind on.event on.record_is on.row (laws.fronts (rows ++ on.event ∷ []) on.more (subst IsReached split second.possible)) (omega (arith, second.few, long))
 
 -- such a front of the records is one, and so is what stands behind it
-one_front : BusLaws → (records : List (List (List ℕ))) (rows events : List Event) (rest left : List (List (List ℕ))) → Front records rows rest → Front records events left → (rows ≡ events) × (rest ≡ left)
+one_front : RunLaws → (records : List (List (List ℕ))) (rows events : List Event) (rest left : List (List (List ℕ))) → Front records rows rest → Front records events left → (rows ≡ events) × (rest ≡ left)
 one_front laws records rows events rest left first second = by_case (compared first.done second.done rest left rows events first.told second.told (sym first.split ∙ second.split))
   where
     by_case : ((rows ≡ events) × (rest ≡ left)) ⊎ (GoesOn rows events rest ⊎ GoesOn events rows left) → (rows ≡ events) × (rest ≡ left)
@@ -124,34 +112,34 @@ yes_front records report is = record {
   done = records;
   split = sym (append-nil records);
   told = is.told;
-  possible = listed is.rows is.possible;
+  possible = is.is.reached;
   few = is.few;
   ends = λ fields more event none row list below. cc;
 }
 
-no_front : BusLaws → (records : List (List (List ℕ))) (offence : Offence) (is : IsOffence records offence) → Front records is.rows (is.fields ∷ is.stops.rest)
+no_front : RunLaws → (records : List (List (List ℕ))) (offence : Offence) (is : IsImpossible records offence) → Front records is.rows (is.fields ∷ is.stops.rest)
 no_front laws records offence is = record {
   done = is.stops.done;
   split = is.stops.split;
   told = is.stops.told;
-  possible = listed is.rows is.stops.possible;
+  possible = is.stops.possible;
   few = omega (arith, is.few);
   ends = λ fields more event same row list below. impossible_row fields event (cc) row list;
 }
   where
-    impossible_row : (fields : List (List ℕ)) (event : Event) → fields ≡ is.fields → IsRow fields event → HasActList (is.rows ++ event ∷ []) → ⊥
+    impossible_row : (fields : List (List ℕ)) (event : Event) → fields ≡ is.fields → IsRow fields event → IsReached (is.rows ++ event ∷ []) → ⊥
     impossible_row fields event same row list =
         let P : List (List ℕ) → Type 0 = λ f. IsRow f event in
         let one : event ≡ is.row = row_one is.fields event is.row (subst P same row) is.told in
-        let Q : Event → Type 0 = λ e. HasActList (is.rows ++ e ∷ []) in
-        is.impossible (explained laws (is.rows ++ is.row ∷ []) (subst Q one list))
+        let Q : Event → Type 0 = λ e. IsReached (is.rows ++ e ∷ []) in
+        is.is.not_reached (subst Q one list)
 
 bad_front : (records : List (List (List ℕ))) (row : ℕ) (fault : RowFault) (is : IsBadRow records row fault) → Front records is.rows (is.fields ∷ is.stops.rest)
 bad_front records row fault is = record {
   done = is.stops.done;
   split = is.stops.split;
   told = is.stops.told;
-  possible = listed is.rows is.stops.possible;
+  possible = is.stops.possible;
   few = omega (arith, is.few);
   ends = λ fields more event same told list below. no_row fields event (cc) told;
 }
@@ -164,30 +152,25 @@ long_front records is = record {
   done = is.stops.done;
   split = is.stops.split;
   told = is.stops.told;
-  possible = listed is.rows is.stops.possible;
+  possible = is.stops.possible;
   few = omega (arith, is.full);
   ends = λ fields more event same told list below. omega (arith, is.full, below);
 }
 
 -- the offence behind a front is one
-one_offence : BusLaws → (records : List (List (List ℕ))) (a b : Offence) → IsOffence records a → IsOffence records b → a ≡ b
+one_offence : RunLaws → (records : List (List (List ℕ))) (a b : Offence) → IsImpossible records a → IsImpossible records b → a ≡ b
 one_offence laws records a b first second =
     let same = one_front laws records _ _ _ _ (no_front laws records a first) (no_front laws records b second) in
     let tails : first.fields ∷ first.stops.rest ≡ second.fields ∷ second.stops.rest = same.1 in
     let fields : second.fields ≡ first.fields = cc in
     let P : List (List ℕ) → Type 0 = λ f. IsRow f second.row in
     let event : second.row ≡ first.row = row_one first.fields second.row first.row (subst P fields second.told) first.told in
-    let OfRows : List Event → Type 0 = λ rs. IsActList second.pieces rs in
-    let pieces : second.pieces ≡ first.pieces = laws.one first.rows second.pieces first.pieces (subst OfRows (sym same.0) second.act_list) first.act_list in
-    let Behind : List Piece → Type 0 = λ ps. IsLinkFault ps second.row b.rule b.blame in
-    let OfRow : Event → Type 0 = λ e. IsLinkFault first.pieces e b.rule b.blame in
-    let fault = laws.one_fault first.pieces first.row a.rule b.rule a.blame b.blame first.fault (subst OfRow event (subst Behind pieces second.fault)) in
-    let number : a.row ≡ b.row = first.number ∙ (ap (λ rs. length rs + 1) same.0 ∙ sym second.number) in
-    let made : ℕ → Rule → Blame → Offence = λ n r w. record { row = n; rule = r; blame = w } in
-    ap (λ n. made n a.rule a.blame) number ∙ (ap (λ r. made b.row r a.blame) fault.0 ∙ ap (λ w. made b.row b.rule w) fault.1)
+    let Behind : List Event → Type 0 = λ rs. IsOffence rs second.row b in
+    let OfRow : Event → Type 0 = λ e. IsOffence first.rows e b in
+    laws.one_offence first.rows first.row a b first.is (subst OfRow event (subst Behind (sym same.0) second.is))
 
 -- the record that is no row is one, and so is its refusal
-one_bad_row : BusLaws → (records : List (List (List ℕ))) (m n : ℕ) (a b : RowFault) → IsBadRow records m a → IsBadRow records n b → (m ≡ n) × (a ≡ b)
+one_bad_row : RunLaws → (records : List (List (List ℕ))) (m n : ℕ) (a b : RowFault) → IsBadRow records m a → IsBadRow records n b → (m ≡ n) × (a ≡ b)
 one_bad_row laws records m n a b first second =
     let same = one_front laws records _ _ _ _ (bad_front records m a first) (bad_front records n b second) in
     let tails : first.fields ∷ first.stops.rest ≡ second.fields ∷ second.stops.rest = same.1 in
@@ -198,22 +181,22 @@ one_bad_row laws records m n a b first second =
     )
 
 -- two answers of different kinds
-yes_or_no : BusLaws → (records : List (List (List ℕ))) (report : Report) (offence : Offence) → IsPossible records report → IsOffence records offence → ⊥
+yes_or_no : RunLaws → (records : List (List (List ℕ))) (report : Report) (offence : Offence) → IsPossible records report → IsImpossible records offence → ⊥
 yes_or_no laws records report offence first second =
     let same = one_front laws records _ _ _ _ (yes_front records report first) (no_front laws records offence second) in
     let clash : [] ≡ second.fields ∷ second.stops.rest = same.1 in cc
 
-yes_or_bad : BusLaws → (records : List (List (List ℕ))) (report : Report) (row : ℕ) (fault : RowFault) → IsPossible records report → IsBadRow records row fault → ⊥
+yes_or_bad : RunLaws → (records : List (List (List ℕ))) (report : Report) (row : ℕ) (fault : RowFault) → IsPossible records report → IsBadRow records row fault → ⊥
 yes_or_bad laws records report row fault first second =
     let same = one_front laws records _ _ _ _ (yes_front records report first) (bad_front records row fault second) in
     let clash : [] ≡ second.fields ∷ second.stops.rest = same.1 in cc
 
-yes_or_long : BusLaws → (records : List (List (List ℕ))) (report : Report) → IsPossible records report → IsTooLong records → ⊥
+yes_or_long : RunLaws → (records : List (List (List ℕ))) (report : Report) → IsPossible records report → IsTooLong records → ⊥
 yes_or_long laws records report first second =
     let same = one_front laws records _ _ _ _ (yes_front records report first) (long_front records second) in
     let clash : [] ≡ second.fields ∷ second.stops.rest = same.1 in cc
 
-no_or_bad : BusLaws → (records : List (List (List ℕ))) (offence : Offence) (row : ℕ) (fault : RowFault) → IsOffence records offence → IsBadRow records row fault → ⊥
+no_or_bad : RunLaws → (records : List (List (List ℕ))) (offence : Offence) (row : ℕ) (fault : RowFault) → IsImpossible records offence → IsBadRow records row fault → ⊥
 no_or_bad laws records offence row fault first second =
     let same = one_front laws records _ _ _ _ (no_front laws records offence first) (bad_front records row fault second) in
     let tails : first.fields ∷ first.stops.rest ≡ second.fields ∷ second.stops.rest = same.1 in
@@ -221,24 +204,25 @@ no_or_bad laws records offence row fault first second =
     let P : List (List ℕ) → Type 0 = λ f. IsRefusal f fault in
     row_not_refused first.fields first.row fault first.told (subst P fields second.refused)
 
-no_or_long : BusLaws → (records : List (List (List ℕ))) (offence : Offence) → IsOffence records offence → IsTooLong records → ⊥
+no_or_long : RunLaws → (records : List (List (List ℕ))) (offence : Offence) → IsImpossible records offence → IsTooLong records → ⊥
 no_or_long laws records offence first second =
     let same = one_front laws records _ _ _ _ (no_front laws records offence first) (long_front records second) in
     omega (arith, ap length same.0, first.few, second.full)
 
-bad_or_long : BusLaws → (records : List (List (List ℕ))) (row : ℕ) (fault : RowFault) → IsBadRow records row fault → IsTooLong records → ⊥
+bad_or_long : RunLaws → (records : List (List (List ℕ))) (row : ℕ) (fault : RowFault) → IsBadRow records row fault → IsTooLong records → ⊥
 bad_or_long laws records row fault first second =
     let same = one_front laws records _ _ _ _ (bad_front records row fault first) (long_front records second) in
     omega (arith, ap length same.0, first.few, second.full)
 
 -- the report is one
-one_yes : BusLaws → (records : List (List (List ℕ))) (a b : Report) → IsPossible records a → IsPossible records b → a ≡ b
+one_yes : RunLaws → (records : List (List (List ℕ))) (a b : Report) → IsPossible records a → IsPossible records b → a ≡ b
 one_yes laws records a b first second =
     let same = one_front laws records _ _ _ _ (yes_front records a first) (yes_front records b second) in
-    first.telling ∙ (ap (λ rs. report_of (length rs)) same.0 ∙ sym second.telling)
+    let Behind : List Event → Type 0 = λ rs. IsReport rs b in
+    laws.one_report first.rows a b first.is (subst Behind (sym same.0) second.is)
 
 -- the answer to the records of a text is one
-pub one_answer : BusLaws → (records : List (List (List ℕ))) (a b : Result Outcome RunFault) → IsAnswer records a → IsAnswer records b → IsOwnAnswer a → IsOwnAnswer b → a ≡ b
+pub one_answer : RunLaws → (records : List (List (List ℕ))) (a b : Result Outcome RunFault) → IsAnswer records a → IsAnswer records b → IsOwnAnswer a → IsOwnAnswer b → a ≡ b
 one_answer laws records (Ok (Yes a)) (Ok (Yes b)) p q s t = ap (λ report. Ok (Yes report)) (one_yes laws records a b p q)
 one_answer laws records (Ok (Yes a)) (Ok (No b)) p q s t = absurd (yes_or_no laws records a b p q)
 one_answer laws records (Ok (Yes a)) (Err (BadRow n b)) p q s t = absurd (yes_or_bad laws records a n b p q)

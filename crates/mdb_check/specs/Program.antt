@@ -1,10 +1,10 @@
 -- What the program's exit status says.
 use Rattle.std.specs.Prelude.{◌≡◌, ◌⊎◌, ℕ, List, Option, Result, Ok, Err}
 use Rattle.std.specs.Io.KnownBytes.{Appends}
-use Rattle.mdb_check.specs.declared.offence.Offence.{Offence}
-use Rattle.mdb_check.specs.declared.outcome.Report.{Report}
+use Rattle.mdb_follow.specs.declared.offence.Offence.{Offence}
+use Rattle.mdb_follow.specs.declared.report.Report.{Report}
 use Rattle.mdb_check.specs.Text.{report_text}
-use Rattle.mdb_check.specs.Verdict.{HasOutcome, IsOffence, IsPossible}
+use Rattle.mdb_check.specs.Verdict.{HasOutcome, IsImpossible, IsPossible}
 use Rattle.mdb_check.specs.declared.outcome.Outcome.{Outcome}
 use Rattle.mdb_check.specs.declared.outcome.Outcome.TheVariants.{Yes, No}
 use Rattle.mdb_check.specs.declared.outcome.RunFault.{RunFault}
@@ -21,6 +21,6 @@ abbrev pub Says : List (List (List ℕ)) → Option (List ℕ) → Option (List 
 Says records before after status =
     (status ≡ 0 → (report : Report) × IsPossible records report
     × Appends before after (report_text (Yes report)))
-    × (status ≡ 1 → (offence : Offence) × IsOffence records offence
+    × (status ≡ 1 → (offence : Offence) × IsImpossible records offence
     × Appends before after (report_text (No offence)))
     × (status ≡ 2 → (after ≡ before) ⊎ HasOutcome records)

@@ -1,10 +1,13 @@
 -- The text of an outcome.
-use Rattle.std.specs.Prelude.{ℕ, List, [], ◌∷◌, ◌++◌, codes}
-use Rattle.std.specs.Fmt.{decimal}
+use Rattle.std.specs.Prelude.{ℕ, List, [], ◌∷◌, ◌++◌, codes, get_or}
+use Rattle.std.specs.Fmt.{decimal, signed_decimal}
 use Rattle.mdb_bus.specs.declared.fault.Rule.{Rule}
 use Rattle.mdb_bus.specs.declared.fault.Rule.TheVariants as rule
 use Rattle.mdb_bus.specs.declared.fault.Blame.{Blame}
 use Rattle.mdb_bus.specs.declared.fault.Blame.TheVariants as blame
+use Rattle.mdb_follow.specs.declared.cell.Account.{Account}
+use Rattle.mdb_follow.specs.declared.range.Range.{Range}
+use Rattle.mdb_follow.specs.Report.{no_account}
 use Rattle.mdb_check.specs.declared.outcome.Outcome.{Outcome}
 use Rattle.mdb_check.specs.declared.outcome.Outcome.TheVariants.{Yes, No}
 
@@ -40,9 +43,29 @@ blame_word blame.Other = codes "other"
 abbrev pub line : List ℕ → List ℕ
 line words = words ++ 10 ∷ []
 
+-- what an account comes to on one side: the least and the greatest
+abbrev pub side_text : List ℕ → Range → List ℕ
+side_text word range =
+    codes " " ++ word ++ codes " " ++ signed_decimal range.least ++ codes ".."
+    ++ signed_decimal range.greatest
+
+-- the line of an account
+abbrev pub account_line : List ℕ → Account → List ℕ
+account_line name account =
+    line (name ++ side_text (codes "device") account.device
+    ++ side_text (codes "controller") account.controller
+    ++ side_text (codes "difference") account.difference)
+
+-- the first lines of a yes
+abbrev pub head_text : ℕ → List ℕ
+head_text rows = line (codes "verdict yes") ++ line (codes "rows " ++ decimal rows)
+
 -- what is written for an outcome
 abbrev pub report_text : Outcome → List ℕ
-report_text (Yes report) = line (codes "verdict yes") ++ line (codes "rows " ++ decimal report.rows)
+report_text (Yes report) =
+    head_text report.rows
+    ++ account_line (codes "coins-in") (get_or report.accounts 0 no_account)
+    ++ account_line (codes "paid-out") (get_or report.accounts 2 no_account)
 report_text (No offence) =
     line (codes "verdict no") ++ line (codes "row " ++ decimal offence.row)
     ++ line (codes "rule " ++ rule_word offence.rule)

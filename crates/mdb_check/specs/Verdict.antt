@@ -1,21 +1,20 @@
 -- What is answered to the records of a text.
-use Rattle.std.specs.Prelude.{◌≡◌, ◌+◌, ◌<◌, ◌≤◌, ℕ, List, [], ◌∷◌, ◌++◌, length, ⊤, Option, Some, None, Result, Ok, Err, pos, replicate}
+use Rattle.std.specs.Prelude.{◌≡◌, ◌+◌, ◌<◌, ◌≤◌, ℕ, List, [], ◌∷◌, ◌++◌, length, ⊤, Option, Some, Result, Ok, Err}
 use Rattle.mdb_words.specs.declared.event.Event.{Event}
 use Rattle.mdb_words.specs.declared.row.RowFault.{RowFault}
 use Rattle.mdb_words.specs.Row.{IsRow, IsRefusal}
-use Rattle.mdb_bus.specs.ActLists.{IsActList, Piece}
-use Rattle.mdb_bus.specs.LinkFaults.{IsLinkFault}
-use Rattle.mdb_bus.specs.Loss.{IsExplained}
+use Rattle.mdb_follow.specs.declared.follower.TheConstants.{ROWS_MAX}
+use Rattle.mdb_follow.specs.declared.offence.Offence.{Offence}
+use Rattle.mdb_follow.specs.declared.report.Report.{Report}
+use Rattle.mdb_follow.specs.Offences.{IsOffence}
+use Rattle.mdb_follow.specs.Report.{IsReport}
+use Rattle.mdb_follow.specs.Runs.{IsReached}
 use Rattle.mdb_records.specs.declared.ReadFault.{ReadFault}
 use Rattle.mdb_records.specs.declared.ReadFault.TheVariants as reading
-use Rattle.mdb_check.specs.declared.offence.Offence.{Offence}
-use Rattle.mdb_check.specs.declared.outcome.Range.{Range}
-use Rattle.mdb_check.specs.declared.outcome.Report.{Report}
 use Rattle.mdb_check.specs.declared.outcome.Outcome.{Outcome}
 use Rattle.mdb_check.specs.declared.outcome.Outcome.TheVariants.{Yes, No}
 use Rattle.mdb_check.specs.declared.outcome.RunFault.{RunFault}
 use Rattle.mdb_check.specs.declared.outcome.RunFault.TheVariants.{BadRow, TooLong, Read, Write, Memory}
-use Rattle.mdb_check.specs.declared.verdict.TheConstants.{ROWS_MAX}
 
 -- each record is a row, and these are their events
 abbrev pub AreRows : List (List (List ℕ)) → List Event → Type 0
@@ -24,27 +23,13 @@ AreRows (fields ∷ records) (event ∷ rows) = IsRow fields event × AreRows re
 AreRows [] (event ∷ rows) = ⊥
 AreRows (fields ∷ records) [] = ⊥
 
--- the report of so many rows: nothing follows the money yet
-abbrev pub no_range : Range
-no_range = record { least = pos 0; greatest = pos 0 }
-
-abbrev pub report_of : ℕ → Report
-report_of count = record {
-  rows = count;
-  decimals = replicate 4 None;
-  accounts = replicate 7
-      (record { device = no_range; controller = no_range; difference = no_range });
-  silences = replicate 4 0;
-}
-
 -- All records are rows, and the controller and its peripherals can have said these words at these
--- times: the rows have an act list, and a loss fits it.
+-- times: the rows have a run. The report is what their runs tell.
 pub record IsPossible (records : List (List (List ℕ))) (report : Report) : Type 0 where
   pub rows : List Event
   pub told : AreRows records rows
   pub few : length rows ≤ ROWS_MAX
-  pub possible : IsExplained rows
-  pub telling : report ≡ report_of (length rows)
+  pub is : IsReport rows report
 
 -- Rows that can be lead up to a record.
 pub record LeadUpTo (records : List (List (List ℕ))) (rows : List Event)
@@ -53,22 +38,18 @@ pub record LeadUpTo (records : List (List (List ℕ))) (rows : List Event)
   pub rest : List (List (List ℕ))
   pub split : records ≡ done ++ fields ∷ rest
   pub told : AreRows done rows
-  pub possible : IsExplained rows
+  pub possible : IsReached rows
 
 -- The first row that cannot follow the rows before it, the rule that it breaks, and who is to
 -- blame.
-pub record IsOffence (records : List (List (List ℕ))) (offence : Offence) : Type 0 where
+pub record IsImpossible (records : List (List (List ℕ))) (offence : Offence) : Type 0 where
   pub rows : List Event
   pub row : Event
   pub fields : List (List ℕ)
   pub stops : LeadUpTo records rows fields
   pub told : IsRow fields row
   pub few : length rows < ROWS_MAX
-  pub number : offence.row ≡ length rows + 1
-  pub impossible : IsExplained (rows ++ row ∷ []) → ⊥
-  pub pieces : List Piece
-  pub act_list : IsActList pieces rows
-  pub fault : IsLinkFault pieces row offence.rule offence.blame
+  pub is : IsOffence rows row offence
 
 -- The first record that is no row, behind rows that can be.
 pub record IsBadRow (records : List (List (List ℕ))) (row : ℕ) (fault : RowFault) : Type 0 where
@@ -89,7 +70,7 @@ pub record IsTooLong (records : List (List (List ℕ))) : Type 0 where
 -- The answer to the records of a text. Of a refused read, write or memory the records say nothing.
 abbrev pub IsAnswer : List (List (List ℕ)) → Result Outcome RunFault → Type 0
 IsAnswer records (Ok (Yes report)) = IsPossible records report
-IsAnswer records (Ok (No offence)) = IsOffence records offence
+IsAnswer records (Ok (No offence)) = IsImpossible records offence
 IsAnswer records (Err (BadRow row fault)) = IsBadRow records row fault
 IsAnswer records (Err TooLong) = IsTooLong records
 IsAnswer records (Err Read) = ⊤
@@ -108,6 +89,11 @@ IsOwnAnswer (Err Memory) = ⊥
 -- the records have a verdict
 abbrev pub HasOutcome : List (List (List ℕ)) → Type 0
 HasOutcome records = (outcome : Outcome) × IsAnswer records (Ok outcome)
+
+-- a yes with the report on these rows
+abbrev pub IsYes : List Event → Outcome → Type 0
+IsYes rows (Yes report) = IsReport rows report
+IsYes rows (No offence) = ⊥
 
 -- an answer that isn't yes
 abbrev pub IsNoYes : Result Outcome RunFault → Type 0

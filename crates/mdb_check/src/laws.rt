@@ -2,12 +2,13 @@
 //! on.
 
 ghost use Rattle.std.specs.Prelude.{◌≡◌, ℕ, List, Result};
-ghost use Rattle.mdb_check.specs.declared.verdict.TheConstants.{BYTES_MAX, ROWS_MAX};
+ghost use Rattle.mdb_follow.specs.declared.follower.TheConstants.{ROWS_MAX};
+ghost use Rattle.mdb_check.specs.declared.verdict.TheConstants.{BYTES_MAX};
 ghost use Rattle.mdb_check.specs.declared.outcome.Outcome.{Outcome};
 ghost use Rattle.mdb_check.specs.declared.outcome.RunFault.{RunFault};
 ghost use Rattle.mdb_check.specs.Verdict.{IsAnswer, IsOwnAnswer};
 
-use mdb_bus::laws;
+use mdb_follow::laws;
 
 /// The records of a text have at most one answer of their own: a yes with its report, a no with its
 /// row, rule and blame, the first record that is no row and why, or too many rows.
@@ -17,10 +18,9 @@ pub fn texts_have_one_answer()
     ensures { (records : List (List (List ℕ))) (a b : Result Outcome RunFault) → IsAnswer records a
         → IsAnswer records b → IsOwnAnswer a → IsOwnAnswer b → a ≡ b }
 {
-    laws::transcripts_have_one_act_list();
-    laws::fronts_of_act_lists_have_act_lists();
-    laws::act_lists_have_a_fitting_loss();
-    laws::rows_have_one_fault();
+    laws::fronts_of_reached_rows_are_reached();
+    laws::rows_have_one_report();
+    laws::rows_have_one_offence();
 }
 
 /// The limits of a transcript (this profile).

@@ -1,9 +1,8 @@
 //! The checker: reads a transcript, and answers whether the controller and its peripherals can have
-//! said these words at these times.
+//! said these words at these times, and what the money can have come to then.
 #![tactic(auto)]
 
 pub mod laws;
-mod offence;
 mod outcome;
 mod program;
 #[cfg(test)]
@@ -12,7 +11,7 @@ mod text;
 mod verdict;
 
 pub use mdb_bus::{Blame, Rule};
-pub use offence::Offence;
-pub use outcome::{Account, Outcome, Range, Report, RunFault};
+pub use mdb_follow::{Account, Offence, ROWS_MAX, Range, Report};
+pub use outcome::{Outcome, RunFault};
 pub use program::run;
-pub use verdict::{BYTES_MAX, ROWS_MAX, check};
+pub use verdict::{BYTES_MAX, check};

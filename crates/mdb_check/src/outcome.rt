@@ -2,77 +2,15 @@
 
 ghost use Rattle.std.specs.Prelude.{◌≡◌};
 
-use super::offence::Offence;
+use mdb_follow::{Offence, Report};
 use mdb_records::ReadFault;
 use mdb_words::RowFault;
 use thiserror::Error;
 
-/// The least and the greatest that a sum can have been, in the device's smallest unit.
-#[derive(Clone, Copy, PartialEq, Eq, Debug)]
-pub struct Range {
-    /// The least.
-    pub least: i64,
-    /// The greatest.
-    pub greatest: i64,
-}
-
-/// An account as the device has it, as the controller has it, and the difference (device less
-/// controller).
-#[derive(Clone, Copy, PartialEq, Eq, Debug)]
-pub struct Account {
-    /// The device's sum.
-    pub device: Range,
-    /// The controller's sum.
-    pub controller: Range,
-    /// The device's sum less the controller's.
-    pub difference: Range,
-}
-
-/// What a possible transcript tells.
-///
-/// Nothing follows the money yet: all but the number of rows is empty or 0, and isn't printed.
-#[derive(Clone, Copy, PartialEq, Eq, Debug)]
-pub struct Report {
-    /// How many rows the transcript has.
-    pub rows: u64,
-    /// The decimal places of changer, validator and the two readers, as far as the transcript tells
-    /// them.
-    pub decimals: [Option<u8>; 4],
-    /// Coins in, bills in, paid out, and approved and sold of each reader.
-    pub accounts: [Account; 7],
-    /// How often changer, validator and each reader were silent for too long.
-    pub silences: [u64; 4],
-}
-
-impl Report {
-    ghost use Rattle.mdb_check.specs.Verdict.{report_of};
-
-    /// The report of so many rows: nothing follows the money yet.
-    pub(crate) fn of_rows(rows: u64) -> Report
-        ensures { result ≡ report_of rows }
-    {
-        const NOTHING: Range = Range {
-            least: 0,
-            greatest: 0,
-        };
-        const ACCOUNT: Account = Account {
-            device: NOTHING,
-            controller: NOTHING,
-            difference: NOTHING,
-        };
-        Report {
-            rows,
-            decimals: [None; 4],
-            accounts: [ACCOUNT; 7],
-            silences: [0; 4],
-        }
-    }
-}
-
 /// The answer to a transcript.
 #[derive(Clone, Copy, PartialEq, Eq, Debug)]
 pub enum Outcome {
-    /// The controller and its peripherals can have said these words at these times.
+    /// The controller and its peripherals can have said these words at these times: what that tells.
     Yes(Report),
     /// They cannot: the first row that cannot be.
     No(Offence),

@@ -13,7 +13,9 @@ const ROWS: &[u8] = b"1000,M,108\n2200,M,008\n4200,S,100\n24200,M,10B\n\
 25400,M,00B\n27400,S,00B\n28600,S,10B\n30600,M,000\n";
 
 /// The report on `ROWS`.
-const REPORT: &[u8] = b"verdict yes\nrows 8\n";
+const REPORT: &[u8] = b"verdict yes\nrows 8\n\
+coins-in device 0..0 controller 0..0 difference 0..0\n\
+paid-out device 0..0 controller 0..0 difference 0..0\n";
 
 /// `ROWS` up to a reply whose sum is wrong.
 const WRONG_SUM: &[u8] =

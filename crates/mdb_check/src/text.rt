@@ -2,11 +2,11 @@
 
 ghost use Rattle.std.specs.Prelude.{◌≡◌, IfOk, OnOk};
 ghost use Rattle.std.specs.Io.KnownBytes.{Appends};
-ghost use Rattle.mdb_check.specs.Text.{blame_word, report_text, rule_word};
+ghost use Rattle.mdb_check.specs.Text.{account_line, blame_word, head_text, report_text, rule_word, side_text};
 
-use super::offence::Offence;
-use super::outcome::{Outcome, Report};
+use super::outcome::Outcome;
 use mdb_bus::{Blame, Rule};
+use mdb_follow::{Account, Offence, Range, Report};
 use std::alloc::Global;
 use std::io;
 use std::io::Write;
@@ -69,14 +69,46 @@ fn write_outcome<W: Write>(writer: &mut W, outcome: &Outcome) -> io::Result<()>
     }
 }
 
-/// Writes the two lines of a yes.
+/// Writes the lines of a yes.
 fn write_report<W: Write>(writer: &mut W, report: &Report) -> io::Result<()>
     ensures { OnOk result
         (Appends (W.contents writer.old)
         (W.contents writer.new) (report_text (Outcome.Yes report.now))) }
 {
-    let rows = report.rows;
+    write_head(writer, report.rows)?;
+    write_account(writer, "coins-in", &report.accounts[0])?;
+    write_account(writer, "paid-out", &report.accounts[2])
+}
+
+/// Writes the first two lines of a yes.
+fn write_head<W: Write>(writer: &mut W, rows: u64) -> io::Result<()>
+    ensures { OnOk result
+        (Appends (W.contents writer.old) (W.contents writer.new) (head_text rows)) }
+{
     write!(writer, "verdict yes\nrows {rows}\n")
+}
+
+/// Writes the line of an account.
+fn write_account<W: Write>(writer: &mut W, name: &str, account: &Account) -> io::Result<()>
+    ensures { OnOk result
+        (Appends (W.contents writer.old)
+        (W.contents writer.new) (account_line name.now account.now)) }
+{
+    write!(writer, "{name}")?;
+    write_side(writer, "device", account.device)?;
+    write_side(writer, "controller", account.controller)?;
+    write_side(writer, "difference", account.difference)?;
+    write!(writer, "\n")
+}
+
+/// Writes what an account comes to on one side, behind its word.
+fn write_side<W: Write>(writer: &mut W, word: &str, range: Range) -> io::Result<()>
+    ensures { OnOk result
+        (Appends (W.contents writer.old)
+        (W.contents writer.new) (side_text word.now range)) }
+{
+    let Range { least, greatest } = range;
+    write!(writer, " {word} {least}..{greatest}")
 }
 
 /// Writes the four lines of a no.

@@ -6,21 +6,19 @@ ghost use Rattle.csv.specs.Reading.{default_config, records, strip_bom};
 ghost use Rattle.csv.specs.Records.{field_at, fields_of};
 ghost use Rattle.mdb_records.specs.ToCome.{IsOverLimit, IsUncut, ToCome, fault_of};
 ghost use Rattle.mdb_check.specs.Text.{report_text};
-ghost use Rattle.mdb_check.specs.Verdict.{IsAnswer, HasMet, HasOutcome, IsNoYes};
+ghost use Rattle.mdb_check.specs.Verdict.{IsAnswer, IsYes, HasMet, HasOutcome, IsNoYes};
+ghost use Rattle.mdb_follow.specs.Follower.{StandsFor};
+ghost use Rattle.mdb_words.specs.declared.event.Event.{Event};
 ghost use Rattle.mdb_words.specs.Row.{Tells};
 
-use super::offence::Offence;
-use super::outcome::{Outcome, Report, RunFault};
+use super::outcome::{Outcome, RunFault};
 use super::text::text_of;
 use csv::ByteRecord;
-use mdb_bus::{Bus, laws};
+use mdb_follow::{Follower, ROWS_MAX, laws};
 use mdb_records::Records;
 use mdb_words::{Event, RowFault};
 use std::alloc::Global;
 use std::io::{Read, Write};
-
-/// The most rows of a transcript (this profile).
-pub const ROWS_MAX: u64 = 100_000_000;
 
 /// The most bytes of an input (this profile).
 pub const BYTES_MAX: u64 = 6_400_000_000;
@@ -85,12 +83,12 @@ fn verdict_on<R: Read + Drop>(records: &mut Records<R>) -> Result<Outcome, RunFa
     ensures heard { IfErr result (HasMet (fault_of records.new)) }
     ensures not_write { IfErr result (λ fault. fault ≢ RunFault.Write) }
 {
-    laws::act_lists_have_a_fitting_loss();
-    let mut bus = Bus::new();
+    laws::followers_stand_for_reached_rows();
+    let mut follower = Follower::new();
     for row in 0..ROWS_MAX {
         let found = records.advance()?;
         if !found {
-            return Ok(Outcome::Yes(Report::of_rows(row)));
+            return Ok(outcome_of(&follower));
         }
         let event = match event_of(records.row()) {
             Ok(event) => event,
@@ -99,16 +97,26 @@ fn verdict_on<R: Read + Drop>(records: &mut Records<R>) -> Result<Outcome, RunFa
                 fault,
             }),
         };
-        match bus.feed(event) {
-            Ok(_) => {}
-            Err(fault) => return Ok(Outcome::No(Offence::at(row + 1, fault))),
+        match follower.feed(event) {
+            Ok(()) => {}
+            Err(offence) => return Ok(Outcome::No(offence)),
         }
     }
     let more = records.advance()?;
     if more {
         return Err(RunFault::TooLong);
     }
-    Ok(Outcome::Yes(Report::of_rows(ROWS_MAX)))
+    Ok(outcome_of(&follower))
+}
+
+/// What the rows that a follower has taken come to.
+fn outcome_of(follower: &Follower) -> Outcome
+    ensures { (rows : List Event) → StandsFor follower.now rows → IsYes rows result }
+{
+    match follower.report() {
+        Ok(report) => Outcome::Yes(report),
+        Err(offence) => Outcome::No(offence),
+    }
 }
 
 /// The event of a record.

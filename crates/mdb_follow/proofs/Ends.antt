@@ -7,7 +7,7 @@ use Rattle.std.proofs.lemmas.Int.{ints, clamps}
 use Rattle.mdb_cash.specs.declared.gains.Gains.{Gains}
 use Rattle.mdb_cash.specs.Gains.{IsSmall}
 use Rattle.mdb_follow.specs.declared.range.Range.{Range}
-use Rattle.mdb_follow.specs.declared.cell.AccountRanges.{AccountRanges}
+use Rattle.mdb_follow.specs.declared.cell.Account.{Account}
 use Rattle.mdb_follow.specs.declared.cell.Cell.{Cell}
 use Rattle.mdb_follow.specs.Arrivals.{AccountSums, Sums, added}
 use Rattle.mdb_follow.specs.Ranges.{IsAccount, IsCell, IsRange}
@@ -32,7 +32,7 @@ range-same K L value range there back is = record {
   high = λ sums l. is.high sums (back sums l);
 }
 
-account-same : (K L : Sums → Type 0) (account : Sums → AccountSums) (ranges : AccountRanges)
+account-same : (K L : Sums → Type 0) (account : Sums → AccountSums) (ranges : Account)
     → ((sums : Sums) → K sums → L sums) → ((sums : Sums) → L sums → K sums)
     → IsAccount K account ranges → IsAccount L account ranges
 account-same K L account ranges there back is = record {
@@ -86,7 +86,7 @@ range-joined K L value one other is so = record {
 }
 
 account-joined : (K L : Sums → Type 0) (account : Sums → AccountSums)
-    (one other : AccountRanges) → IsAccount K account one → IsAccount L account other
+    (one other : Account) → IsAccount K account one → IsAccount L account other
     → IsAccount (λ sums. K sums ⊎ L sums) account (joined_account one other)
 account-joined K L account one other is so = record {
   device = range-joined K L _ _ _ is.device so.device;
@@ -122,7 +122,7 @@ range-moved K value range gains by adds is = record {
       let e = ap value m.adds ∙ adds m.before in omega (arith, ints));
 }
 
-account-moved : (K : Sums → Type 0) (account : Sums → AccountSums) (ranges : AccountRanges)
+account-moved : (K : Sums → Type 0) (account : Sums → AccountSums) (ranges : Account)
     (gains : Gains) (device controller : ℕ)
     → ((sums : Sums) → (account (added sums gains)).device ≡ (account sums).device + device)
     → ((sums : Sums)
@@ -179,7 +179,7 @@ range-joined-within limit one other is so = record {
   greatest_high = omega (arith, ints, clamps);
 }
 
-account-joined-within : (limit : ℕ) (one other : AccountRanges) → IsAccountWithin limit one
+account-joined-within : (limit : ℕ) (one other : Account) → IsAccountWithin limit one
     → IsAccountWithin limit other → IsAccountWithin limit (joined_account one other)
 account-joined-within limit one other is so = record {
   device = range-joined-within limit _ _ is.device so.device;
@@ -205,7 +205,7 @@ range-moved-within limit more range by is low high = record {
   greatest_high = omega (arith, ints);
 }
 
-account-moved-within : (limit more : ℕ) (ranges : AccountRanges) (device controller : ℕ)
+account-moved-within : (limit more : ℕ) (ranges : Account) (device controller : ℕ)
     → IsAccountWithin limit ranges → device < more → controller < more
     → IsAccountWithin (limit + more) (moved_account ranges device controller)
 account-moved-within limit more ranges device controller is d c = record {

@@ -1,5 +1,5 @@
 -- What a follower that stands for events goes on to, and what it answers.
-use Rattle.std.proofs.Common.{sym, ap, subst, ◌∙◌, ◌≡◌, inl, inr, ℕ, ℤ, pos, ◌-ℤ◌, ◌+◌, List, [], ◌∷◌, ◌++◌, length, length-append, ◌<◌, ◌≤◌, take, drop, get_or, append_assoc, append-nil, add-one, arith, Option, Some, None}
+use Rattle.std.proofs.Common.{refl, sym, ap, subst, ◌∙◌, ◌≡◌, inl, inr, ℕ, ℤ, pos, ◌-ℤ◌, ◌+◌, List, [], ◌∷◌, ◌++◌, length, length-append, ◌<◌, ◌≤◌, take, drop, get_or, append_assoc, append-nil, add-one, arith, Option, Some, None}
 use Rattle.std.proofs.lemmas.List.{take_all, take_more}
 use Rattle.std.proofs.Math.Seq.{split_at}
 use Rattle.std.specs.Prelude.{Result, Ok, Err, IfErr, IfOk, IsErrAnd, OnErr}
@@ -21,9 +21,11 @@ use Rattle.mdb_follow.specs.declared.follower.Follower.{Follower}
 use Rattle.mdb_follow.specs.declared.offence.Offence.{Offence}
 use Rattle.mdb_follow.specs.declared.range.Range.{Range}
 use Rattle.mdb_follow.specs.declared.report.Report.{Report}
-use Rattle.mdb_follow.specs.Arrivals.{AccountSums, ArrivesAnywhere, Sums}
-use Rattle.mdb_follow.specs.Follower.{HasFollowed, HasOffence, HasStopped, IsOffence, IsReport, StandsFor}
-use Rattle.mdb_follow.specs.declared.cell.AccountRanges.{AccountRanges}
+use Rattle.mdb_follow.specs.Arrivals.{AccountSums, ArrivesAnywhere, Sums, added}
+use Rattle.mdb_follow.specs.Follower.{HasFollowed, HasStopped, StandsFor}
+use Rattle.mdb_follow.specs.Offences.{HasOffence, IsOffence}
+use Rattle.mdb_follow.specs.Report.{IsReport, report_of}
+use Rattle.mdb_follow.specs.declared.cell.Account.{Account}
 use Rattle.mdb_follow.specs.Ranges.{IsAccount, IsCell, IsRange}
 use Rattle.mdb_follow.specs.Runs.{AllSums, IsReached, Run}
 use Rattle.mdb_follow.specs.Tables.{IsTable}
@@ -183,6 +185,19 @@ machine-offence one joins old mid new events row act offence on goes same_facts 
         act = act;
         before = acts_of on.pieces;
         ends = goes.acts;
+        no_step = λ state sums way heard reading after gains step.
+            has.none (acts_of on.pieces) (ap facts_in same_facts ∙ on.facts)
+            (subst (IsChangerTable (acts_of on.pieces)) (sym same_table) on.table) after
+            (added sums gains) (record {
+              heard = heard;
+              reading = reading;
+              before = state;
+              sums_before = sums;
+              gains = gains;
+              way = way;
+              step = step;
+              adds = refl;
+            });
         rule = has.rule;
         blame = has.blame;
       });
@@ -212,7 +227,7 @@ range-of-runs one joins rows pieces value range list is = record {
 
 -- and so are the three ranges of an account
 account-of-runs : OneActList → Joins → (rows : List Event) (pieces : List Piece)
-    (account : Sums → AccountSums) (ranges : AccountRanges) → IsActList pieces rows
+    (account : Sums → AccountSums) (ranges : Account) → IsActList pieces rows
     → IsAccount (ArrivesAnywhere (ChangerArrives (acts_of pieces))) account ranges
     → IsAccount (Run rows) (λ sums. account sums.changer) ranges
 account-of-runs one joins rows pieces account ranges list is = record {
@@ -229,17 +244,17 @@ account-of-runs one joins rows pieces account ranges list is = record {
 pub reported : OneActList → Joins → (follower : Follower) (events : List Event)
     (report : Report) (cell : Cell) (on : StandsFor follower events)
     → IsCell (ArrivesAnywhere (ChangerArrives (acts_of on.pieces))) cell
-    → report.rows ≡ follower.rows → report.coins_in ≡ cell.first → report.paid_out ≡ cell.second
+    → report ≡ report_of follower.rows cell.first cell.second
     → IsReport events report
-reported one joins follower events report cell on is rows first second = record {
+reported one joins follower events report cell on is telling = record {
   reached = reached-by joins follower events on;
-  rows = rows ∙ on.rows;
-  coins_in = subst (λ ranges. IsAccount (Run events) (λ sums. sums.changer.first) ranges) (sym first)
-      (account-of-runs one joins events on.pieces (λ sums. sums.first) cell.first
-      (list-of follower events on) is.first);
-  paid_out = subst (λ ranges. IsAccount (Run events) (λ sums. sums.changer.second) ranges) (sym second)
-      (account-of-runs one joins events on.pieces (λ sums. sums.second) cell.second
-      (list-of follower events on) is.second);
+  coins_in = cell.first;
+  paid_out = cell.second;
+  in_runs = account-of-runs one joins events on.pieces (λ sums. sums.first) cell.first
+      (list-of follower events on) is.first;
+  out_runs = account-of-runs one joins events on.pieces (λ sums. sums.second) cell.second
+      (list-of follower events on) is.second;
+  telling = telling ∙ ap (λ rows. report_of rows cell.first cell.second) on.rows;
 }
 
 -- a follower has taken so many events

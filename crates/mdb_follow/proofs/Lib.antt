@@ -4,6 +4,7 @@ pub mod Joining
 pub mod Led
 pub mod Limits
 pub mod Listed
+pub mod OneAnswer
 pub mod Places
 pub mod Reaching
 pub mod Ways

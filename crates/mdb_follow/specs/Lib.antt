@@ -1,7 +1,9 @@
 pub mod Arrivals
 pub mod Entries
 pub mod Follower
+pub mod Offences
 pub mod Ranges
+pub mod Report
 pub mod Runs
 pub mod Senders
 pub mod Tables

@@ -3,7 +3,7 @@ use Rattle.std.specs.Prelude.{◌≡◌, ℕ, ℤ, pos, neg_ℤ, ◌+ℤ◌, ◌
 use Rattle.std.specs.Int.{int_max, int_min}
 use Rattle.mdb_cash.specs.declared.gains.Gains.{Gains}
 use Rattle.mdb_follow.specs.declared.range.Range.{Range}
-use Rattle.mdb_follow.specs.declared.cell.AccountRanges.{AccountRanges}
+use Rattle.mdb_follow.specs.declared.cell.Account.{Account}
 use Rattle.mdb_follow.specs.declared.cell.Cell.{Cell}
 use Rattle.mdb_follow.specs.Arrivals.{AccountSums, Sums}
 
@@ -17,7 +17,7 @@ pub record IsRange {S : Type 0} (Kind : S → Type 0) (value : S → ℤ) (range
 -- the ranges of an account's sums: the device's, the controller's, and the device's less the
 -- controller's
 pub record IsAccount {S : Type 0} (Kind : S → Type 0) (account : S → AccountSums)
-    (ranges : AccountRanges) : Type 0 where
+    (ranges : Account) : Type 0 where
   pub device : IsRange Kind (λ sums. pos (account sums).device) ranges.device
   pub controller : IsRange Kind (λ sums. pos (account sums).controller) ranges.controller
   pub difference : IsRange Kind
@@ -36,7 +36,7 @@ pub record IsRangeWithin (limit : ℕ) (range : Range) : Type 0 where
   pub greatest_high : range.greatest ≤ℤ pos limit
 
 -- those of all ranges
-pub record IsAccountWithin (limit : ℕ) (ranges : AccountRanges) : Type 0 where
+pub record IsAccountWithin (limit : ℕ) (ranges : Account) : Type 0 where
   pub device : IsRangeWithin limit ranges.device
   pub controller : IsRangeWithin limit ranges.controller
   pub difference : IsRangeWithin limit ranges.difference
@@ -50,7 +50,7 @@ pub record IsCellWithin (limit : ℕ) (cell : Cell) : Type 0 where
 abbrev pub moved_range : Range → ℤ → Range
 moved_range range by = record { least = range.least +ℤ by; greatest = range.greatest +ℤ by }
 
-abbrev pub moved_account : AccountRanges → ℕ → ℕ → AccountRanges
+abbrev pub moved_account : Account → ℕ → ℕ → Account
 moved_account ranges device controller = record {
   device = moved_range ranges.device (pos device);
   controller = moved_range ranges.controller (pos controller);
@@ -71,7 +71,7 @@ joined_range one other = record {
   greatest = int_max one.greatest other.greatest;
 }
 
-abbrev pub joined_account : AccountRanges → AccountRanges → AccountRanges
+abbrev pub joined_account : Account → Account → Account
 joined_account one other = record {
   device = joined_range one.device other.device;
   controller = joined_range one.controller other.controller;

@@ -10,7 +10,7 @@ use mdb_cash::Gains;
 
 /// What the sums of an account may be, in smallest units of money.
 #[derive(Clone, Copy, PartialEq, Eq, Debug, Default)]
-pub struct AccountRanges {
+pub struct Account {
     /// The device's sum.
     pub device: Range,
     /// The controller's sum.
@@ -19,9 +19,16 @@ pub struct AccountRanges {
     pub difference: Range,
 }
 
-impl AccountRanges {
+impl Account {
+    /// Nothing came and nothing went.
+    pub(crate) const NOTHING: Account = Account {
+        device: Range::NOTHING,
+        controller: Range::NOTHING,
+        difference: Range::NOTHING,
+    };
+
     /// The ranges with so much added to the two sums.
-    fn moved(&self, device: u64, controller: u64) -> AccountRanges
+    fn moved(&self, device: u64, controller: u64) -> Account
         requires within { IsAccountWithin (2 ^ 62) self.now }
         requires device { device < 2 ^ 32 }
         requires controller { controller < 2 ^ 32 }
@@ -29,7 +36,7 @@ impl AccountRanges {
     {
         let by_device = device as i64;
         let by_controller = controller as i64;
-        AccountRanges {
+        Account {
             device: self.device.moved(by_device),
             controller: self.controller.moved(by_controller),
             difference: self.difference.moved(by_device - by_controller),
@@ -37,10 +44,10 @@ impl AccountRanges {
     }
 
     /// The ranges of sums that are in one of two.
-    fn joined(&self, other: &AccountRanges) -> AccountRanges
+    fn joined(&self, other: &Account) -> Account
         ensures { result ≡ joined_account self.now other.now }
     {
-        AccountRanges {
+        Account {
             device: self.device.joined(other.device),
             controller: self.controller.joined(other.controller),
             difference: self.difference.joined(other.difference),
@@ -52,9 +59,9 @@ impl AccountRanges {
 #[derive(Clone, Copy, PartialEq, Eq, Debug, Default)]
 pub struct Cell {
     /// The first account.
-    pub first: AccountRanges,
+    pub first: Account,
     /// The second account.
-    pub second: AccountRanges,
+    pub second: Account,
 }
 
 impl Cell {

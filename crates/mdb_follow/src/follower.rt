@@ -34,11 +34,14 @@ impl Follower {
     ghost use Rattle.mdb_bus.specs.Bus.{GoesOn};
     ghost use Rattle.mdb_bus.specs.ActLists.{Piece};
     ghost use Rattle.mdb_follow.specs.Runs.{IsReached};
-    ghost use Rattle.mdb_follow.specs.Follower.{HasFollowed, HasOffence, HasStopped, IsOffence, IsReport, StandsFor, offence_of, rows_of};
+    ghost use Rattle.mdb_follow.specs.Follower.{HasFollowed, HasStopped, StandsFor, offence_of, rows_of};
+    ghost use Rattle.mdb_follow.specs.Offences.{HasOffence, IsOffence};
+    ghost use Rattle.mdb_follow.specs.Report.{IsReport};
 
     /// The follower before the first row: recording began at power-on or at a break.
     pub fn new() -> Follower
-        ensures { StandsFor result [] }
+        ensures stands { StandsFor result [] }
+        ensures empty { rows_of result ≡ 0 }
     {
         Follower {
             bus: Bus::new(),
@@ -175,11 +178,7 @@ impl Follower {
             return Err(offence);
         }
         let cell = self.table.ranges::<Changer>();
-        Ok(Report {
-            rows: self.rows,
-            coins_in: cell.first,
-            paid_out: cell.second,
-        })
+        Ok(Report::of(self.rows, cell.first, cell.second))
     }
 }
 

@@ -1,6 +1,6 @@
 //! What follows from the definitions of runs alone.
 
-ghost use Rattle.std.specs.Prelude.{List, [], ◌∷◌, ◌++◌};
+ghost use Rattle.std.specs.Prelude.{◌≡◌, List, [], ◌∷◌, ◌++◌};
 ghost use Rattle.mdb_words.specs.declared.event.Event.{Event};
 ghost use Rattle.mdb_bus.specs.ActLists.{ArePieces, Piece, acts_of};
 ghost use Rattle.mdb_bus.specs.Loss.{Loss, LossFits};
@@ -9,7 +9,11 @@ ghost use Rattle.mdb_cash.specs.ChangerFacts.{facts_of};
 ghost use Rattle.mdb_cash.specs.declared.changer.state.ChangerState.{ChangerState};
 ghost use Rattle.mdb_follow.specs.Arrivals.{Arrives, Sums};
 ghost use Rattle.mdb_follow.specs.declared.follower.Follower.{Follower};
+ghost use Rattle.mdb_follow.specs.declared.offence.Offence.{Offence};
+ghost use Rattle.mdb_follow.specs.declared.report.Report.{Report};
 ghost use Rattle.mdb_follow.specs.Follower.{StandsFor};
+ghost use Rattle.mdb_follow.specs.Offences.{IsOffence};
+ghost use Rattle.mdb_follow.specs.Report.{IsReport};
 ghost use Rattle.mdb_follow.specs.Runs.{AllSums, IsReached, IsWay, States};
 
 use mdb_bus::laws;
@@ -38,6 +42,28 @@ pub fn reached_rows_stay_reached_without_the_last()
 {
     laws::act_lists_go_on_row_by_row();
     ways_join();
+}
+
+/// Where rows are reached, any first rows of them are.
+pub fn fronts_of_reached_rows_are_reached()
+    ensures { (rows more : List Event) → IsReached (rows ++ more) → IsReached rows }
+{
+    reached_rows_stay_reached_without_the_last();
+}
+
+/// Rows have one report: each of its ends is the least or the greatest of all runs.
+pub fn rows_have_one_report()
+    ensures { (rows : List Event) (a b : Report) → IsReport rows a → IsReport rows b → a ≡ b }
+{}
+
+/// A row has one offence: one number, one rule and one blame.
+pub fn rows_have_one_offence()
+    ensures { (rows : List Event) (row : Event) (a b : Offence) → IsOffence rows row a
+        → IsOffence rows row b → a ≡ b }
+{
+    laws::transcripts_have_one_act_list();
+    laws::rows_have_one_fault();
+    laws::rows_that_break_a_rule_end_the_act_list();
 }
 
 /// The rows that a follower stands for are reached.

@@ -10,7 +10,7 @@ mod range;
 mod report;
 mod table;
 
-pub use cell::{AccountRanges, Cell};
+pub use cell::{Account, Cell};
 pub use follower::{Follower, ROWS_MAX};
 pub use offence::Offence;
 pub use range::Range;

@@ -13,6 +13,12 @@ pub struct Range {
 }
 
 impl Range {
+    /// Of nothing.
+    pub(crate) const NOTHING: Range = Range {
+        least: 0,
+        greatest: 0,
+    };
+
     /// The range of the sum with so much added.
     pub(crate) fn moved(self, by: i64) -> Range
         requires within { IsRangeWithin (2 ^ 62) self }

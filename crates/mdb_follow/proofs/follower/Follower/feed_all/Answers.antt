@@ -1,5 +1,6 @@
 use Rattle.std.proofs.Common.{◌∷◌, [], ◌++◌, subst, arith}
-use Rattle.mdb_follow.specs.Follower.{IsOffence, StandsFor}
+use Rattle.mdb_follow.specs.Follower.{StandsFor}
+use Rattle.mdb_follow.specs.Offences.{IsOffence}
 use Rattle.mdb_follow.proofs.Following.{fed-all, fed-more, fed-none, fed-refused, if-err-is, on-err, reached-by}
 use Rattle.mdb_follow.proofs.follower.Follower.feed_all.Goals as goal
 

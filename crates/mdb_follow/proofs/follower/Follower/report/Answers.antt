@@ -1,4 +1,3 @@
-use Rattle.std.proofs.Common.{refl}
 use Rattle.mdb_bus.specs.ActLists.{acts_of}
 use Rattle.mdb_follow.proofs.Following.{reported}
 use Rattle.mdb_follow.proofs.follower.Follower.report.Goals as goal
@@ -6,9 +5,5 @@ use Rattle.mdb_follow.proofs.follower.Follower.report.Goals as goal
 pub returns-clause-report : goal.returns-clause-report
 returns-clause-report c events on =
     reported c.transcripts_have_one_act_list.ensures c.ways_join.ensures c.args.self.now events
-    (record {
-      rows = c.args.self.now.rows;
-      coins_in = c.ranges-cell.result.first;
-      paid_out = c.ranges-cell.result.second;
-    })
-    c.ranges-cell.result on (c.ranges-cell.ensures (acts_of on.pieces) on.table) refl refl refl
+    c.of.result c.ranges-cell.result on (c.ranges-cell.ensures (acts_of on.pieces) on.table)
+    c.of.ensures

@@ -1,0 +1,108 @@
+-- Rows have one report, and a row has one offence.
+use Rattle.std.proofs.Common.{ap, arith, sym, subst, ◌∙◌, ◌≡◌, ◌⊎◌, inl, inr, ℕ, ℤ, ◌≤ℤ◌, List, [], ◌∷◌, ◌++◌, append_assoc, append-nil, length}
+use Rattle.std.proofs.lemmas.Int.{ints}
+use Rattle.mdb_words.specs.declared.event.Event.{Event}
+use Rattle.mdb_bus.specs.declared.fault.Blame.{Blame}
+use Rattle.mdb_bus.specs.declared.fault.Rule.{Rule}
+use Rattle.mdb_bus.specs.ActLists.{ArePieces, HasActList, IsActList, Piece, acts_of, events_of}
+use Rattle.mdb_bus.specs.LinkFaults.{IsLinkFault, RowBreaks, situation_of}
+use Rattle.mdb_follow.specs.declared.cell.Account.{Account}
+use Rattle.mdb_follow.specs.declared.offence.Offence.{Offence}
+use Rattle.mdb_follow.specs.declared.range.Range.{Range}
+use Rattle.mdb_follow.specs.declared.report.Report.{Report}
+use Rattle.mdb_follow.specs.Arrivals.{AccountSums}
+use Rattle.mdb_follow.specs.Offences.{BreaksLink, BreaksMachine, IsOffence}
+use Rattle.mdb_follow.specs.Ranges.{IsAccount, IsRange}
+use Rattle.mdb_follow.specs.Report.{IsReport, report_of}
+use Rattle.mdb_follow.specs.Runs.{IsReached, Run}
+use Rattle.mdb_follow.specs.Senders.{sender_of}
+use Rattle.mdb_follow.proofs.Following.{OneActList}
+
+-- two ends that lie within each other are one
+one-end : (a b : ℤ) → a ≤ℤ b → b ≤ℤ a → a ≡ b
+one-end a b low high = omega (arith, ints, low, high)
+
+-- sums of a kind have one range
+one-range : {S : Type 0} (Kind : S → Type 0) (value : S → ℤ) (a b : Range)
+    → IsRange Kind value a → IsRange Kind value b → a ≡ b
+one-range Kind value a b p q =
+    let least : a.least ≡ b.least = one-end a.least b.least
+    (subst (λ z. a.least ≤ℤ z) q.least.2 (p.low q.least.0 q.least.1))
+    (subst (λ z. b.least ≤ℤ z) p.least.2 (q.low p.least.0 p.least.1)) in
+    let greatest : a.greatest ≡ b.greatest = one-end a.greatest b.greatest
+    (subst (λ z. z ≤ℤ b.greatest) p.greatest.2 (q.high p.greatest.0 p.greatest.1))
+    (subst (λ z. z ≤ℤ a.greatest) q.greatest.2 (p.high q.greatest.0 q.greatest.1)) in
+    let made : ℤ → ℤ → Range = λ l g. record { least = l; greatest = g } in
+    ap (λ l. made l a.greatest) least ∙ ap (λ g. made b.least g) greatest
+
+one-account : {S : Type 0} (Kind : S → Type 0) (account : S → AccountSums) (a b : Account)
+    → IsAccount Kind account a → IsAccount Kind account b → a ≡ b
+one-account Kind account a b p q =
+    let device = one-range Kind _ a.device b.device p.device q.device in
+    let controller = one-range Kind _ a.controller b.controller p.controller q.controller in
+    let difference = one-range Kind _ a.difference b.difference p.difference q.difference in
+    let made : Range → Range → Range → Account =
+    λ x y z. record { device = x; controller = y; difference = z } in
+    ap (λ x. made x a.controller a.difference) device
+    ∙ (ap (λ y. made b.device y a.difference) controller
+    ∙ ap (λ z. made b.device b.controller z) difference)
+
+pub one-report : (rows : List Event) (a b : Report) → IsReport rows a → IsReport rows b → a ≡ b
+one-report rows a b p q =
+    let coins_in = one-account (Run rows) _ p.coins_in q.coins_in p.in_runs q.in_runs in
+    let paid_out = one-account (Run rows) _ p.paid_out q.paid_out p.out_runs q.out_runs in
+    p.telling ∙ (ap (λ x. report_of (length rows) x p.paid_out) coins_in
+    ∙ (ap (λ y. report_of (length rows) q.coins_in y) paid_out ∙ sym q.telling))
+
+-- what the laws of the bus say
+pub record BusLaws : Type 0 where
+  pub one : OneActList
+  pub one_fault : (pieces : List Piece) (row : Event) (r s : Rule) (a b : Blame)
+      → IsLinkFault pieces row r a → IsLinkFault pieces row s b → (r ≡ s) × (a ≡ b)
+  pub ends : (pieces : List Piece) (row : Event) (broken : Rule) → ArePieces pieces
+      → RowBreaks (situation_of pieces) row broken
+      → HasActList (events_of pieces ++ row ∷ []) → ⊥
+
+-- a row that breaks a rule of the link ends no act
+link-or-machine : BusLaws → (events : List Event) (row : Event) (r s : Rule) (a b : Blame)
+    → BreaksLink events row r a → BreaksMachine events row s b → ⊥
+link-or-machine laws events row r s a b p q =
+    laws.ends p.pieces row r p.act_list.in_order p.fault.rule.breaks (
+      q.pieces,
+      subst (λ es. IsActList q.pieces (es ++ row ∷ [])) (sym p.act_list.whole) q.act_list,
+    )
+
+one-why : BusLaws → (events : List Event) (row : Event) (r s : Rule) (a b : Blame)
+    → BreaksLink events row r a ⊎ BreaksMachine events row r a
+    → BreaksLink events row s b ⊎ BreaksMachine events row s b → (r ≡ s) × (a ≡ b)
+one-why laws events row r s a b (inl p) (inl q) =
+    laws.one_fault p.pieces row r s a b p.fault
+    (subst (λ ps. IsLinkFault ps row s b)
+    (laws.one events q.pieces p.pieces q.act_list p.act_list) q.fault)
+one-why laws events row r s a b (inl p) (inr q) =
+    absurd (link-or-machine laws events row r s a b p q)
+one-why laws events row r s a b (inr p) (inl q) =
+    absurd (link-or-machine laws events row s r b a q p)
+one-why laws events row r s a b (inr p) (inr q) =
+    let same : p.pieces ≡ q.pieces =
+    laws.one (events ++ row ∷ []) p.pieces q.pieces p.act_list q.act_list in
+    let acts : p.act ∷ p.before ≡ q.act ∷ q.before = sym p.ends ∙ (ap acts_of same ∙ q.ends) in
+    let act : p.act ≡ q.act = cc in
+    (p.rule ∙ sym q.rule, p.blame ∙ (ap sender_of act ∙ sym q.blame))
+
+pub one-offence : BusLaws → (events : List Event) (row : Event) (a b : Offence)
+    → IsOffence events row a → IsOffence events row b → a ≡ b
+one-offence laws events row a b p q =
+    let why = one-why laws events row a.rule b.rule a.blame b.blame p.why q.why in
+    let number : a.row ≡ b.row = p.number ∙ sym q.number in
+    let made : ℕ → Rule → Blame → Offence = λ n r w. record { row = n; rule = r; blame = w } in
+    ap (λ n. made n a.rule a.blame) number
+    ∙ (ap (λ r. made b.row r a.blame) why.0 ∙ ap (λ w. made b.row b.rule w) why.1)
+
+-- any first rows of reached ones are reached
+pub fronts : ((rows : List Event) (row : Event) → IsReached (rows ++ row ∷ []) → IsReached rows)
+    → (rows more : List Event) → IsReached (rows ++ more) → IsReached rows
+fronts shorter rows [] reached = subst IsReached (append-nil rows) reached
+fronts shorter rows (row ∷ more) reached =
+    shorter rows row (fronts shorter (rows ++ row ∷ []) more
+    (subst IsReached (sym (append_assoc rows (row ∷ []) more)) reached))

@@ -1,0 +1,57 @@
+-- The first row that cannot be, and why.
+use Rattle.std.specs.Prelude.{◌≡◌, ◌⊎◌, ◌+◌, ◌++◌, Bool, List, [], ◌∷◌, length}
+use Rattle.mdb_words.specs.declared.event.Event.{Event}
+use Rattle.mdb_bus.specs.declared.act.Act.{Act}
+use Rattle.mdb_bus.specs.declared.fault.Blame.{Blame}
+use Rattle.mdb_bus.specs.declared.fault.Rule.{Rule}
+use Rattle.mdb_bus.specs.declared.fault.Rule.TheVariants as rule
+use Rattle.mdb_bus.specs.ActLists.{Piece, IsActList, acts_of}
+use Rattle.mdb_bus.specs.LinkFaults.{IsLinkFault}
+use Rattle.mdb_cash.specs.declared.changer.state.ChangerState.{ChangerState}
+use Rattle.mdb_cash.specs.declared.gains.Gains.{Gains}
+use Rattle.mdb_cash.specs.declared.kept.Reading.{Reading}
+use Rattle.mdb_cash.specs.Changer.{ChangerStep, power_on}
+use Rattle.mdb_cash.specs.ChangerFacts.{facts_of}
+use Rattle.mdb_follow.specs.Arrivals.{Arrives, Sums}
+use Rattle.mdb_follow.specs.declared.offence.Offence.{Offence}
+use Rattle.mdb_follow.specs.Runs.{IsReached}
+use Rattle.mdb_follow.specs.Senders.{sender_of}
+
+-- a row breaks a rule of the link, behind rows that have an act list
+pub record BreaksLink (events : List Event) (row : Event) (broken : Rule)
+    (blamed : Blame) : Type 0 where
+  pub pieces : List Piece
+  pub act_list : IsActList pieces events
+  pub fault : IsLinkFault pieces row broken blamed
+
+-- A row ends an act that the changer and the controller can't have done: from no state to which a
+-- way through the acts before it leads is there a step.
+pub record BreaksMachine (events : List Event) (row : Event) (broken : Rule)
+    (blamed : Blame) : Type 0 where
+  pub pieces : List Piece
+  pub act_list : IsActList pieces (events ++ row ∷ [])
+  pub act : Act
+  pub before : List Act
+  pub ends : acts_of pieces ≡ act ∷ before
+  pub no_step : (state : ChangerState) (sums : Sums)
+      → Arrives (λ acts. ChangerStep (facts_of acts)) power_on before state sums
+      → (heard : Bool) (reading : Reading) (after : ChangerState) (gains : Gains)
+      → ChangerStep (facts_of before) act heard reading state after gains → ⊥
+  pub rule : broken ≡ rule.Changer
+  pub blame : blamed ≡ sender_of act
+
+-- the offence of a row behind rows that are reached: the row isn't
+pub record IsOffence (events : List Event) (row : Event) (offence : Offence) : Type 0 where
+  pub reached : IsReached events
+  pub not_reached : IsReached (events ++ row ∷ []) → ⊥
+  pub number : offence.row ≡ length events + 1
+  pub why : BreaksLink events row offence.rule offence.blame
+      ⊎ BreaksMachine events row offence.rule offence.blame
+
+-- the offence of some row of these events, behind the earlier ones and those before it
+pub record HasOffence (earlier events : List Event) (offence : Offence) : Type 0 where
+  pub front : List Event
+  pub row : Event
+  pub rest : List Event
+  pub parts : events ≡ front ++ row ∷ rest
+  pub is : IsOffence (earlier ++ front) row offence
