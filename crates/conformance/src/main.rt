@@ -1,14 +1,16 @@
 //! Runs the program `mdbcheck` on each worked case of its folder, prints each that doesn't come
 //! out as it is wanted, and at the end how many there are. `data/README` says how a case is
-//! written.
+//! written. Then it gives a recording to the follower in two pieces (`cuts`).
 #![tactic(auto)]
+
+mod cuts;
 
 use std::alloc::{AllocError, Global};
 use std::io::Write;
 use std::{fs, io};
 
 /// The files of cases, one for each subject.
-const FILES: [&str; 9] = [
+const FILES: [&str; 10] = [
     "rows.cases",
     "times.cases",
     "commands.cases",
@@ -17,6 +19,7 @@ const FILES: [&str; 9] = [
     "breaks.cases",
     "foreign.cases",
     "order-of-rules.cases",
+    "changer.cases",
     "worked.cases",
 ];
 
@@ -27,6 +30,8 @@ struct Case {
     // The words behind the program's name; `check` where the case has none.
     words: Vec<String>,
     transcript: Vec<u8>,
+    // The time of the last row that a line of `rows` or `again` has added; 0 before it.
+    time: u64,
     // The exit status, as it is written.
     status: String,
     // Standard output and standard error, whole.
@@ -48,6 +53,7 @@ impl Case {
             name: String::from_str(alloc, name)?,
             words: Vec::new(alloc),
             transcript: Vec::new(alloc),
+            time: 0,
             status: String::new(alloc),
             out: String::new(alloc),
             err: String::new(alloc),
@@ -59,12 +65,51 @@ impl Case {
         match line.split_once(' ') {
             Some(("why", _)) => {}
             Some(("words", words)) => add_words(alloc, &mut self.words, words)?,
-            Some(("rows", rows)) => add_rows(&mut self.transcript, rows)?,
+            Some(("rows", rows)) => self.add_rows(rows)?,
+            Some(("again", rows)) => return self.add_again(alloc, rows),
             Some(("text", text)) => add_text(&mut self.transcript, text.as_bytes())?,
             Some(("status", status)) => self.status.push_str(status)?,
             Some(("out", line)) => add_line(&mut self.out, line)?,
             Some(("err", line)) => add_line(&mut self.err, line)?,
             _ => return Ok(false),
+        }
+        Ok(true)
+    }
+
+    /// Adds the rows of a line, which single blanks part, each with a line feed.
+    fn add_rows(&mut self, line: &str) -> Result<(), AllocError> {
+        for row in line.split(' ') {
+            self.transcript.extend_from_slice(row.as_bytes())?;
+            self.transcript.push(b'\n')?;
+            if let Some((time, _)) = split_time(row) {
+                self.time = time;
+            }
+        }
+        Ok(())
+    }
+
+    /// Adds the rows of a line so many times as it says, each so long behind the row before it,
+    /// and answers whether the line has that form.
+    fn add_again(&mut self, alloc: Global, line: &str) -> Result<bool, AllocError> {
+        let Some((times, rows)) = line.split_once(' ') else {
+            return Ok(false);
+        };
+        let Ok(times) = times.parse::<u32>() else {
+            return Ok(false);
+        };
+        let mut steps = Vec::new(alloc);
+        for row in rows.split(' ') {
+            let Some(step) = split_time(row) else {
+                return Ok(false);
+            };
+            steps.push(step)?;
+        }
+        for _ in 0..times {
+            for (gap, rest) in &steps {
+                self.time = self.time.saturating_add(*gap);
+                let row = format!(in alloc; "{},{rest}\n", self.time)?;
+                self.transcript.extend_from_slice(row.as_str().as_bytes())?;
+            }
         }
         Ok(true)
     }
@@ -130,13 +175,11 @@ fn add_words(alloc: Global, words: &mut Vec<String>, line: &str) -> Result<(), A
     Ok(())
 }
 
-/// Adds the rows of a line, which single blanks part, each with a line feed.
-fn add_rows(transcript: &mut Vec<u8>, line: &str) -> Result<(), AllocError> {
-    for row in line.split(' ') {
-        transcript.extend_from_slice(row.as_bytes())?;
-        transcript.push(b'\n')?;
-    }
-    Ok(())
+/// The number in front of a row, which is its time or the time from the row before it, and what
+/// stands behind the first comma.
+fn split_time(row: &str) -> Option<(u64, &str)> {
+    let (time, rest) = row.split_once(',')?;
+    Some((time.parse::<u64>().ok()?, rest))
 }
 
 /// Adds the bytes of a line as they stand, without a line feed: `\n` and `\r` are a line feed and a
@@ -195,7 +238,8 @@ fn main(rt: HostRuntime) -> io::Result<()> {
     }
     let cases = tally.cases;
     match tally.differing {
-        0 => println!(rt; "{cases} cases, each as wanted"),
-        differing => println!(rt; "{cases} cases, and {differing} that differ"),
+        0 => println!(rt; "{cases} cases, each as wanted")?,
+        differing => println!(rt; "{cases} cases, and {differing} that differ")?,
     }
+    cuts::run(&rt)
 }
