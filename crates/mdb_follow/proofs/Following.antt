@@ -260,11 +260,13 @@ reported one joins follower events report cell on is telling = record {
 -- a follower has taken so many events
 pub record HasFed (old : Follower) (events : List Event) (count : ℕ) (new : Follower) : Type 0 where
   pub rows : new.rows ≡ old.rows + count
+  pub still : count ≡ 0 → new ≡ old
   pub stands : (earlier : List Event) → StandsFor old earlier → StandsFor new (earlier ++ events)
 
 pub fed-none : (follower : Follower) → HasFed follower [] 0 follower
 fed-none follower = record {
   rows = omega arith;
+  still = λ none. refl;
   stands = λ earlier on. subst (StandsFor follower) (sym (append-nil earlier)) on;
 }
 
@@ -285,6 +287,7 @@ pub fed-more : (old mid new : Follower) (events : List Event) (i : ℕ) (d : Eve
     → HasFed old (take (i + 1) events) (i + 1) new
 fed-more old mid new events i d within has more stands = record {
   rows = omega (arith, more, has.rows);
+  still = λ none. absurd (omega (arith, none));
   stands = λ earlier on. subst (StandsFor new)
       (append_assoc earlier (take i events) (get_or events i d ∷ [])
       ∙ ap (λ rows. earlier ++ rows) (sym (take_more events i d within)))

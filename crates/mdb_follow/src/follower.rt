@@ -2,6 +2,7 @@
 
 ghost use Rattle.std.specs.Prelude.{◌≡◌, ◌<◌, ◌≤◌, ◌+◌, ◌*◌, ◌^◌, List, [], ◌∷◌, ◌++◌, ℕ, length, Some, None, Err, IfSome, IfOk, IfErr, IsOk, OnErr};
 ghost use Rattle.std.specs.Bool.{OnFalse, OnTrue};
+ghost use Rattle.std.specs.Option.{ForSome};
 ghost use Rattle.mdb_words.specs.declared.event.Event.{Event};
 ghost use Rattle.mdb_bus.specs.declared.act.Act.{Act};
 ghost use Rattle.mdb_follow.specs.Arrivals.{Arrives, Sums};
@@ -28,6 +29,7 @@ pub struct Follower {
     offence: Option<Offence>,
     ghost few: { rows ≤ 100000000 },
     ghost within: { IsTableWithin (rows * 2 ^ 32) table },
+    ghost numbered: { ForSome offence (λ offence. offence.row ≡ rows + 1) },
 }
 
 impl Follower {
@@ -74,6 +76,7 @@ impl Follower {
         ensures offence { (events : List Event) → StandsFor self.old events
             → IfErr result (IsOffence events event) }
         ensures noted { IfErr result (λ offence. offence_of self.new ≡ Some offence) }
+        ensures numbered { IfErr result (λ offence. offence.row ≡ rows_of self.new + 1) }
         ensures counted { IfOk result (λ _. rows_of self.new ≡ rows_of self.old + 1) }
         ensures uncounted { OnErr result (rows_of self.new ≡ rows_of self.old) }
         ensures repeats { IfSome (offence_of self.old) (λ offence.
@@ -108,11 +111,14 @@ impl Follower {
         ensures offence { (before : List Event) → StandsFor self.old before
             → IfErr result (HasOffence before events.now) }
         ensures noted { IfErr result (λ offence. offence_of self.new ≡ Some offence) }
+        ensures numbered { IfErr result (λ offence. offence.row ≡ rows_of self.new + 1) }
         ensures counted { IfOk result
             (λ _. rows_of self.new ≡ rows_of self.old + length events.now) }
         ensures fewer { OnErr result (rows_of self.new ≤ rows_of self.old + length events.now) }
         ensures repeats { IfSome (offence_of self.old) (λ offence.
             (result ≡ Err offence) × (self.new ≡ self.old)) }
+        ensures still { events.now ≡ [] → self.new ≡ self.old }
+        ensures idle { events.now ≡ [] → offence_of self.old ≡ None → IsOk result }
     {
         laws::ways_join();
         if let Some(offence) = self.offence {
@@ -126,7 +132,8 @@ impl Follower {
 
     /// Follows an act that a row ended.
     fn follow(&mut self, act: &Act) -> Result<(), Offence>
-        requires { rows_of self.old < ROWS_MAX }
+        requires room { rows_of self.old < ROWS_MAX }
+        requires going { offence_of self.old ≡ None }
         ensures followed { IfOk result (λ _. HasFollowed self.old act.now self.new) }
         ensures stopped { IfErr result (HasStopped self.old act.now self.new) }
     {
