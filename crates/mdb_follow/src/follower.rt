@@ -58,7 +58,8 @@ impl Follower {
     pub fn rows(&self) -> u64
         ensures { result ≡ rows_of self.now }
     {
-        self.rows
+        let Follower { rows, .. } = self;
+        *rows
     }
 
     /// Takes the next row.
@@ -181,11 +182,13 @@ impl Follower {
     {
         laws::ways_join();
         bus_laws::transcripts_have_one_act_list();
-        if let Some(offence) = self.offence {
-            return Err(offence);
+        match self.offence {
+            Some(offence) => Err(offence),
+            None => {
+                let cell = self.table.ranges::<Changer>();
+                Ok(Report::of(self.rows, cell.first, cell.second))
+            }
         }
-        let cell = self.table.ranges::<Changer>();
-        Ok(Report::of(self.rows, cell.first, cell.second))
     }
 }
 

@@ -2,8 +2,8 @@ use Rattle.mdb_bus.specs.ActLists.{acts_of}
 use Rattle.mdb_follow.proofs.Following.{reported}
 use Rattle.mdb_follow.proofs.follower.Follower.report.Goals as goal
 
-pub returns-clause-report : goal.returns-clause-report
-returns-clause-report c events on =
+pub returns-in-None-clause-report : goal.returns-in-None-clause-report
+returns-in-None-clause-report c events on =
     reported c.transcripts_have_one_act_list.ensures c.ways_join.ensures c.args.self.now events
     c.of.result c.ranges-cell.result on (c.ranges-cell.ensures (acts_of on.pieces) on.table)
     c.of.ensures
