@@ -1,19 +1,20 @@
-use Rattle.std.proofs.Common.{◌≡◌, ◌↔◌, ◌⊎◌, ◌||◌, inl, inr, ℕ, Bool, true, false, List, Option, Some, None, IfSome, refl, subst}
+use Rattle.std.proofs.Common.{◌≡◌, ◌↔◌, ◌⊎◌, inl, inr, IsTrue, ℕ, Bool, true, false, List, Option, Some, None, IfSome, subst}
 use Rattle.std.specs.List.{Contains}
 use Rattle.mdb_bus.specs.declared.act.Act.{Act}
 use Rattle.mdb_bus.specs.declared.act.Act.TheVariants as acts
+use Rattle.mdb_bus.specs.Choice.{IsAck}
 use Rattle.mdb_cash.specs.declared.gains.Gains.{Gains}
 use Rattle.mdb_cash.specs.declared.kept.Reading.{Reading}
 use Rattle.mdb_cash.specs.declared.kept.Reading.TheVariants.{Plain, Restart}
-use Rattle.mdb_cash.specs.Pair.{IsMarkedStep, IsMove, IsStep, is_ack, is_reply}
+use Rattle.mdb_cash.specs.Pair.{IsMarkedStep, IsMove, IsReply, IsStep}
 
 -- what the laws of a pair say of one act
 pub record Laws {State : Type 0} (act : Act) (Step : Bool → Reading → State → State → Gains → Type 0) : Type 0 where
-  pub hearing : (one other : Bool) (reading : Reading) (before after : State) (gains : Gains) → is_ack act ≡ false → Step one reading before after gains → Step other reading before after gains
-  pub readings : (heard : Bool) (one other : Reading) (before after : State) (gains : Gains) → is_reply act ≡ false → Step heard one before after gains → Step heard other before after gains
+  pub hearing : (one other : Bool) (reading : Reading) (before after : State) (gains : Gains) → (IsAck act → ⊥) → Step one reading before after gains → Step other reading before after gains
+  pub readings : (heard : Bool) (one other : Reading) (before after : State) (gains : Gains) → (IsReply act → ⊥) → Step heard one before after gains → Step heard other before after gains
 
 -- where neither matters, each step is one of an act that was heard and is read as plain
-only_way : {State : Type 0} {Step : Bool → Reading → State → State → Gains → Type 0} {act : Act} → Laws act Step → is_ack act ≡ false → is_reply act ≡ false
+only_way : {State : Type 0} {Step : Bool → Reading → State → State → Gains → Type 0} {act : Act} → Laws act Step → (IsAck act → ⊥) → (IsReply act → ⊥)
     → (heard : Bool) (reading : Reading) (before after : State) (gains : Gains) → Step heard reading before after gains → Step true Plain before after gains
 only_way laws no_ack no_reply heard reading before after gains step =
     laws.readings true reading Plain before after gains no_reply (laws.hearing heard true reading before after gains no_ack step)
@@ -22,19 +23,24 @@ only_way laws no_ack no_reply heard reading before after gains step =
 two_ways : {State : Type 0} {Step : Bool → Reading → State → State → Gains → Type 0} (act : Act) → Laws act Step
     → (heard : Bool) (reading : Reading) (before after : State) (gains : Gains) → Step heard reading before after gains
     → Step true Plain before after gains ⊎ Step false Restart before after gains
-two_ways (acts.Ack command) laws true reading before after gains step = inl (laws.readings true reading Plain before after gains refl step)
-two_ways (acts.Ack command) laws false reading before after gains step = inr (laws.readings false reading Restart before after gains refl step)
-two_ways (acts.VmcAck command reply) laws true reading before after gains step = inl (laws.readings true reading Plain before after gains refl step)
-two_ways (acts.VmcAck command reply) laws false reading before after gains step = inr (laws.readings false reading Restart before after gains refl step)
-two_ways (acts.Reply command reply) laws heard Plain before after gains step = inl (laws.hearing heard true Plain before after gains refl step)
-two_ways (acts.Reply command reply) laws heard Restart before after gains step = inr (laws.hearing heard false Restart before after gains refl step)
-two_ways (acts.Ask command) laws heard reading before after gains step = inl (only_way laws refl refl heard reading before after gains step)
-two_ways (acts.Nak command) laws heard reading before after gains step = inl (only_way laws refl refl heard reading before after gains step)
-two_ways (acts.VmcNak command reply) laws heard reading before after gains step = inl (only_way laws refl refl heard reading before after gains step)
-two_ways (acts.VmcRet command reply) laws heard reading before after gains step = inl (only_way laws refl refl heard reading before after gains step)
-two_ways (acts.Repeat command reply) laws heard reading before after gains step = inl (only_way laws refl refl heard reading before after gains step)
-two_ways acts.Foreign laws heard reading before after gains step = inl (only_way laws refl refl heard reading before after gains step)
-two_ways (acts.Break length) laws heard reading before after gains step = inl (only_way laws refl refl heard reading before after gains step)
+two_ways (acts.Ack command) laws true reading before after gains step = inl (laws.readings true reading Plain before after gains (λ no. no) step)
+two_ways (acts.Ack command) laws false reading before after gains step = inr (laws.readings false reading Restart before after gains (λ no. no) step)
+two_ways (acts.VmcAck command reply) laws true reading before after gains step = inl (laws.readings true reading Plain before after gains (λ no. no) step)
+two_ways (acts.VmcAck command reply) laws false reading before after gains step = inr (laws.readings false reading Restart before after gains (λ no. no) step)
+two_ways (acts.Reply command reply) laws heard Plain before after gains step = inl (laws.hearing heard true Plain before after gains (λ no. no) step)
+two_ways (acts.Reply command reply) laws heard Restart before after gains step = inr (laws.hearing heard false Restart before after gains (λ no. no) step)
+two_ways (acts.Ask command) laws heard reading before after gains step = inl (only_way laws (λ no. no) (λ no. no) heard reading before after gains step)
+two_ways (acts.Nak command) laws heard reading before after gains step = inl (only_way laws (λ no. no) (λ no. no) heard reading before after gains step)
+two_ways (acts.VmcNak command reply) laws heard reading before after gains step = inl (only_way laws (λ no. no) (λ no. no) heard reading before after gains step)
+two_ways (acts.VmcRet command reply) laws heard reading before after gains step = inl (only_way laws (λ no. no) (λ no. no) heard reading before after gains step)
+two_ways (acts.Repeat command reply) laws heard reading before after gains step = inl (only_way laws (λ no. no) (λ no. no) heard reading before after gains step)
+two_ways acts.Foreign laws heard reading before after gains step = inl (only_way laws (λ no. no) (λ no. no) heard reading before after gains step)
+two_ways (acts.Break length) laws heard reading before after gains step = inl (only_way laws (λ no. no) (λ no. no) heard reading before after gains step)
+
+-- what a test denies
+pub untold : {is : Bool} {P : Type 0} → IsTrue is ↔ P → is ≡ false → P → ⊥
+untold {is = true} told denied p = absurd cc
+untold {is = false} told denied p = let is : IsTrue false = told.1 p in absurd cc
 
 -- a step the other way
 again : {State : Type 0} (code_of : State → ℕ) (One Other : State → State → Gains → Type 0) (code next : ℕ) (gains : Gains) (step : IsStep code_of One code next gains) → Other step.before step.after gains
@@ -64,12 +70,13 @@ both_moves code_of Step act laws code plain marked items plain_is marked_is list
 
 -- the moves of any other act
 pub one_move : {State : Type 0} (code_of : State → ℕ) (Step : Bool → Reading → State → State → Gains → Type 0) (act : Act) (laws : Laws act Step) (code : ℕ) (plain : Option (ℕ × Gains)) (items : List (ℕ × Gains))
-    → (is_ack act || is_reply act) ≡ false
+    → (IsAck act ⊎ IsReply act → ⊥)
     → ((next : ℕ) (gains : Gains) → (plain ≡ Some (next, gains)) ↔ IsMarkedStep code_of Step false code next gains)
     → ((move : ℕ × Gains) → Contains items move ↔ ((plain ≡ Some move) ⊎ (None ≡ Some move)))
     → (next : ℕ) (gains : Gains) → Contains items (next, gains) ↔ IsMove code_of Step code next gains
 one_move code_of Step act laws code plain items other plain_is lists next gains =
-    let kinds = neither (is_ack act) (is_reply act) other in (
+    let no_ack : IsAck act → ⊥ = λ ack. other (inl ack) in
+    let no_reply : IsReply act → ⊥ = λ reply. other (inr reply) in (
       λ among.
           elim ((lists (next, gains)).0 among) [
             | inl e ↦ (true, Plain, (plain_is next gains).0 e)
@@ -78,12 +85,8 @@ one_move code_of Step act laws code plain items other plain_is lists next gains 
       λ move.
           (lists (next, gains)).1
           (inl ((plain_is next gains).1 (again code_of (Step move.0 move.1) (Step true Plain) code next gains move.2
-          (only_way laws kinds.0 kinds.1 move.0 move.1 move.2.before move.2.after gains move.2.step)))),
+          (only_way laws no_ack no_reply move.0 move.1 move.2.before move.2.after gains move.2.step)))),
     )
-  where
-    neither : (a b : Bool) → (a || b) ≡ false → (a ≡ false) × (b ≡ false)
-    neither true b e = absurd cc
-    neither false b e = (refl, e)
 
 -- each move is small
 pub small_moves : (Small : ℕ → Gains → Type 0) (one other : Option (ℕ × Gains)) (items : List (ℕ × Gains))

@@ -107,7 +107,9 @@ AckStep facts changer.Poll heard before after gains =
 AckStep facts _ heard before after gains = Stays before after gains
 
 -- The changer replies with data, which is read as plain or as telling of a restart. What is new
--- counts for the changer.
+-- counts for the changer. Data answers SETUP, TUBE STATUS, POLL and IDENTIFICATION alone: the
+-- changer answers RESET, COIN TYPE and DISPENSE by ACK or NAK, so what it does behind those stands
+-- in `AckStep`.
 pub record ReplyStep (facts : Facts) (command : ChangerCommand) (reply : Reply)
     (reading : Reading) (before after : ChangerState) (gains : Gains) : Type 0 where
   pub read : MayBeRead reading (parts_of reply)
@@ -136,8 +138,7 @@ pub record VmcAckStep (facts : Facts) (command : ChangerCommand) (reply : Reply)
       else no_gains)
 
 -- A step of the changer and the controller, behind acts that leave these facts. Whether the act was
--- heard matters for an ACK alone, of either side, and the reading for a reply. NAK, RET, repeats,
--- foreign traffic and the acts of other devices change nothing.
+-- heard matters for an ACK alone, of either side, and the reading for a reply.
 abbrev pub ChangerStep : Facts → Act → Bool → Reading → ChangerState → ChangerState → Gains
     → Type 0
 ChangerStep facts (acts.Ask (commands.Changer command)) heard reading = AskStep facts command
@@ -149,4 +150,14 @@ ChangerStep facts (acts.VmcAck (commands.Changer command) reply) heard reading =
     VmcAckStep facts command reply heard
 ChangerStep facts (acts.Break length) heard reading =
     λ before after gains. (after ≡ power_on) × (gains ≡ no_gains)
-ChangerStep facts act heard reading = Stays
+-- NAK, RET, repeats and foreign traffic change nothing,
+ChangerStep facts (acts.Nak command) heard reading = Stays
+ChangerStep facts (acts.VmcNak command reply) heard reading = Stays
+ChangerStep facts (acts.VmcRet command reply) heard reading = Stays
+ChangerStep facts (acts.Repeat command reply) heard reading = Stays
+ChangerStep facts acts.Foreign heard reading = Stays
+-- nor do the acts of other devices
+ChangerStep facts (acts.Ask command) heard reading = Stays
+ChangerStep facts (acts.Ack command) heard reading = Stays
+ChangerStep facts (acts.Reply command reply) heard reading = Stays
+ChangerStep facts (acts.VmcAck command reply) heard reading = Stays

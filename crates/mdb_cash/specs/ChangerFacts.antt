@@ -50,6 +50,7 @@ abbrev pub tells_reset : Act → Bool
 tells_reset act = has_reset (parts_by act)
 
 -- whether a command that is taken is the changer's RESET, or a COIN TYPE with a type's bit in Y1-Y2
+-- (no data answers either, so it is ACK that takes them)
 abbrev pub resets : Option Command → Bool
 resets (Some (commands.Changer changer.Reset)) = true
 resets _ = false

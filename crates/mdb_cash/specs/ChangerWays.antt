@@ -1,29 +1,30 @@
 -- That it matters for ACKs alone whether they were heard, and for replies alone how they are read.
 -- This proves laws of the trait `Pair` for the changer.
-use Rattle.std.specs.Prelude.{◌≡◌, Bool, false}
+use Rattle.std.specs.Prelude.{Bool}
 use Rattle.mdb_msgs.specs.declared.command.Command.TheVariants.{Changer, Bill, Reader}
 use Rattle.mdb_bus.specs.declared.act.Act.{Act}
 use Rattle.mdb_bus.specs.declared.act.Act.TheVariants as acts
+use Rattle.mdb_bus.specs.Choice.{IsAck}
 use Rattle.mdb_cash.specs.declared.changer.state.ChangerState.{ChangerState}
 use Rattle.mdb_cash.specs.declared.gains.Gains.{Gains}
 use Rattle.mdb_cash.specs.declared.kept.Reading.{Reading}
 use Rattle.mdb_cash.specs.Changer.{ChangerStep}
 use Rattle.mdb_cash.specs.ChangerFacts.{Facts}
-use Rattle.mdb_cash.specs.Pair.{is_ack, is_reply}
+use Rattle.mdb_cash.specs.Pair.{IsReply}
 
 pub hearing : (facts : Facts) (act : Act) (one other : Bool) (reading : Reading)
-    (before after : ChangerState) (gains : Gains) → is_ack act ≡ false
+    (before after : ChangerState) (gains : Gains) → (IsAck act → ⊥)
     → ChangerStep facts act one reading before after gains
     → ChangerStep facts act other reading before after gains
 hearing facts (acts.Ask (Changer c)) one other reading before after gains kind step = step
 hearing facts (acts.Ask (Bill c)) one other reading before after gains kind step = step
 hearing facts (acts.Ask (Reader u c)) one other reading before after gains kind step = step
-hearing facts (acts.Ack c) one other reading before after gains kind step = absurd cc
+hearing facts (acts.Ack c) one other reading before after gains kind step = absurd (kind tt)
 hearing facts (acts.Nak c) one other reading before after gains kind step = step
 hearing facts (acts.Reply (Changer c) r) one other reading before after gains kind step = step
 hearing facts (acts.Reply (Bill c) r) one other reading before after gains kind step = step
 hearing facts (acts.Reply (Reader u c) r) one other reading before after gains kind step = step
-hearing facts (acts.VmcAck c r) one other reading before after gains kind step = absurd cc
+hearing facts (acts.VmcAck c r) one other reading before after gains kind step = absurd (kind tt)
 hearing facts (acts.VmcNak c r) one other reading before after gains kind step = step
 hearing facts (acts.VmcRet c r) one other reading before after gains kind step = step
 hearing facts (acts.Repeat c r) one other reading before after gains kind step = step
@@ -31,7 +32,7 @@ hearing facts acts.Foreign one other reading before after gains kind step = step
 hearing facts (acts.Break n) one other reading before after gains kind step = step
 
 pub readings : (facts : Facts) (act : Act) (heard : Bool) (one other : Reading)
-    (before after : ChangerState) (gains : Gains) → is_reply act ≡ false
+    (before after : ChangerState) (gains : Gains) → (IsReply act → ⊥)
     → ChangerStep facts act heard one before after gains
     → ChangerStep facts act heard other before after gains
 readings facts (acts.Ask (Changer c)) heard one other before after gains kind step = step
@@ -41,7 +42,7 @@ readings facts (acts.Ack (Changer c)) heard one other before after gains kind st
 readings facts (acts.Ack (Bill c)) heard one other before after gains kind step = step
 readings facts (acts.Ack (Reader u c)) heard one other before after gains kind step = step
 readings facts (acts.Nak c) heard one other before after gains kind step = step
-readings facts (acts.Reply c r) heard one other before after gains kind step = absurd cc
+readings facts (acts.Reply c r) heard one other before after gains kind step = absurd (kind tt)
 readings facts (acts.VmcAck (Changer c) r) heard one other before after gains kind step = step
 readings facts (acts.VmcAck (Bill c) r) heard one other before after gains kind step = step
 readings facts (acts.VmcAck (Reader u c) r) heard one other before after gains kind step = step

@@ -1,21 +1,31 @@
 -- A device and the controller, as states with codes and as steps. This serves the trait `Pair`.
 use Rattle.std.specs.Prelude.{◌≡◌, ℕ, Bool, true, false, not, Option, Some, None}
+use Rattle.mdb_msgs.specs.Commands.{device_of}
+use Rattle.mdb_msgs.specs.declared.command.Device.{Device}
 use Rattle.mdb_bus.specs.declared.act.Act.{Act}
 use Rattle.mdb_bus.specs.declared.act.Act.TheVariants as acts
 use Rattle.mdb_cash.specs.declared.gains.Gains.{Gains}
 use Rattle.mdb_cash.specs.declared.kept.Reading.{Reading}
 use Rattle.mdb_cash.specs.declared.kept.Reading.TheVariants.{Plain, Restart}
 
--- whether an act is an ACK, of the device or of the controller
-abbrev pub is_ack : Act → Bool
-is_ack (acts.Ack command) = true
-is_ack (acts.VmcAck command reply) = true
-is_ack _ = false
+-- a reply
+abbrev pub IsReply : Act → Type 0
+IsReply (acts.Reply command reply) = Unit {0}
+IsReply _ = ⊥
 
--- whether an act is a reply
-abbrev pub is_reply : Act → Bool
-is_reply (acts.Reply command reply) = true
-is_reply _ = false
+-- An act that a device has a part in: its command is to this device. Foreign traffic is of none,
+-- and a break of all.
+abbrev pub IsActOf : Device → Act → Type 0
+IsActOf device (acts.Ask command) = device_of command ≡ device
+IsActOf device (acts.Ack command) = device_of command ≡ device
+IsActOf device (acts.Nak command) = device_of command ≡ device
+IsActOf device (acts.Reply command reply) = device_of command ≡ device
+IsActOf device (acts.VmcAck command reply) = device_of command ≡ device
+IsActOf device (acts.VmcNak command reply) = device_of command ≡ device
+IsActOf device (acts.VmcRet command reply) = device_of command ≡ device
+IsActOf device (acts.Repeat command reply) = device_of command ≡ device
+IsActOf device acts.Foreign = ⊥
+IsActOf device (acts.Break length) = Unit {0}
 
 -- how a reply is read that has a mark, and that has none
 abbrev pub reading_of : Bool → Reading

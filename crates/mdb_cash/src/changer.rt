@@ -1,6 +1,7 @@
 //! The coin changer and the controller.
 
 ghost use Rattle.std.specs.Prelude.{◌≡◌, ◌<◌, List, [], ◌∷◌};
+ghost use Rattle.mdb_msgs.specs.declared.command.Device.TheVariants as devices;
 ghost use Rattle.mdb_bus.specs.declared.act.Act.{Act};
 ghost use Rattle.mdb_cash.specs.Changer as spec;
 ghost use Rattle.mdb_cash.specs.ChangerCodes as codes;
@@ -36,6 +37,8 @@ impl Pair for Changer {
     type Facts = ChangerFacts;
 
     type State = ChangerState;
+
+    ghost device = { devices.Changer };
 
     ghost code_of = { codes.code_of };
 

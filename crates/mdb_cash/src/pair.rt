@@ -1,12 +1,14 @@
 //! A device and the controller.
 
-ghost use Rattle.std.specs.Prelude.{◌≡◌, ◌<◌, ◌↔◌, ◌⊎◌, ℕ, Bool, true, false, not, ◌||◌, List, [], ◌∷◌, Contains, Some, IfSome};
-ghost use Rattle.std.specs.Bool.{OnFalse};
+ghost use Rattle.std.specs.Prelude.{◌≡◌, ◌<◌, ◌↔◌, ◌⊎◌, ℕ, Bool, true, false, not, IsTrue, List, [], ◌∷◌, Contains, Some, IfSome};
+ghost use Rattle.std.specs.Bool.{OnFalse, OnTrue};
+ghost use Rattle.mdb_msgs.specs.declared.command.Device.{Device};
 ghost use Rattle.mdb_bus.specs.declared.act.Act.{Act};
+ghost use Rattle.mdb_bus.specs.Choice.{IsAck};
 ghost use Rattle.mdb_cash.specs.declared.gains.Gains.{Gains};
 ghost use Rattle.mdb_cash.specs.declared.kept.Reading.{Reading};
 ghost use Rattle.mdb_cash.specs.Gains.{IsSmall, no_gains};
-ghost use Rattle.mdb_cash.specs.Pair.{IsMarkedStep, IsMove, IsOutcome, is_ack, is_reply};
+ghost use Rattle.mdb_cash.specs.Pair.{IsMarkedStep, IsMove, IsActOf, IsOutcome, IsReply};
 
 use super::gains::Gains;
 use super::kept::Reading;
@@ -28,6 +30,9 @@ pub trait Pair {
 
     /// The states.
     type State: Copy;
+
+    /// The device.
+    ghost device: { Device };
 
     /// The code of a state.
     ghost code_of: { Self.State → ℕ };
@@ -57,8 +62,10 @@ pub trait Pair {
             → stands_for facts.new (act.now ∷ acts) };
 
     /// Whether an act may change a state or a sum. One that is no matter of this pair leaves both.
+    /// No act of another device is.
     fn concerns(act: &Act) -> bool
-        ensures { OnFalse result ((acts : List Act) (heard : Bool) (reading : Reading)
+        ensures own { OnTrue result (IsActOf device act.now) }
+        ensures still { OnFalse result ((acts : List Act) (heard : Bool) (reading : Reading)
             (before after : Self.State) (gains : Gains)
             → may_step acts act.now heard reading before after gains
             ↔ (after ≡ before) × (gains ≡ no_gains)) };
@@ -96,13 +103,13 @@ pub trait Pair {
 
     /// Only for an ACK it matters whether it was heard.
     ghost hearing: { (acts : List Act) (act : Act) (one other : Bool) (reading : Reading)
-        (before after : Self.State) (gains : Gains) → is_ack act ≡ false
+        (before after : Self.State) (gains : Gains) → (IsAck act → ⊥)
         → may_step acts act one reading before after gains
         → may_step acts act other reading before after gains };
 
     /// Only for a reply it matters how it is read.
     ghost readings: { (acts : List Act) (act : Act) (heard : Bool) (one other : Reading)
-        (before after : Self.State) (gains : Gains) → is_reply act ≡ false
+        (before after : Self.State) (gains : Gains) → (IsReply act → ⊥)
         → may_step acts act heard one before after gains
         → may_step acts act heard other before after gains };
 
@@ -153,7 +160,7 @@ pub trait Pair {
 /// Whether an act may have two steps from one state: an ACK, which was heard or not, or a reply,
 /// which may be read in two ways.
 fn may_be_marked(act: &Act) -> bool
-    ensures { result ≡ (is_ack act.now || is_reply act.now) }
+    ensures { IsTrue result ↔ (IsAck act.now ⊎ IsReply act.now) }
 {
     matches!(act, Act::Ack(_) | Act::Reply(..) | Act::VmcAck(..))
 }

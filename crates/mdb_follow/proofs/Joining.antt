@@ -157,14 +157,14 @@ go_as (acts.Ack command) facts heard told reading before after gains same step =
     subst (λ h. ChangerStep facts (acts.Ack command) h reading before after gains) (same tt) step
 go_as (acts.VmcAck command reply) facts heard told reading before after gains same step =
     subst (λ h. ChangerStep facts (acts.VmcAck command reply) h reading before after gains) (same tt) step
-go_as (acts.Ask command) facts heard told reading before after gains same step = hearing facts (acts.Ask command) heard told reading before after gains refl step
-go_as (acts.Nak command) facts heard told reading before after gains same step = hearing facts (acts.Nak command) heard told reading before after gains refl step
-go_as (acts.Reply command reply) facts heard told reading before after gains same step = hearing facts (acts.Reply command reply) heard told reading before after gains refl step
-go_as (acts.VmcNak command reply) facts heard told reading before after gains same step = hearing facts (acts.VmcNak command reply) heard told reading before after gains refl step
-go_as (acts.VmcRet command reply) facts heard told reading before after gains same step = hearing facts (acts.VmcRet command reply) heard told reading before after gains refl step
-go_as (acts.Repeat command reply) facts heard told reading before after gains same step = hearing facts (acts.Repeat command reply) heard told reading before after gains refl step
-go_as acts.Foreign facts heard told reading before after gains same step = hearing facts acts.Foreign heard told reading before after gains refl step
-go_as (acts.Break length) facts heard told reading before after gains same step = hearing facts (acts.Break length) heard told reading before after gains refl step
+go_as (acts.Ask command) facts heard told reading before after gains same step = hearing facts (acts.Ask command) heard told reading before after gains (λ no. no) step
+go_as (acts.Nak command) facts heard told reading before after gains same step = hearing facts (acts.Nak command) heard told reading before after gains (λ no. no) step
+go_as (acts.Reply command reply) facts heard told reading before after gains same step = hearing facts (acts.Reply command reply) heard told reading before after gains (λ no. no) step
+go_as (acts.VmcNak command reply) facts heard told reading before after gains same step = hearing facts (acts.VmcNak command reply) heard told reading before after gains (λ no. no) step
+go_as (acts.VmcRet command reply) facts heard told reading before after gains same step = hearing facts (acts.VmcRet command reply) heard told reading before after gains (λ no. no) step
+go_as (acts.Repeat command reply) facts heard told reading before after gains same step = hearing facts (acts.Repeat command reply) heard told reading before after gains (λ no. no) step
+go_as acts.Foreign facts heard told reading before after gains same step = hearing facts acts.Foreign heard told reading before after gains (λ no. no) step
+go_as (acts.Break length) facts heard told reading before after gains same step = hearing facts (acts.Break length) heard told reading before after gains (λ no. no) step
 
 -- a way of the changer is one of all, under a loss that agrees
 way_of : (loss : Loss) (pieces : List Piece) (state : ChangerState) (sums : Sums) (way : ChangerArrives (acts_of pieces) state sums)

@@ -1,7 +1,8 @@
-use Rattle.std.proofs.Common.{◌≡◌, ◌<◌, ◌||◌, false, None}
+use Rattle.std.proofs.Common.{◌<◌, ◌⊎◌, None}
+use Rattle.mdb_bus.specs.Choice.{IsAck}
 use Rattle.mdb_cash.specs.Gains.{IsSmall}
-use Rattle.mdb_cash.specs.Pair.{is_ack, is_reply}
-use Rattle.mdb_cash.proofs.Ways.{Laws, both_moves, one_move, small_moves}
+use Rattle.mdb_cash.specs.Pair.{IsReply}
+use Rattle.mdb_cash.proofs.Ways.{Laws, both_moves, one_move, small_moves, untold}
 use Rattle.mdb_cash.proofs.pair.Pair.moves.Goals as goal
 
 pub returns-then-may_be_marked-clause-steps : goal.returns-then-may_be_marked-clause-steps
@@ -17,7 +18,8 @@ returns-then-may_be_marked-clause-below g c =
 
 pub returns-else-may_be_marked-clause-steps : goal.returns-else-may_be_marked-clause-steps
 returns-else-may_be_marked-clause-steps g c = λ acts stands.
-    let other : (is_ack c.args.act.now || is_reply c.args.act.now) ≡ false = rw (← c.may_be_marked.ensures) c.if-may_be_marked.false in
+    let other : IsAck c.args.act.now ⊎ IsReply c.args.act.now → ⊥ =
+    untold c.may_be_marked.ensures c.if-may_be_marked.false in
     let laws : Laws c.args.act.now (g.Self.Pair.may_step acts c.args.act.now) =
     record { hearing = λ one other. g.met.Self.Pair.hearing acts c.args.act.now one other; readings = λ heard one. g.met.Self.Pair.readings acts c.args.act.now heard one } in
     one_move g.Self.Pair.code_of (g.Self.Pair.may_step acts c.args.act.now) c.args.act.now laws c.args.code c.step-plain.result c.both-else-may_be_marked.result.items

@@ -9,7 +9,7 @@ pub returns-then-not-concerns-clause-table : goal.returns-then-not-concerns-clau
 returns-then-not-concerns-clause-table g c acts stands table =
     let p = g.P.Pair in
     table-same p.code_of p.may_step p.first c.args.act.now acts c.args.self.now
-    c.if-not-concerns.ensures table
+    c.if-not-concerns.ensures.still table
 
 pub returns-then-not-concerns-clause-within : goal.returns-then-not-concerns-clause-within
 returns-then-not-concerns-clause-within g c limit all =
