@@ -9,11 +9,10 @@ use Rattle.mdb_cash.specs.Gains.{IsSmall}
 use Rattle.mdb_follow.specs.declared.range.Range.{Range}
 use Rattle.mdb_follow.specs.declared.cell.Account.{Account}
 use Rattle.mdb_follow.specs.declared.cell.Cell.{Cell}
-use Rattle.mdb_follow.specs.Arrivals.{AccountSums, Sums, added}
+use Rattle.mdb_follow.specs.Cells.{joined_account, joined_cell, joined_range, moved_account, moved_cell, moved_range}
+use Rattle.mdb_follow.specs.Limits.{IsAccountWithin, IsCellWithin, IsRangeWithin}
 use Rattle.mdb_follow.specs.Ranges.{IsAccount, IsCell, IsRange}
-use Rattle.mdb_follow.specs.Ranges.{IsAccountWithin, IsCellWithin, IsRangeWithin}
-use Rattle.mdb_follow.specs.Ranges.{joined_account, joined_cell, joined_range}
-use Rattle.mdb_follow.specs.Ranges.{moved_account, moved_cell, moved_range}
+use Rattle.mdb_follow.specs.Sums.{AccountSums, Sums, added}
 
 -- sums of a kind, with the gains of a step
 pub record Moved (Kind : Sums → Type 0) (gains : Gains) (sums : Sums) : Type 0 where

@@ -21,14 +21,15 @@ use Rattle.mdb_follow.specs.declared.follower.Follower.{Follower}
 use Rattle.mdb_follow.specs.declared.offence.Offence.{Offence}
 use Rattle.mdb_follow.specs.declared.range.Range.{Range}
 use Rattle.mdb_follow.specs.declared.report.Report.{Report}
-use Rattle.mdb_follow.specs.Arrivals.{AccountSums, ArrivesAnywhere, Sums, added}
-use Rattle.mdb_follow.specs.Follower.{HasFollowed, HasStopped, StandsFor}
+use Rattle.mdb_follow.specs.Follower.{StandsFor}
+use Rattle.mdb_follow.specs.FollowerSteps.{HasFollowed, HasStopped}
+use Rattle.mdb_follow.specs.Ranges.{IsAccount, IsCell, IsRange}
+use Rattle.mdb_follow.specs.Sums.{AccountSums, Sums, added}
+use Rattle.mdb_follow.specs.Tables.{ArrivesAnywhere, IsTable}
 use Rattle.mdb_follow.specs.Offences.{HasOffence, IsOffence}
 use Rattle.mdb_follow.specs.Report.{IsReport, report_of}
 use Rattle.mdb_follow.specs.declared.cell.Account.{Account}
-use Rattle.mdb_follow.specs.Ranges.{IsAccount, IsCell, IsRange}
 use Rattle.mdb_follow.specs.Runs.{AllSums, IsReached, Run}
-use Rattle.mdb_follow.specs.Tables.{IsTable}
 use Rattle.mdb_follow.proofs.Joining.{ChangerArrives, changer_way}
 use Rattle.mdb_follow.proofs.Reaching.{Joins, run_of}
 

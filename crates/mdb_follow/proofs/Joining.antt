@@ -13,7 +13,8 @@ use Rattle.mdb_cash.specs.declared.gains.Gains.{Gains}
 use Rattle.mdb_cash.specs.declared.kept.Reading.{Reading}
 use Rattle.mdb_cash.specs.ChangerFacts.{Facts, facts_of}
 use Rattle.mdb_cash.specs.ChangerWays.{hearing}
-use Rattle.mdb_follow.specs.Arrivals.{Arrives, Sums}
+use Rattle.mdb_follow.specs.Arrivals.{Arrives}
+use Rattle.mdb_follow.specs.Sums.{Sums}
 use Rattle.mdb_follow.specs.Runs.{AllSums, IsWay, States}
 
 -- each way of all is a way of the changer

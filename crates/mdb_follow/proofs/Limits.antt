@@ -1,7 +1,7 @@
 -- How far from 0 the ends of a table are, by the rows of a recording.
 use Rattle.std.proofs.Common.{ℕ, ◌+◌, ◌*◌, ◌≤◌, ◌^◌, arith, List, get_or}
 use Rattle.mdb_follow.specs.declared.cell.Cell.{Cell}
-use Rattle.mdb_follow.specs.Tables.{IsTableWithin}
+use Rattle.mdb_follow.specs.Limits.{IsTableWithin}
 use Rattle.mdb_follow.proofs.Ends.{cell-within-weaker}
 
 pub table-within-weaker : (limit more : ℕ) (entries : List (ℕ × Cell)) → limit ≤ more

@@ -8,10 +8,12 @@ use Rattle.std.proofs.lemmas.Bool.Decides.{nat_tests}
 use Rattle.std.proofs.lemmas.List.{take_all, length-set, drop_all, append-nil}
 use Rattle.std.proofs.lemmas.Map.Steps.{length-le_from_distinct_below}
 use Rattle.mdb_follow.specs.declared.cell.Cell.{Cell}
-use Rattle.mdb_follow.specs.Arrivals.{Sums}
+use Rattle.mdb_follow.specs.Cells.{joined_cell}
+use Rattle.mdb_follow.specs.Limits.{IsCellWithin, IsTableWithin}
+use Rattle.mdb_follow.specs.Ranges.{IsCell}
+use Rattle.mdb_follow.specs.Sums.{Sums}
+use Rattle.mdb_follow.specs.Tables.{Bounds}
 use Rattle.mdb_follow.specs.Entries.{AreApart, AreBelow, HasAt, IsKeyed, Lacks, with_cell}
-use Rattle.mdb_follow.specs.Ranges.{IsCell, IsCellWithin, joined_cell}
-use Rattle.mdb_follow.specs.Tables.{Bounds, IsTableWithin}
 use Rattle.mdb_follow.proofs.Ends.{cell-joined, cell-joined-within, cell-same}
 
 pub contains-cases : {X : Type 0} (x : X) (xs : List X) (y : X) → Contains (x ∷ xs) y

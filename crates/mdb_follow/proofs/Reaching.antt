@@ -5,7 +5,7 @@ use Rattle.mdb_bus.specs.declared.act.Act.{Act}
 use Rattle.mdb_bus.specs.ActLists.{ArePieces, GoesOnFrom, IsActList, Piece, acts_of, with_act}
 use Rattle.mdb_bus.specs.Loss.{Loss, LossFits}
 use Rattle.mdb_cash.specs.declared.changer.state.ChangerState.{ChangerState}
-use Rattle.mdb_follow.specs.Arrivals.{Sums}
+use Rattle.mdb_follow.specs.Sums.{Sums}
 use Rattle.mdb_follow.specs.Runs.{IsReached, IsWay, Run}
 use Rattle.mdb_follow.proofs.Joining.{ChangerArrives, changer_way}
 

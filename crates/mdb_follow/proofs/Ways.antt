@@ -8,10 +8,12 @@ use Rattle.mdb_cash.specs.declared.kept.Reading.TheVariants.{Plain}
 use Rattle.mdb_cash.specs.Gains.{no_gains}
 use Rattle.mdb_cash.specs.Pair.{IsMove}
 use Rattle.mdb_follow.specs.declared.cell.Cell.{Cell}
-use Rattle.mdb_follow.specs.Arrivals.{Arrives, ArrivesAt, ArrivesAnywhere, Sums, added}
+use Rattle.mdb_follow.specs.Arrivals.{Arrives}
+use Rattle.mdb_follow.specs.Cells.{joined_cell}
+use Rattle.mdb_follow.specs.Ranges.{IsCell}
+use Rattle.mdb_follow.specs.Sums.{Sums, added}
+use Rattle.mdb_follow.specs.Tables.{ArrivesAnywhere, ArrivesAt, Bounds, IsTable}
 use Rattle.mdb_follow.specs.Entries.{joined_cells}
-use Rattle.mdb_follow.specs.Ranges.{IsCell, joined_cell}
-use Rattle.mdb_follow.specs.Tables.{Bounds, IsTable}
 use Rattle.mdb_follow.proofs.Ends.{cell-joined, cell-same}
 use Rattle.mdb_follow.proofs.Led.{Led}
 use Rattle.mdb_follow.proofs.Listed.{bounds-same, contains-cases, contains-here, contains-none, contains-there}

@@ -3,7 +3,7 @@ use Rattle.std.specs.Prelude.{◌≡◌, ◌==◌, ◌<◌, ℕ, List, [], ◌�
 use Rattle.std.specs.Prelude.{length, slice_index, slice_index_or}
 use Rattle.mdb_cash.specs.declared.gains.Gains.{Gains}
 use Rattle.mdb_follow.specs.declared.cell.Cell.{Cell}
-use Rattle.mdb_follow.specs.Ranges.{joined_cell, moved_cell}
+use Rattle.mdb_follow.specs.Cells.{joined_cell, moved_cell}
 
 -- no entry has this code
 abbrev pub Lacks : List (ℕ × Cell) → ℕ → Type 0

@@ -1,19 +1,14 @@
 -- What a follower stands for.
-use Rattle.std.specs.Prelude.{◌≡◌, ◌+◌, ℕ, List, ◌∷◌, length, Option, Some, None}
+use Rattle.std.specs.Prelude.{◌≡◌, ℕ, List, length, Option, None}
 use Rattle.mdb_words.specs.declared.event.Event.{Event}
-use Rattle.mdb_bus.specs.declared.act.Act.{Act}
-use Rattle.mdb_bus.specs.declared.fault.Rule.TheVariants as rule
 use Rattle.mdb_bus.specs.ActLists.{Piece, acts_of, events_of}
 use Rattle.mdb_bus.specs.Bus as bus
-use Rattle.mdb_cash.specs.declared.changer.state.ChangerState.{ChangerState}
 use Rattle.mdb_cash.specs.Changer.{ChangerStep, power_on}
 use Rattle.mdb_cash.specs.ChangerCodes.{code_of}
 use Rattle.mdb_cash.specs.ChangerFacts.{facts_of}
 use Rattle.mdb_cash.specs.ChangerValues.{facts_in}
 use Rattle.mdb_follow.specs.declared.follower.Follower.{Follower}
 use Rattle.mdb_follow.specs.declared.offence.Offence.{Offence}
-use Rattle.mdb_follow.specs.Arrivals.{Arrives, Sums}
-use Rattle.mdb_follow.specs.Senders.{sender_of}
 use Rattle.mdb_follow.specs.Tables.{IsTable}
 
 -- how many rows it has accepted, and the offence that it has met
@@ -34,27 +29,3 @@ pub record StandsFor (follower : Follower) (events : List Event) : Type 0 where
   pub facts : facts_in follower.facts ≡ facts_of (acts_of pieces)
   pub table : IsTable code_of (λ acts. ChangerStep (facts_of acts)) power_on (acts_of pieces)
       follower.table
-
--- The rest serves private functions. A follower has followed an act.
-pub record HasFollowed (old : Follower) (act : Act) (new : Follower) : Type 0 where
-  pub on_bus : new.bus ≡ old.bus
-  pub rows : new.rows ≡ old.rows + 1
-  pub going : new.offence ≡ old.offence
-  pub facts : (acts : List Act) → facts_in old.facts ≡ facts_of acts
-      → facts_in new.facts ≡ facts_of (act ∷ acts)
-  pub table : (acts : List Act) → facts_in old.facts ≡ facts_of acts
-      → IsTable code_of (λ acts. ChangerStep (facts_of acts)) power_on acts old.table
-      → IsTable code_of (λ acts. ChangerStep (facts_of acts)) power_on (act ∷ acts) new.table
-
--- A follower has stopped at an act that no way leads over.
-pub record HasStopped (old : Follower) (act : Act) (new : Follower)
-    (offence : Offence) : Type 0 where
-  pub number : offence.row ≡ old.rows + 1
-  pub rule : offence.rule ≡ rule.Changer
-  pub blame : offence.blame ≡ sender_of act
-  pub noted : new.offence ≡ Some offence
-  pub uncounted : new.rows ≡ old.rows
-  pub none : (acts : List Act) → facts_in old.facts ≡ facts_of acts
-      → IsTable code_of (λ acts. ChangerStep (facts_of acts)) power_on acts old.table
-      → (state : ChangerState) (sums : Sums)
-      → Arrives (λ acts. ChangerStep (facts_of acts)) power_on (act ∷ acts) state sums → ⊥

@@ -1,9 +1,13 @@
 pub mod Arrivals
+pub mod Cells
 pub mod Entries
 pub mod Follower
+pub mod FollowerSteps
+pub mod Limits
 pub mod Offences
 pub mod Ranges
 pub mod Report
 pub mod Runs
 pub mod Senders
+pub mod Sums
 pub mod Tables

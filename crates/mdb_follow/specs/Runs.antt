@@ -10,7 +10,7 @@ use Rattle.mdb_cash.specs.declared.gains.Gains.{Gains}
 use Rattle.mdb_cash.specs.declared.kept.Reading.{Reading}
 use Rattle.mdb_cash.specs.Changer.{ChangerStep, power_on}
 use Rattle.mdb_cash.specs.ChangerFacts.{facts_of}
-use Rattle.mdb_follow.specs.Arrivals.{Sums, added, no_sums}
+use Rattle.mdb_follow.specs.Sums.{Sums, added, no_sums}
 
 -- The states of each device and the controller's dealings with it.
 pub record States : Type 0 where

@@ -1,11 +1,25 @@
--- What a table says of the ways through acts.
-use Rattle.std.specs.Prelude.{ℕ, Bool, List, Contains, All}
+-- What a table says of the ways through acts. It has states by their codes.
+use Rattle.std.specs.Prelude.{◌≡◌, ℕ, Bool, List, Contains}
 use Rattle.mdb_bus.specs.declared.act.Act.{Act}
 use Rattle.mdb_cash.specs.declared.gains.Gains.{Gains}
 use Rattle.mdb_cash.specs.declared.kept.Reading.{Reading}
 use Rattle.mdb_follow.specs.declared.cell.Cell.{Cell}
-use Rattle.mdb_follow.specs.Arrivals.{Arrives, ArrivesAt, Sums}
-use Rattle.mdb_follow.specs.Ranges.{IsCell, IsCellWithin}
+use Rattle.mdb_follow.specs.Arrivals.{Arrives}
+use Rattle.mdb_follow.specs.Ranges.{IsCell}
+use Rattle.mdb_follow.specs.Sums.{Sums}
+
+-- some state that has a code
+pub record ArrivesAt {State : Type 0} (code_of : State → ℕ) (Arrived : State → Sums → Type 0)
+    (code : ℕ) (sums : Sums) : Type 0 where
+  pub state : State
+  pub is : code_of state ≡ code
+  pub way : Arrived state sums
+
+-- any state
+pub record ArrivesAnywhere {State : Type 0} (Arrived : State → Sums → Type 0)
+    (sums : Sums) : Type 0 where
+  pub state : State
+  pub way : Arrived state sums
 
 -- The cell of each code has the exact ranges of the sums that come with the code, and a code has a
 -- cell where some sums come with it.
@@ -22,7 +36,3 @@ pub record IsTable {State : Type 0} (code_of : State → ℕ)
     (acts : List Act) (entries : List (ℕ × Cell)) : Type 0 where
   pub some : (state : State) × (sums : Sums) × Arrives Step first acts state sums
   pub bounds : Bounds (ArrivesAt code_of (Arrives Step first acts)) entries
-
--- all ends of a table are at most so far from 0
-abbrev pub IsTableWithin : ℕ → List (ℕ × Cell) → Type 0
-IsTableWithin limit entries = All (λ entry. IsCellWithin limit entry.1) entries

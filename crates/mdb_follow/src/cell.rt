@@ -2,8 +2,8 @@
 
 ghost use Rattle.std.specs.Prelude.{◌≡◌, ◌<◌, ◌^◌};
 ghost use Rattle.mdb_cash.specs.Gains.{IsSmall};
-ghost use Rattle.mdb_follow.specs.Ranges.{IsAccountWithin, joined_account, moved_account};
-ghost use Rattle.mdb_follow.specs.Ranges.{IsCellWithin, joined_cell, moved_cell};
+ghost use Rattle.mdb_follow.specs.Cells.{joined_account, joined_cell, moved_account, moved_cell};
+ghost use Rattle.mdb_follow.specs.Limits.{IsAccountWithin, IsCellWithin};
 
 use crate::Range;
 use mdb_cash::Gains;
@@ -66,7 +66,7 @@ pub struct Cell {
 
 impl Cell {
     /// The cell with the gains of a step added.
-    #[tactic(auto, unfolding(crate::specs::Ranges::moved_cell))]
+    #[tactic(auto, unfolding(crate::specs::Cells::moved_cell))]
     pub(crate) fn moved(&self, gains: &Gains) -> Cell
         requires within { IsCellWithin (2 ^ 62) self.now }
         requires small { IsSmall gains.now }
@@ -79,7 +79,7 @@ impl Cell {
     }
 
     /// The cell of sums that are in one of two.
-    #[tactic(auto, unfolding(crate::specs::Ranges::joined_cell))]
+    #[tactic(auto, unfolding(crate::specs::Cells::joined_cell))]
     pub(crate) fn joined(&self, other: &Cell) -> Cell
         ensures { result ≡ joined_cell self.now other.now }
     {

@@ -5,7 +5,7 @@ ghost use Rattle.mdb_cash.specs.Gains.{IsSmall};
 ghost use Rattle.mdb_follow.specs.declared.cell.Cell.{Cell};
 ghost use Rattle.mdb_follow.specs.Entries.{HasAt, IsKeyed, IsPlaced};
 ghost use Rattle.mdb_follow.specs.Entries.{joined_cells, with_cell, with_moves};
-ghost use Rattle.mdb_follow.specs.Ranges.{IsCellWithin};
+ghost use Rattle.mdb_follow.specs.Limits.{IsCellWithin};
 
 use crate::Cell;
 use arrayvec::ArrayVec;

@@ -5,9 +5,11 @@ ghost use Rattle.std.specs.Bool.{OnFalse, OnTrue};
 ghost use Rattle.std.specs.Option.{ForSome};
 ghost use Rattle.mdb_words.specs.declared.event.Event.{Event};
 ghost use Rattle.mdb_bus.specs.declared.act.Act.{Act};
-ghost use Rattle.mdb_follow.specs.Arrivals.{Arrives, Sums};
+ghost use Rattle.mdb_follow.specs.Arrivals.{Arrives};
+ghost use Rattle.mdb_follow.specs.Limits.{IsTableWithin};
+ghost use Rattle.mdb_follow.specs.Sums.{Sums};
+ghost use Rattle.mdb_follow.specs.Tables.{IsTable};
 ghost use Rattle.mdb_follow.specs.Senders as spec;
-ghost use Rattle.mdb_follow.specs.Tables.{IsTable, IsTableWithin};
 
 use crate::{Offence, Report, Table, laws};
 use mdb_bus::{Act, Blame, Bus, LinkFault, Rule, laws as bus_laws};
@@ -36,7 +38,8 @@ impl Follower {
     ghost use Rattle.mdb_bus.specs.Bus.{GoesOn};
     ghost use Rattle.mdb_bus.specs.ActLists.{Piece};
     ghost use Rattle.mdb_follow.specs.Runs.{IsReached};
-    ghost use Rattle.mdb_follow.specs.Follower.{HasFollowed, HasStopped, StandsFor, offence_of, rows_of};
+    ghost use Rattle.mdb_follow.specs.Follower.{StandsFor, offence_of, rows_of};
+    ghost use Rattle.mdb_follow.specs.FollowerSteps.{HasFollowed, HasStopped};
     ghost use Rattle.mdb_follow.specs.Offences.{HasOffence, IsOffence};
     ghost use Rattle.mdb_follow.specs.Report.{IsReport};
 

@@ -3,10 +3,12 @@
 ghost use Rattle.std.specs.Prelude.{◌≡◌, ◌<◌, ◌+◌, ◌^◌, ℕ, List, [], ◌∷◌, All};
 ghost use Rattle.std.specs.Bool.{OnFalse, OnTrue};
 ghost use Rattle.mdb_bus.specs.declared.act.Act.{Act};
-ghost use Rattle.mdb_follow.specs.Arrivals.{Arrives, ArrivesAnywhere, ArrivesAt, Sums};
-ghost use Rattle.mdb_follow.specs.Entries.{AreBelow};
+ghost use Rattle.mdb_follow.specs.Arrivals.{Arrives};
+ghost use Rattle.mdb_follow.specs.Limits.{IsTableWithin};
 ghost use Rattle.mdb_follow.specs.Ranges.{IsCell};
-ghost use Rattle.mdb_follow.specs.Tables.{Bounds, IsTable, IsTableWithin};
+ghost use Rattle.mdb_follow.specs.Sums.{Sums};
+ghost use Rattle.mdb_follow.specs.Tables.{ArrivesAnywhere, ArrivesAt, Bounds, IsTable};
+ghost use Rattle.mdb_follow.specs.Entries.{AreBelow};
 
 use crate::Cell;
 use crate::entries::{add_moves, join_all};

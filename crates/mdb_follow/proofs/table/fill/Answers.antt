@@ -2,8 +2,8 @@ use Rattle.std.proofs.Common.{rules, subst}
 use Rattle.std.proofs.lemmas.List.{take_all}
 use Rattle.std.proofs.lemmas.List.Elements.{Contains-get_or}
 use Rattle.mdb_cash.specs.Pair.{IsMove}
-use Rattle.mdb_follow.specs.Arrivals.{Arrives, ArrivesAt}
-use Rattle.mdb_follow.specs.Tables.{Bounds}
+use Rattle.mdb_follow.specs.Arrivals.{Arrives}
+use Rattle.mdb_follow.specs.Tables.{ArrivesAt, Bounds}
 use Rattle.mdb_follow.proofs.Led.{Led, led-read, moves-below, moves-small, within-read}
 use Rattle.mdb_follow.proofs.Ways.{table-led}
 use Rattle.mdb_follow.proofs.table.fill.Goals as goal
