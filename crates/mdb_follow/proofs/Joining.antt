@@ -15,7 +15,7 @@ use Rattle.mdb_cash.specs.ChangerFacts.{Facts, facts_of}
 use Rattle.mdb_cash.specs.ChangerWays.{hearing}
 use Rattle.mdb_follow.specs.Arrivals.{Arrives}
 use Rattle.mdb_follow.specs.Sums.{Sums}
-use Rattle.mdb_follow.specs.Runs.{AllSums, IsWay, States}
+use Rattle.mdb_follow.specs.Runs.{AllSums, HearSameAcks, IsWay, States}
 
 -- each way of all is a way of the changer
 pub changer_way : (loss : Loss) (pieces : List Piece) (states : States) (sums : AllSums) → IsWay loss pieces states sums
@@ -211,3 +211,45 @@ joined law pieces state sums are way =
       way_of found.0 pieces state sums way
           (agrees (chosen pieces state sums way) found.0 pieces state sums way are (λ before less. refl) found.2),
     )
+
+-- where the same ACKs were heard, a way under one loss is one under the other
+heard_alike : (one other : Loss) (pieces : List Piece) (states : States) (sums : AllSums) → HearSameAcks one other pieces → IsWay one pieces states sums → IsWay other pieces states sums
+heard_alike one other [] states sums same way = way
+heard_alike one other (Whole act events ∷ pieces) states sums same way =
+    let told = heard_told other act (length (events_of pieces)) (length events) in
+    record {
+      heard = heard_in other act (length (events_of pieces)) (length events);
+      reading = way.reading;
+      before = way.before;
+      sums_before = way.sums_before;
+      way = heard_alike one other pieces way.before way.sums_before same.1 way.way;
+      as_lost = told;
+      go = record {
+        changer = record {
+          gains = way.go.changer.gains;
+          step = go_as act (facts_of (acts_of pieces)) way.heard
+              (heard_in other act (length (events_of pieces)) (length events)) way.reading way.before.changer states.changer way.go.changer.gains
+              (λ ack. as_heard (heard_in other act (length (events_of pieces)) (length events)) way.heard
+              (IsHeard other act (length (events_of pieces)) (length events)) told
+              ((λ h. way.as_lost.1 ((same.0 ack).1 h)), (λ e. (same.0 ack).0 (way.as_lost.0 e))))
+              way.go.changer.step;
+          adds = way.go.changer.adds;
+        };
+      };
+    }
+heard_alike one other (AskTail bytes events ∷ pieces) states sums same way = heard_alike one other pieces states sums same way
+heard_alike one other (ReplyTail command bytes events ∷ pieces) states sums same way = heard_alike one other pieces states sums same way
+heard_alike one other (RepeatTail command reply words events ∷ pieces) states sums same way = heard_alike one other pieces states sums same way
+
+same_back : (one other : Loss) (pieces : List Piece) → HearSameAcks one other pieces → HearSameAcks other one pieces
+same_back one other [] same = tt
+same_back one other (Whole act events ∷ pieces) same = ((λ ack. ((same.0 ack).1, (same.0 ack).0)), same_back one other pieces same.1)
+same_back one other (AskTail bytes events ∷ pieces) same = same_back one other pieces same
+same_back one other (ReplyTail command bytes events ∷ pieces) same = same_back one other pieces same
+same_back one other (RepeatTail command reply words events ∷ pieces) same = same_back one other pieces same
+
+pub ways_alike : (one other : Loss) (pieces : List Piece) → HearSameAcks one other pieces → (states : States) (sums : AllSums) → IsWay one pieces states sums ↔ IsWay other pieces states sums
+ways_alike one other pieces same states sums = (
+  heard_alike one other pieces states sums same,
+  heard_alike other one pieces states sums (same_back one other pieces same),
+)

@@ -4,6 +4,7 @@ use Rattle.std.specs.Prelude.{◌≡◌, ◌↔◌, ℕ, Bool, true, List, [], �
 use Rattle.mdb_words.specs.declared.event.Event.{Event}
 use Rattle.mdb_bus.specs.declared.act.Act.{Act}
 use Rattle.mdb_bus.specs.ActLists.{Piece, Whole, IsActList, acts_of, events_of}
+use Rattle.mdb_bus.specs.Choice.{IsAck}
 use Rattle.mdb_bus.specs.Loss.{IsHeard, Loss, LossFits}
 use Rattle.mdb_cash.specs.declared.changer.state.ChangerState.{ChangerState}
 use Rattle.mdb_cash.specs.declared.gains.Gains.{Gains}
@@ -59,6 +60,15 @@ IsWay loss [] states sums = (states ≡ at_power_on) × (sums ≡ nothing_yet)
 IsWay loss (Whole act events ∷ pieces) states sums =
     GoesOnBy loss pieces act (length events) (IsWay loss pieces) states sums
 IsWay loss (piece ∷ pieces) states sums = IsWay loss pieces states sums
+
+-- Under two losses the same ACKs of the pieces, of devices and of the controller, were heard.
+abbrev pub HearSameAcks : Loss → Loss → List Piece → Type 0
+HearSameAcks one other [] = Unit {0}
+HearSameAcks one other (Whole act events ∷ pieces) =
+    (IsAck act → IsHeard one act (length (events_of pieces)) (length events)
+    ↔ IsHeard other act (length (events_of pieces)) (length events))
+    × HearSameAcks one other pieces
+HearSameAcks one other (piece ∷ pieces) = HearSameAcks one other pieces
 
 -- a run of a transcript, and what the accounts come to in it
 pub record Run (events : List Event) (sums : AllSums) : Type 0 where

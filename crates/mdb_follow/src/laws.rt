@@ -1,6 +1,6 @@
 //! What follows from the definitions of runs alone.
 
-ghost use Rattle.std.specs.Prelude.{◌≡◌, List, [], ◌∷◌, ◌++◌};
+ghost use Rattle.std.specs.Prelude.{◌≡◌, ◌↔◌, List, [], ◌∷◌, ◌++◌};
 ghost use Rattle.mdb_words.specs.declared.event.Event.{Event};
 ghost use Rattle.mdb_bus.specs.ActLists.{ArePieces, Piece, acts_of};
 ghost use Rattle.mdb_bus.specs.Loss.{Loss, LossFits};
@@ -15,7 +15,7 @@ ghost use Rattle.mdb_follow.specs.declared.offence.Offence.{Offence};
 ghost use Rattle.mdb_follow.specs.declared.report.Report.{Report};
 ghost use Rattle.mdb_follow.specs.Offences.{IsOffence};
 ghost use Rattle.mdb_follow.specs.Report.{IsReport};
-ghost use Rattle.mdb_follow.specs.Runs.{AllSums, IsReached, IsWay, States};
+ghost use Rattle.mdb_follow.specs.Runs.{AllSums, HearSameAcks, IsReached, IsWay, States};
 
 use mdb_bus::laws;
 
@@ -36,6 +36,14 @@ pub fn ways_join()
 {
     laws::acks_may_be_heard_or_not();
 }
+
+/// Only the loss of an ACK, a device's or the controller's, can change a state or a sum: where the
+/// same ACKs were heard, whatever else was lost, the same ways lead through the pieces.
+pub fn only_the_loss_of_an_ack_matters()
+    ensures { (one other : Loss) (pieces : List Piece) → HearSameAcks one other pieces
+        → (states : States) (sums : AllSums)
+        → IsWay one pieces states sums ↔ IsWay other pieces states sums }
+{}
 
 /// Where rows are reached, the rows before the last are too.
 pub fn reached_rows_stay_reached_without_the_last()
