@@ -1,3 +1,4 @@
+pub mod FirstBytes
 pub mod Addresses
 pub mod Contents
 pub mod OneReader

@@ -8,6 +8,7 @@ mod command_reading;
 mod command_tests;
 mod command_writing;
 mod fault;
+mod first_needs;
 pub mod laws;
 mod needs;
 mod reply;

@@ -3,6 +3,8 @@
 ghost use Rattle.std.specs.Prelude.{◌≡◌, ◌<◌, ◌≤◌, length};
 ghost use Rattle.mdb_msgs.specs.Needs.{bill_need, changer_need, needed, reader_need};
 
+use crate::first_needs::FIRST;
+
 /// What the first bytes of a block of the controller tell of the rest of it.
 #[derive(Clone, Copy, PartialEq, Eq, Debug)]
 pub enum Need {
@@ -19,7 +21,20 @@ pub enum Need {
 /// What a block that begins with these bytes needs. At most the first two bytes count (MDB/ICP 4.3,
 /// commands of the coin changer, the bill validator and the cashless device, as far as this profile
 /// goes).
+#[inline(always)]
 pub fn need_of(prefix: &[u8]) -> Need
+    requires { 0 < length prefix.now }
+    ensures { result ≡ needed prefix.now }
+{
+    let told = FIRST[usize::from(prefix[0])];
+    match told {
+        Need::More => need_by_second(prefix),
+        _ => told,
+    }
+}
+
+/// What a block needs whose first byte leaves it to the second.
+fn need_by_second(prefix: &[u8]) -> Need
     requires { 0 < length prefix.now }
     ensures { result ≡ needed prefix.now }
 {

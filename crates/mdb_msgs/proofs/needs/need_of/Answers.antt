@@ -1,15 +1,9 @@
-use Rattle.std.proofs.Common.{◌≡◌, slice_index, slice_get, sym, ap, ◌∙◌, arith}
-use Rattle.std.proofs.lemmas.Grind.{common_steps}
-use Rattle.mdb_msgs.specs.Needs.{need}
-use Rattle.mdb_msgs.proofs.Addresses.{need_of_reader, need_of_second_reader}
+use Rattle.std.proofs.Common.{arith, sym, slice_index, slice_get}
+use Rattle.mdb_msgs.proofs.FirstBytes.{first_at, stays}
 use Rattle.mdb_msgs.proofs.needs.need_of.Goals as goal
 
-pub returns-in-16-to-23 : goal.returns-in-16-to-23
-returns-in-16-to-23 c =
-    let second : c.copied-second.result ≡ slice_get c.args.prefix.now 1 = grind (arith, common_steps) in
-    c.reader_need.ensures ∙ sym (need_of_reader (slice_index c.args.prefix.now 0) c.copied-second.result (omega arith) (omega arith)) ∙ ap (need (slice_index c.args.prefix.now 0)) second
-
-pub returns-in-96-to-103 : goal.returns-in-96-to-103
-returns-in-96-to-103 c =
-    let second : c.copied-second.result ≡ slice_get c.args.prefix.now 1 = grind (arith, common_steps) in
-    c.reader_need-in-96-to-103.ensures ∙ sym (need_of_second_reader (slice_index c.args.prefix.now 0) c.copied-second.result (omega arith) (omega arith)) ∙ ap (need (slice_index c.args.prefix.now 0)) second
+pub returns-in_default : goal.returns-in_default
+returns-in_default c =
+    let first = slice_index c.args.prefix.now 0 in
+    let told = first_at c.from.result first c.from.ensures (omega (arith, c.type_inv.prefix 0)) in
+    sym (stays first (slice_get c.args.prefix.now 1) _ told c.in_default.not-More)

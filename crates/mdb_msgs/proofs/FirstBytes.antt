@@ -1,0 +1,58 @@
+-- The table of what first bytes tell: each entry is what the first byte alone tells.
+use Rattle.std.proofs.Common.{◌≡◌, ◌≢◌, ℕ, zero, suc, ◌+◌, ◌<◌, Bool, true, ◌&&◌, nat_eq, get_or, refl, ap, ◌∙◌, sym, Option, None, inl, inr, arith}
+use Rattle.std.proofs.lemmas.Bool.{cases_eq}
+use Rattle.std.proofs.lemmas.Bool.Decides.{nat_tests}
+use Rattle.std.proofs.lemmas.Grind.{common_steps}
+use Rattle.mdb_msgs.specs.declared.needs.Need.{Need}
+use Rattle.mdb_msgs.specs.declared.needs.Need.TheVariants.{More, Exactly, Foreign, Outside}
+use Rattle.mdb_msgs.specs.declared.first_needs.TheConstants.{FIRST}
+use Rattle.mdb_msgs.specs.Needs.{need}
+
+-- a number for each need, by which needs are compared
+code : Need → ℕ
+code More = 0
+code Foreign = 1
+code Outside = 2
+code (Exactly n) = n + 3
+
+same_code : (one other : Need) → code one ≡ code other → one ≡ other
+unfolding code
+same_code More More h = refl
+same_code Foreign Foreign h = refl
+same_code Outside Outside h = refl
+same_code (Exactly n) (Exactly m) h = let same : n ≡ m = omega arith in ap Exactly same
+same_code More Foreign h = absurd (omega arith)
+same_code More Outside h = absurd (omega arith)
+same_code More (Exactly m) h = absurd (omega arith)
+same_code Foreign More h = absurd (omega arith)
+same_code Foreign Outside h = absurd (omega arith)
+same_code Foreign (Exactly m) h = absurd (omega arith)
+same_code Outside More h = absurd (omega arith)
+same_code Outside Foreign h = absurd (omega arith)
+same_code Outside (Exactly m) h = absurd (omega arith)
+same_code (Exactly n) More h = absurd (omega arith)
+same_code (Exactly n) Foreign h = absurd (omega arith)
+same_code (Exactly n) Outside h = absurd (omega arith)
+
+-- two functions agree below n
+agree_below : (ℕ → Need) → (ℕ → Need) → ℕ → Bool
+agree_below f g zero = true
+agree_below f g (suc n) = nat_eq (code (f n)) (code (g n)) && agree_below f g n
+
+both_of : (x y : ℕ) (rest : Bool) → (nat_eq x y && rest) ≡ true → (x ≡ y) × (rest ≡ true)
+both_of x y rest h = grind (arith, nat_tests)
+
+agree_at : (f g : ℕ → Need) (n : ℕ) → agree_below f g n ≡ true → (b : ℕ) → b < n → f b ≡ g b
+unfolding agree_below
+agree_at f g zero h b lt = absurd (omega arith)
+agree_at f g (suc n) h b lt =
+    let both = both_of (code (f n)) (code (g n)) (agree_below f g n) h in
+    elim (cases_eq b n) [ inl same ↦ rw same (same_code (f n) (g n) both.0) | inr other ↦ agree_at f g n both.1 b (omega arith) ]
+
+pub first_at : (i c : ℕ) → i ≡ c → c < 256 → get_or FIRST i More ≡ need c None
+unfolding agree_below code
+first_at i c is byte = rw is (agree_at (λ k. get_or FIRST k More) (λ k. need k None) 256 refl c byte)
+
+-- what the first byte tells of its own, the second leaves so
+pub stays : (first : ℕ) (second : Option ℕ) (told : Need) → told ≡ need first None → told ≢ More → need first second ≡ told
+stays first second told is other = grind (arith, common_steps)
