@@ -1,5 +1,5 @@
 -- The bus behind a row: what it stands for, and why a row is refused.
-use Rattle.std.proofs.Common.{refl, ap, sym, subst, sum, ◌∙◌, ◌≡◌, ◌%◌, ℕ, List, [], ◌∷◌, ◌++◌, Option, inl, inr}
+use Rattle.std.proofs.Common.{refl, ap, sym, subst, sum, ◌∙◌, ◌≡◌, ◌%◌, ℕ, List, [], ◌∷◌, ◌++◌, Option, Result, Ok, Err, IfOk, IfErr, OnErr, inl, inr}
 use Rattle.mdb_words.specs.declared.event.Event.{Event}
 use Rattle.mdb_words.specs.declared.event.Event.TheVariants.{Word, Break}
 use Rattle.mdb_words.specs.declared.word.Line.{Line}
@@ -12,17 +12,20 @@ use Rattle.mdb_msgs.specs.Commands.{Spells, command_bytes}
 use Rattle.mdb_bus.specs.declared.act.Act.{Act}
 use Rattle.mdb_bus.specs.declared.bus.Bus.{Bus}
 use Rattle.mdb_bus.specs.declared.fault.Blame.{Blame}
+use Rattle.mdb_bus.specs.declared.fault.LinkFault.{LinkFault}
 use Rattle.mdb_bus.specs.declared.fault.Rule.{Rule}
 use Rattle.mdb_bus.specs.declared.levels.Levels.{Levels}
 use Rattle.mdb_bus.specs.Step.{Step}
 use Rattle.mdb_bus.specs.Step as step
-use Rattle.mdb_bus.specs.ActLists.{Piece, Position, Quiet, InAsk, Asked, InReply, Replied, Returned, InRepeat, InForeign, IsRepeatFront, acts_of, with_act, events_of, last_of, levels_of, position_of}
+use Rattle.mdb_bus.specs.ActLists.{ArePieces, HasActList, Piece, Position, Quiet, InAsk, Asked, InReply, Replied, Returned, InRepeat, InForeign, IsRepeatFront, acts_of, with_act, events_of, last_of, levels_of, position_of}
 use Rattle.mdb_bus.specs.Bus.{GoesOn, HasGone, StandsFor, position_at}
-use Rattle.mdb_bus.specs.LinkFaults.{IsFirstBroken, IsLinkFault, Situation, asked_device, blame_of, situation_of}
-use Rattle.mdb_bus.specs.Steps.{IsAt, IsSound, Leads, WordLeads, act_after, asked_behind, asked_with, levels_behind, levels_with, pieces_after, position_after}
+use Rattle.mdb_bus.specs.LinkFaults.{IsFirstBroken, IsLinkFault, RowBreaks, Situation, asked_device, blame_of, situation_of}
+use Rattle.mdb_bus.specs.Steps.{IsAt, IsEnded, IsJudged, IsReadAt, IsSound, Leads, WordLeads, act_after, asked_behind, asked_with, levels_behind, levels_with, pieces_after, position_after}
 use Rattle.mdb_bus.specs.declared.judged.Judged.{Judged}
+use Rattle.mdb_bus.specs.declared.judged.Judged.TheVariants as judged
+use Rattle.mdb_msgs.specs.declared.reply.Reply.{Reply}
 use Rattle.mdb_bus.specs.Step.{EachStep, SomeStep}
-use Rattle.mdb_bus.proofs.EachSteps.{some_each}
+use Rattle.mdb_bus.proofs.EachSteps.{leads_of, some_each}
 use Rattle.mdb_bus.proofs.Forward.{forward, sound}
 use Rattle.mdb_bus.proofs.Rows.{last_push}
 
@@ -168,14 +171,32 @@ stands_by old new pieces row next act stands leads gone =
         ∙ ap (λ a. with_act a (acts_of pieces)) (sym ended)
 
 pub stands_on : (old new : Bus) (pieces : List Piece) (row : Event) (found : Judged) (act : Option Act) → StandsFor old pieces
-    → (IsSound (position_at old.place) → SomeStep found (Leads (situation_at old) row))
+    → (found ≡ judged.Reply → ⊥)
+    → (IsSound (position_at old.place) → IsJudged (situation_at old) row (Ok found))
     → EachStep found (λ next. IsAt (position_at old.place) next → HasGone old next row new act) → GoesOn new pieces row act
-stands_on old new pieces row found act stands judged gone =
+stands_on old new pieces row found act stands other judged gone =
     let Right : Position → Type 0 = λ p. IsSound p in
     let both = some_each found (Leads (situation_at old) row)
     (λ next. IsAt (position_at old.place) next → HasGone old next row new act)
-    (judged (subst Right stands.position (sound pieces stands.in_order))) gone in
+    (leads_of found (situation_at old) row other (judged (subst Right stands.position (sound pieces stands.in_order)))) gone in
     stands_by old new pieces row both.0 act stands both.1 both.2
+
+-- the bus stands for one row more, where a reply has ended and was read
+pub stands_read : (old new : Bus) (pieces : List Piece) (row : Event) (reply : Reply) (act : Option Act) → StandsFor old pieces
+    → (IsSound (position_at old.place) → IsEnded (situation_at old) row)
+    → IsReadAt (position_at old.place) old.levels (Ok reply) → HasGone old (step.Reply reply) row new act
+    → GoesOn new pieces row act
+stands_read old new pieces row reply act stands ended read gone =
+    let Right : Position → Type 0 = λ p. IsSound p in
+    let leads = ended (subst Right stands.position (sound pieces stands.in_order)) (Ok reply) read in
+    stands_by old new pieces row (step.Reply reply) act stands leads (λ _. gone)
+
+-- a reply that has ended breaks the rule that is told of it
+pub read_breaks : (old : Bus) (pieces : List Piece) (row : Event) (broken : Rule) → StandsFor old pieces
+    → (IsSound (position_at old.place) → IsEnded (situation_at old) row)
+    → IsReadAt (position_at old.place) old.levels (Err broken)
+    → IsSound (position_at old.place) → IsFirstBroken (situation_at old) row broken
+read_breaks old pieces row broken stands ended read right = ended right (Err broken) read
 
 -- the fault of a row that is refused
 pub fault_of : (old : Bus) (pieces : List Piece) (row : Event) (broken told : Rule) (blamed : Blame) → StandsFor old pieces
@@ -193,3 +214,40 @@ fault_of old pieces row broken told blamed stands judged same blame =
           ∙ (ap (λ a. blame_of (position_of pieces) a row broken) (sym stands.asked)
           ∙ ap (λ r. blame_of (position_of pieces) (asked_device pieces) row r) (sym same)));
     }
+
+-- the bus behind a row that ends a reply: the row goes on where the reply can be read, and else
+-- breaks a rule
+pub ended_by : (old : Bus) (row : Event) (found : Judged) → found ≡ judged.Reply
+    → (IsSound (position_at old.place) → IsJudged (situation_at old) row (Ok found))
+    → IsSound (position_at old.place) → IsEnded (situation_at old) row
+ended_by old row found is judged right =
+    let P : Judged → Type 0 = λ f. IsJudged (situation_at old) row (Ok f) in
+    subst P is (judged right)
+
+pub read_goes_on : (old new : Bus) (pieces : List Piece) (row : Event) (result : Result (Option Act) LinkFault)
+    → StandsFor old pieces → (IsSound (position_at old.place) → IsEnded (situation_at old) row)
+    → IfOk result (λ act. (reply : Reply) × IsReadAt (position_at old.place) old.levels (Ok reply)
+    × HasGone old (step.Reply reply) row new act)
+    → IfOk result (λ act. GoesOn new pieces row act)
+read_goes_on old new pieces row (Ok act) stands ended h = stands_read old new pieces row h.0 act stands ended h.1 h.2
+read_goes_on old new pieces row (Err fault) stands ended h = tt
+
+pub read_has_fault : (old : Bus) (pieces : List Piece) (row : Event) (result : Result (Option Act) LinkFault)
+    → StandsFor old pieces → (IsSound (position_at old.place) → IsEnded (situation_at old) row)
+    → IfErr result (λ fault. IsReadAt (position_at old.place) old.levels (Err fault.rule))
+    → IfErr result (λ fault. fault.blame ≡ blame_of (position_at old.place) old.asked row fault.rule)
+    → IfErr result (λ fault. IsLinkFault pieces row fault.rule fault.blame)
+read_has_fault old pieces row (Ok act) stands ended read blame = tt
+read_has_fault old pieces row (Err fault) stands ended read blame =
+    fault_of old pieces row fault.rule fault.rule fault.blame stands
+    (read_breaks old pieces row fault.rule stands ended read) refl blame
+
+-- what is refused ends the act list
+pub fault_ends : ((pieces : List Piece) (row : Event) (broken : Rule) → ArePieces pieces
+    → RowBreaks (situation_of pieces) row broken → HasActList (events_of pieces ++ row ∷ []) → ⊥)
+    → (old : Bus) (pieces : List Piece) (row : Event) (result : Result (Option Act) LinkFault) → StandsFor old pieces
+    → IfErr result (λ fault. IsLinkFault pieces row fault.rule fault.blame)
+    → OnErr result (HasActList (events_of pieces ++ row ∷ []) → ⊥)
+fault_ends law old pieces row (Ok act) stands faulty = tt
+fault_ends law old pieces row (Err fault) stands faulty =
+    λ has. law pieces row fault.rule stands.in_order faulty.rule.breaks has

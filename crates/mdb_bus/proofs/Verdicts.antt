@@ -35,7 +35,7 @@ use Rattle.mdb_bus.specs.ActLists.{Asked, InAsk, InReply, IsAskFront, IsRepeatFr
 use Rattle.mdb_bus.specs.declared.place.Phase.{Phase}
 use Rattle.mdb_bus.specs.Bus.{position_at, position_in}
 use Rattle.mdb_bus.specs.LinkFaults.{IsBefore, IsBehind, IsFirstBroken, OutOfOrder, RowBreaks, Situation, WrongLength, place_of}
-use Rattle.mdb_bus.specs.Steps.{IsGoingOn, IsJudged, IsReplyEnd, IsSound, rule_of}
+use Rattle.mdb_bus.specs.Steps.{IsGoingOn, IsJudged, IsRead, IsReplyEnd, IsSettled, IsSound, rule_of}
 use Rattle.mdb_bus.proofs.Needs.{at_least_two, not_left, stays, tells}
 
 -- a row isn't both too early and in time
@@ -308,21 +308,19 @@ no_answer command from at word byte levels order early late marked small low non
     first rule.Late b = absurd (late b)
     first other b = search rules
 
--- what isn't read ends a reply by the rule of its fault
-unread_by : (command : Command) (bytes : List ℕ) (levels : Levels) (word : ℕ) (fault : MsgFault)
-    → HasDataAnswer command (length bytes) → word ≡ 256 + sum bytes % 256
-    → IsReadFault command bytes fault → IsReplyEnd command bytes levels word (Err (rule_of fault))
-unread_by command bytes levels word reading.Length has total bad = absurd (length_read command bytes has bad)
-unread_by command bytes levels word reading.Message has total bad = (has, total, bad)
-unread_by command bytes levels word reading.Profile has total bad = inl (has, total, bad)
-unread_by command bytes levels word reading.Answer has total bad = (has, total, bad)
+-- what isn't read breaks the rule of its fault
+unread_by : (command : Command) (bytes : List ℕ) (levels : Levels) (fault : MsgFault)
+    → IsReadFault command bytes fault → IsRead command bytes levels (Err (rule_of fault))
+unread_by command bytes levels reading.Length bad = bad
+unread_by command bytes levels reading.Message bad = bad
+unread_by command bytes levels reading.Profile bad = inl bad
+unread_by command bytes levels reading.Answer bad = bad
 
-pub unread : (command : Command) (bytes : List ℕ) (levels : Levels) (word : ℕ) (fault : MsgFault) (told : Rule)
-    → HasDataAnswer command (length bytes) → word ≡ 256 + sum bytes % 256
-    → IsReadFault command bytes fault → told ≡ rule_of fault → IsReplyEnd command bytes levels word (Err told)
-unread command bytes levels word fault told has total bad is =
-    let P : Rule → Type 0 = λ r. IsReplyEnd command bytes levels word (Err r) in
-    subst P (sym is) (unread_by command bytes levels word fault has total bad)
+pub unread : (command : Command) (bytes : List ℕ) (levels : Levels) (fault : MsgFault) (told : Rule)
+    → IsReadFault command bytes fault → told ≡ rule_of fault → IsRead command bytes levels (Err told)
+unread command bytes levels fault told bad is =
+    let P : Rule → Type 0 = λ r. IsRead command bytes levels (Err r) in
+    subst P (sym is) (unread_by command bytes levels fault bad)
 
 -- a marked word ends a reply of a right number of bytes
 length_right : (command : Command) (bytes : List ℕ) (at word : ℕ) → 256 ≤ word → HasDataAnswer command (length bytes)
@@ -343,19 +341,91 @@ Breaks command bytes from at word levels broken =
     RowBreaks (record { position = InReply command bytes; last = from; levels = levels }) (Word at Peripheral word)
     broken
 
+-- the reply that a marked word has ended in its time, read
+reply_read : BytesHaveOneFault → ReplyHasNoFault
+    → (command : Command) (bytes : List ℕ) (from : Option Event) (at word : ℕ) (levels : Levels)
+    (result : Result Reply Rule)
+    → (OutOfOrder from (Word at Peripheral word) → ⊥) → (IsBefore WORD_GAP_MIN from (Word at Peripheral word) → ⊥)
+    → (IsBehind BLOCK_GAP_MAX from (Word at Peripheral word) → ⊥)
+    → 256 ≤ word → HasDataAnswer command (length bytes) → word ≡ 256 + sum bytes % 256
+    → IsRead command bytes levels result
+    → IsSettled (record { position = InReply command bytes; last = from; levels = levels }) (Word at Peripheral word)
+    result
+reply_read one none command bytes from at word levels (Ok reply) order early late marked has total h =
+    let soon = in_time WORD_GAP_MIN from (Word at Peripheral word) early in
+    let near = not_late BLOCK_GAP_MAX from (Word at Peripheral word) late in
+    (total, h.0, h.1, h.2, (soon, near))
+reply_read one none command bytes from at word levels (Err rule.Length) order early late marked has total h =
+    absurd (length_read command bytes has h)
+reply_read one none command bytes from at word levels (Err rule.Answer) order early late marked has total h =
+    record { breaks = (marked, h); first = first }
+  where
+    first : (other : Rule) → Breaks command bytes from at word levels other → place_of rule.Answer ≤ place_of other
+    first rule.Order b = absurd (order b)
+    first rule.Early b = absurd (early b)
+    first rule.Spacing b = absurd (late b)
+    first rule.Length b = absurd (length_right command bytes at word marked has b)
+    first rule.Sum b = absurd (b.1 total)
+    first other b = search rules
+reply_read one none command bytes from at word levels (Err rule.Message) order early late marked has total h =
+    record { breaks = (marked, h); first = first }
+  where
+    first : (other : Rule) → Breaks command bytes from at word levels other → place_of rule.Message ≤ place_of other
+    first rule.Order b = absurd (order b)
+    first rule.Early b = absurd (early b)
+    first rule.Spacing b = absurd (late b)
+    first rule.Length b = absurd (length_right command bytes at word marked has b)
+    first rule.Sum b = absurd (b.1 total)
+    first rule.Answer b =
+        let clash : reading.Answer ≡ reading.Message = one command bytes reading.Answer reading.Message b.1 h in
+        absurd (cc)
+    first other b = search rules
+reply_read one none command bytes from at word levels (Err rule.Profile) order early late marked has total (inl h) =
+    record { breaks = (marked, inl h); first = first }
+  where
+    first : (other : Rule) → Breaks command bytes from at word levels other → place_of rule.Profile ≤ place_of other
+    first rule.Order b = absurd (order b)
+    first rule.Early b = absurd (early b)
+    first rule.Spacing b = absurd (late b)
+    first rule.Length b = absurd (length_right command bytes at word marked has b)
+    first rule.Sum b = absurd (b.1 total)
+    first rule.Answer b =
+        let clash : reading.Answer ≡ reading.Profile = one command bytes reading.Answer reading.Profile b.1 h in
+        absurd (cc)
+    first rule.Message b =
+        let clash : reading.Message ≡ reading.Profile = one command bytes reading.Message reading.Profile b.1 h in
+        absurd (cc)
+    first other b = search rules
+reply_read one none command bytes from at word levels (Err rule.Profile) order early late marked has total (inr h) =
+    record { breaks = (marked, inr h); first = first }
+  where
+    faultless : (fault : MsgFault) → IsReadFault command bytes fault → ⊥
+    faultless fault bad =
+        let P : List ℕ → Type 0 = λ bs. IsReadFault command bs fault in
+        none command h.0 fault h.1.answers (subst P h.2 bad)
+
+    first : (other : Rule) → Breaks command bytes from at word levels other → place_of rule.Profile ≤ place_of other
+    first rule.Order b = absurd (order b)
+    first rule.Early b = absurd (early b)
+    first rule.Spacing b = absurd (late b)
+    first rule.Length b = absurd (length_right command bytes at word marked has b)
+    first rule.Sum b = absurd (b.1 total)
+    first rule.Answer b = absurd (faultless reading.Answer b.1)
+    first rule.Message b = absurd (faultless reading.Message b.1)
+    first other b = search rules
+reply_read one none command bytes from at word levels (Err other) order early late marked has total h = absurd h
+
 -- the marked word of a reply, in its time
 pub reply_ended : BytesHaveOneFault → ReplyHasNoFault
     → (command : Command) (bytes : List ℕ) (from : Option Event) (at word : ℕ) (levels : Levels)
     (result : Result Judged Rule)
     → (OutOfOrder from (Word at Peripheral word) → ⊥) → (IsBefore WORD_GAP_MIN from (Word at Peripheral word) → ⊥)
     → (IsBehind BLOCK_GAP_MAX from (Word at Peripheral word) → ⊥)
-    → 256 ≤ word → IsReplyEnd command bytes levels word result
+    → 256 ≤ word → IsReplyEnd command bytes word result
     → IsJudged (record { position = InReply command bytes; last = from; levels = levels }) (Word at Peripheral word)
     result
 reply_ended one none command bytes from at word levels (Ok judged.Reply) order early late marked h =
-    let soon = in_time WORD_GAP_MIN from (Word at Peripheral word) early in
-    let near = not_late BLOCK_GAP_MAX from (Word at Peripheral word) late in
-    (h.0, (h.1, h.2, h.3, h.4, (soon, near)))
+    λ result is. reply_read one none command bytes from at word levels result order early late marked h.0 h.1 is
 reply_ended one none command bytes from at word levels (Ok other) order early late marked h = absurd h
 reply_ended one none command bytes from at word levels (Err rule.Length) order early late marked h =
     record { breaks = inr (marked, h); first = first }
@@ -373,63 +443,6 @@ reply_ended one none command bytes from at word levels (Err rule.Sum) order earl
     first rule.Early b = absurd (early b)
     first rule.Spacing b = absurd (late b)
     first rule.Length b = absurd (length_right command bytes at word marked h.0 b)
-    first other b = search rules
-reply_ended one none command bytes from at word levels (Err rule.Answer) order early late marked h =
-    record { breaks = (marked, h.2); first = first }
-  where
-    first : (other : Rule) → Breaks command bytes from at word levels other → place_of rule.Answer ≤ place_of other
-    first rule.Order b = absurd (order b)
-    first rule.Early b = absurd (early b)
-    first rule.Spacing b = absurd (late b)
-    first rule.Length b = absurd (length_right command bytes at word marked h.0 b)
-    first rule.Sum b = absurd (b.1 h.1)
-    first other b = search rules
-reply_ended one none command bytes from at word levels (Err rule.Message) order early late marked h =
-    record { breaks = (marked, h.2); first = first }
-  where
-    first : (other : Rule) → Breaks command bytes from at word levels other → place_of rule.Message ≤ place_of other
-    first rule.Order b = absurd (order b)
-    first rule.Early b = absurd (early b)
-    first rule.Spacing b = absurd (late b)
-    first rule.Length b = absurd (length_right command bytes at word marked h.0 b)
-    first rule.Sum b = absurd (b.1 h.1)
-    first rule.Answer b =
-        let clash : reading.Answer ≡ reading.Message = one command bytes reading.Answer reading.Message b.1 h.2 in
-        absurd (cc)
-    first other b = search rules
-reply_ended one none command bytes from at word levels (Err rule.Profile) order early late marked (inl h) =
-    record { breaks = (marked, inl h.2); first = first }
-  where
-    first : (other : Rule) → Breaks command bytes from at word levels other → place_of rule.Profile ≤ place_of other
-    first rule.Order b = absurd (order b)
-    first rule.Early b = absurd (early b)
-    first rule.Spacing b = absurd (late b)
-    first rule.Length b = absurd (length_right command bytes at word marked h.0 b)
-    first rule.Sum b = absurd (b.1 h.1)
-    first rule.Answer b =
-        let clash : reading.Answer ≡ reading.Profile = one command bytes reading.Answer reading.Profile b.1 h.2 in
-        absurd (cc)
-    first rule.Message b =
-        let clash : reading.Message ≡ reading.Profile = one command bytes reading.Message reading.Profile b.1 h.2 in
-        absurd (cc)
-    first other b = search rules
-reply_ended one none command bytes from at word levels (Err rule.Profile) order early late marked (inr h) =
-    record { breaks = (marked, inr h.1); first = first }
-  where
-    faultless : (fault : MsgFault) → IsReadFault command bytes fault → ⊥
-    faultless fault bad =
-        let P : List ℕ → Type 0 = λ bs. IsReadFault command bs fault in
-        none command h.1.0 fault h.1.1.answers (subst P h.1.2 bad)
-
-    first : (other : Rule) → Breaks command bytes from at word levels other → place_of rule.Profile ≤ place_of other
-    first rule.Order b = absurd (order b)
-    first rule.Early b = absurd (early b)
-    first rule.Spacing b = absurd (late b)
-    first rule.Length b =
-        absurd (length_right command bytes at word marked (count_right command bytes h.1.0 h.1.1 h.1.2) b)
-    first rule.Sum b = absurd (b.1 h.0)
-    first rule.Answer b = absurd (faultless reading.Answer b.1)
-    first rule.Message b = absurd (faultless reading.Message b.1)
     first other b = search rules
 reply_ended one none command bytes from at word levels (Err other) order early late marked h = absurd h
 

@@ -22,7 +22,8 @@ pub data Step : Type 0 where
   Repeat : Step
   Break : ℕ → Step
 
--- the step that was judged has this, whichever command or reply it tells
+-- The step that was judged has this, whichever command it tells. The last word of a reply is no
+-- step before the reply was read.
 abbrev pub EachStep : Judged → (Step → Type 0) → Type 0
 EachStep (judged.AskByte byte) Has = Has (AskByte byte)
 EachStep judged.Ask Has = (command : Command) → Has (Ask command)
@@ -30,7 +31,7 @@ EachStep judged.Foreign Has = Has Foreign
 EachStep judged.Ack Has = Has Ack
 EachStep judged.Nak Has = Has Nak
 EachStep (judged.ReplyByte byte) Has = Has (ReplyByte byte)
-EachStep judged.Reply Has = (reply : Data) → Has (Reply reply)
+EachStep judged.Reply Has = Unit {0}
 EachStep judged.VmcAck Has = Has VmcAck
 EachStep judged.VmcNak Has = Has VmcNak
 EachStep judged.VmcRet Has = Has VmcRet
@@ -38,9 +39,9 @@ EachStep (judged.RepeatWord word) Has = Has (RepeatWord word)
 EachStep judged.Repeat Has = Has Repeat
 EachStep (judged.Break length) Has = Has (Break length)
 
--- the step that was judged has this, for some command or reply that it tells
+-- the step that was judged has this, for some command that it tells
 abbrev pub SomeStep : Judged → (Step → Type 0) → Type 0
-SomeStep judged.Reply Has = (reply : Data) × Has (Reply reply)
+SomeStep judged.Reply Has = ⊥
 SomeStep (judged.AskByte byte) Has = Has (AskByte byte)
 SomeStep judged.Ask Has = (command : Command) × Has (Ask command)
 SomeStep judged.Foreign Has = Has Foreign

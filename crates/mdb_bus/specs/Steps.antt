@@ -136,8 +136,36 @@ Leads s (Break at length) (step.Break lasted) =
     (lasted ≡ length) × (BREAK_LENGTH_MIN ≤ length) × BreakMayCome s.last (Break at length)
 Leads s (Break at length) _ = ⊥
 
+-- what is made of the data bytes of a reply to a command, read at these levels
+abbrev pub IsRead : Command → List ℕ → Levels → Result Reply Rule → Type 0
+IsRead command bytes levels (Ok reply) = IsReply command reply × (bytes ≡ reply_bytes reply)
+    × (tells_high reply ≡ true → IsLow (level_for command levels))
+IsRead command bytes levels (Err rule.Length) = IsReadFault command bytes reading.Length
+IsRead command bytes levels (Err rule.Message) = IsReadFault command bytes reading.Message
+IsRead command bytes levels (Err rule.Answer) = IsReadFault command bytes reading.Answer
+IsRead command bytes levels (Err rule.Profile) =
+    IsReadFault command bytes reading.Profile ⊎ HasHighLevels command bytes levels
+IsRead command bytes levels (Err _) = ⊥
+
+-- the same for the bytes at a position: only inside a reply something can be read
+abbrev pub IsReadAt : Position → Levels → Result Reply Rule → Type 0
+IsReadAt (InReply command bytes) levels result = IsRead command bytes levels result
+IsReadAt _ levels (Ok reply) = ⊥
+IsReadAt _ levels (Err broken) = Unit {0}
+
+-- what is made of a row that ends a reply, once the reply was read
+abbrev pub IsSettled : Situation → Event → Result Reply Rule → Type 0
+IsSettled s row (Ok reply) = Leads s row (step.Reply reply)
+IsSettled s row (Err broken) = IsFirstBroken s row broken
+
+-- a row ends a reply, and what is read decides of it
+abbrev pub IsEnded : Situation → Event → Type 0
+IsEnded s row = (result : Result Reply Rule) → IsReadAt s.position s.levels result
+    → IsSettled s row result
+
 -- what is made of a row: where it leads, or the first rule that it breaks
 abbrev pub IsJudged : Situation → Event → Result Judged Rule → Type 0
+IsJudged s row (Ok judged.Reply) = IsEnded s row
 IsJudged s row (Ok found) = SomeStep found (Leads s row)
 IsJudged s row (Err broken) = IsFirstBroken s row broken
 
@@ -172,29 +200,15 @@ IsGoingOn bytes word (Err rule.Profile) =
     (needed bytes ≡ need.More) × (needed (bytes ++ word ∷ []) ≡ need.Outside)
 IsGoingOn bytes word (Err _) = ⊥
 
--- bytes of an allowed number and their sum, which are no reply for a reason
-abbrev pub IsUnread : Command → List ℕ → ℕ → MsgFault → Type 0
-IsUnread command bytes word fault =
-    HasDataAnswer command (length bytes) × (word ≡ 256 + sum bytes % 256)
-    × IsReadFault command bytes fault
-
 -- what is made of the marked word of a reply that comes in time
-abbrev pub IsReplyEnd : Command → List ℕ → Levels → ℕ → Result Judged Rule → Type 0
-IsReplyEnd command bytes levels word (Ok judged.Reply) =
-    (reply : Reply) × (word ≡ 256 + sum bytes % 256) × IsReply command reply
-    × (bytes ≡ reply_bytes reply)
-    × (tells_high reply ≡ true → IsLow (level_for command levels))
-IsReplyEnd command bytes levels word (Ok _) = ⊥
-IsReplyEnd command bytes levels word (Err rule.Length) = ¬ HasDataAnswer command (length bytes)
-IsReplyEnd command bytes levels word (Err rule.Sum) =
+abbrev pub IsReplyEnd : Command → List ℕ → ℕ → Result Judged Rule → Type 0
+IsReplyEnd command bytes word (Ok judged.Reply) =
+    HasDataAnswer command (length bytes) × (word ≡ 256 + sum bytes % 256)
+IsReplyEnd command bytes word (Ok _) = ⊥
+IsReplyEnd command bytes word (Err rule.Length) = ¬ HasDataAnswer command (length bytes)
+IsReplyEnd command bytes word (Err rule.Sum) =
     HasDataAnswer command (length bytes) × (word ≢ 256 + sum bytes % 256)
-IsReplyEnd command bytes levels word (Err rule.Message) =
-    IsUnread command bytes word reading.Message
-IsReplyEnd command bytes levels word (Err rule.Answer) = IsUnread command bytes word reading.Answer
-IsReplyEnd command bytes levels word (Err rule.Profile) =
-    IsUnread command bytes word reading.Profile
-    ⊎ ((word ≡ 256 + sum bytes % 256) × HasHighLevels command bytes levels)
-IsReplyEnd command bytes levels word (Err _) = ⊥
+IsReplyEnd command bytes word (Err _) = ⊥
 
 -- a position that the bus can be in: a block has begun well
 abbrev pub IsSound : Position → Type 0
@@ -307,3 +321,9 @@ pub record HasAdvanced (old : Position) (next : Step) (new : Position)
     (ended : Option Act) : Type 0 where
   pub position : new ≡ position_after old next
   pub act : ended ≡ act_after old next
+
+-- what a place makes of a reply that has ended: it takes it, or tells the rule that it breaks
+abbrev pub IsTaken : Position → Levels → Position → Result Act Rule → Type 0
+IsTaken old levels new (Ok act) = (reply : Reply)
+    × IsReadAt old levels (Ok reply) × HasAdvanced old (step.Reply reply) new (Some act)
+IsTaken old levels new (Err broken) = IsReadAt old levels (Err broken)

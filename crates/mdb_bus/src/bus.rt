@@ -1,6 +1,7 @@
 //! The bus: which rows may follow which, and the acts that they are.
 
-ghost use Rattle.std.specs.Prelude.{◌≡◌, [], ◌∷◌, ◌++◌, ℕ, List, IfOk, IfErr, OnErr};
+ghost use Rattle.std.specs.Prelude.{◌≡◌, [], ◌∷◌, ◌++◌, ℕ, List, IfOk, IfErr, OnErr, Ok, Err};
+ghost use Rattle.mdb_msgs.specs.declared.reply.Reply.{Reply};
 ghost use Rattle.mdb_bus.specs.Step.{EachStep};
 ghost use Rattle.mdb_bus.specs.Steps.{asked_with, levels_with};
 
@@ -29,7 +30,8 @@ impl Bus {
     ghost use Rattle.mdb_bus.specs.ActLists.{HasActList, Piece, events_of};
     ghost use Rattle.mdb_bus.specs.Bus.{GoesOn, HasGone, StandsFor, position_at};
     ghost use Rattle.mdb_bus.specs.LinkFaults.{IsLinkFault, blame_of};
-    ghost use Rattle.mdb_bus.specs.Steps.{HasRoom, IsAt};
+    ghost use Rattle.mdb_bus.specs.Step as step;
+    ghost use Rattle.mdb_bus.specs.Steps.{HasRoom, IsAt, IsReadAt};
 
     /// The bus before its first row: recording began at power-on or at a break.
     pub fn new() -> Bus
@@ -62,9 +64,35 @@ impl Bus {
         ensures unchanged { OnErr result (self.new ≡ self.old) }
     {
         laws::rows_that_break_a_rule_end_the_act_list();
-        match judge(&self.place, self.levels, &self.last, &event) {
-            Ok(judged) => Ok(self.go(judged, event)),
+        match judge(&self.place, &self.last, &event) {
+            Ok(judged) => match judged {
+                Judged::Reply => self.take_reply(event),
+                _ => Ok(self.go(judged, event)),
+            },
             Err(rule) => Err(self.fault(rule, &event)),
+        }
+    }
+
+    /// Takes the reply that a row has ended, if it can be read and fits the levels.
+    fn take_reply(&mut self, event: Event) -> Result<Option<Act>, LinkFault>
+        ensures taken { IfOk result (λ act. (reply : Reply)
+            × IsReadAt (position_at self.old.place) self.old.levels (Ok reply)
+            × HasGone self.old (step.Reply reply) event self.new act) }
+        ensures rule { IfErr result (λ fault.
+            IsReadAt (position_at self.old.place) self.old.levels (Err fault.rule)) }
+        ensures blame { IfErr result (λ fault. fault.blame
+            ≡ blame_of (position_at self.old.place) self.old.asked event fault.rule) }
+        ensures unchanged { OnErr result (self.new ≡ self.old) }
+    {
+        match self.place.end_reply(self.levels) {
+            Ok(act) => {
+                self.last = Some(event);
+                Ok(Some(act))
+            }
+            Err(rule) => {
+                let fault = self.fault(rule, &event);
+                Err(fault)
+            }
         }
     }
 

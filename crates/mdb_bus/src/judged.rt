@@ -17,7 +17,7 @@ pub enum Judged {
     Nak,
     /// A byte of a reply, which has more to come: its first, or a further one.
     ReplyByte(u8),
-    /// The last word of a reply, which the bytes so far tell.
+    /// The last word of a reply of the right length and sum. What it says is still to be read.
     Reply,
     /// The controller's ACK.
     VmcAck,

@@ -13,28 +13,22 @@ ghost use Rattle.mdb_bus.specs.ActLists as lists;
 ghost use Rattle.mdb_bus.specs.ActLists.{IsAskFront};
 ghost use Rattle.mdb_bus.specs.Bus.{position_at, position_in};
 ghost use Rattle.mdb_bus.specs.LinkFaults.{OutOfOrder};
-ghost use Rattle.mdb_bus.specs.Steps.{HasRoom, IsGoingOn, IsJudged, IsOpened, IsReplyEnd, IsSound, word_at, rule_of as rule_of_lem};
+ghost use Rattle.mdb_bus.specs.Steps.{HasRoom, IsGoingOn, IsJudged, IsOpened, IsReplyEnd, IsSound, word_at};
 
 use super::fault::Rule;
 use super::gaps::{is_before, is_behind, is_out_of_order};
 use super::judged::Judged;
-use super::levels::Levels;
 use super::place::{Begun, Exchange, Phase, Place};
 use mdb_blocks::{Answer, sum_of};
-use mdb_msgs::{Command, MsgFault, Need, laws, need_of, reply_of};
+use mdb_msgs::{Command, Need, laws, need_of};
 use mdb_words::{
     ANSWER_GAP_MAX, BLOCK_GAP_MAX, BREAK_LENGTH_MIN, Event, Line, NEW_BLOCK_GAP_MIN, SETUP_GAP_MIN,
     Span, Time, WORD_GAP_MIN, Word,
 };
 
 /// What is made of a row, which comes behind `from`.
-pub(crate) fn judge(
-    place: &Place,
-    levels: Levels,
-    from: &Option<Event>,
-    row: &Event,
-) -> Result<Judged, Rule>
-    ensures judged { IsSound (position_at place.now)
+pub(crate) fn judge(place: &Place, from: &Option<Event>, row: &Event) -> Result<Judged, Rule>
+    ensures judged { (levels : Levels) → IsSound (position_at place.now)
         → IsJudged (record {
           position = position_at place.now;
           last = from.now;
@@ -49,7 +43,7 @@ pub(crate) fn judge(
         Event::Break { at, length } => judge_break(from, at, length),
         Event::Word { at, line, word } => match line {
             Line::Controller => judge_controller(place, from, at, word),
-            Line::Peripheral => judge_peripheral(place, levels, from, at, word),
+            Line::Peripheral => judge_peripheral(place, from, at, word),
         },
     }
 }
@@ -105,13 +99,12 @@ fn judge_controller(
 /// A word of a peripheral.
 fn judge_peripheral(
     place: &Place,
-    levels: Levels,
     from: &Option<Event>,
     at: Time,
     word: Word,
 ) -> Result<Judged, Rule>
     requires { OutOfOrder from.now (Event.Word at Line.Peripheral word) → ⊥ }
-    ensures judged { IsJudged (record {
+    ensures judged { (levels : Levels) → IsJudged (record {
       position = position_at place.now;
       last = from.now;
       levels = levels;
@@ -122,7 +115,7 @@ fn judge_peripheral(
     match &place.phase {
         Phase::Quiet | Phase::InAsk(_) | Phase::Replied => Err(Rule::Speaker),
         Phase::Asked(command) => answer(*command, from, at, word),
-        Phase::InReply(command, bytes) => go_on_replying(*command, bytes, levels, from, at, word),
+        Phase::InReply(command, bytes) => go_on_replying(*command, bytes, from, at, word),
         Phase::Returned => begin_repeat(&place.exchange, from, at, word),
         Phase::InRepeat(said) => go_on_repeating(&place.exchange, *said, from, at, word),
         Phase::InForeign => go_on_foreign(from, at, Line::Peripheral, word),
@@ -255,7 +248,7 @@ fn end_ask(bytes: &Begun, word: Word) -> Result<Judged, Rule>
 }
 
 /// Each element of the slice is a byte, as its type says.
-fn see_bytes(_bytes: &[u8])
+pub(crate) fn see_bytes(_bytes: &[u8])
     ensures { All IsByte _bytes.now }
 {}
 
@@ -326,13 +319,12 @@ fn cut_in(from: &Option<Event>, at: Time, word: Word) -> Result<Judged, Rule>
 fn go_on_replying(
     command: Command,
     bytes: &Begun,
-    levels: Levels,
     from: &Option<Event>,
     at: Time,
     word: Word,
 ) -> Result<Judged, Rule>
     requires { OutOfOrder from.now (Event.Word at Line.Peripheral word) → ⊥ }
-    ensures judged { IsJudged (record {
+    ensures judged { (levels : Levels) → IsJudged (record {
       position = lists.InReply command bytes.now;
       last = from.now;
       levels = levels;
@@ -354,7 +346,7 @@ fn go_on_replying(
     laws::bytes_have_one_fault();
     laws::reply_has_no_fault();
     if word.marked() {
-        end_reply(command, bytes, levels, word)
+        end_reply(command, bytes, word)
     } else if bytes.as_slice().len() < 35 {
         Ok(Judged::ReplyByte(word.byte()))
     } else {
@@ -362,40 +354,18 @@ fn go_on_replying(
     }
 }
 
-/// The marked word of a reply.
-fn end_reply(command: Command, bytes: &Begun, levels: Levels, word: Word) -> Result<Judged, Rule>
+/// The marked word of a reply: its length and its sum.
+fn end_reply(command: Command, bytes: &Begun, word: Word) -> Result<Judged, Rule>
     requires { 256 ≤ word }
-    ensures { IsReplyEnd command bytes.now levels word result }
+    ensures { IsReplyEnd command bytes.now word result }
 {
     if !command.has_data_answer(bytes.as_slice().len()) {
         return Err(Rule::Length);
     }
-    see_bytes(bytes.as_slice());
     if word.byte() != sum_of(bytes.as_slice()) {
         return Err(Rule::Sum);
     }
-    match reply_of(&command, bytes.as_slice()) {
-        Err(fault) => Err(rule_of(fault)),
-        Ok(reply) => {
-            if levels.fit(command, &reply) {
-                Ok(Judged::Reply)
-            } else {
-                Err(Rule::Profile)
-            }
-        }
-    }
-}
-
-/// The rule that a block breaks whose content can't be read.
-fn rule_of(fault: MsgFault) -> Rule
-    ensures { result ≡ rule_of_lem fault }
-{
-    match fault {
-        MsgFault::Length => Rule::Length,
-        MsgFault::Message => Rule::Message,
-        MsgFault::Profile => Rule::Profile,
-        MsgFault::Answer => Rule::Answer,
-    }
+    Ok(Judged::Reply)
 }
 
 /// An unmarked word of the controller in answer to a reply.

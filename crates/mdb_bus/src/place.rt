@@ -1,14 +1,18 @@
 //! Where the bus is.
 
-ghost use Rattle.std.specs.Prelude.{◌≡◌, ◌≤◌, ◌<◌, [], ◌∷◌, ◌++◌, length, IfSome};
+ghost use Rattle.std.specs.Prelude.{◌≡◌, ◌≤◌, ◌<◌, [], ◌∷◌, ◌++◌, length, IfSome, OnErr};
 ghost use Rattle.mdb_blocks.specs.Block.{block_of};
 ghost use Rattle.mdb_msgs.specs.Replies.{reply_bytes};
+ghost use Rattle.mdb_bus.specs.Steps.{rule_of as rule_of_lem};
 
 use super::act::Act;
+use super::fault::Rule;
 use super::judged::Judged;
+use super::judging::see_bytes;
+use super::levels::Levels;
 use arrayvec::ArrayVec;
 use mdb_blocks::{Block, seal};
-use mdb_msgs::{ChangerCommand, ChangerMsg, Command, Reply, command_of, reply_of};
+use mdb_msgs::{ChangerCommand, ChangerMsg, Command, MsgFault, Reply, command_of, reply_of};
 use mdb_words::Word;
 use std::marker::Model;
 use std::mem;
@@ -130,7 +134,7 @@ impl Place {
     ghost use Rattle.mdb_bus.specs.Bus.{position_at};
     ghost use Rattle.mdb_bus.specs.Step as step;
     ghost use Rattle.mdb_bus.specs.Step.{EachStep};
-    ghost use Rattle.mdb_bus.specs.Steps.{HasAdvanced, HasRoom, IsAt};
+    ghost use Rattle.mdb_bus.specs.Steps.{HasAdvanced, HasRoom, IsAt, IsReadAt, IsTaken};
 
     /// Goes a step, and answers the act that it ends.
     pub(crate) fn advance(&mut self, judged: Judged) -> Option<Act>
@@ -154,7 +158,8 @@ impl Place {
                 self.add_to_reply(byte);
                 None
             }
-            Judged::Reply => self.end_reply(),
+            // `end_reply` takes it.
+            Judged::Reply => None,
             Judged::VmcAck => self.acknowledge(),
             Judged::VmcNak => self.refuse(),
             Judged::VmcRet => self.return_reply(),
@@ -221,23 +226,39 @@ impl Place {
         Some(command)
     }
 
-    /// The reply has ended.
-    fn end_reply(&mut self) -> Option<Act>
-        ensures { (reply : Reply) → IsAt (position_at self.old) (step.Reply reply)
-            → HasAdvanced (position_at self.old) (step.Reply reply) (position_at self.new) result }
+    /// The reply has ended, with the right length and sum: takes it, if it can be read and fits the
+    /// levels. Else the place is as it was.
+    pub(crate) fn end_reply(&mut self, levels: Levels) -> Result<Act, Rule>
+        ensures taken { IsTaken (position_at self.old) levels (position_at self.new) result }
+        ensures unchanged { OnErr result (self.new ≡ self.old) }
     {
+        let reply = self.read_reply(levels)?;
         match mem::replace(&mut self.phase, Phase::Replied) {
             Phase::InReply(command, bytes) => {
-                let reply = reply_of(&command, bytes.as_slice()).ok()?;
                 let act = Act::Reply(command, reply.copy());
                 self.exchange = Exchange {
                     command,
                     reply,
                     bytes,
                 };
-                Some(act)
+                Ok(act)
             }
-            _ => None,
+            _ => unreachable!(),
+        }
+    }
+
+    /// The reply whose bytes were sent, or the rule that it breaks.
+    fn read_reply(&self, levels: Levels) -> Result<Reply, Rule>
+        ensures { IsReadAt (position_at self.now) levels result }
+    {
+        let Phase::InReply(command, bytes) = &self.phase else {
+            return Err(Rule::Answer);
+        };
+        see_bytes(bytes.as_slice());
+        match reply_of(command, bytes.as_slice()) {
+            Err(fault) => Err(rule_of(fault)),
+            Ok(reply) if levels.fit(*command, &reply) => Ok(reply),
+            Ok(_) => Err(Rule::Profile),
         }
     }
 
@@ -301,5 +322,17 @@ impl Place {
         };
         self.phase = Phase::Replied;
         Some(Act::Repeat(self.exchange.command, self.exchange.reply.copy()))
+    }
+}
+
+/// The rule that a block breaks whose content can't be read.
+fn rule_of(fault: MsgFault) -> Rule
+    ensures { result ≡ rule_of_lem fault }
+{
+    match fault {
+        MsgFault::Length => Rule::Length,
+        MsgFault::Message => Rule::Message,
+        MsgFault::Profile => Rule::Profile,
+        MsgFault::Answer => Rule::Answer,
     }
 }
