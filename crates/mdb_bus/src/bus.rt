@@ -54,6 +54,8 @@ impl Bus {
     ///
     /// The fault of a row that cannot follow the rows before it: the first rule of the link that it
     /// breaks, and who is to blame. The bus is then as it was.
+    // Inlined, so that a caller that drops the act doesn't pay for it.
+    #[inline(always)]
     pub fn feed(&mut self, event: Event) -> Result<Option<Act>, LinkFault>
         ensures goes_on { (pieces : List Piece) → StandsFor self.old pieces
             → IfOk result (λ act. GoesOn self.new pieces event act) }
