@@ -1,5 +1,5 @@
 -- The bus behind a row: what it stands for, and why a row is refused.
-use Rattle.std.proofs.Common.{refl, ap, sym, subst, sum, ◌∙◌, ◌≡◌, ◌%◌, ℕ, List, [], ◌∷◌, ◌++◌, Option, Result, Ok, Err, IfOk, IfErr, OnErr, inl, inr}
+use Rattle.std.proofs.Common.{refl, ap, sym, subst, sum, ◌∙◌, ◌≡◌, ◌%◌, ℕ, List, [], ◌∷◌, ◌++◌, Option, Result, Ok, Err, IfOk, IfErr, OnErr, inl, inr, Bool}
 use Rattle.mdb_words.specs.declared.event.Event.{Event}
 use Rattle.mdb_words.specs.declared.event.Event.TheVariants.{Word, Break}
 use Rattle.mdb_words.specs.declared.word.Line.{Line}
@@ -18,7 +18,7 @@ use Rattle.mdb_bus.specs.declared.levels.Levels.{Levels}
 use Rattle.mdb_bus.specs.Step.{Step}
 use Rattle.mdb_bus.specs.Step as step
 use Rattle.mdb_bus.specs.ActLists.{ArePieces, HasActList, Piece, Position, Quiet, InAsk, Asked, InReply, Replied, Returned, InRepeat, InForeign, IsRepeatFront, acts_of, with_act, events_of, last_of, levels_of, position_of}
-use Rattle.mdb_bus.specs.Bus.{GoesOn, HasGone, StandsFor, position_at}
+use Rattle.mdb_bus.specs.Bus.{GoesOn, HasGone, StandsFor, ended_act, position_at}
 use Rattle.mdb_bus.specs.LinkFaults.{IsFirstBroken, IsLinkFault, RowBreaks, Situation, asked_device, blame_of, situation_of}
 use Rattle.mdb_bus.specs.Steps.{IsAt, IsEnded, IsJudged, IsReadAt, IsSound, Leads, WordLeads, act_after, asked_behind, asked_with, levels_behind, levels_with, pieces_after, position_after}
 use Rattle.mdb_bus.specs.declared.judged.Judged.{Judged}
@@ -224,15 +224,16 @@ ended_by old row found is judged right =
     let P : Judged → Type 0 = λ f. IsJudged (situation_at old) row (Ok f) in
     subst P is (judged right)
 
-pub read_goes_on : (old new : Bus) (pieces : List Piece) (row : Event) (result : Result (Option Act) LinkFault)
+pub read_goes_on : (old new : Bus) (pieces : List Piece) (row : Event) (act : Act) (result : Result Bool LinkFault)
     → StandsFor old pieces → (IsSound (position_at old.place) → IsEnded (situation_at old) row)
-    → IfOk result (λ act. (reply : Reply) × IsReadAt (position_at old.place) old.levels (Ok reply)
-    × HasGone old (step.Reply reply) row new act)
-    → IfOk result (λ act. GoesOn new pieces row act)
-read_goes_on old new pieces row (Ok act) stands ended h = stands_read old new pieces row h.0 act stands ended h.1 h.2
-read_goes_on old new pieces row (Err fault) stands ended h = tt
+    → IfOk result (λ ends. (reply : Reply) × IsReadAt (position_at old.place) old.levels (Ok reply)
+    × HasGone old (step.Reply reply) row new (ended_act ends act))
+    → IfOk result (λ ends. GoesOn new pieces row (ended_act ends act))
+read_goes_on old new pieces row act (Ok ends) stands ended h =
+    stands_read old new pieces row h.0 (ended_act ends act) stands ended h.1 h.2
+read_goes_on old new pieces row act (Err fault) stands ended h = tt
 
-pub read_has_fault : (old : Bus) (pieces : List Piece) (row : Event) (result : Result (Option Act) LinkFault)
+pub read_has_fault : (old : Bus) (pieces : List Piece) (row : Event) (result : Result Bool LinkFault)
     → StandsFor old pieces → (IsSound (position_at old.place) → IsEnded (situation_at old) row)
     → IfErr result (λ fault. IsReadAt (position_at old.place) old.levels (Err fault.rule))
     → IfErr result (λ fault. fault.blame ≡ blame_of (position_at old.place) old.asked row fault.rule)
@@ -245,7 +246,7 @@ read_has_fault old pieces row (Err fault) stands ended read blame =
 -- what is refused ends the act list
 pub fault_ends : ((pieces : List Piece) (row : Event) (broken : Rule) → ArePieces pieces
     → RowBreaks (situation_of pieces) row broken → HasActList (events_of pieces ++ row ∷ []) → ⊥)
-    → (old : Bus) (pieces : List Piece) (row : Event) (result : Result (Option Act) LinkFault) → StandsFor old pieces
+    → (old : Bus) (pieces : List Piece) (row : Event) (result : Result Bool LinkFault) → StandsFor old pieces
     → IfErr result (λ fault. IsLinkFault pieces row fault.rule fault.blame)
     → OnErr result (HasActList (events_of pieces ++ row ∷ []) → ⊥)
 fault_ends law old pieces row (Ok act) stands faulty = tt

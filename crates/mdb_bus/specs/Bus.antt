@@ -1,5 +1,5 @@
 -- What a bus stands for: it never stores the rows that it was fed.
-use Rattle.std.specs.Prelude.{◌≡◌, List, [], ◌∷◌, ◌++◌, take, Option, Some}
+use Rattle.std.specs.Prelude.{◌≡◌, List, [], ◌∷◌, ◌++◌, take, Bool, true, false, Option, Some, None}
 use Rattle.mdb_words.specs.declared.event.Event.{Event}
 use Rattle.mdb_bus.specs.declared.act.Act.{Act}
 use Rattle.mdb_bus.specs.declared.bus.Bus.{Bus}
@@ -36,6 +36,11 @@ pub record StandsFor (bus : Bus) (pieces : List Piece) : Type 0 where
   pub last : last_of (events_of pieces) ≡ bus.last
   pub levels : levels_of pieces ≡ bus.levels
   pub asked : asked_device pieces ≡ bus.asked
+
+-- the act, if one was ended
+abbrev pub ended_act : Bool → Act → Option Act
+ended_act true act = Some act
+ended_act false act = None
 
 -- A bus stands for one row more, and tells the act that the row ends, if it ends one.
 pub record GoesOn (bus : Bus) (pieces : List Piece) (row : Event) (act : Option Act) : Type 0 where

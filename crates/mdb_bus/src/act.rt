@@ -29,3 +29,22 @@ pub enum Act {
     /// The controller held its line low for so many microseconds, at least 100,000: a break.
     Break(u64),
 }
+
+impl Act {
+    ghost use Rattle.std.specs.Prelude.{◌≡◌, false};
+    ghost use Rattle.mdb_bus.specs.Bus.{ended_act};
+
+    /// Becomes the act that was ended, if one was, and answers whether.
+    pub(crate) fn note(&mut self, ended: Option<Act>) -> bool
+        ensures ended { ended_act result self.new ≡ ended }
+        ensures none { result ≡ false → self.new ≡ self.old }
+    {
+        match ended {
+            Some(act) => {
+                *self = act;
+                true
+            }
+            None => false,
+        }
+    }
+}

@@ -1,6 +1,6 @@
 //! The bus: which rows may follow which, and the acts that they are.
 
-ghost use Rattle.std.specs.Prelude.{◌≡◌, [], ◌∷◌, ◌++◌, ℕ, List, IfOk, IfErr, OnErr, Ok, Err};
+ghost use Rattle.std.specs.Prelude.{◌≡◌, [], ◌∷◌, ◌++◌, ℕ, List, Some, false, true, IfOk, IfErr, OnErr, Ok, Err};
 ghost use Rattle.mdb_msgs.specs.declared.reply.Reply.{Reply};
 ghost use Rattle.mdb_bus.specs.Step.{EachStep};
 ghost use Rattle.mdb_bus.specs.Steps.{asked_with, levels_with};
@@ -28,7 +28,7 @@ pub struct Bus {
 
 impl Bus {
     ghost use Rattle.mdb_bus.specs.ActLists.{HasActList, Piece, events_of};
-    ghost use Rattle.mdb_bus.specs.Bus.{GoesOn, HasGone, StandsFor, position_at};
+    ghost use Rattle.mdb_bus.specs.Bus.{GoesOn, HasGone, StandsFor, ended_act, position_at};
     ghost use Rattle.mdb_bus.specs.LinkFaults.{IsLinkFault, blame_of};
     ghost use Rattle.mdb_bus.specs.Step as step;
     ghost use Rattle.mdb_bus.specs.Steps.{HasRoom, IsAt, IsReadAt};
@@ -54,8 +54,6 @@ impl Bus {
     ///
     /// The fault of a row that cannot follow the rows before it: the first rule of the link that it
     /// breaks, and who is to blame. The bus is then as it was.
-    // Inlined, so that a caller that drops the act doesn't pay for it.
-    #[inline(always)]
     pub fn feed(&mut self, event: Event) -> Result<Option<Act>, LinkFault>
         ensures goes_on { (pieces : List Piece) → StandsFor self.old pieces
             → IfOk result (λ act. GoesOn self.new pieces event act) }
@@ -65,31 +63,62 @@ impl Bus {
             → OnErr result (HasActList (events_of pieces ++ event ∷ []) → ⊥) }
         ensures unchanged { OnErr result (self.new ≡ self.old) }
     {
+        let mut act = Act::Foreign;
+        match self.feed_into(event, &mut act) {
+            Ok(true) => Ok(Some(act)),
+            Ok(false) => Ok(None),
+            Err(fault) => Err(fault),
+        }
+    }
+
+    /// Takes the next row, and answers whether it ends an act, which it then puts into `act`. Where
+    /// it ends none, `act` stays as it was.
+    ///
+    /// This is `feed` for many rows: an act is large, and most rows end none.
+    ///
+    /// # Errors
+    ///
+    /// As `feed`.
+    pub fn feed_into(&mut self, event: Event, act: &mut Act) -> Result<bool, LinkFault>
+        ensures goes_on { (pieces : List Piece) → StandsFor self.old pieces
+            → IfOk result (λ ended. GoesOn self.new pieces event (ended_act ended act.new)) }
+        ensures faults { (pieces : List Piece) → StandsFor self.old pieces
+            → IfErr result (λ fault. IsLinkFault pieces event fault.rule fault.blame) }
+        ensures impossible { (pieces : List Piece) → StandsFor self.old pieces
+            → OnErr result (HasActList (events_of pieces ++ event ∷ []) → ⊥) }
+        ensures unchanged { OnErr result (self.new ≡ self.old) }
+        ensures none { IfOk result (λ ended. ended ≡ false → act.new ≡ act.old) }
+        ensures untouched { OnErr result (act.new ≡ act.old) }
+    {
         laws::rows_that_break_a_rule_end_the_act_list();
         match judge(&self.place, &self.last, &event) {
             Ok(judged) => match judged {
-                Judged::Reply => self.take_reply(event),
-                _ => Ok(self.go(judged, event)),
+                Judged::Reply => self.take_reply(event, act),
+                _ => Ok(self.go(judged, event, act)),
             },
             Err(rule) => Err(self.fault(rule, &event)),
         }
     }
 
-    /// Takes the reply that a row has ended, if it can be read and fits the levels.
-    fn take_reply(&mut self, event: Event) -> Result<Option<Act>, LinkFault>
-        ensures taken { IfOk result (λ act. (reply : Reply)
+    /// Takes the reply that a row has ended, if it can be read and fits the levels, and answers
+    /// that it ends an act, which it then puts into `act`.
+    fn take_reply(&mut self, event: Event, act: &mut Act) -> Result<bool, LinkFault>
+        ensures taken { IfOk result (λ ended. (reply : Reply)
             × IsReadAt (position_at self.old.place) self.old.levels (Ok reply)
-            × HasGone self.old (step.Reply reply) event self.new act) }
+            × HasGone self.old (step.Reply reply) event self.new (ended_act ended act.new)) }
         ensures rule { IfErr result (λ fault.
             IsReadAt (position_at self.old.place) self.old.levels (Err fault.rule)) }
         ensures blame { IfErr result (λ fault. fault.blame
             ≡ blame_of (position_at self.old.place) self.old.asked event fault.rule) }
         ensures unchanged { OnErr result (self.new ≡ self.old) }
+        ensures ends { IfOk result (λ ended. ended ≡ true) }
+        ensures untouched { OnErr result (act.new ≡ act.old) }
     {
         match self.place.end_reply(self.levels) {
-            Ok(act) => {
+            Ok(reply) => {
                 self.last = Some(event);
-                Ok(Some(act))
+                *act = reply;
+                Ok(true)
             }
             Err(rule) => {
                 let fault = self.fault(rule, &event);
@@ -98,17 +127,20 @@ impl Bus {
         }
     }
 
-    /// Goes a step by a row, and answers the act that it ends.
-    fn go(&mut self, judged: Judged, event: Event) -> Option<Act>
+    /// Goes a step by a row, and answers whether it ends an act, which it then puts into `act`.
+    fn go(&mut self, judged: Judged, event: Event, act: &mut Act) -> bool
         requires { HasRoom self.old.place.phase judged }
-        ensures { EachStep judged (λ next. IsAt (position_at self.old.place) next
-            → HasGone self.old next event self.new result) }
+        ensures gone { EachStep judged (λ next. IsAt (position_at self.old.place) next
+            → HasGone self.old next event self.new (ended_act result act.new)) }
+        ensures none { result ≡ false → act.new ≡ act.old }
     {
-        let act = self.place.advance(judged);
-        self.levels = levels_behind(self.levels, &act);
-        self.asked = asked_behind(self.asked, &act);
         self.last = Some(event);
-        act
+        if !self.place.advance(judged, act) {
+            return false;
+        }
+        self.levels = levels_behind(self.levels, act);
+        self.asked = asked_behind(self.asked, act);
+        true
     }
 
     /// The fault of a row that breaks a rule.
@@ -138,23 +170,23 @@ impl Bus {
     }
 }
 
-/// The levels behind the act that a row ends, if it ends one.
-fn levels_behind(levels: Levels, act: &Option<Act>) -> Levels
-    ensures { result ≡ levels_with act.now levels }
+/// The levels behind an act.
+fn levels_behind(levels: Levels, act: &Act) -> Levels
+    ensures { result ≡ levels_with (Some act.now) levels }
 {
     match act {
-        Some(Act::Ask(command)) => levels.after(*command),
+        Act::Ask(command) => levels.after(*command),
         _ => levels,
     }
 }
 
-/// The device that was asked last, behind the act that a row ends, if it ends one.
-fn asked_behind(asked: Option<Device>, act: &Option<Act>) -> Option<Device>
-    ensures { result ≡ asked_with act.now asked }
+/// The device that was asked last, behind an act.
+fn asked_behind(asked: Option<Device>, act: &Act) -> Option<Device>
+    ensures { result ≡ asked_with (Some act.now) asked }
 {
     match act {
-        Some(Act::Ask(command)) => Some(command.device()),
-        Some(Act::Foreign | Act::Break(_)) => None,
+        Act::Ask(command) => Some(command.device()),
+        Act::Foreign | Act::Break(_) => None,
         _ => asked,
     }
 }

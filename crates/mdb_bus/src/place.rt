@@ -1,6 +1,6 @@
 //! Where the bus is.
 
-ghost use Rattle.std.specs.Prelude.{◌≡◌, ◌≤◌, ◌<◌, [], ◌∷◌, ◌++◌, length, IfSome, OnErr};
+ghost use Rattle.std.specs.Prelude.{◌≡◌, ◌≤◌, ◌<◌, [], ◌∷◌, ◌++◌, length, false, IfSome, OnErr};
 ghost use Rattle.mdb_blocks.specs.Block.{block_of};
 ghost use Rattle.mdb_msgs.specs.Replies.{reply_bytes};
 ghost use Rattle.mdb_bus.specs.Steps.{rule_of as rule_of_lem};
@@ -131,46 +131,48 @@ pub struct Place {
 
 impl Place {
     ghost use Rattle.mdb_bus.specs.ActLists as lists;
-    ghost use Rattle.mdb_bus.specs.Bus.{position_at};
+    ghost use Rattle.mdb_bus.specs.Bus.{ended_act, position_at};
     ghost use Rattle.mdb_bus.specs.Step as step;
     ghost use Rattle.mdb_bus.specs.Step.{EachStep};
     ghost use Rattle.mdb_bus.specs.Steps.{HasAdvanced, HasRoom, IsAt, IsReadAt, IsTaken};
 
-    /// Goes a step, and answers the act that it ends.
-    pub(crate) fn advance(&mut self, judged: Judged) -> Option<Act>
+    /// Goes a step, and answers whether it ends an act, which it then puts into `act`.
+    pub(crate) fn advance(&mut self, judged: Judged, act: &mut Act) -> bool
         requires { HasRoom self.old.phase judged }
-        ensures { EachStep judged (λ next. IsAt (position_at self.old) next
-            → HasAdvanced (position_at self.old) next (position_at self.new) result) }
+        ensures advanced { EachStep judged (λ next. IsAt (position_at self.old) next
+            → HasAdvanced (position_at self.old) next (position_at self.new)
+            (ended_act result act.new)) }
+        ensures none { result ≡ false → act.new ≡ act.old }
     {
         match judged {
             Judged::AskByte(byte) => {
                 self.add_to_ask(byte);
-                None
+                false
             }
-            Judged::Ask => self.end_ask(),
+            Judged::Ask => act.note(self.end_ask()),
             Judged::Foreign => {
                 self.phase = Phase::InForeign;
-                Some(Act::Foreign)
+                act.note(Some(Act::Foreign))
             }
-            Judged::Ack => self.answered().map(Act::Ack),
-            Judged::Nak => self.answered().map(Act::Nak),
+            Judged::Ack => act.note(self.answered().map(Act::Ack)),
+            Judged::Nak => act.note(self.answered().map(Act::Nak)),
             Judged::ReplyByte(byte) => {
                 self.add_to_reply(byte);
-                None
+                false
             }
             // `end_reply` takes it.
-            Judged::Reply => None,
-            Judged::VmcAck => self.acknowledge(),
-            Judged::VmcNak => self.refuse(),
-            Judged::VmcRet => self.return_reply(),
+            Judged::Reply => false,
+            Judged::VmcAck => act.note(self.acknowledge()),
+            Judged::VmcNak => act.note(self.refuse()),
+            Judged::VmcRet => act.note(self.return_reply()),
             Judged::RepeatWord(word) => {
                 self.add_to_repeat(word);
-                None
+                false
             }
-            Judged::Repeat => self.end_repeat(),
+            Judged::Repeat => act.note(self.end_repeat()),
             Judged::Break(length) => {
                 self.phase = Phase::Quiet;
-                Some(Act::Break(length))
+                act.note(Some(Act::Break(length)))
             }
         }
     }

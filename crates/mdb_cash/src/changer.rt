@@ -20,7 +20,7 @@ use crate::kept::Reading;
 use crate::pair::Pair;
 pub use facts::ChangerFacts;
 use mdb_bus::Act;
-use mdb_msgs::Command;
+use mdb_msgs::{ChangerCommand, Command};
 pub use report::ChangerReport;
 pub use state::ChangerState;
 use steps::step;
@@ -63,7 +63,7 @@ impl Pair for Changer {
     fn concerns(act: &Act) -> bool {
         matches!(
             act,
-            Act::Ask(Command::Changer(_))
+            Act::Ask(Command::Changer(ChangerCommand::Reset | ChangerCommand::Dispense(_)))
                 | Act::Ack(Command::Changer(_))
                 | Act::Reply(Command::Changer(_), _)
                 | Act::VmcAck(Command::Changer(_), _)

@@ -91,13 +91,14 @@ impl Follower {
         if let Some(offence) = self.offence {
             return Err(offence);
         }
-        match self.bus.feed(event) {
+        let mut act = Act::Foreign;
+        match self.bus.feed_into(event, &mut act) {
             Err(fault) => Err(self.stop(fault)),
-            Ok(None) => {
+            Ok(false) => {
                 self.rows += 1;
                 Ok(())
             }
-            Ok(Some(act)) => self.follow(&act),
+            Ok(true) => self.follow(&act),
         }
     }
 

@@ -1,41 +1,41 @@
 use Rattle.std.proofs.Common.{◌+◌, ◌*◌, ◌^◌, None, Some, ap, arith, refl, subst}
-use Rattle.mdb_bus.specs.Bus.{GoesOn}
+use Rattle.mdb_bus.specs.Bus.{GoesOn, ended_act}
 use Rattle.mdb_follow.proofs.Limits.{table-within-weaker}
 use Rattle.mdb_follow.proofs.Following.{if-err, if-ok, link-offence, machine-offence, reached-by, stands-on, stands-still}
 use Rattle.mdb_follow.proofs.follower.Follower.feed.Goals as goal
 
-pub invariant_of-self-in-Ok-None-clause-within : goal.invariant_of-self-in-Ok-None-clause-within
-invariant_of-self-in-Ok-None-clause-within c =
+pub invariant_of-self-in-Ok-false-clause-within : goal.invariant_of-self-in-Ok-false-clause-within
+invariant_of-self-in-Ok-false-clause-within c =
     table-within-weaker (c.args.self.now.rows * 2 ^ 32) ((c.args.self.now.rows + 1) * 2 ^ 32)
     c.args.self.now.table (omega arith) c.args.self.now.within
 
-pub returns-in-Ok-Some-clause-reached : goal.returns-in-Ok-Some-clause-reached
-returns-in-Ok-Some-clause-reached c events on =
-    let goes : GoesOn c.feed.new.self on.pieces c.args.event (Some c.in-Ok-Some.act) =
-    subst (GoesOn c.feed.new.self on.pieces c.args.event) c.in-Ok-Some.field-0-is
-    (c.in-Ok-Some.ensures.goes_on on.pieces on.on_bus) in
+pub returns-in-Ok-true-clause-reached : goal.returns-in-Ok-true-clause-reached
+returns-in-Ok-true-clause-reached c events on =
+    let goes : GoesOn c.feed_into.new.self on.pieces c.args.event (Some c.feed_into.new.act) =
+    subst (λ b. GoesOn c.feed_into.new.self on.pieces c.args.event (ended_act b c.feed_into.new.act))
+    c.in-Ok-true.field-0-test (c.in-Ok-true.ensures.goes_on on.pieces on.on_bus) in
     if-ok c.follow.result _ _
-    (λ _ has. stands-on c.args.self.now _ c.follow.new.self events c.args.event c.in-Ok-Some.act on
+    (λ _ has. stands-on c.args.self.now _ c.follow.new.self events c.args.event c.feed_into.new.act on
     goes refl refl refl refl has)
     c.follow.ensures.followed
 
-pub returns-in-Ok-Some-clause-offence : goal.returns-in-Ok-Some-clause-offence
-returns-in-Ok-Some-clause-offence c events on =
-    let goes : GoesOn c.feed.new.self on.pieces c.args.event (Some c.in-Ok-Some.act) =
-    subst (GoesOn c.feed.new.self on.pieces c.args.event) c.in-Ok-Some.field-0-is
-    (c.in-Ok-Some.ensures.goes_on on.pieces on.on_bus) in
+pub returns-in-Ok-true-clause-offence : goal.returns-in-Ok-true-clause-offence
+returns-in-Ok-true-clause-offence c events on =
+    let goes : GoesOn c.feed_into.new.self on.pieces c.args.event (Some c.feed_into.new.act) =
+    subst (λ b. GoesOn c.feed_into.new.self on.pieces c.args.event (ended_act b c.feed_into.new.act))
+    c.in-Ok-true.field-0-test (c.in-Ok-true.ensures.goes_on on.pieces on.on_bus) in
     if-err c.follow.result _ _
     (λ offence has. machine-offence c.transcripts_have_one_act_list.ensures c.ways_join.ensures
-    c.args.self.now _ c.follow.new.self events c.args.event c.in-Ok-Some.act offence on goes
+    c.args.self.now _ c.follow.new.self events c.args.event c.feed_into.new.act offence on goes
     refl refl refl has)
     c.follow.ensures.stopped
 
-pub returns-in-Ok-None-clause-reached : goal.returns-in-Ok-None-clause-reached
-returns-in-Ok-None-clause-reached c events on =
-    let goes : GoesOn c.feed.new.self on.pieces c.args.event None =
-    subst (GoesOn c.feed.new.self on.pieces c.args.event) c.in-Ok-None.field-0-is
-    (c.in-Ok-None.ensures.goes_on on.pieces on.on_bus) in
-    stands-still c.args.self.now _ c.feed.new.self events c.args.event on goes refl refl refl refl
+pub returns-in-Ok-false-clause-reached : goal.returns-in-Ok-false-clause-reached
+returns-in-Ok-false-clause-reached c events on =
+    let goes : GoesOn c.feed_into.new.self on.pieces c.args.event None =
+    subst (λ b. GoesOn c.feed_into.new.self on.pieces c.args.event (ended_act b c.feed_into.new.act))
+    c.in-Ok-false.field-0-test (c.in-Ok-false.ensures.goes_on on.pieces on.on_bus) in
+    stands-still c.args.self.now _ c.feed_into.new.self events c.args.event on goes refl refl refl refl
     refl
 
 pub returns-in-Err-clause-offence : goal.returns-in-Err-clause-offence
@@ -47,11 +47,11 @@ returns-in-Err-clause-offence c events on =
     (ap (λ offence. offence.rule) c.stop.ensures.offence)
     (ap (λ offence. offence.blame) c.stop.ensures.offence)
 
-pub returns-in-Ok-Some-clause-is_reached : goal.returns-in-Ok-Some-clause-is_reached
-returns-in-Ok-Some-clause-is_reached c events on =
+pub returns-in-Ok-true-clause-is_reached : goal.returns-in-Ok-true-clause-is_reached
+returns-in-Ok-true-clause-is_reached c events on =
     if-ok c.follow.result _ _ (λ _ stands. reached-by c.ways_join.ensures _ _ stands)
-    (returns-in-Ok-Some-clause-reached c events on)
+    (returns-in-Ok-true-clause-reached c events on)
 
-pub returns-in-Ok-None-clause-is_reached : goal.returns-in-Ok-None-clause-is_reached
-returns-in-Ok-None-clause-is_reached c events on =
-    reached-by c.ways_join.ensures _ _ (returns-in-Ok-None-clause-reached c events on)
+pub returns-in-Ok-false-clause-is_reached : goal.returns-in-Ok-false-clause-is_reached
+returns-in-Ok-false-clause-is_reached c events on =
+    reached-by c.ways_join.ensures _ _ (returns-in-Ok-false-clause-reached c events on)

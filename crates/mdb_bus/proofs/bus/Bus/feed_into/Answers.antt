@@ -1,11 +1,12 @@
 use Rattle.mdb_bus.proofs.Feed.{ended_by, fault_ends, fault_of, read_goes_on, read_has_fault, stands_on}
-use Rattle.mdb_bus.proofs.bus.Bus.feed.Goals as goal
+use Rattle.mdb_bus.specs.Bus.{ended_act}
+use Rattle.mdb_bus.proofs.bus.Bus.feed_into.Goals as goal
 
 pub returns-in-Reply-clause-goes_on : goal.returns-in-Reply-clause-goes_on
 returns-in-Reply-clause-goes_on c pieces stands =
     let ended = ended_by c.args.self.now c.args.event c.in-Ok.judged c.in-Reply.is
     (c.in-Ok.ensures.judged c.args.self.now.levels) in
-    read_goes_on c.args.self.now c.take_reply.new.self pieces c.args.event c.take_reply.result stands ended
+    read_goes_on c.args.self.now c.take_reply.new.self pieces c.args.event c.take_reply.new.act c.take_reply.result stands ended
     c.take_reply.ensures.taken
 
 pub returns-in-Reply-clause-faults : goal.returns-in-Reply-clause-faults
@@ -26,8 +27,8 @@ returns-in-Reply-clause-impossible c pieces stands =
 
 pub returns-in_default-clause-goes_on : goal.returns-in_default-clause-goes_on
 returns-in_default-clause-goes_on c pieces stands =
-    stands_on c.args.self.now c.go.new.self pieces c.args.event c.in-Ok.judged c.go.result stands
-    c.in_default.not-Reply (c.in-Ok.ensures.judged c.args.self.now.levels) c.go.ensures
+    stands_on c.args.self.now c.go.new.self pieces c.args.event c.in-Ok.judged (ended_act c.go.result c.go.new.act) stands
+    c.in_default.not-Reply (c.in-Ok.ensures.judged c.args.self.now.levels) c.go.ensures.gone
 
 pub returns-in-Err-clause-faults : goal.returns-in-Err-clause-faults
 returns-in-Err-clause-faults c pieces stands =
