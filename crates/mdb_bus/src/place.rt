@@ -250,6 +250,8 @@ impl Place {
     }
 
     /// The reply whose bytes were sent, or the rule that it breaks.
+    // Not inlined, so that only rows that end a reply pay for it.
+    #[inline(never)]
     fn read_reply(&self, levels: Levels) -> Result<Reply, Rule>
         ensures { IsReadAt (position_at self.now) levels result }
     {

@@ -12,22 +12,22 @@ pub(crate) static FIRST: [Need; 256] = [
     Need::Foreign,
     Need::Foreign,
     Need::Foreign,
-    Need::Exactly(2),
-    Need::Exactly(2),
-    Need::Exactly(2),
-    Need::Exactly(2),
-    Need::Exactly(6),
-    Need::Exactly(3),
-    Need::Outside,
-    Need::More,
-    Need::Exactly(2),
-    Need::More,
-    Need::Exactly(2),
-    Need::More,
-    Need::More,
-    Need::Outside,
-    Need::Outside,
-    Need::More,
+    Need::Exactly(2), // 08
+    Need::Exactly(2), // 09
+    Need::Exactly(2), // 0A
+    Need::Exactly(2), // 0B
+    Need::Exactly(6), // 0C
+    Need::Exactly(3), // 0D
+    Need::Outside, // 0E
+    Need::More, // 0F
+    Need::Exactly(2), // 10
+    Need::More, // 11
+    Need::Exactly(2), // 12
+    Need::More, // 13
+    Need::More, // 14
+    Need::Outside, // 15
+    Need::Outside, // 16
+    Need::More, // 17
     Need::Foreign,
     Need::Foreign,
     Need::Foreign,
@@ -52,14 +52,14 @@ pub(crate) static FIRST: [Need; 256] = [
     Need::Foreign,
     Need::Foreign,
     Need::Foreign,
-    Need::Exactly(2),
-    Need::Exactly(2),
-    Need::Exactly(4),
-    Need::Exactly(2),
-    Need::Exactly(6),
-    Need::Exactly(3),
-    Need::Exactly(2),
-    Need::More,
+    Need::Exactly(2), // 30
+    Need::Exactly(2), // 31
+    Need::Exactly(4), // 32
+    Need::Exactly(2), // 33
+    Need::Exactly(6), // 34
+    Need::Exactly(3), // 35
+    Need::Exactly(2), // 36
+    Need::More, // 37
     Need::Foreign,
     Need::Foreign,
     Need::Foreign,
@@ -100,14 +100,14 @@ pub(crate) static FIRST: [Need; 256] = [
     Need::Foreign,
     Need::Foreign,
     Need::Foreign,
-    Need::Exactly(2),
-    Need::More,
-    Need::Exactly(2),
-    Need::More,
-    Need::More,
-    Need::Outside,
-    Need::Outside,
-    Need::More,
+    Need::Exactly(2), // 60
+    Need::More, // 61
+    Need::Exactly(2), // 62
+    Need::More, // 63
+    Need::More, // 64
+    Need::Outside, // 65
+    Need::Outside, // 66
+    Need::More, // 67
     Need::Foreign,
     Need::Foreign,
     Need::Foreign,
