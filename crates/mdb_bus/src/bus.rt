@@ -79,6 +79,7 @@ impl Bus {
     /// # Errors
     ///
     /// As `feed`.
+    #[inline(always)]
     pub fn feed_into(&mut self, event: Event, act: &mut Act) -> Result<bool, LinkFault>
         ensures goes_on { (pieces : List Piece) → StandsFor self.old pieces
             → IfOk result (λ ended. GoesOn self.new pieces event (ended_act ended act.new)) }

@@ -71,6 +71,7 @@ impl Follower {
     ///
     /// The offence of the first row that cannot be. From then on each call answers it again, and
     /// nothing changes.
+    #[inline(always)]
     pub fn feed(&mut self, event: Event) -> Result<(), Offence>
         requires { rows_of self.old < ROWS_MAX }
         ensures reached { (events : List Event) → StandsFor self.old events
