@@ -136,6 +136,10 @@ impl Bus {
         ensures none { result ≡ false → act.new ≡ act.old }
     {
         self.last = Some(event);
+        // Most rows only add a word, and needn't pay for what ends an act.
+        if self.place.add(&judged) {
+            return false;
+        }
         if !self.place.advance(judged, act) {
             return false;
         }

@@ -132,9 +132,34 @@ pub struct Place {
 impl Place {
     ghost use Rattle.mdb_bus.specs.ActLists as lists;
     ghost use Rattle.mdb_bus.specs.Bus.{ended_act, position_at};
+    ghost use Rattle.std.specs.Bool.{OnFalse, OnTrue};
     ghost use Rattle.mdb_bus.specs.Step as step;
     ghost use Rattle.mdb_bus.specs.Step.{EachStep};
     ghost use Rattle.mdb_bus.specs.Steps.{HasAdvanced, HasRoom, IsAt, IsReadAt, IsTaken};
+
+    /// Adds a word to what has begun, if it is one that ends nothing, and answers whether.
+    pub(crate) fn add(&mut self, judged: &Judged) -> bool
+        requires { HasRoom self.old.phase judged.now }
+        ensures added { OnTrue result (EachStep judged.now (λ next. IsAt (position_at self.old) next
+            → HasAdvanced (position_at self.old) next (position_at self.new) None)) }
+        ensures same { OnFalse result (self.new ≡ self.old) }
+    {
+        match *judged {
+            Judged::AskByte(byte) => {
+                self.add_to_ask(byte);
+                true
+            }
+            Judged::ReplyByte(byte) => {
+                self.add_to_reply(byte);
+                true
+            }
+            Judged::RepeatWord(word) => {
+                self.add_to_repeat(word);
+                true
+            }
+            _ => false,
+        }
+    }
 
     /// Goes a step, and answers whether it ends an act, which it then puts into `act`.
     pub(crate) fn advance(&mut self, judged: Judged, act: &mut Act) -> bool
@@ -267,6 +292,7 @@ impl Place {
     }
 
     /// The controller acknowledges the reply.
+    #[inline(never)]
     fn acknowledge(&mut self) -> Option<Act>
         ensures { IsAt (position_at self.old) step.VmcAck
             → HasAdvanced (position_at self.old) step.VmcAck (position_at self.new) result }
@@ -279,6 +305,7 @@ impl Place {
     }
 
     /// The controller didn't receive the reply well.
+    #[inline(never)]
     fn refuse(&mut self) -> Option<Act>
         ensures { IsAt (position_at self.old) step.VmcNak
             → HasAdvanced (position_at self.old) step.VmcNak (position_at self.new) result }
@@ -291,6 +318,7 @@ impl Place {
     }
 
     /// The controller asks for the reply again.
+    #[inline(never)]
     fn return_reply(&mut self) -> Option<Act>
         ensures { IsAt (position_at self.old) step.VmcRet
             → HasAdvanced (position_at self.old) step.VmcRet (position_at self.new) result }
@@ -317,6 +345,7 @@ impl Place {
     }
 
     /// The repeat has ended.
+    #[inline(never)]
     fn end_repeat(&mut self) -> Option<Act>
         ensures { IsAt (position_at self.old) step.Repeat
             → HasAdvanced (position_at self.old) step.Repeat (position_at self.new) result }
