@@ -79,6 +79,7 @@ impl Bus {
     /// # Errors
     ///
     /// As `feed`.
+    // Inlined, since it is on the path of every row.
     #[inline(always)]
     pub fn feed_into(&mut self, event: Event, act: &mut Act) -> Result<bool, LinkFault>
         ensures goes_on { (pieces : List Piece) → StandsFor self.old pieces

@@ -292,6 +292,7 @@ impl Place {
     }
 
     /// The controller acknowledges the reply.
+    // Not inlined, like its three siblings below: what they make is large, and few rows need it.
     #[inline(never)]
     fn acknowledge(&mut self) -> Option<Act>
         ensures { IsAt (position_at self.old) step.VmcAck

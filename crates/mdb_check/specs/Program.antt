@@ -16,7 +16,7 @@ status_of (Ok (No offence)) = 1
 status_of (Err fault) = 2
 
 -- What the statuses say of the records of a text, and of the bytes that the writer held before and
--- after. At 2 nothing was written, or the text has a verdict that the writer failed to take.
+-- after. At 2 nothing was written, or the text has a verdict; then nothing is said of the bytes.
 abbrev pub Says : List (List (List ℕ)) → Option (List ℕ) → Option (List ℕ) → ℕ → Type 0
 Says records before after status =
     (status ≡ 0 → (report : Report) × IsPossible records report

@@ -90,7 +90,7 @@ IsOwnAnswer (Err Memory) = ⊥
 abbrev pub HasOutcome : List (List (List ℕ)) → Type 0
 HasOutcome records = (outcome : Outcome) × IsAnswer records (Ok outcome)
 
--- a yes with the report on these rows
+-- a yes with the report on these rows; this serves a private function
 abbrev pub IsYes : List Event → Outcome → Type 0
 IsYes rows (Yes report) = IsReport rows report
 IsYes rows (No offence) = ⊥
@@ -101,7 +101,7 @@ IsNoYes (Ok (Yes report)) = ⊥
 IsNoYes (Ok (No offence)) = ⊤
 IsNoYes (Err fault) = ⊤
 
--- the fault of a run whose reading failed
+-- The rest serves private functions: the fault of a run whose reading failed.
 abbrev pub run_fault_of : ReadFault → RunFault
 run_fault_of reading.Read = Read
 run_fault_of reading.Memory = Memory

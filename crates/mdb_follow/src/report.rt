@@ -4,7 +4,7 @@ use crate::Account;
 
 /// What rows that can have been tell.
 ///
-/// The changer alone is followed yet: the other accounts stand at 0, no decimals are told, and no
+/// The changer alone is followed so far: the other accounts stand at 0, no decimals are told, and no
 /// silences are counted.
 #[derive(Clone, Copy, PartialEq, Eq, Debug)]
 pub struct Report {
