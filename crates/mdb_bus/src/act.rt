@@ -31,20 +31,14 @@ pub enum Act {
 }
 
 impl Act {
-    ghost use Rattle.std.specs.Prelude.{◌≡◌, false};
+    ghost use Rattle.std.specs.Prelude.{◌≡◌, Some};
     ghost use Rattle.mdb_bus.specs.Bus.{ended_act};
 
-    /// Becomes the act that was ended, if one was, and answers whether.
-    pub(crate) fn note(&mut self, ended: Option<Act>) -> bool
-        ensures ended { ended_act result self.new ≡ ended }
-        ensures none { result ≡ false → self.new ≡ self.old }
+    /// Becomes the act that was ended, and answers that one was.
+    pub(crate) fn note(&mut self, ended: Act) -> bool
+        ensures { ended_act result self.new ≡ Some ended }
     {
-        match ended {
-            Some(act) => {
-                *self = act;
-                true
-            }
-            None => false,
-        }
+        *self = ended;
+        true
     }
 }

@@ -174,30 +174,36 @@ impl Place {
                 self.add_to_ask(byte);
                 false
             }
-            Judged::Ask => act.note(self.end_ask()),
+            Judged::Ask => self.end_ask(act),
             Judged::Foreign => {
                 self.phase = Phase::InForeign;
-                act.note(Some(Act::Foreign))
+                act.note(Act::Foreign)
             }
-            Judged::Ack => act.note(self.answered().map(Act::Ack)),
-            Judged::Nak => act.note(self.answered().map(Act::Nak)),
+            Judged::Ack => match self.answered() {
+                Some(command) => act.note(Act::Ack(command)),
+                None => false,
+            },
+            Judged::Nak => match self.answered() {
+                Some(command) => act.note(Act::Nak(command)),
+                None => false,
+            },
             Judged::ReplyByte(byte) => {
                 self.add_to_reply(byte);
                 false
             }
             // `end_reply` takes it.
             Judged::Reply => false,
-            Judged::VmcAck => act.note(self.acknowledge()),
-            Judged::VmcNak => act.note(self.refuse()),
-            Judged::VmcRet => act.note(self.return_reply()),
+            Judged::VmcAck => self.acknowledge(act),
+            Judged::VmcNak => self.refuse(act),
+            Judged::VmcRet => self.return_reply(act),
             Judged::RepeatWord(word) => {
                 self.add_to_repeat(word);
                 false
             }
-            Judged::Repeat => act.note(self.end_repeat()),
+            Judged::Repeat => self.end_repeat(act),
             Judged::Break(length) => {
                 self.phase = Phase::Quiet;
-                act.note(Some(Act::Break(length)))
+                act.note(Act::Break(length))
             }
         }
     }
@@ -215,16 +221,20 @@ impl Place {
     }
 
     /// The controller's block has ended.
-    fn end_ask(&mut self) -> Option<Act>
-        ensures { (command : Command) → IsAt (position_at self.old) (step.Ask command)
-            → HasAdvanced (position_at self.old) (step.Ask command) (position_at self.new) result }
+    fn end_ask(&mut self, act: &mut Act) -> bool
+        ensures advanced { (command : Command) → IsAt (position_at self.old) (step.Ask command)
+            → HasAdvanced (position_at self.old) (step.Ask command) (position_at self.new)
+            (ended_act result act.new) }
+        ensures none { result ≡ false → act.new ≡ act.old }
     {
         let Phase::InAsk(bytes) = &self.phase else {
-            return None;
+            return false;
         };
-        let command = command_of(bytes.as_slice()).ok()?;
+        let Ok(command) = command_of(bytes.as_slice()) else {
+            return false;
+        };
         self.phase = Phase::Asked(command);
-        Some(Act::Ask(command))
+        act.note(Act::Ask(command))
     }
 
     /// Adds a byte to the reply, or begins one with it.
@@ -294,41 +304,47 @@ impl Place {
     /// The controller acknowledges the reply.
     // Not inlined, like its three siblings below: what they make is large, and few rows need it.
     #[inline(never)]
-    fn acknowledge(&mut self) -> Option<Act>
-        ensures { IsAt (position_at self.old) step.VmcAck
-            → HasAdvanced (position_at self.old) step.VmcAck (position_at self.new) result }
+    fn acknowledge(&mut self, act: &mut Act) -> bool
+        ensures advanced { IsAt (position_at self.old) step.VmcAck
+            → HasAdvanced (position_at self.old) step.VmcAck (position_at self.new)
+            (ended_act result act.new) }
+        ensures none { result ≡ false → act.new ≡ act.old }
     {
         let Phase::Replied = self.phase else {
-            return None;
+            return false;
         };
         self.phase = Phase::Quiet;
-        Some(Act::VmcAck(self.exchange.command, self.exchange.reply.copy()))
+        act.note(Act::VmcAck(self.exchange.command, self.exchange.reply.copy()))
     }
 
     /// The controller didn't receive the reply well.
     #[inline(never)]
-    fn refuse(&mut self) -> Option<Act>
-        ensures { IsAt (position_at self.old) step.VmcNak
-            → HasAdvanced (position_at self.old) step.VmcNak (position_at self.new) result }
+    fn refuse(&mut self, act: &mut Act) -> bool
+        ensures advanced { IsAt (position_at self.old) step.VmcNak
+            → HasAdvanced (position_at self.old) step.VmcNak (position_at self.new)
+            (ended_act result act.new) }
+        ensures none { result ≡ false → act.new ≡ act.old }
     {
         let Phase::Replied = self.phase else {
-            return None;
+            return false;
         };
         self.phase = Phase::Quiet;
-        Some(Act::VmcNak(self.exchange.command, self.exchange.reply.copy()))
+        act.note(Act::VmcNak(self.exchange.command, self.exchange.reply.copy()))
     }
 
     /// The controller asks for the reply again.
     #[inline(never)]
-    fn return_reply(&mut self) -> Option<Act>
-        ensures { IsAt (position_at self.old) step.VmcRet
-            → HasAdvanced (position_at self.old) step.VmcRet (position_at self.new) result }
+    fn return_reply(&mut self, act: &mut Act) -> bool
+        ensures advanced { IsAt (position_at self.old) step.VmcRet
+            → HasAdvanced (position_at self.old) step.VmcRet (position_at self.new)
+            (ended_act result act.new) }
+        ensures none { result ≡ false → act.new ≡ act.old }
     {
         let Phase::Replied = self.phase else {
-            return None;
+            return false;
         };
         self.phase = Phase::Returned;
-        Some(Act::VmcRet(self.exchange.command, self.exchange.reply.copy()))
+        act.note(Act::VmcRet(self.exchange.command, self.exchange.reply.copy()))
     }
 
     /// A word of the repeat, which has more to come.
@@ -347,15 +363,17 @@ impl Place {
 
     /// The repeat has ended.
     #[inline(never)]
-    fn end_repeat(&mut self) -> Option<Act>
-        ensures { IsAt (position_at self.old) step.Repeat
-            → HasAdvanced (position_at self.old) step.Repeat (position_at self.new) result }
+    fn end_repeat(&mut self, act: &mut Act) -> bool
+        ensures advanced { IsAt (position_at self.old) step.Repeat
+            → HasAdvanced (position_at self.old) step.Repeat (position_at self.new)
+            (ended_act result act.new) }
+        ensures none { result ≡ false → act.new ≡ act.old }
     {
         let Phase::InRepeat(_) = self.phase else {
-            return None;
+            return false;
         };
         self.phase = Phase::Replied;
-        Some(Act::Repeat(self.exchange.command, self.exchange.reply.copy()))
+        act.note(Act::Repeat(self.exchange.command, self.exchange.reply.copy()))
     }
 }
 
