@@ -116,10 +116,9 @@ impl Bus {
         ensures ends { IfOk result (λ ended. ended ≡ true) }
         ensures untouched { OnErr result (act.new ≡ act.old) }
     {
-        match self.place.end_reply(self.levels) {
-            Ok(reply) => {
+        match self.place.end_reply(self.levels, act) {
+            Ok(()) => {
                 self.last = Some(event);
-                *act = reply;
                 Ok(true)
             }
             Err(rule) => {
@@ -137,10 +136,6 @@ impl Bus {
         ensures none { result ≡ false → act.new ≡ act.old }
     {
         self.last = Some(event);
-        // Most rows only add a word, and needn't pay for what ends an act.
-        if self.place.add(&judged) {
-            return false;
-        }
         if !self.place.advance(judged, act) {
             return false;
         }

@@ -1,6 +1,6 @@
 //! Where the bus is.
 
-ghost use Rattle.std.specs.Prelude.{◌≡◌, ◌≤◌, ◌<◌, [], ◌∷◌, ◌++◌, length, false, IfSome, OnErr};
+ghost use Rattle.std.specs.Prelude.{◌≡◌, ◌≤◌, ◌<◌, [], ◌∷◌, ◌++◌, length, false, IfSome, IfOk, IfErr, OnErr, Ok, Err};
 ghost use Rattle.mdb_blocks.specs.Block.{block_of};
 ghost use Rattle.mdb_msgs.specs.Replies.{reply_bytes};
 ghost use Rattle.mdb_bus.specs.Steps.{rule_of as rule_of_lem};
@@ -132,34 +132,9 @@ pub struct Place {
 impl Place {
     ghost use Rattle.mdb_bus.specs.ActLists as lists;
     ghost use Rattle.mdb_bus.specs.Bus.{ended_act, position_at};
-    ghost use Rattle.std.specs.Bool.{OnFalse, OnTrue};
     ghost use Rattle.mdb_bus.specs.Step as step;
     ghost use Rattle.mdb_bus.specs.Step.{EachStep};
     ghost use Rattle.mdb_bus.specs.Steps.{HasAdvanced, HasRoom, IsAt, IsReadAt, IsTaken};
-
-    /// Adds a word to what has begun, if it is one that ends nothing, and answers whether.
-    pub(crate) fn add(&mut self, judged: &Judged) -> bool
-        requires { HasRoom self.old.phase judged.now }
-        ensures added { OnTrue result (EachStep judged.now (λ next. IsAt (position_at self.old) next
-            → HasAdvanced (position_at self.old) next (position_at self.new) None)) }
-        ensures same { OnFalse result (self.new ≡ self.old) }
-    {
-        match *judged {
-            Judged::AskByte(byte) => {
-                self.add_to_ask(byte);
-                true
-            }
-            Judged::ReplyByte(byte) => {
-                self.add_to_reply(byte);
-                true
-            }
-            Judged::RepeatWord(word) => {
-                self.add_to_repeat(word);
-                true
-            }
-            _ => false,
-        }
-    }
 
     /// Goes a step, and answers whether it ends an act, which it then puts into `act`.
     pub(crate) fn advance(&mut self, judged: Judged, act: &mut Act) -> bool
@@ -264,21 +239,25 @@ impl Place {
     }
 
     /// The reply has ended, with the right length and sum: takes it, if it can be read and fits the
-    /// levels. Else the place is as it was.
-    pub(crate) fn end_reply(&mut self, levels: Levels) -> Result<Act, Rule>
-        ensures taken { IsTaken (position_at self.old) levels (position_at self.new) result }
+    /// levels, and puts the act into `act`. Else both are as they were.
+    pub(crate) fn end_reply(&mut self, levels: Levels, act: &mut Act) -> Result<(), Rule>
+        ensures taken { IfOk result (λ _.
+            IsTaken (position_at self.old) levels (position_at self.new) (Ok act.new)) }
+        ensures rule { IfErr result (λ rule.
+            IsTaken (position_at self.old) levels (position_at self.new) (Err rule)) }
         ensures unchanged { OnErr result (self.new ≡ self.old) }
+        ensures untouched { OnErr result (act.new ≡ act.old) }
     {
         let reply = self.read_reply(levels)?;
         match mem::replace(&mut self.phase, Phase::Replied) {
             Phase::InReply(command, bytes) => {
-                let act = Act::Reply(command, reply.copy());
+                *act = Act::Reply(command, reply.copy());
                 self.exchange = Exchange {
                     command,
                     reply,
                     bytes,
                 };
-                Ok(act)
+                Ok(())
             }
             _ => unreachable!(),
         }

@@ -1,6 +1,5 @@
 use Rattle.std.proofs.Common.{refl, ap, subst, ◌∙◌, ◌≡◌, Some}
 use Rattle.mdb_bus.specs.Bus.{ended_act, position_at}
-use Rattle.mdb_bus.specs.Step.{EachStep}
 use Rattle.mdb_bus.specs.Steps.{HasAdvanced, IsAt, asked_with, levels_with}
 use Rattle.mdb_bus.proofs.EachSteps.{each}
 use Rattle.mdb_bus.proofs.Feed.{told}
@@ -25,6 +24,4 @@ returns-clause-gone c =
       asked = c.asked_behind-self.ensures ∙ (ap (λ a. asked_with a c.args.self.now.asked) has.act ∙ tells.1);
     }
     ))
-    (subst (λ place. EachStep c.args.judged (λ next. IsAt (position_at place) next
-    → HasAdvanced (position_at place) next (position_at c.advance.new.self) (ended_act c.advance.result c.advance.new.act)))
-    c.if-add.ensures.same c.advance.ensures.advanced)
+    c.advance.ensures.advanced
