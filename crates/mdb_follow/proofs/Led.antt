@@ -160,28 +160,6 @@ led-more number Comes Move from entry moves into is steps below keyed old =
     (bounds-with_moves number (Led Comes Move from) into (Comes entry.0) entry.1 moves is below
     keyed old)
 
-with_moves-more : (entries : List (ℕ × Cell)) (cell : Cell) (moves : List (ℕ × Gains))
-    (move : ℕ × Gains)
-    → with_moves entries cell (moves ++ move ∷ [])
-    ≡ with_cell (with_moves entries cell moves) move.0 (moved_cell cell move.1)
-with_moves-more entries cell [] move = refl
-with_moves-more entries cell (first ∷ moves) move =
-    with_moves-more (with_cell entries first.0 (moved_cell cell first.1)) cell moves move
-
--- one move more was read
-pub moves-read : (entries before after : List (ℕ × Cell)) (cell to : Cell)
-    (moves : List (ℕ × Gains)) (i : ℕ) (d : ℕ × Gains) → i < length moves
-    → before ≡ with_moves entries cell (take i moves)
-    → to ≡ moved_cell cell (get_or moves i d).1
-    → after ≡ with_cell before (get_or moves i d).0 to
-    → after ≡ with_moves entries cell (take (i + 1) moves)
-moves-read entries before after cell to moves i d within so_far moved added =
-    added
-    ∙ ap (λ c. with_cell before (get_or moves i d).0 c) moved
-    ∙ ap (λ b. with_cell b (get_or moves i d).0 (moved_cell cell (get_or moves i d).1)) so_far
-    ∙ sym (with_moves-more entries cell (take i moves) (get_or moves i d))
-    ∙ ap (with_moves entries cell) (sym (take_more moves i d within))
-
 -- what a pair's moves are known to be, of the slice that they are read from
 pub moves-below : (number codes : ℕ) (moves slice : List (ℕ × Gains)) → number ≡ codes
     → slice ≡ moves

@@ -7,4 +7,5 @@ pub mod Listed
 pub mod OneAnswer
 pub mod Places
 pub mod Reaching
+pub mod TwoSteps
 pub mod Ways

@@ -1,5 +1,5 @@
 -- How the entries of a table are made. This serves private functions.
-use Rattle.std.specs.Prelude.{◌≡◌, ◌==◌, ◌<◌, ℕ, List, [], ◌∷◌, All, fold, if◌then◌else◌}
+use Rattle.std.specs.Prelude.{◌≡◌, ◌==◌, ◌<◌, ◌⊎◌, ◌↔◌, ℕ, List, [], ◌∷◌, All, Contains, Option, Some, None, fold, if◌then◌else◌}
 use Rattle.std.specs.Prelude.{length, slice_index, slice_index_or}
 use Rattle.mdb_cash.specs.declared.gains.Gains.{Gains}
 use Rattle.mdb_follow.specs.declared.cell.Cell.{Cell}
@@ -46,6 +46,16 @@ abbrev pub with_moves : List (ℕ × Cell) → Cell → List (ℕ × Gains) → 
 with_moves entries cell [] = entries
 with_moves entries cell (move ∷ moves) =
     with_moves (with_cell entries move.0 (moved_cell cell move.1)) cell moves
+
+-- the move that a step is, if it is one
+abbrev pub moves_of : Option (ℕ × Gains) → List (ℕ × Gains)
+moves_of None = []
+moves_of (Some move) = move ∷ []
+
+-- the moves that two steps are, which may be the same
+abbrev pub AreMoves : List (ℕ × Gains) → Option (ℕ × Gains) → Option (ℕ × Gains) → Type 0
+AreMoves moves one other =
+    (move : ℕ × Gains) → Contains moves move ↔ (one ≡ Some move) ⊎ (other ≡ Some move)
 
 -- the join of a cell and those of entries
 abbrev pub joined_cells : Cell → List (ℕ × Cell) → Cell

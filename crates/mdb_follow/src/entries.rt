@@ -1,10 +1,11 @@
 //! The entries of a table: codes with their cells.
 
-ghost use Rattle.std.specs.Prelude.{◌≡◌, ◌<◌, ◌^◌, ◌∷◌, ◌↔◌, ℕ, List, All, IsTrue};
+ghost use Rattle.std.specs.Prelude.{◌≡◌, ◌<◌, ◌^◌, ◌∷◌, ◌↔◌, ℕ, List, IsTrue, IfSome};
 ghost use Rattle.mdb_cash.specs.Gains.{IsSmall};
+ghost use Rattle.mdb_cash.specs.declared.gains.Gains.{Gains};
 ghost use Rattle.mdb_follow.specs.declared.cell.Cell.{Cell};
-ghost use Rattle.mdb_follow.specs.Entries.{HasAt, IsKeyed, IsPlaced};
-ghost use Rattle.mdb_follow.specs.Entries.{joined_cells, with_cell, with_moves};
+ghost use Rattle.mdb_follow.specs.Entries.{AreMoves, HasAt, IsKeyed, IsPlaced};
+ghost use Rattle.mdb_follow.specs.Entries.{joined_cells, moves_of, with_cell, with_moves};
 ghost use Rattle.mdb_follow.specs.Limits.{IsCellWithin};
 
 use crate::Cell;
@@ -43,24 +44,48 @@ fn add_cell<const N: usize>(
     }
 }
 
-/// Takes in the cells that the steps from one cell lead to.
-pub(crate) fn add_moves<const N: usize>(
+/// Takes in the cell that a step from a cell leads to; `None` is no step.
+fn add_step<const N: usize>(
     entries: &mut ArrayVec<(usize, Cell), N>,
     places: &mut [usize; N],
     cell: &Cell,
-    moves: &[(usize, Gains)],
+    step: &Option<(usize, Gains)>,
 )
     requires within { IsCellWithin (2 ^ 62) cell.now }
-    requires small { All (λ move. IsSmall move.1) moves.now }
-    requires below { All (λ move. move.0 < N) moves.now }
+    requires step { IfSome step.now (λ move. (move.0 < N) × IsSmall move.1) }
     requires keyed { IsKeyed N entries.old.items }
     requires placed { IsPlaced entries.old.items places.old }
-    ensures entries { entries.new.items ≡ with_moves entries.old.items cell.now moves.now }
+    ensures entries { entries.new.items
+        ≡ with_moves entries.old.items cell.now (moves_of step.now) }
     ensures keyed { IsKeyed N entries.new.items }
     ensures placed { IsPlaced entries.new.items places.new }
 {
-    for (next, gains) in moves {
+    if let Some((next, gains)) = step {
         add_cell(entries, places, *next, &cell.moved(gains));
+    }
+}
+
+/// Takes in the cells that two steps from a cell lead to, which may be the same step.
+pub(crate) fn add_steps<const N: usize>(
+    entries: &mut ArrayVec<(usize, Cell), N>,
+    places: &mut [usize; N],
+    cell: &Cell,
+    one: &Option<(usize, Gains)>,
+    other: &Option<(usize, Gains)>,
+)
+    requires within { IsCellWithin (2 ^ 62) cell.now }
+    requires one { IfSome one.now (λ move. (move.0 < N) × IsSmall move.1) }
+    requires other { IfSome other.now (λ move. (move.0 < N) × IsSmall move.1) }
+    requires keyed { IsKeyed N entries.old.items }
+    requires placed { IsPlaced entries.old.items places.old }
+    ensures entries { (moves : List (ℕ × Gains)) × AreMoves moves one.now other.now
+        × (entries.new.items ≡ with_moves entries.old.items cell.now moves) }
+    ensures keyed { IsKeyed N entries.new.items }
+    ensures placed { IsPlaced entries.new.items places.new }
+{
+    add_step(entries, places, cell, one);
+    if one != other {
+        add_step(entries, places, cell, other);
     }
 }
 

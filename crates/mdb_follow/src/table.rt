@@ -11,7 +11,7 @@ ghost use Rattle.mdb_follow.specs.Tables.{ArrivesAnywhere, ArrivesAt, Bounds, Is
 ghost use Rattle.mdb_follow.specs.Entries.{AreBelow};
 
 use crate::Cell;
-use crate::entries::{add_moves, join_all};
+use crate::entries::{add_steps, join_all};
 use arrayvec::ArrayVec;
 use mdb_bus::Act;
 use mdb_cash::Pair;
@@ -143,7 +143,9 @@ fn fill<P: Pair, const N: usize>(
 {
     into.clear();
     for (code, cell) in from {
-        let moves = P::moves(facts, act, *code);
-        add_moves(into, places, cell, moves.as_slice());
+        // The two moves of `P::moves`, without a list of them.
+        let plain = P::step(facts, act, *code, false);
+        let marked = P::step(facts, act, *code, true);
+        add_steps(into, places, cell, &plain, &marked);
     }
 }

@@ -1,25 +1,35 @@
-use Rattle.std.proofs.Common.{rules, subst}
+use Rattle.std.proofs.Common.{rules, ◌≡◌, ◌<◌, ℕ, Option, refl, sym, subst}
 use Rattle.std.proofs.lemmas.List.{take_all}
 use Rattle.std.proofs.lemmas.List.Elements.{Contains-get_or}
+use Rattle.std.specs.Prelude.{IfSome}
+use Rattle.mdb_cash.specs.declared.gains.Gains.{Gains}
+use Rattle.mdb_cash.specs.Gains.{IsSmall}
 use Rattle.mdb_cash.specs.Pair.{IsMove}
+use Rattle.mdb_cash.proofs.Ways.{both_moves, small_moves}
 use Rattle.mdb_follow.specs.Arrivals.{Arrives}
 use Rattle.mdb_follow.specs.Tables.{ArrivesAt, Bounds}
 use Rattle.mdb_follow.proofs.Led.{Led, led-read, moves-below, moves-small, within-read}
 use Rattle.mdb_follow.proofs.Ways.{table-led}
 use Rattle.mdb_follow.proofs.table.fill.Goals as goal
 
-pub add_moves-requires : goal.add_moves-requires
-add_moves-requires g c = (
+-- a step is below the number of places, as it is below the number of codes
+step-below : (number codes : ℕ) (step : Option (ℕ × Gains)) → number ≡ codes
+    → IfSome step (λ move. (move.0 < codes) × IsSmall move.1)
+    → IfSome step (λ move. (move.0 < number) × IsSmall move.1)
+step-below number codes step size =
+    subst (λ n. IfSome step (λ move. (move.0 < n) × IsSmall move.1)) (sym size)
+
+pub add_steps-requires : goal.add_steps-requires
+add_steps-requires g c = (
   search rules,
   (
     search rules,
     (
       c.requires.within c.loop-code.code-index _ c.loop-code-test.true,
       (
-        moves-small _ _ c.as_slice.result.now c.as_slice.ensures.value c.moves-moves.ensures.below,
+        step-below _ _ c.step-plain.result c.requires.size c.step-plain.ensures.below,
         (
-          moves-below _ _ _ c.as_slice.result.now c.requires.size c.as_slice.ensures.value
-              c.moves-moves.ensures.below,
+          step-below _ _ c.step-marked.result c.requires.size c.step-marked.ensures.below,
           (c.loop-code.invariant.keyed, c.loop-code.invariant.placed),
         ),
       ),
@@ -29,26 +39,34 @@ add_moves-requires g c = (
 
 pub loop-code-preserved : goal.loop-code-preserved
 loop-code-preserved g c =
-    let small = moves-small _ _ c.as_slice.result.now c.as_slice.ensures.value
-    c.moves-moves.ensures.below in
-    let below = moves-below g.row.N _ _ c.as_slice.result.now c.requires.size
-    c.as_slice.ensures.value c.moves-moves.ensures.below in
+    let p = g.P.Pair in
+    let moves = c.add_steps.ensures.entries in
+    let kept = small_moves (λ next gains. (next < p.CODES) × IsSmall gains)
+    c.step-plain.result c.step-marked.result moves.0 c.step-plain.ensures.below
+    c.step-marked.ensures.below moves.1 in
+    let small = moves-small _ moves.0 moves.0 refl kept in
+    let below = moves-below g.row.N _ moves.0 moves.0 c.requires.size refl kept in
     record {
-      keyed = c.add_moves.ensures.keyed;
-      placed = c.add_moves.ensures.placed;
+      keyed = c.add_steps.ensures.keyed;
+      placed = c.add_steps.ensures.placed;
       led = λ acts stands table.
-          led-read g.row.N _ _ c.args.from.now c.loop-code.code-index _ c.moves-moves.result.items
-          c.as_slice.result.now c.loop-code.into.items c.add_moves.new.entries.items
-          c.loop-code-test.true
+          led-read g.row.N _ _ c.args.from.now c.loop-code.code-index _ moves.0 moves.0
+          c.loop-code.into.items c.add_steps.new.entries.items c.loop-code-test.true
           (table.bounds.exact _ _ (Contains-get_or c.args.from.now c.loop-code.code-index _
           c.loop-code-test.true))
-          (c.moves-moves.ensures.steps acts stands) c.as_slice.ensures.value below
-          c.loop-code.invariant.keyed c.add_moves.ensures.entries
+          (both_moves p.code_of (p.may_step acts c.args.act.now) c.args.act.now
+          (record {
+            hearing = λ one other. g.met.P.Pair.hearing acts c.args.act.now one other;
+            readings = λ heard one. g.met.P.Pair.readings acts c.args.act.now heard one;
+          })
+          _ c.step-plain.result c.step-marked.result moves.0
+          (c.step-plain.ensures.steps acts stands) (c.step-marked.ensures.steps acts stands)
+          moves.1)
+          refl below c.loop-code.invariant.keyed moves.2
           (c.loop-code.invariant.led acts stands table);
       within = λ limit all.
-          within-read limit c.loop-code.into.items c.add_moves.new.entries.items _
-          c.as_slice.result.now small
-          (all c.loop-code.code-index _ c.loop-code-test.true) c.add_moves.ensures.entries
+          within-read limit c.loop-code.into.items c.add_steps.new.entries.items _ moves.0 small
+          (all c.loop-code.code-index _ c.loop-code-test.true) moves.2
           (c.loop-code.invariant.within limit all);
     }
 

@@ -1,0 +1,46 @@
+-- The moves that two steps are.
+use Rattle.std.proofs.Common.{◌≡◌, inl, inr, ℕ, ◌∙◌, ap, List, [], ◌++◌, Option, Some, None}
+use Rattle.std.specs.Prelude.{Contains, ◌↔◌}
+use Rattle.std.proofs.lemmas.List.Elements.{Contains-append_cases, Contains-append_left, Contains-append_right}
+use Rattle.std.proofs.lemmas.Option.{none-some, same_Some}
+use Rattle.mdb_cash.specs.declared.gains.Gains.{Gains}
+use Rattle.mdb_follow.specs.declared.cell.Cell.{Cell}
+use Rattle.mdb_follow.specs.Entries.{AreMoves, moves_of, with_moves}
+use Rattle.mdb_follow.proofs.Listed.{contains-cases, contains-here, contains-none}
+
+move-is : (step : Option (ℕ × Gains)) (move : ℕ × Gains)
+    → Contains (moves_of step) move ↔ (step ≡ Some move)
+move-is None move = (
+  λ has. absurd (contains-none move has),
+  λ is. absurd (none-some move is),
+)
+move-is (Some one) move = (
+  λ has. elim (contains-cases one [] move has) [
+    | inl same ↦ ap Some same
+    | inr rest ↦ absurd (contains-none move rest)
+  ],
+  λ is. contains-here one [] move (same_Some one move is),
+)
+
+pub two-moves : (one other : Option (ℕ × Gains)) → AreMoves (moves_of one ++ moves_of other) one other
+two-moves one other move = (
+  λ has. elim (Contains-append_cases (moves_of one) (moves_of other) move has) [
+    | inl first ↦ inl ((move-is one move).0 first)
+    | inr second ↦ inr ((move-is other move).0 second)
+  ],
+  λ either. elim either [
+    | inl is ↦ Contains-append_left (moves_of one) (moves_of other) move ((move-is one move).1 is)
+    | inr is ↦ Contains-append_right (moves_of one) (moves_of other) move
+        ((move-is other move).1 is)
+  ],
+)
+
+-- the cells of one step are taken in behind those of the other
+pub with-two : (before middle after : List (ℕ × Cell)) (cell : Cell)
+    (one other : Option (ℕ × Gains)) → middle ≡ with_moves before cell (moves_of one)
+    → after ≡ with_moves middle cell (moves_of other)
+    → after ≡ with_moves before cell (moves_of one ++ moves_of other)
+with-two before middle after cell None other first second =
+    second ∙ ap (λ b. with_moves b cell (moves_of other)) first
+with-two before middle after cell (Some move) other first second =
+    second ∙ ap (λ b. with_moves b cell (moves_of other)) first
