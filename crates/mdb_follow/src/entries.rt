@@ -45,6 +45,8 @@ fn add_cell<const N: usize>(
 }
 
 /// Takes in the cell that a step from a cell leads to; `None` is no step.
+// Inlined, like the next one, so that a step isn't copied to be looked at.
+#[inline(always)]
 fn add_step<const N: usize>(
     entries: &mut ArrayVec<(usize, Cell), N>,
     places: &mut [usize; N],
@@ -66,6 +68,7 @@ fn add_step<const N: usize>(
 }
 
 /// Takes in the cells that two steps from a cell lead to, which may be the same step.
+#[inline(always)]
 pub(crate) fn add_steps<const N: usize>(
     entries: &mut ArrayVec<(usize, Cell), N>,
     places: &mut [usize; N],
