@@ -1,6 +1,7 @@
--- That it matters for ACKs alone whether they were heard, and for replies alone how they are read.
--- This proves laws of the trait `Pair` for the changer.
-use Rattle.std.specs.Prelude.{Bool}
+-- That it matters for ACKs alone whether they were heard, for replies alone how they are read, and
+-- that acts of other devices change nothing. This proves laws of the trait `Pair` for the changer.
+use Rattle.std.specs.Prelude.{◌≡◌, ◌↔◌, Bool, refl}
+use Rattle.mdb_msgs.specs.declared.command.Device.TheVariants as devices
 use Rattle.mdb_msgs.specs.declared.command.Command.TheVariants.{Changer, Bill, Reader}
 use Rattle.mdb_bus.specs.declared.act.Act.{Act}
 use Rattle.mdb_bus.specs.declared.act.Act.TheVariants as acts
@@ -10,7 +11,8 @@ use Rattle.mdb_cash.specs.declared.gains.Gains.{Gains}
 use Rattle.mdb_cash.specs.declared.kept.Reading.{Reading}
 use Rattle.mdb_cash.specs.Changer.{ChangerStep}
 use Rattle.mdb_cash.specs.ChangerFacts.{Facts}
-use Rattle.mdb_cash.specs.Pair.{IsReply}
+use Rattle.mdb_cash.specs.Gains.{no_gains}
+use Rattle.mdb_cash.specs.Pair.{IsActOf, IsReply}
 
 pub hearing : (facts : Facts) (act : Act) (one other : Bool) (reading : Reading)
     (before after : ChangerState) (gains : Gains) → (IsAck act → ⊥)
@@ -51,3 +53,43 @@ readings facts (acts.VmcRet c r) heard one other before after gains kind step = 
 readings facts (acts.Repeat c r) heard one other before after gains kind step = step
 readings facts acts.Foreign heard one other before after gains kind step = step
 readings facts (acts.Break n) heard one other before after gains kind step = step
+
+pub elsewhere : (facts : Facts) (act : Act) (heard : Bool) (reading : Reading)
+    (before after : ChangerState) (gains : Gains) → (IsActOf devices.Changer act → ⊥)
+    → ChangerStep facts act heard reading before after gains
+    ↔ (after ≡ before) × (gains ≡ no_gains)
+elsewhere facts (acts.Ask (Changer c)) heard reading before after gains other =
+    absurd (other refl)
+elsewhere facts (acts.Ask (Bill c)) heard reading before after gains other =
+    (λ step. step, λ step. step)
+elsewhere facts (acts.Ask (Reader u c)) heard reading before after gains other =
+    (λ step. step, λ step. step)
+elsewhere facts (acts.Ack (Changer c)) heard reading before after gains other =
+    absurd (other refl)
+elsewhere facts (acts.Ack (Bill c)) heard reading before after gains other =
+    (λ step. step, λ step. step)
+elsewhere facts (acts.Ack (Reader u c)) heard reading before after gains other =
+    (λ step. step, λ step. step)
+elsewhere facts (acts.Reply (Changer c) r) heard reading before after gains other =
+    absurd (other refl)
+elsewhere facts (acts.Reply (Bill c) r) heard reading before after gains other =
+    (λ step. step, λ step. step)
+elsewhere facts (acts.Reply (Reader u c) r) heard reading before after gains other =
+    (λ step. step, λ step. step)
+elsewhere facts (acts.VmcAck (Changer c) r) heard reading before after gains other =
+    absurd (other refl)
+elsewhere facts (acts.VmcAck (Bill c) r) heard reading before after gains other =
+    (λ step. step, λ step. step)
+elsewhere facts (acts.VmcAck (Reader u c) r) heard reading before after gains other =
+    (λ step. step, λ step. step)
+elsewhere facts (acts.Nak c) heard reading before after gains other =
+    (λ step. step, λ step. step)
+elsewhere facts (acts.VmcNak c r) heard reading before after gains other =
+    (λ step. step, λ step. step)
+elsewhere facts (acts.VmcRet c r) heard reading before after gains other =
+    (λ step. step, λ step. step)
+elsewhere facts (acts.Repeat c r) heard reading before after gains other =
+    (λ step. step, λ step. step)
+elsewhere facts acts.Foreign heard reading before after gains other =
+    (λ step. step, λ step. step)
+elsewhere facts (acts.Break n) heard reading before after gains other = absurd (other tt)

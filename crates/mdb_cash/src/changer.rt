@@ -98,4 +98,6 @@ impl Pair for Changer {
     ghost hearing = { λ acts. ways.hearing (facts_of acts) };
 
     ghost readings = { λ acts. ways.readings (facts_of acts) };
+
+    ghost elsewhere = { λ acts. ways.elsewhere (facts_of acts) };
 }

@@ -113,6 +113,12 @@ pub trait Pair {
         → may_step acts act heard one before after gains
         → may_step acts act heard other before after gains };
 
+    /// An act that isn't this device's leaves its state and its sums.
+    ghost elsewhere: { (acts : List Act) (act : Act) (heard : Bool) (reading : Reading)
+        (before after : Self.State) (gains : Gains) → (IsActOf device act → ⊥)
+        → may_step acts act heard reading before after gains
+        ↔ (after ≡ before) × (gains ≡ no_gains) };
+
     /// The step that an act is, from the state of a code, with a mark or without one: the code
     /// behind it, and what it adds to the sums. `None` where there is no such step.
     ///
