@@ -1,9 +1,13 @@
-use Rattle.std.proofs.Common.{◌≡◌, ◌||◌, ◌&&◌, not, List, [], ◌∷◌, ◌++◌, refl}
+use Rattle.std.proofs.Common.{◌≡◌, ◌||◌, ◌&&◌, not, Bool, List, [], ◌∷◌, ◌++◌, Option, Some, None, IfNone, refl, ap, sym, subst, ◌∙◌, map, true, false}
+use Rattle.std.specs.Bool.{OnFalse}
+use Rattle.std.specs.List.{list_any}
 use Rattle.std.proofs.lemmas.List.Elements.{filter_map-append}
 use Rattle.std.proofs.lemmas.List.Folds.{list_any-append}
 use Rattle.mdb_cash.specs.declared.kept.Part.{Part}
 use Rattle.mdb_cash.specs.declared.kept.Part.TheVariants as part
-use Rattle.mdb_cash.specs.Kept.{has_reset, is_reset, keeps_early, kept_by, kept_of}
+use Rattle.mdb_cash.specs.declared.kept.Reading.{Reading}
+use Rattle.mdb_cash.specs.declared.kept.Reading.TheVariants.{Restart}
+use Rattle.mdb_cash.specs.Kept.{IsNew, MayBeRead, IsSummary, Tells, has_reset, is_reset, keeps_early, kept_by, kept_of}
 
 -- the kept list of a reply with one message more
 pub kept_of-more : {M : Type 0} (parts : List (Part M)) (p : Part M) → kept_of (parts ++ p ∷ []) ≡ kept_of parts ++ kept_of (p ∷ [])
@@ -19,3 +23,40 @@ keeps_early-more [] p = refl
 keeps_early-more (part.Reset ∷ parts) p = refl
 keeps_early-more (part.Kept message ∷ parts) p = refl
 keeps_early-more (part.Other ∷ parts) p = keeps_early-more parts p
+
+-- a reply that its device can't tell, since its kept list doesn't begin with what it holds
+pub untold : {M X : Type 0} (o : Option X) (poll owed reset early : Bool) (reading : Reading) (holding : List M) {kept items : List M} → kept ≡ items
+    → IfNone o ((other : List M) → IsNew poll holding kept other → ⊥)
+    → IfNone o ((parts : List (Part M)) (other : List M) → IsSummary items reset early parts → Tells poll reading owed holding parts other → ⊥)
+untold (Some x) poll owed reset early reading holding is none = tt
+untold None poll owed reset early reading holding is none = λ parts other summary tells. none other (rw (is, summary.kept_is) tells.new)
+
+-- whether messages have a reset message
+reset_among : {T M : Type 0} (part_of : T → Part M) (messages : List T) → has_reset (map part_of messages) ≡ list_any (λ m. is_reset (part_of m)) messages
+reset_among part_of [] = refl
+reset_among part_of (m ∷ messages) = ap (λ b. is_reset (part_of m) || b) (reset_among part_of messages)
+
+-- messages that don't tell of a restart
+pub no_restart : {T M : Type 0} (has : Bool) (part_of : T → Part M) (messages : List T) → has ≡ list_any (λ m. is_reset (part_of m)) messages → OnFalse has (MayBeRead Restart (map part_of messages) → ⊥)
+no_restart true part_of messages is = tt
+no_restart false part_of messages is = λ read.
+    let has : has_reset (map part_of messages) ≡ true = read.0 in
+    let hasnt : has_reset (map part_of messages) ≡ false = reset_among part_of messages ∙ sym is in
+    absurd (cc (has, hasnt))
+
+-- what a reply tells, and that it tells nothing else
+pub record TellsOnly {M : Type 0} (poll : Bool) (reading : Reading) (owed : Bool) (holding : List M) (parts : List (Part M)) (news : List M) : Type 0 where
+  pub tells : Tells poll reading owed holding parts news
+  pub only : (other : List M) → Tells poll reading owed holding parts other → other ≡ news
+
+-- it, as the code finds it
+pub tells_only : {M : Type 0} {poll polls owed reset early : Bool} {reading : Reading} {holding held items news : List M} {parts messages : List (Part M)}
+    → poll ≡ polls → holding ≡ held → messages ≡ parts → IsSummary items reset early messages
+    → ((parts : List (Part M)) → IsSummary items reset early parts → Tells poll reading owed holding parts news)
+    → ((parts : List (Part M)) (other : List M) → IsSummary items reset early parts → Tells poll reading owed holding parts other → other ≡ news)
+    → TellsOnly polls reading owed held parts news
+tells_only {M} {poll} {polls} {owed} {reset} {early} {reading} {holding} {held} {items} {news} {parts} {messages} poll_is held_is parts_are summary found only =
+    let so : TellsOnly poll reading owed holding messages news = record { tells = found messages summary; only = λ other. only messages other summary } in
+    subst (λ (p : Bool). TellsOnly p reading owed held parts news) poll_is
+    (subst (λ (h : List M). TellsOnly poll reading owed h parts news) held_is
+    (subst (λ (ps : List (Part M)). TellsOnly poll reading owed holding ps news) parts_are so))

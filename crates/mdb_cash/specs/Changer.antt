@@ -18,15 +18,12 @@ use Rattle.mdb_cash.specs.declared.kept.Reading.{Reading}
 use Rattle.mdb_cash.specs.ChangerFacts.{Facts}
 use Rattle.mdb_cash.specs.ChangerMessages.{parts_of}
 use Rattle.mdb_cash.specs.Gains.{no_gains, controller_gains, device_gains}
-use Rattle.mdb_cash.specs.Kept.{IsNew, MayBeKept, MayBeRead, has_reset, held, holds_acked, holds_behind, holds_read, kept_of}
+use Rattle.mdb_cash.specs.Credits.{counted}
+use Rattle.mdb_cash.specs.Kept.{Tells, has_reset, held, holds_acked, holds_behind, holds_read, kept_of}
 
 -- the power-on state: nothing held, and no DISPENSE owed
 abbrev pub power_on : ChangerState
 power_on = record { holds = false; owed = false }
-
--- what a credit byte counts: FF is a token, without value
-abbrev pub counted : ℕ → ℕ
-counted credit = if credit == 255 then 0 else credit
 
 -- the value of a coin type by a setup table: its scaling factor times the type's credit; 0 for a
 -- token, where the credit wasn't sent, and where there is no table yet
@@ -58,8 +55,8 @@ all_paid_by_hand setup reports = sum_by (paid_by_hand setup) reports
 
 -- a new deposit is of a type that is enabled; coins may be dispensed by hand at any time
 abbrev pub MayBeNew : Facts → ChangerReport → Type 0
-MayBeNew facts (CashBox coin) = facts.enabled coin ≡ true
-MayBeNew facts (Tube coin) = facts.enabled coin ≡ true
+MayBeNew facts (CashBox coin) = facts.past.enabled coin ≡ true
+MayBeNew facts (Tube coin) = facts.past.enabled coin ≡ true
 MayBeNew facts (Dispensed count coin) = Unit {0}
 
 -- whether a command is POLL
@@ -112,11 +109,9 @@ AckStep facts _ heard before after gains = Stays before after gains
 -- in `AckStep`.
 pub record ReplyStep (facts : Facts) (command : ChangerCommand) (reply : Reply)
     (reading : Reading) (before after : ChangerState) (gains : Gains) : Type 0 where
-  pub read : MayBeRead reading (parts_of reply)
-  pub reset : MayBeKept facts.reset_owed (parts_of reply)
   pub news : List ChangerReport
-  pub new : IsNew (is_poll command) (held (holds_read reading before.holds) facts.kept)
-      (kept_of (parts_of reply)) news
+  pub tells : Tells (is_poll command) reading facts.past.reset_owed
+      (held (holds_read reading before.holds) facts.past.kept) (parts_of reply) news
   pub enabled : AllByRecursion (MayBeNew facts) news
   pub to : after ≡ record before {
     holds = holds_behind (kept_of (parts_of reply)) (holds_read reading before.holds);

@@ -80,3 +80,11 @@ holds_behind (message ∷ kept) holds = true
 abbrev pub holds_acked : {M : Type 0} → Bool → List M → Bool → Bool
 holds_acked heard [] holds = holds
 holds_acked heard (message ∷ kept) holds = if heard then false else holds
+
+-- What a reply tells, read in a way: while a reset message is owed, it keeps nothing in front of
+-- one, and behind what its device holds (`holding`) the rest of its kept list is new.
+pub record Tells {M : Type 0} (poll : Bool) (reading : Reading) (owed : Bool) (holding : List M)
+    (parts : List (Part M)) (news : List M) : Type 0 where
+  pub read : MayBeRead reading parts
+  pub reset : MayBeKept owed parts
+  pub new : IsNew poll holding (kept_of parts) news

@@ -1,10 +1,13 @@
+pub mod BillCodes
 pub mod Changer
 pub mod ChangerCodes
 pub mod ChangerFacts
 pub mod ChangerMessages
 pub mod ChangerValues
 pub mod ChangerWays
+pub mod Credits
 pub mod Gains
 pub mod Kept
 pub mod Pair
 pub mod Past
+pub mod PastValues

@@ -1,6 +1,7 @@
 -- What counts of the acts so far, for every device (this profile). Lists of acts are written newest
 -- first.
-use Rattle.std.specs.Prelude.{Bool, true, false, List, [], ◌∷◌, Option, Some, None, if◌then◌else◌}
+use Rattle.std.specs.Prelude.{ℕ, Bool, true, false, not, ◌==◌, List, [], ◌∷◌, Option, Some, None, if◌then◌else◌, unwrap_or}
+use Rattle.std.specs.Int.{bit_at}
 use Rattle.std.specs.List.{list_any}
 use Rattle.mdb_msgs.specs.declared.command.Command.{Command}
 use Rattle.mdb_msgs.specs.declared.reply.Reply.{Reply}
@@ -9,6 +10,10 @@ use Rattle.mdb_msgs.specs.declared.reply.reader.ReaderMsg.{ReaderMsg}
 use Rattle.mdb_msgs.specs.declared.reply.reader.ReaderMsg.TheVariants as messages
 use Rattle.mdb_bus.specs.declared.act.Act.{Act}
 use Rattle.mdb_bus.specs.declared.act.Act.TheVariants as acts
+use Rattle.mdb_cash.specs.declared.kept.Part.{Part}
+use Rattle.mdb_cash.specs.declared.past.Effect.{Effect}
+use Rattle.mdb_cash.specs.declared.past.Effect.TheVariants as effects
+use Rattle.mdb_cash.specs.Kept.{has_reset, kept_of}
 
 -- whether a message is a reader's 0B: the command came out of sequence
 abbrev pub is_out_of_sequence : ReaderMsg → Bool
@@ -42,3 +47,59 @@ last_told tells (act ∷ acts) = or_else (tells act) (last_told tells acts)
 abbrev pub acts_from : (Act → Bool) → List Act → List Act
 acts_from passes [] = []
 acts_from passes (act ∷ acts) = act ∷ (if passes act then [] else acts_from passes acts)
+
+-- what a command is to its device where an answer tells whether it is taken
+abbrev pub effect_answered : Effect → Reply → Effect
+effect_answered effect reply = if tells_out_of_sequence reply then effects.Other else effect
+
+-- what a command is, if there is one
+abbrev pub effect_taken : (Command → Effect) → Option Command → Effect
+effect_taken effect_of (Some command) = effect_of command
+effect_taken effect_of None = effects.Other
+
+-- what the command is that a device takes by an act; `effect_of` says what each command is to it
+abbrev pub effect_by : (Command → Effect) → Act → Effect
+effect_by effect_of act = effect_taken effect_of (taken_by act)
+
+-- whether a command puts its device into its power-on state
+abbrev pub resets : Effect → Bool
+resets effects.Reset = true
+resets _ = false
+
+-- whether it enables a type: its mask has the type's bit
+abbrev pub enables : ℕ → Effect → Bool
+enables kind (effects.Enable mask) = bit_at mask kind == 1
+enables kind _ = false
+
+-- whether an act puts a device into its power-on state: a break, or a RESET that it takes
+abbrev pub powers_on : (Command → Effect) → Act → Bool
+powers_on effect_of (acts.Break length) = true
+powers_on effect_of act = resets (effect_by effect_of act)
+
+-- a list, if it isn't empty
+abbrev pub unless_empty : {X : Type 0} → List X → Option (List X)
+unless_empty [] = None
+unless_empty (x ∷ xs) = Some (x ∷ xs)
+
+-- What counts of the acts so far for a device that keeps messages. Breaks and RESETs leave the kept
+-- list.
+pub record PastFacts (M : Type 0) : Type 0 where
+  -- a type is enabled where the device took a command with its bit since the last break or RESET
+  -- that it took; a restart that a message tells leaves this
+  pub enabled : ℕ → Bool
+  -- a reset message is owed where no reply has had one since then
+  pub reset_owed : Bool
+  -- the last kept list that wasn't empty; empty where there was none
+  pub kept : List M
+
+-- what counts of acts; `parts_by` says which messages of the device an act tells
+abbrev pub past_of : {M : Type 0} → (Command → Effect) → (Act → List (Part M)) → List Act
+    → PastFacts M
+past_of effect_of parts_by acts =
+    record {
+      enabled = λ kind. list_any (λ act. enables kind (effect_by effect_of act))
+          (acts_from (powers_on effect_of) acts);
+      reset_owed = not (list_any (λ act. has_reset (parts_by act))
+          (acts_from (powers_on effect_of) acts));
+      kept = unwrap_or (last_told (λ act. unless_empty (kept_of (parts_by act))) acts) [];
+    }

@@ -1,10 +1,12 @@
 //! Kept messages: what a device tells again until it knows that the controller heard it.
 
-ghost use Rattle.std.specs.Prelude.{◌≡◌, ◌+◌, ◌++◌, ◌<◌, ◌≤◌, ◌↔◌, ◌||◌, ◌&&◌, not, IsTrue, IfSome, IfNone, length, List, [], ◌∷◌, false, true};
+ghost use Rattle.std.specs.Prelude.{◌≡◌, ◌+◌, ◌++◌, ◌<◌, ◌≤◌, ◌↔◌, ◌||◌, ◌&&◌, not, IsTrue, IfSome, IfNone, length, map, List, [], ◌∷◌, false, true};
+ghost use Rattle.std.specs.Bool.{OnFalse};
+ghost use Rattle.std.specs.List.{list_any};
 ghost use Rattle.arrayvec.specs.ArrayVec.{array_vec_len};
 ghost use Rattle.mdb_cash.specs.Kept as spec;
 ghost use Rattle.mdb_cash.specs.declared.kept.Part.{Part};
-ghost use Rattle.mdb_cash.specs.Kept.{CanBeRead, IsNew, IsSummary};
+ghost use Rattle.mdb_cash.specs.Kept.{CanBeRead, IsNew, IsSummary, MayBeRead, Tells};
 
 use arrayvec::ArrayVec;
 
@@ -48,6 +50,19 @@ pub trait KeptMessage: Copy + Default {
     /// Whether both say the same.
     fn is(self, other: Self) -> bool
         ensures { IsTrue result ↔ (self ≡ other) };
+}
+
+/// A message of a reply whose device keeps some of them.
+pub trait Message: Copy {
+    /// What a kept message says.
+    type Kept: KeptMessage + Drop;
+
+    /// What the message is to its device.
+    ghost part_of: { Self → Part Self.Kept };
+
+    /// What the message is to its device.
+    fn part(self) -> Part<Self::Kept>
+        ensures { result ≡ part_of self };
 }
 
 /// What counts of the messages of a reply for what its device keeps.
@@ -120,6 +135,64 @@ impl<M: KeptMessage + Drop, const CAP: usize> Summary<M, CAP> {
     {
         !owed || !self.early
     }
+
+    /// The kept messages that are new where the reply is read so, a reset message is owed or isn't,
+    /// and the device holds these. `None` where it can't tell what it tells.
+    pub fn told(&self, is_poll: bool, reading: Reading, owed: bool, held: &[M]) -> Option<&[M]>
+        ensures found { IfSome result (λ new. (parts : List (Part M))
+            → IsSummary self.now.kept.items self.now.reset self.now.early parts
+            → Tells is_poll reading owed held.now parts new.now) }
+        ensures only { IfSome result (λ new. (parts : List (Part M)) (other : List M)
+            → IsSummary self.now.kept.items self.now.reset self.now.early parts
+            → Tells is_poll reading owed held.now parts other → other ≡ new.now) }
+        ensures none { IfNone result ((parts : List (Part M)) (other : List M)
+            → IsSummary self.now.kept.items self.now.reset self.now.early parts
+            → Tells is_poll reading owed held.now parts other → ⊥) }
+        ensures few { IfSome result (λ new. length new.now ≤ array_vec_len self.now.kept) }
+    {
+        if !self.may_be_read(reading) || !self.may_be_kept(owed) {
+            return None;
+        }
+        news(is_poll, held, self.kept.as_slice())
+    }
+}
+
+/// Adds messages to a summary of none.
+pub fn add_all<T: Message, const CAP: usize>(summary: &mut Summary<T::Kept, CAP>, messages: &[T])
+    requires empty { IsSummary summary.old.kept.items summary.old.reset summary.old.early [] }
+    requires room { length messages.now ≤ CAP }
+    ensures { IsSummary summary.new.kept.items summary.new.reset summary.new.early
+        (map T.part_of messages.now) }
+{
+    for message in messages {
+        summary.add(message.part());
+    }
+}
+
+/// Whether messages may be read so, by what is quickly seen: none without a reset message tell of a
+/// restart.
+pub fn may_be_read<T: Message>(reading: Reading, messages: &[T]) -> bool
+    ensures { OnFalse result (MayBeRead reading (map T.part_of messages.now) → ⊥) }
+{
+    if let Reading::Restart = reading {
+        tell_reset(messages)
+    } else {
+        true
+    }
+}
+
+/// Whether there is a reset message.
+fn tell_reset<T: Message>(messages: &[T]) -> bool
+    ensures { result ≡ list_any (λ message. spec.is_reset (T.part_of message)) messages.now }
+{
+    messages.iter().any(|message| is_reset(message.part()))
+}
+
+/// Whether this is the reset message.
+fn is_reset<M: KeptMessage + Drop>(part: Part<M>) -> bool
+    ensures { result ≡ spec.is_reset part }
+{
+    matches!(part, Part::Reset)
 }
 
 /// Whether a device still holds what it held, once its reply is read.
@@ -168,7 +241,7 @@ fn are_same<M: KeptMessage>(one: &[M], other: &[M]) -> bool
 
 /// The kept messages of a reply that are new, behind those that its device holds; `None` where the
 /// device can't tell these.
-pub fn news<'a, M: KeptMessage>(is_poll: bool, held: &[M], kept: &'a [M]) -> Option<&'a [M]>
+fn news<'a, M: KeptMessage>(is_poll: bool, held: &[M], kept: &'a [M]) -> Option<&'a [M]>
     ensures found { IfSome result (λ new. IsNew is_poll held.now kept.now new.now) }
     ensures only { IfSome result (λ new. (other : List M)
         → IsNew is_poll held.now kept.now other → other ≡ new.now) }

@@ -5,13 +5,16 @@
 //! is that of the coin changer. Nothing here takes memory.
 #![tactic(auto)]
 
+mod bill;
 mod changer;
+mod credits;
 mod gains;
 pub mod kept;
 pub mod laws;
 mod pair;
 pub mod past;
 
+pub use bill::{BillState, BillType, Escrow};
 pub use changer::{Changer, ChangerFacts, ChangerReport, ChangerState};
 pub use gains::Gains;
 pub use kept::Reading;

@@ -1,14 +1,111 @@
 //! What counts of the acts so far, for every device.
 
-ghost use Rattle.std.specs.Prelude.{◌≡◌};
+ghost use Rattle.std.specs.Prelude.{◌≡◌, ◌==◌, List, [], true, false};
+ghost use Rattle.std.specs.Int.{bit_at};
 ghost use Rattle.std.specs.List.{list_any};
 ghost use Rattle.mdb_cash.specs.Past as spec;
+ghost use Rattle.mdb_cash.specs.declared.kept.Part.{Part};
+ghost use Rattle.mdb_cash.specs.Kept.{IsSummary};
 
+use crate::kept::{KeptMessage, Summary};
+use arrayvec::ArrayVec;
 use mdb_msgs::{ReaderMsg, Reply};
+
+/// What a command is to the device that takes it (this profile).
+#[derive(Clone, Copy, PartialEq, Eq, Debug)]
+pub enum Effect {
+    /// It puts the device into its power-on state: RESET.
+    Reset,
+    /// It enables types of coins or bills, the lowest bit type 0.
+    Enable(u16),
+    /// Neither.
+    Other,
+}
+
+/// What counts of the acts so far for a device that keeps messages: a running value, which doesn't
+/// grow with them.
+#[derive(Drop)]
+pub struct Past<M: Drop, const CAP: usize> {
+    /// The types that are enabled, the lowest bit type 0.
+    pub enabled: u16,
+    /// Whether a reset message is owed.
+    pub reset_owed: bool,
+    /// The last kept list that wasn't empty.
+    pub kept: ArrayVec<M, CAP>,
+}
+
+impl<M: KeptMessage + Drop, const CAP: usize> Past<M, CAP> {
+    ghost use Rattle.mdb_cash.specs.declared.past.Effect.TheVariants as effects;
+    ghost use Rattle.mdb_cash.specs.PastValues.{no_past, past_behind, past_in};
+
+    /// What counts of no act.
+    pub fn start() -> Self
+        ensures { past_in result ≡ no_past }
+    {
+        Past {
+            enabled: 0,
+            reset_owed: true,
+            kept: ArrayVec::new(),
+        }
+    }
+
+    /// The device is put into its power-on state.
+    pub fn power_on(&mut self)
+        ensures { past_in self.new ≡ past_behind true effects.Other [] (past_in self.old) }
+    {
+        self.enabled = 0;
+        self.reset_owed = true;
+    }
+
+    /// The device takes a command.
+    pub fn take(&mut self, effect: Effect)
+        ensures { past_in self.new
+            ≡ past_behind (spec.resets effect) effect [] (past_in self.old) }
+    {
+        match effect {
+            Effect::Reset => self.power_on(),
+            Effect::Enable(mask) => self.enabled |= mask,
+            Effect::Other => {}
+        }
+    }
+
+    /// The device tells messages.
+    pub fn keep(&mut self, summary: Summary<M, CAP>)
+        ensures { (parts : List (Part M))
+            → IsSummary summary.kept.items summary.reset summary.early parts
+            → past_in self.new ≡ past_behind false effects.Other parts (past_in self.old) }
+    {
+        if summary.reset {
+            self.reset_owed = false;
+        }
+        if !summary.kept.is_empty() {
+            self.kept = summary.kept;
+        }
+    }
+
+    /// Whether a type is enabled.
+    pub fn is_enabled(&self, kind: u8) -> bool
+        ensures { result ≡ (bit_at self.now.enabled kind == 1) }
+    {
+        let mask = self.enabled;
+        kind < 16 && (mask >> kind) & 1 == 1
+    }
+}
+
+/// What a command is to the device that replies to it: it takes it, or says that it doesn't.
+pub fn effect_answered(effect: Effect, reply: &Reply) -> Effect
+    ensures { result ≡ spec.effect_answered effect reply.now }
+{
+    if tells_out_of_sequence(reply) {
+        Effect::Other
+    } else {
+        effect
+    }
+}
 
 /// Whether a reply says that the command came out of sequence: a reader's 0B. Its device doesn't
 /// take the command then.
-pub fn tells_out_of_sequence(reply: &Reply) -> bool
+fn tells_out_of_sequence(reply: &Reply) -> bool
     ensures { result ≡ spec.tells_out_of_sequence reply.now }
 {
     match reply {

@@ -1,11 +1,11 @@
 //! What is known of the changer behind the acts so far.
 
 ghost use Rattle.std.specs.Prelude.{◌≡◌, List, [], ◌∷◌};
+ghost use Rattle.mdb_msgs.specs.declared.command.Command.TheVariants as commands;
+ghost use Rattle.mdb_cash.specs.ChangerFacts as spec;
 
-use super::report::{ChangerReport, summary_in};
-use crate::kept::Summary;
-use crate::past::tells_out_of_sequence;
-use arrayvec::ArrayVec;
+use super::report::{ChangerReport, messages_in, summary_of};
+use crate::past::{Effect, Past, effect_answered};
 use mdb_bus::Act;
 use mdb_msgs::{ChangerCommand, ChangerSetup, Command, Reply};
 
@@ -15,27 +15,21 @@ use mdb_msgs::{ChangerCommand, ChangerSetup, Command, Reply};
 pub struct ChangerFacts {
     /// The last setup table.
     pub(crate) setup: Option<ChangerSetup>,
-    /// The coin types that are enabled, the lowest bit type 0.
-    pub(crate) enabled: u16,
-    /// Whether a reset message is owed.
-    pub(crate) reset_owed: bool,
+    /// The coin types that are enabled, the reset message, and the last kept list.
+    pub(crate) past: Past<ChangerReport, 16>,
     /// Y1 of the last DISPENSE that was asked.
     pub(crate) dispense: Option<u8>,
-    /// The last kept list that wasn't empty.
-    pub(crate) kept: ArrayVec<ChangerReport, 16>,
 }
 
 impl ChangerFacts {
-    ghost use Rattle.std.specs.Prelude.{unwrap_or, not, ◌&&◌, ◌==◌, ◌↔◌, true, IsTrue};
-    ghost use Rattle.std.specs.Int.{bit_at};
+    ghost use Rattle.std.specs.Prelude.{◌↔◌, IsTrue};
     ghost use Rattle.std.specs.List.{AllByRecursion};
-    ghost use Rattle.mdb_cash.specs.Changer as spec;
+    ghost use Rattle.mdb_cash.specs.Changer as steps;
     ghost use Rattle.mdb_bus.specs.declared.act.Act.TheVariants as acts;
     ghost use Rattle.mdb_bus.specs.declared.act.Act.{Act};
-    ghost use Rattle.mdb_msgs.specs.declared.command.Command.TheVariants as commands;
-    ghost use Rattle.mdb_cash.specs.ChangerFacts.{facts_of, setup_of, unless_empty};
+    ghost use Rattle.mdb_cash.specs.ChangerFacts.{facts_of, setup_of};
     ghost use Rattle.mdb_cash.specs.Past.{or_else};
-    ghost use Rattle.mdb_cash.specs.ChangerValues.{facts_in, facts_with, taken};
+    ghost use Rattle.mdb_cash.specs.ChangerValues.{facts_in, facts_with};
 
     /// The facts behind no act.
     pub(crate) fn start() -> ChangerFacts
@@ -43,10 +37,8 @@ impl ChangerFacts {
     {
         ChangerFacts {
             setup: None,
-            enabled: 0,
-            reset_owed: true,
+            past: Past::start(),
             dispense: None,
-            kept: ArrayVec::new(),
         }
     }
 
@@ -64,9 +56,9 @@ impl ChangerFacts {
     {
         match act {
             Act::Ask(Command::Changer(command)) => self.ask(*command),
-            Act::Ack(Command::Changer(command)) => self.take(*command),
+            Act::Ack(Command::Changer(command)) => self.past.take(effect_of(*command)),
             Act::Reply(Command::Changer(command), reply) => self.reply(*command, reply),
-            Act::Break(_) => self.power_on(),
+            Act::Break(_) => self.past.power_on(),
             _ => {}
         }
     }
@@ -81,39 +73,14 @@ impl ChangerFacts {
         }
     }
 
-    /// The changer takes a command.
-    fn take(&mut self, command: ChangerCommand)
-        ensures fields { self.new ≡ taken command self.old }
-        ensures with_act { facts_in self.new
-            ≡ facts_with (acts.Ack (commands.Changer command)) (facts_in self.old) }
-    {
-        match command {
-            ChangerCommand::Reset => self.power_on(),
-            ChangerCommand::CoinType { enable, .. } => self.enabled |= enable,
-            _ => {}
-        }
-    }
-
-    /// The changer is put into its power-on state.
-    fn power_on(&mut self)
-        ensures fields { self.new ≡ record self.old { enabled = 0; reset_owed = true } }
-        ensures with_act { (length : _) → facts_in self.new
-            ≡ facts_with (acts.Break length) (facts_in self.old) }
-    {
-        self.enabled = 0;
-        self.reset_owed = true;
-    }
-
     /// The changer replies.
     fn reply(&mut self, command: ChangerCommand, reply: &Reply)
         ensures { facts_in self.new
             ≡ facts_with (acts.Reply (commands.Changer command) reply.now) (facts_in self.old) }
     {
-        if !tells_out_of_sequence(reply) {
-            self.take(command);
-        }
         self.note_setup(reply);
-        self.keep(summary_in(reply));
+        self.past.take(effect_answered(effect_of(command), reply));
+        self.past.keep(summary_of(messages_in(reply)));
     }
 
     /// Notes the setup table of a reply.
@@ -126,26 +93,9 @@ impl ChangerFacts {
         }
     }
 
-    /// Notes what a reply tells of what the changer keeps.
-    fn keep(&mut self, summary: Summary<ChangerReport, 16>)
-        ensures kept { self.new.kept.items
-            ≡ unwrap_or (unless_empty summary.kept.items) self.old.kept.items }
-        ensures reset { self.new.reset_owed ≡ (not summary.reset && self.old.reset_owed) }
-        ensures setup { self.new.setup ≡ self.old.setup }
-        ensures enabled { self.new.enabled ≡ self.old.enabled }
-        ensures dispense { self.new.dispense ≡ self.old.dispense }
-    {
-        if summary.reset {
-            self.reset_owed = false;
-        }
-        if !summary.kept.is_empty() {
-            self.kept = summary.kept;
-        }
-    }
-
     /// Whether this is Y1 of the last DISPENSE that was asked.
     pub(crate) fn is_last(&self, coins: u8) -> bool
-        ensures { result ≡ spec.is_last self.now.dispense coins }
+        ensures { result ≡ steps.is_last self.now.dispense coins }
     {
         match self.dispense {
             None => false,
@@ -155,26 +105,31 @@ impl ChangerFacts {
 
     /// Whether kept messages may be new.
     pub(crate) fn may_be_new(&self, reports: &[ChangerReport]) -> bool
-        ensures { IsTrue result ↔ AllByRecursion (spec.MayBeNew (facts_in self.now)) reports.now }
+        ensures { IsTrue result ↔ AllByRecursion (steps.MayBeNew (facts_in self.now)) reports.now }
     {
         reports.iter().all(|report| self.may_be_told(*report))
     }
 
     /// Whether a kept message may be new.
     fn may_be_told(&self, report: ChangerReport) -> bool
-        ensures { IsTrue result ↔ spec.MayBeNew (facts_in self.now) report }
+        ensures { IsTrue result ↔ steps.MayBeNew (facts_in self.now) report }
     {
         match report {
-            ChangerReport::CashBox(coin) | ChangerReport::Tube(coin) => self.is_enabled(coin),
+            ChangerReport::CashBox(coin) | ChangerReport::Tube(coin) => {
+                self.past.is_enabled(coin)
+            }
             ChangerReport::Dispensed { .. } => true,
         }
     }
+}
 
-    /// Whether a coin type is enabled.
-    fn is_enabled(&self, coin: u8) -> bool
-        ensures { result ≡ (bit_at self.now.enabled coin == 1) }
-    {
-        let mask = self.enabled;
-        coin < 16 && (mask >> coin) & 1 == 1
+/// What a command is to the changer that takes it.
+fn effect_of(command: ChangerCommand) -> Effect
+    ensures { result ≡ spec.effect_of (commands.Changer command) }
+{
+    match command {
+        ChangerCommand::Reset => Effect::Reset,
+        ChangerCommand::CoinType { enable, .. } => Effect::Enable(enable),
+        _ => Effect::Other,
     }
 }

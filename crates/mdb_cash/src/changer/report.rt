@@ -4,7 +4,7 @@ ghost use Rattle.std.specs.Prelude.{◌≡◌, ◌≤◌, length, map};
 ghost use Rattle.mdb_cash.specs.ChangerMessages as spec;
 ghost use Rattle.mdb_cash.specs.Kept.{IsSummary};
 
-use crate::kept::{KeptMessage, Part, Summary};
+use crate::kept::{KeptMessage, Message, Part, Summary, add_all};
 use mdb_msgs::{ChangerMsg, Reply};
 
 /// What a kept message of the changer says (MDB/ICP 4.3, coin changer). Two such messages are the
@@ -37,40 +37,42 @@ impl KeptMessage for ChangerReport {
     }
 }
 
-/// What a message is to the changer that keeps some of them.
-fn part_of(message: ChangerMsg) -> Part<ChangerReport>
-    ensures { result ≡ spec.part_of message }
-{
-    match message {
-        ChangerMsg::ManualDispense { count, coin, .. } => {
-            Part::Kept(ChangerReport::Dispensed { count, coin })
+impl Message for ChangerMsg {
+    type Kept = ChangerReport;
+
+    ghost part_of = { spec.part_of };
+
+    fn part(self) -> Part<ChangerReport> {
+        match self {
+            ChangerMsg::ManualDispense { count, coin, .. } => {
+                Part::Kept(ChangerReport::Dispensed { count, coin })
+            }
+            ChangerMsg::CashBox { coin, .. } => Part::Kept(ChangerReport::CashBox(coin)),
+            ChangerMsg::Tube { coin, .. } => Part::Kept(ChangerReport::Tube(coin)),
+            ChangerMsg::Reset => Part::Reset,
+            _ => Part::Other,
         }
-        ChangerMsg::CashBox { coin, .. } => Part::Kept(ChangerReport::CashBox(coin)),
-        ChangerMsg::Tube { coin, .. } => Part::Kept(ChangerReport::Tube(coin)),
-        ChangerMsg::Reset => Part::Reset,
-        _ => Part::Other,
+    }
+}
+
+/// The messages of a reply of the changer.
+pub(crate) fn messages_in(reply: &Reply) -> &[ChangerMsg]
+    ensures parts { map spec.part_of result.now ≡ spec.parts_of reply.now }
+    ensures few { length result.now ≤ 16 }
+{
+    match reply {
+        Reply::ChangerPoll(list) => list.as_slice(),
+        _ => &[],
     }
 }
 
 /// What counts of messages for what the changer keeps.
-fn summary_of(messages: &[ChangerMsg]) -> Summary<ChangerReport, 16>
+pub(crate) fn summary_of(messages: &[ChangerMsg]) -> Summary<ChangerReport, 16>
     requires { length messages.now ≤ 16 }
     ensures { IsSummary result.kept.items result.reset result.early
         (map spec.part_of messages.now) }
 {
     let mut summary = Summary::new();
-    for message in messages {
-        summary.add(part_of(*message));
-    }
+    add_all(&mut summary, messages);
     summary
-}
-
-/// What counts of a reply for what the changer keeps.
-pub(crate) fn summary_in(reply: &Reply) -> Summary<ChangerReport, 16>
-    ensures { IsSummary result.kept.items result.reset result.early (spec.parts_of reply.now) }
-{
-    match reply {
-        Reply::ChangerPoll(list) => summary_of(list.as_slice()),
-        _ => Summary::new(),
-    }
 }

@@ -7,11 +7,11 @@ ghost use Rattle.mdb_cash.specs.Gains.{IsSmall};
 ghost use Rattle.mdb_cash.specs.Pair.{IsOutcome};
 
 use super::facts::ChangerFacts;
-use super::report::summary_in;
+use super::report::{messages_in, summary_of};
 use super::state::ChangerState;
 use super::values::{all_deposited, all_paid_by_hand, dispensed_value};
 use crate::gains::Gains;
-use crate::kept::{Reading, held, holds_acked, holds_behind, holds_read, news};
+use crate::kept::{Reading, held, holds_acked, holds_behind, holds_read, may_be_read};
 use mdb_bus::Act;
 use mdb_msgs::{ChangerCommand, Command, Reply};
 
@@ -124,18 +124,19 @@ fn answer(
         (spec.ReplyStep (facts_in facts.now) command reply.now reading before) result }
     ensures small { IfSome result (λ outcome. IsSmall outcome.1) }
 {
-    let summary = summary_in(reply);
-    if !summary.may_be_read(reading) || !summary.may_be_kept(facts.reset_owed) {
+    let messages = messages_in(reply);
+    if !may_be_read(reading, messages) {
         return None;
     }
-    let kept = summary.kept.as_slice();
+    let summary = summary_of(messages);
     let holds = holds_read(reading, before.holds);
-    let new = news(is_poll(command), held(holds, facts.kept.as_slice()), kept)?;
+    let held = held(holds, facts.past.kept.as_slice());
+    let new = summary.told(is_poll(command), reading, facts.past.reset_owed, held)?;
     if !facts.may_be_new(new) {
         return None;
     }
     let after = ChangerState {
-        holds: holds_behind(kept, holds),
+        holds: holds_behind(summary.kept.as_slice(), holds),
         owed: before.owed,
     };
     let gains = Gains::of_device(
@@ -157,7 +158,7 @@ fn vmc_ack(
         result.0 result.1 }
     ensures small { IsSmall result.1 }
 {
-    let summary = summary_in(reply);
+    let summary = summary_of(messages_in(reply));
     let kept = summary.kept.as_slice();
     let after = ChangerState {
         holds: holds_acked(heard, kept, before.holds),

@@ -4,14 +4,8 @@ ghost use Rattle.std.specs.Prelude.{◌≡◌, ◌≤◌, ◌<◌, ◌^◌, leng
 ghost use Rattle.mdb_cash.specs.Changer as spec;
 
 use super::report::ChangerReport;
+use crate::credits::counted;
 use mdb_msgs::ChangerSetup;
-
-/// What a credit byte counts: FF is a token, without value.
-fn counted(credit: u8) -> u8
-    ensures { result ≡ spec.counted credit }
-{
-    if credit == 0xFF { 0 } else { credit }
-}
 
 /// The value of a coin type by a setup table, in smallest units of money.
 fn coin_value(setup: &Option<ChangerSetup>, coin: u8) -> u64

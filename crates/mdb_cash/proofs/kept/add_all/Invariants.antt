@@ -1,12 +1,11 @@
 use Rattle.std.proofs.Common.{◌≤◌, map, take}
 use Rattle.arrayvec.specs.ArrayVec.{array_vec_len}
-use Rattle.mdb_cash.specs.ChangerMessages.{part_of}
 use Rattle.mdb_cash.specs.Kept.{IsSummary}
-use Rattle.mdb_cash.proofs.changer.report.summary_of.Given as goal
+use Rattle.mdb_cash.proofs.kept.add_all.Given as goal
 
 abbrev pub invariant-loop-message : goal.invariant-loop-message
-invariant-loop-message l =
+invariant-loop-message g l =
     record {
-      summary : IsSummary l.summary.kept.items l.summary.reset l.summary.early (map part_of (take l.message-index l.messages));
+      summary : IsSummary l.summary.kept.items l.summary.reset l.summary.early (map g.T.Message.part_of (take l.message-index l.messages));
       room : array_vec_len l.summary.kept ≤ l.message-index;
     }

@@ -1,0 +1,40 @@
+-- How the code keeps what counts of the acts so far. This serves private functions.
+use Rattle.std.specs.Prelude.{ℕ, ◌==◌, Bool, true, false, not, ◌&&◌, ◌||◌, List, [], unwrap_or, if◌then◌else◌}
+use Rattle.std.specs.Int.{bit_at}
+use Rattle.mdb_msgs.specs.declared.command.Command.{Command}
+use Rattle.mdb_bus.specs.declared.act.Act.{Act}
+use Rattle.mdb_cash.specs.declared.kept.Part.{Part}
+use Rattle.mdb_cash.specs.declared.past.Effect.{Effect}
+use Rattle.mdb_cash.specs.declared.past.Past.{Past}
+use Rattle.mdb_cash.specs.Kept.{has_reset, kept_of}
+use Rattle.mdb_cash.specs.Past.{PastFacts, effect_by, enables, powers_on, unless_empty}
+
+-- what counts of no act
+abbrev pub no_past : {M : Type 0} → PastFacts M
+no_past = record { enabled = λ kind. false; reset_owed = true; kept = [] }
+
+-- what is kept
+abbrev pub past_in : {M : Type 0} {CAP : ℕ} → Past M CAP → PastFacts M
+past_in past =
+    record {
+      enabled = λ kind. bit_at past.enabled kind == 1;
+      reset_owed = past.reset_owed;
+      kept = past.kept.items;
+    }
+
+-- what counts behind one act more, which puts the device into its power-on state or doesn't, by
+-- which it takes a command or doesn't, and which tells messages or doesn't
+abbrev pub past_behind : {M : Type 0} → Bool → Effect → List (Part M) → PastFacts M
+    → PastFacts M
+past_behind powers effect parts past =
+    record {
+      enabled = λ kind. enables kind effect || (if powers then false else past.enabled kind);
+      reset_owed = not (has_reset parts) && (powers || past.reset_owed);
+      kept = unwrap_or (unless_empty (kept_of parts)) past.kept;
+    }
+
+-- what counts behind one act more
+abbrev pub past_with : {M : Type 0} → (Command → Effect) → (Act → List (Part M)) → Act
+    → PastFacts M → PastFacts M
+past_with effect_of parts_by act past =
+    past_behind (powers_on effect_of act) (effect_by effect_of act) (parts_by act) past
