@@ -1,4 +1,6 @@
 pub mod Answered
+pub mod BillFactsBehind
+pub mod Escrows
 pub mod FactsBehind
 pub mod FirstBytes
 pub mod KeptLists

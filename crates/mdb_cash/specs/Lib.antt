@@ -1,4 +1,9 @@
+pub mod Bill
 pub mod BillCodes
+pub mod BillFacts
+pub mod BillMessages
+pub mod BillValues
+pub mod BillWays
 pub mod Changer
 pub mod ChangerCodes
 pub mod ChangerFacts

@@ -1,5 +1,105 @@
 //! The bill validator and the controller.
 
-pub(crate) mod state;
+ghost use Rattle.std.specs.Prelude.{◌≡◌, ◌<◌, List, [], ◌∷◌};
+ghost use Rattle.mdb_msgs.specs.declared.command.Device.TheVariants as devices;
+ghost use Rattle.mdb_bus.specs.declared.act.Act.{Act};
+ghost use Rattle.mdb_cash.specs.Bill as spec;
+ghost use Rattle.mdb_cash.specs.BillCodes as codes;
+ghost use Rattle.mdb_cash.specs.BillFacts.{facts_of};
+ghost use Rattle.mdb_cash.specs.BillValues.{facts_in};
+ghost use Rattle.mdb_cash.specs.BillWays as ways;
 
+pub(crate) mod facts;
+pub(crate) mod report;
+pub(crate) mod state;
+mod steps;
+mod values;
+
+use crate::gains::Gains;
+use crate::kept::Reading;
+use crate::pair::Pair;
+pub use facts::BillFacts;
+use mdb_bus::Act;
+use mdb_msgs::{BillCommand, Command};
+pub use report::BillReport;
+use report::messages_in;
 pub use state::{BillState, BillType, Escrow};
+use steps::step;
+
+/// The bill validator and the controller's dealings with it (MDB/ICP 4.3, bill validator). Its
+/// first account is bills-in, and the second stays 0.
+pub struct Bill;
+
+impl Pair for Bill {
+    const CODES: usize = 66;
+
+    ghost CODES = { 66 };
+
+    type Facts = BillFacts;
+
+    type State = BillState;
+
+    ghost device = { devices.Bill };
+
+    ghost code_of = { codes.code_of };
+
+    ghost first = { spec.power_on };
+
+    ghost stands_for = { λ facts acts. facts_in facts ≡ facts_of acts };
+
+    ghost may_step = { λ acts. spec.BillStep (facts_of acts) };
+
+    fn start() -> usize {
+        BillState::power_on().code()
+    }
+
+    fn facts_start() -> BillFacts {
+        BillFacts::start()
+    }
+
+    fn learn(facts: &mut BillFacts, act: &Act) {
+        facts.learn(act);
+    }
+
+    fn concerns(act: &Act) -> bool {
+        match act {
+            Act::Ack(Command::Bill(command)) => matches!(
+                command,
+                BillCommand::Reset | BillCommand::Escrow(_) | BillCommand::Poll
+            ),
+            Act::VmcAck(Command::Bill(_), reply) => !messages_in(reply).is_empty(),
+            Act::Reply(Command::Bill(_), _) | Act::Break(_) => true,
+            _ => false,
+        }
+    }
+
+    fn code(state: BillState) -> usize {
+        state.code()
+    }
+
+    fn state(code: usize) -> BillState {
+        BillState::at(code)
+    }
+
+    fn outcome(
+        facts: &BillFacts,
+        act: &Act,
+        heard: bool,
+        reading: Reading,
+        before: BillState,
+    ) -> Option<(BillState, Gains)> {
+        step(facts, act, heard, reading, before)
+    }
+
+    ghost apart = { codes.apart };
+
+    ghost below = { codes.below };
+
+    ghost whole = { codes.whole };
+
+    ghost hearing = { λ acts. ways.hearing (facts_of acts) };
+
+    ghost readings = { λ acts. ways.readings (facts_of acts) };
+
+    ghost elsewhere = { λ acts. ways.elsewhere (facts_of acts) };
+}

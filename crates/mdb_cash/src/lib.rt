@@ -2,7 +2,7 @@
 //!
 //! A [`Pair`] is a device with the controller's dealings with it. It has a few states, each with a
 //! code, and tells for each act which steps may be taken and what they add to the sums. [`Changer`]
-//! is that of the coin changer. Nothing here takes memory.
+//! is that of the coin changer, and [`Bill`] that of the bill validator. Nothing here takes memory.
 #![tactic(auto)]
 
 mod bill;
@@ -14,7 +14,7 @@ pub mod laws;
 mod pair;
 pub mod past;
 
-pub use bill::{BillState, BillType, Escrow};
+pub use bill::{Bill, BillFacts, BillReport, BillState, BillType, Escrow};
 pub use changer::{Changer, ChangerFacts, ChangerReport, ChangerState};
 pub use gains::Gains;
 pub use kept::Reading;

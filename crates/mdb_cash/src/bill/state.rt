@@ -1,6 +1,8 @@
 //! The states of the bill validator and the controller.
 
-ghost use Rattle.std.specs.Prelude.{◌≡◌, ◌<◌, ◌≤◌, Some, None, IfSome, IfNone};
+ghost use Rattle.std.specs.Prelude.{◌≡◌, ◌<◌, ◌≤◌, ◌↔◌, IfSome, IfNone, IsTrue};
+
+use crate::kept::Reading;
 
 /// A type of bills, 0 to 15 (MDB/ICP 4.3, bill validator).
 #[derive(Clone, Copy, PartialEq, Eq, Debug)]
@@ -20,6 +22,13 @@ impl BillType {
         } else {
             None
         }
+    }
+
+    /// Whether both are the same.
+    fn is(self, other: BillType) -> bool
+        ensures { IsTrue result ↔ (self ≡ other) }
+    {
+        self == other
     }
 
     /// Its number.
@@ -42,6 +51,87 @@ pub enum Escrow {
     Ordered(BillType),
 }
 
+impl Escrow {
+    ghost use Rattle.std.specs.Prelude.{◌≡◌, ◌↔◌, ◌<◌, IsTrue};
+    ghost use Rattle.mdb_cash.specs.Bill as spec;
+    ghost use Rattle.mdb_cash.specs.BillCodes.{escrow_code};
+    ghost use Rattle.mdb_cash.specs.declared.bill.state.Escrow.TheVariants.{Empty};
+
+    /// Whether there is nothing in it.
+    pub(crate) fn is_empty(self) -> bool
+        ensures { IsTrue result ↔ (self ≡ Empty) }
+    {
+        matches!(self, Escrow::Empty)
+    }
+
+    /// Whether a bill of a type may have been stacked.
+    pub(crate) fn may_stack(self, bill: BillType) -> bool
+        ensures { IsTrue result ↔ spec.MayStack bill self }
+    {
+        match self {
+            Escrow::Empty => true,
+            Escrow::Waiting(_) => false,
+            Escrow::Ordered(other) => other.is(bill),
+        }
+    }
+
+    /// Whether a bill of a type may have been returned.
+    pub(crate) fn may_return(self, bill: BillType) -> bool
+        ensures { IsTrue result ↔ spec.MayReturn bill self }
+    {
+        match self {
+            Escrow::Empty => true,
+            Escrow::Waiting(other) | Escrow::Ordered(other) => other.is(bill),
+        }
+    }
+
+    /// What it is behind Y1 of an ESCROW that the validator takes.
+    pub(crate) fn ordered(self, order: u8) -> Escrow
+        ensures { result ≡ spec.ordered order self }
+    {
+        match self {
+            Escrow::Waiting(bill) if order % 2 == 1 => Escrow::Ordered(bill),
+            _ => self,
+        }
+    }
+
+    /// What it is once a reply is read.
+    pub(crate) fn read(self, reading: Reading) -> Escrow
+        ensures { result ≡ spec.escrow_read reading self }
+    {
+        match reading {
+            Reading::Plain => self,
+            Reading::Restart => Escrow::Empty,
+        }
+    }
+
+    /// Its code.
+    fn code(self) -> usize
+        ensures code { result ≡ escrow_code self }
+        ensures below { result < 33 }
+    {
+        match self {
+            Escrow::Empty => 0,
+            Escrow::Waiting(bill) => 1 + usize::from(bill.number()),
+            Escrow::Ordered(bill) => 17 + usize::from(bill.number()),
+        }
+    }
+
+    /// That of a code.
+    fn at(code: u8) -> Escrow
+        requires { code < 33 }
+        ensures { escrow_code result ≡ code }
+    {
+        if code == 0 {
+            Escrow::Empty
+        } else if code < 17 {
+            Escrow::Waiting(BillType { number: code - 1 })
+        } else {
+            Escrow::Ordered(BillType { number: code - 17 })
+        }
+    }
+}
+
 /// A state of the validator and the controller's dealings with it (this profile).
 #[derive(Clone, Copy, PartialEq, Eq, Debug)]
 pub struct BillState {
@@ -49,4 +139,40 @@ pub struct BillState {
     pub escrow: Escrow,
     /// Whether the validator holds kept messages.
     pub holds: bool,
+}
+
+impl BillState {
+    ghost use Rattle.mdb_cash.specs.Bill as spec;
+    ghost use Rattle.mdb_cash.specs.BillCodes.{code_of};
+
+    /// The state at power-on.
+    pub(crate) fn power_on() -> BillState
+        ensures { result ≡ spec.power_on }
+    {
+        BillState {
+            escrow: Escrow::Empty,
+            holds: false,
+        }
+    }
+
+    /// Its code.
+    pub(crate) fn code(self) -> usize
+        ensures code { result ≡ code_of self }
+        ensures below { result < 66 }
+    {
+        self.escrow.code() + if self.holds { 33 } else { 0 }
+    }
+
+    /// The state of a code.
+    pub(crate) fn at(code: usize) -> BillState
+        requires { code < 66 }
+        ensures { code_of result ≡ code }
+    {
+        let holds = code >= 33;
+        let escrow = if holds { code - 33 } else { code };
+        BillState {
+            escrow: Escrow::at(escrow as u8),
+            holds,
+        }
+    }
 }

@@ -1,0 +1,13 @@
+use Rattle.std.proofs.Common.{ap, sym, ◌∙◌}
+use Rattle.std.proofs.lemmas.Bool.{eq-eqb, eqb-true}
+use Rattle.mdb_cash.specs.declared.bill.state.BillType.{BillType}
+use Rattle.mdb_cash.specs.BillCodes.{same_type}
+use Rattle.mdb_cash.proofs.bill.state.BillType.is.Goals as goal
+
+pub returns : goal.returns
+returns c =
+    let one = c.args.self in
+    let other = c.args.other in (
+      λ same. same_type one other (eqb-true one.number other.number (sym c.eq.ensures ∙ same)),
+      λ is. c.eq.ensures ∙ eq-eqb one.number other.number (ap (λ (b : BillType). b.number) is),
+    )
