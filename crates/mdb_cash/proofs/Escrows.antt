@@ -15,14 +15,14 @@ use Rattle.mdb_cash.specs.declared.bill.state.Escrow.{Escrow}
 use Rattle.mdb_cash.specs.declared.bill.state.Escrow.TheVariants.{Empty, Waiting}
 use Rattle.mdb_cash.specs.declared.gains.Gains.{Gains}
 use Rattle.mdb_cash.specs.declared.kept.Reading.{Reading}
-use Rattle.mdb_cash.specs.Bill.{BillStep, MayReturn, MayStack, ReplyStep, TakesAll, TakesMessage, VmcAckStep, Stays, all_stacked, escrow_read, is_poll}
+use Rattle.mdb_cash.specs.Bill.{BillStep, MayReturn, MayStack, ReplyStep, TakesAll, TakesMessage, VmcAckStep, all_stacked, escrow_read, is_poll}
 use Rattle.mdb_cash.specs.BillCodes.{same_type}
 use Rattle.mdb_cash.specs.BillFacts.{Facts, facts_of}
 use Rattle.mdb_cash.specs.BillMessages.{part_of, parts_of}
 use Rattle.mdb_cash.specs.BillValues.{IsOnly}
 use Rattle.mdb_cash.specs.Gains.{controller_gains, device_gains, no_gains}
 use Rattle.mdb_cash.specs.Kept.{held, holds_acked, holds_behind, holds_read, kept_of}
-use Rattle.mdb_cash.specs.Pair.{IsOutcome}
+use Rattle.mdb_cash.specs.Pair.{IsOutcome, Stays}
 use Rattle.mdb_cash.proofs.KeptLists.{TellsOnly}
 
 -- a message that can be new

@@ -23,6 +23,7 @@ use Rattle.mdb_cash.specs.BillMessages.{parts_of}
 use Rattle.mdb_cash.specs.Credits.{counted}
 use Rattle.mdb_cash.specs.Gains.{no_gains, controller_gains, device_gains}
 use Rattle.mdb_cash.specs.Kept.{Tells, held, holds_acked, holds_behind, holds_read, kept_of}
+use Rattle.mdb_cash.specs.Pair.{Stays}
 
 -- the power-on state: nothing in escrow, and nothing held
 abbrev pub power_on : BillState
@@ -47,10 +48,6 @@ all_stacked setup messages = sum_by (stacked setup) messages
 abbrev pub is_poll : BillCommand → Bool
 is_poll bill.Poll = true
 is_poll _ = false
-
--- nothing changes
-abbrev pub Stays : BillState → BillState → Gains → Type 0
-Stays before after gains = (after ≡ before) × (gains ≡ no_gains)
 
 -- A bill may be stacked that never waited in escrow, or that waits there with an order to stack it;
 -- one may be returned with an order or without one.
@@ -90,19 +87,14 @@ abbrev pub escrow_read : Reading → Escrow → Escrow
 escrow_read Plain escrow = escrow
 escrow_read Restart escrow = Empty
 
--- The controller asks: nothing changes.
-abbrev pub AskStep : Facts → BillCommand → BillState → BillState → Gains → Type 0
-AskStep facts command before after gains = Stays before after gains
-
 -- The validator acknowledges: by that it takes RESET, and is in its power-on state, or ESCROW.
 -- While it holds something, ACK is no answer to POLL.
-abbrev pub AckStep : Facts → BillCommand → BillState → BillState → Gains → Type 0
-AckStep facts bill.Reset before after gains = (after ≡ power_on) × (gains ≡ no_gains)
-AckStep facts (bill.Escrow order) before after gains =
+abbrev pub AckStep : BillCommand → BillState → BillState → Gains → Type 0
+AckStep bill.Reset before after gains = (after ≡ power_on) × (gains ≡ no_gains)
+AckStep (bill.Escrow order) before after gains =
     (after ≡ record before { escrow = ordered order before.escrow }) × (gains ≡ no_gains)
-AckStep facts bill.Poll before after gains =
-    (before.holds ≡ false) × Stays before after gains
-AckStep facts _ before after gains = Stays before after gains
+AckStep bill.Poll before after gains = (before.holds ≡ false) × Stays before after gains
+AckStep _ before after gains = Stays before after gains
 
 -- The validator replies with data, which is read as plain or as telling of a restart. What is new
 -- counts for the validator, and moves what is in escrow. Data answers SETUP, POLL, STACKER and
@@ -132,22 +124,21 @@ pub record VmcAckStep (facts : Facts) (command : BillCommand) (reply : Reply)
 -- A step of the validator and the controller, behind acts that leave these facts. Whether the act
 -- was heard matters for the controller's ACK alone, and the reading for a reply.
 abbrev pub BillStep : Facts → Act → Bool → Reading → BillState → BillState → Gains → Type 0
-BillStep facts (acts.Ask (commands.Bill command)) heard reading = AskStep facts command
-BillStep facts (acts.Ack (commands.Bill command)) heard reading = AckStep facts command
+BillStep facts (acts.Ack (commands.Bill command)) heard reading = AckStep command
 BillStep facts (acts.Reply (commands.Bill command) reply) heard reading =
     ReplyStep facts command reply reading
 BillStep facts (acts.VmcAck (commands.Bill command) reply) heard reading =
     VmcAckStep facts command reply heard
 BillStep facts (acts.Break length) heard reading =
     λ before after gains. (after ≡ power_on) × (gains ≡ no_gains)
--- NAK, RET, repeats and foreign traffic change nothing,
+-- what the controller asks, NAK, RET, repeats and foreign traffic change nothing,
+BillStep facts (acts.Ask command) heard reading = Stays
 BillStep facts (acts.Nak command) heard reading = Stays
 BillStep facts (acts.VmcNak command reply) heard reading = Stays
 BillStep facts (acts.VmcRet command reply) heard reading = Stays
 BillStep facts (acts.Repeat command reply) heard reading = Stays
 BillStep facts acts.Foreign heard reading = Stays
 -- nor do the acts of other devices
-BillStep facts (acts.Ask command) heard reading = Stays
 BillStep facts (acts.Ack command) heard reading = Stays
 BillStep facts (acts.Reply command reply) heard reading = Stays
 BillStep facts (acts.VmcAck command reply) heard reading = Stays

@@ -20,6 +20,7 @@ use Rattle.mdb_cash.specs.ChangerMessages.{parts_of}
 use Rattle.mdb_cash.specs.Gains.{no_gains, controller_gains, device_gains}
 use Rattle.mdb_cash.specs.Credits.{counted}
 use Rattle.mdb_cash.specs.Kept.{Tells, has_reset, held, holds_acked, holds_behind, holds_read, kept_of}
+use Rattle.mdb_cash.specs.Pair.{Stays}
 
 -- the power-on state: nothing held, and no DISPENSE owed
 abbrev pub power_on : ChangerState
@@ -63,10 +64,6 @@ MayBeNew facts (Dispensed count coin) = Unit {0}
 abbrev pub is_poll : ChangerCommand → Bool
 is_poll changer.Poll = true
 is_poll _ = false
-
--- nothing changes
-abbrev pub Stays : ChangerState → ChangerState → Gains → Type 0
-Stays before after gains = (after ≡ before) × (gains ≡ no_gains)
 
 -- whether this is Y1 of the last DISPENSE asked
 abbrev pub is_last : Option ℕ → ℕ → Bool

@@ -7,6 +7,7 @@ use Rattle.mdb_bus.specs.declared.act.Act.TheVariants as acts
 use Rattle.mdb_cash.specs.declared.gains.Gains.{Gains}
 use Rattle.mdb_cash.specs.declared.kept.Reading.{Reading}
 use Rattle.mdb_cash.specs.declared.kept.Reading.TheVariants.{Plain, Restart}
+use Rattle.mdb_cash.specs.Gains.{no_gains}
 
 -- a reply
 abbrev pub IsReply : Act → Type 0
@@ -26,6 +27,10 @@ IsActOf device (acts.VmcRet command reply) = device_of command ≡ device
 IsActOf device (acts.Repeat command reply) = device_of command ≡ device
 IsActOf device acts.Foreign = ⊥
 IsActOf device (acts.Break length) = Unit {0}
+
+-- a step that changes nothing
+abbrev pub Stays : {State : Type 0} → State → State → Gains → Type 0
+Stays before after gains = (after ≡ before) × (gains ≡ no_gains)
 
 -- how a reply is read that has a mark, and that has none
 abbrev pub reading_of : Bool → Reading

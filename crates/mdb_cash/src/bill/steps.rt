@@ -29,7 +29,7 @@ pub(crate) fn step(
     ensures small { IfSome result (λ outcome. IsSmall outcome.1) }
 {
     match act {
-        Act::Ack(Command::Bill(command)) => ack(facts, *command, before),
+        Act::Ack(Command::Bill(command)) => ack(*command, before),
         Act::Reply(Command::Bill(command), reply) => {
             answer(facts, *command, reply, reading, before)
         }
@@ -42,8 +42,8 @@ pub(crate) fn step(
 }
 
 /// The validator acknowledges.
-fn ack(facts: &BillFacts, command: BillCommand, before: BillState) -> Option<(BillState, Gains)>
-    ensures outcome { IsOutcome (spec.AckStep (facts_in facts.now) command before) result }
+fn ack(command: BillCommand, before: BillState) -> Option<(BillState, Gains)>
+    ensures outcome { IsOutcome (spec.AckStep command before) result }
     ensures small { IfSome result (λ outcome. IsSmall outcome.1) }
 {
     match command {
