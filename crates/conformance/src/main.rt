@@ -10,7 +10,7 @@ use std::io::Write;
 use std::{fs, io};
 
 /// The files of cases, one for each subject.
-const FILES: [&str; 10] = [
+const FILES: [&str; 11] = [
     "rows.cases",
     "times.cases",
     "commands.cases",
@@ -20,6 +20,7 @@ const FILES: [&str; 10] = [
     "foreign.cases",
     "order-of-rules.cases",
     "changer.cases",
+    "bill.cases",
     "worked.cases",
 ];
 

@@ -65,6 +65,7 @@ abbrev pub report_text : Outcome → List ℕ
 report_text (Yes report) =
     head_text report.rows
     ++ account_line (codes "coins-in") (get_or report.accounts 0 no_account)
+    ++ account_line (codes "bills-in") (get_or report.accounts 1 no_account)
     ++ account_line (codes "paid-out") (get_or report.accounts 2 no_account)
 report_text (No offence) =
     line (codes "verdict no") ++ line (codes "row " ++ decimal offence.row)

@@ -77,6 +77,7 @@ fn write_report<W: Write>(writer: &mut W, report: &Report) -> io::Result<()>
 {
     write_head(writer, report.rows)?;
     write_account(writer, "coins-in", &report.accounts[0])?;
+    write_account(writer, "bills-in", &report.accounts[1])?;
     write_account(writer, "paid-out", &report.accounts[2])
 }
 

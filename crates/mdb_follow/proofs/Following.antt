@@ -7,15 +7,11 @@ use Rattle.mdb_words.specs.declared.event.Event.{Event}
 use Rattle.mdb_bus.specs.declared.act.Act.{Act}
 use Rattle.mdb_bus.specs.declared.bus.Bus.{Bus}
 use Rattle.mdb_bus.specs.declared.fault.LinkFault.{LinkFault}
+use Rattle.mdb_bus.specs.declared.fault.Rule.{Rule}
 use Rattle.mdb_bus.specs.ActLists.{HasActList, IsActList, Piece, acts_of, events_of}
 use Rattle.mdb_bus.specs.Bus as link
 use Rattle.mdb_bus.specs.Bus.{GoesOn}
 use Rattle.mdb_bus.specs.LinkFaults.{IsLinkFault}
-use Rattle.mdb_cash.specs.declared.changer.state.ChangerState.{ChangerState}
-use Rattle.mdb_cash.specs.Changer.{ChangerStep, power_on}
-use Rattle.mdb_cash.specs.ChangerCodes.{code_of}
-use Rattle.mdb_cash.specs.ChangerFacts.{facts_of}
-use Rattle.mdb_cash.specs.ChangerValues.{facts_in}
 use Rattle.mdb_follow.specs.declared.cell.Cell.{Cell}
 use Rattle.mdb_follow.specs.declared.follower.Follower.{Follower}
 use Rattle.mdb_follow.specs.declared.offence.Offence.{Offence}
@@ -24,24 +20,22 @@ use Rattle.mdb_follow.specs.declared.report.Report.{Report}
 use Rattle.mdb_follow.specs.Follower.{StandsFor}
 use Rattle.mdb_follow.specs.FollowerSteps.{HasFollowed, HasStopped}
 use Rattle.mdb_follow.specs.Ranges.{IsAccount, IsCell, IsRange}
-use Rattle.mdb_follow.specs.Sums.{AccountSums, Sums, added}
-use Rattle.mdb_follow.specs.Tables.{ArrivesAnywhere, IsTable}
+use Rattle.mdb_follow.specs.Sums.{AccountSums, Sums}
+use Rattle.mdb_follow.specs.Tables.{ArrivesAnywhere}
 use Rattle.mdb_follow.specs.Offences.{HasOffence, IsOffence}
 use Rattle.mdb_follow.specs.Report.{IsReport, report_of}
 use Rattle.mdb_follow.specs.declared.cell.Account.{Account}
-use Rattle.mdb_follow.specs.Runs.{AllSums, IsReached, Run}
-use Rattle.mdb_follow.proofs.Joining.{ChangerArrives, changer_way}
-use Rattle.mdb_follow.proofs.Reaching.{Joins, run_of}
+use Rattle.mdb_follow.specs.Runs.{AllSums, IsReached, Run, States}
+use Rattle.mdb_follow.specs.Machines.{EachArrives, BillArrives, ChangerArrives}
+use Rattle.mdb_follow.specs.Offences.{ByBill, ByChanger, NoStep}
+use Rattle.mdb_follow.specs.Sides.{IsBillSide, IsChangerSide}
+use Rattle.mdb_follow.proofs.Reaching.{Joins, SomeArrive, run_of}
+use Rattle.mdb_follow.proofs.Joining.{split}
 
 -- a transcript divides into acts in at most one way
 abbrev pub OneActList : Type 0
 OneActList = (rows : List Event) (one other : List Piece) → IsActList one rows
     → IsActList other rows → one ≡ other
-
--- the table of a changer behind acts
-abbrev pub IsChangerTable : List Act → List (ℕ × Cell) → Type 0
-IsChangerTable acts table =
-    IsTable code_of (λ acts. ChangerStep (facts_of acts)) power_on acts table
 
 -- what holds of a part of an answer
 pub if-ok : {T E : Type 0} (r : Result T E) (P Q : T → Type 0) → ((x : T) → P x → Q x)
@@ -77,68 +71,87 @@ list-on bus events row pieces act whole goes = record {
   whole = goes.rows ∙ ap (λ rows. rows ++ row ∷ []) whole;
 }
 
--- what a run of an act list's rows comes to arrives behind its acts
+-- each device's way of a run leads through the acts of an act list of its rows
 arrived : OneActList → (rows : List Event) (pieces : List Piece) (sums : AllSums)
     → IsActList pieces rows → (run : Run rows sums)
-    → ChangerArrives (acts_of pieces) run.states.changer sums.changer
+    → EachArrives (acts_of pieces) run.states sums
 arrived one rows pieces sums list run =
-    subst (λ ps. ChangerArrives (acts_of ps) run.states.changer sums.changer)
+    subst (λ ps. EachArrives (acts_of ps) run.states sums)
     (one rows run.pieces pieces run.act_list list)
-    (changer_way run.loss run.pieces run.states sums run.way)
+    (split run.loss run.pieces run.states sums run.way)
 
--- where a table is that behind the acts, the rows are reached
+-- the tables of a follower have some way of each device
+pub some-ways : (follower : Follower) (events : List Event) (on : StandsFor follower events)
+    → SomeArrive (acts_of on.pieces)
+some-ways follower events on = record {
+  states = record { changer = on.changer.table.some.0; bill = on.bill.table.some.0 };
+  sums = record { changer = on.changer.table.some.1; bill = on.bill.table.some.1 };
+  ways = record { changer = on.changer.table.some.2; bill = on.bill.table.some.2 };
+}
+
+-- so its rows are reached
 pub reached-by : Joins → (follower : Follower) (events : List Event)
     → StandsFor follower events → IsReached events
-reached-by joins follower events on = (
-  record { changer = on.table.some.1 },
-  run_of joins events on.pieces on.table.some.0 on.table.some.1
-      (list-of follower events on) on.table.some.2,
-)
+reached-by joins follower events on =
+    let some = some-ways follower events on in (
+      some.sums,
+      run_of joins events on.pieces some.states some.sums (list-of follower events on)
+          some.ways,
+    )
 
--- where nothing arrives behind the acts, they aren't
+-- where a machine has no step by an act, no way of all leads over it
+stuck : (rule : Rule) (act : Act) (before : List Act) → NoStep rule act before
+    → (states : States) (sums : AllSums) → EachArrives (act ∷ before) states sums → ⊥
+stuck rule act before (ByChanger none) states sums ways =
+    let way = ways.changer in
+    none way.before way.sums_before way.way way.heard way.reading states.changer way.gains way.step
+stuck rule act before (ByBill none) states sums ways =
+    let way = ways.bill in
+    none way.before way.sums_before way.way way.heard way.reading states.bill way.gains way.step
+
+-- and rows with such acts aren't reached
 unreached : OneActList → (rows : List Event) (pieces : List Piece) → IsActList pieces rows
-    → ((state : ChangerState) (sums : Sums) → ChangerArrives (acts_of pieces) state sums → ⊥)
+    → ((states : States) (sums : AllSums) → EachArrives (acts_of pieces) states sums → ⊥)
     → IsReached rows → ⊥
 unreached one rows pieces list none reached =
-    none reached.1.states.changer reached.0.changer
-    (arrived one rows pieces reached.0 list reached.1)
+    none reached.1.states reached.0 (arrived one rows pieces reached.0 list reached.1)
 
 -- no act ended
 pub stands-still : (old new : Follower) (bus : Bus) (events : List Event) (row : Event)
     (on : StandsFor old events) → GoesOn bus on.pieces row None → new.bus ≡ bus
-    → new.facts ≡ old.facts → new.table ≡ old.table → new.rows ≡ old.rows + 1
+    → new.changer ≡ old.changer → new.bill ≡ old.bill → new.rows ≡ old.rows + 1
     → new.offence ≡ old.offence → StandsFor new (events ++ row ∷ [])
-stands-still old new bus events row on goes same_bus same_facts same_table more same = record {
+stands-still old new bus events row on goes same_bus same_changer same_bill more same = record {
   pieces = goes.longer;
   on_bus = subst (λ b. link.StandsFor b goes.longer) (sym same_bus) goes.stands;
   whole = goes.rows ∙ ap (λ rows. rows ++ row ∷ []) on.whole;
   rows = more ∙ ap (λ n. n + 1) on.rows ∙ sym (length-append events (row ∷ []));
   going = same ∙ on.going;
-  facts = ap facts_in same_facts ∙ on.facts ∙ ap facts_of (sym goes.acts);
-  table = subst (λ acts. IsChangerTable acts new.table) (sym goes.acts)
-      (subst (IsChangerTable (acts_of on.pieces)) (sym same_table) on.table);
+  changer = subst (IsChangerSide new.changer) (sym goes.acts)
+      (subst (λ side. IsChangerSide side (acts_of on.pieces)) (sym same_changer) on.changer);
+  bill = subst (IsBillSide new.bill) (sym goes.acts)
+      (subst (λ side. IsBillSide side (acts_of on.pieces)) (sym same_bill) on.bill);
 }
 
 -- an act was followed
 pub stands-on : (old mid new : Follower) (events : List Event) (row : Event) (act : Act)
     (on : StandsFor old events) → GoesOn mid.bus on.pieces row (Some act)
-    → mid.facts ≡ old.facts → mid.table ≡ old.table → mid.rows ≡ old.rows
+    → mid.changer ≡ old.changer → mid.bill ≡ old.bill → mid.rows ≡ old.rows
     → mid.offence ≡ old.offence → HasFollowed mid act new → StandsFor new (events ++ row ∷ [])
-stands-on old mid new events row act on goes same_facts same_table same_rows same has =
-    let facts : facts_in mid.facts ≡ facts_of (acts_of on.pieces) =
-    ap facts_in same_facts ∙ on.facts in
-    record {
-      pieces = goes.longer;
-      on_bus = subst (λ b. link.StandsFor b goes.longer) (sym has.on_bus) goes.stands;
-      whole = goes.rows ∙ ap (λ rows. rows ++ row ∷ []) on.whole;
-      rows = has.rows ∙ ap (λ n. n + 1) (same_rows ∙ on.rows)
-          ∙ sym (length-append events (row ∷ []));
-      going = has.going ∙ same ∙ on.going;
-      facts = has.facts (acts_of on.pieces) facts ∙ ap facts_of (sym goes.acts);
-      table = subst (λ acts. IsChangerTable acts new.table) (sym goes.acts)
-          (has.table (acts_of on.pieces) facts
-          (subst (IsChangerTable (acts_of on.pieces)) (sym same_table) on.table));
-    }
+stands-on old mid new events row act on goes same_changer same_bill same_rows same has = record {
+  pieces = goes.longer;
+  on_bus = subst (λ b. link.StandsFor b goes.longer) (sym has.on_bus) goes.stands;
+  whole = goes.rows ∙ ap (λ rows. rows ++ row ∷ []) on.whole;
+  rows = has.rows ∙ ap (λ n. n + 1) (same_rows ∙ on.rows)
+      ∙ sym (length-append events (row ∷ []));
+  going = has.going ∙ same ∙ on.going;
+  changer = subst (IsChangerSide new.changer) (sym goes.acts)
+      (has.sides.changer_goes (acts_of on.pieces)
+      (subst (λ side. IsChangerSide side (acts_of on.pieces)) (sym same_changer) on.changer));
+  bill = subst (IsBillSide new.bill) (sym goes.acts)
+      (has.sides.bill_goes (acts_of on.pieces)
+      (subst (λ side. IsBillSide side (acts_of on.pieces)) (sym same_bill) on.bill));
+}
 
 -- a row breaks a rule of the link
 pub link-offence : Joins → (old : Follower) (events : List Event) (row : Event)
@@ -164,21 +177,23 @@ link-offence joins old events row on fault offence is impossible number rule bla
   });
 }
 
--- no way leads over an act
+-- a machine has no step by an act
 pub machine-offence : OneActList → Joins → (old mid new : Follower) (events : List Event)
     (row : Event) (act : Act) (offence : Offence) (on : StandsFor old events)
-    → GoesOn mid.bus on.pieces row (Some act) → mid.facts ≡ old.facts → mid.table ≡ old.table
+    → GoesOn mid.bus on.pieces row (Some act) → mid.changer ≡ old.changer → mid.bill ≡ old.bill
     → mid.rows ≡ old.rows → HasStopped mid act new offence → IsOffence events row offence
-machine-offence one joins old mid new events row act offence on goes same_facts same_table same_rows
-    has =
+machine-offence one joins old mid new events row act offence on goes same_changer same_bill
+    same_rows has =
     let list : IsActList goes.longer (events ++ row ∷ []) =
     list-on mid.bus events row on.pieces (Some act) on.whole goes in
+    let none : NoStep offence.rule act (acts_of on.pieces) = has.none (acts_of on.pieces)
+    (subst (λ side. IsChangerSide side (acts_of on.pieces)) (sym same_changer) on.changer)
+    (subst (λ side. IsBillSide side (acts_of on.pieces)) (sym same_bill) on.bill) in
     record {
       reached = reached-by joins old events on;
       not_reached = unreached one (events ++ row ∷ []) goes.longer list
-          (λ state sums way. has.none (acts_of on.pieces) (ap facts_in same_facts ∙ on.facts)
-          (subst (IsChangerTable (acts_of on.pieces)) (sym same_table) on.table) state sums
-          (subst (λ acts. ChangerArrives acts state sums) goes.acts way));
+          (λ states sums ways. stuck offence.rule act (acts_of on.pieces) none states sums
+          (subst (λ acts. EachArrives acts states sums) goes.acts ways));
       number = has.number ∙ ap (λ n. n + 1) (same_rows ∙ on.rows);
       why = inr (record {
         pieces = goes.longer;
@@ -186,77 +201,102 @@ machine-offence one joins old mid new events row act offence on goes same_facts 
         act = act;
         before = acts_of on.pieces;
         ends = goes.acts;
-        no_step = λ state sums way heard reading after gains step.
-            has.none (acts_of on.pieces) (ap facts_in same_facts ∙ on.facts)
-            (subst (IsChangerTable (acts_of on.pieces)) (sym same_table) on.table) after
-            (added sums gains) (record {
-              heard = heard;
-              reading = reading;
-              before = state;
-              sums_before = sums;
-              gains = gains;
-              way = way;
-              step = step;
-              adds = refl;
-            });
-        rule = has.rule;
+        no_step = none;
         blame = has.blame;
       });
     }
 
--- the range of what arrives behind the acts of rows is that of their runs
-range-of-runs : OneActList → Joins → (rows : List Event) (pieces : List Piece)
-    (value : Sums → ℤ) (range : Range) → IsActList pieces rows
-    → IsRange (ArrivesAnywhere (ChangerArrives (acts_of pieces))) value range
-    → IsRange (Run rows) (λ sums. value sums.changer) range
-range-of-runs one joins rows pieces value range list is = record {
-  least = (
-    record { changer = is.least.0 },
-    run_of joins rows pieces is.least.1.state is.least.0 list is.least.1.way,
-    is.least.2,
-  );
-  greatest = (
-    record { changer = is.greatest.0 },
-    run_of joins rows pieces is.greatest.1.state is.greatest.0 list is.greatest.1.way,
-    is.greatest.2,
-  );
-  low = λ sums run. is.low sums.changer
-      (record { state = run.states.changer; way = arrived one rows pieces sums list run });
-  high = λ sums run. is.high sums.changer
-      (record { state = run.states.changer; way = arrived one rows pieces sums list run });
-}
+-- The sums of a device, where a run has them, and where its ways come to them: the same ones.
+record AreOf (rows : List Event) (Kind : Sums → Type 0) (of : AllSums → Sums) : Type 0 where
+  lift : (sums : Sums) → Kind sums → (all : AllSums) × (of all ≡ sums) × Run rows all
+  lower : (all : AllSums) → Run rows all → Kind (of all)
+
+-- then their ranges are those of the runs
+range-of-runs : (rows : List Event) (Kind : Sums → Type 0) (of : AllSums → Sums)
+    → AreOf rows Kind of → (value : Sums → ℤ) (range : Range) → IsRange Kind value range
+    → IsRange (Run rows) (λ sums. value (of sums)) range
+range-of-runs rows Kind of are value range is =
+    let least = are.lift is.least.0 is.least.1 in
+    let greatest = are.lift is.greatest.0 is.greatest.1 in
+    record {
+      least = (least.0, least.2, ap value least.1 ∙ is.least.2);
+      greatest = (greatest.0, greatest.2, ap value greatest.1 ∙ is.greatest.2);
+      low = λ all run. is.low (of all) (are.lower all run);
+      high = λ all run. is.high (of all) (are.lower all run);
+    }
 
 -- and so are the three ranges of an account
-account-of-runs : OneActList → Joins → (rows : List Event) (pieces : List Piece)
-    (account : Sums → AccountSums) (ranges : Account) → IsActList pieces rows
-    → IsAccount (ArrivesAnywhere (ChangerArrives (acts_of pieces))) account ranges
-    → IsAccount (Run rows) (λ sums. account sums.changer) ranges
-account-of-runs one joins rows pieces account ranges list is = record {
-  device = range-of-runs one joins rows pieces (λ sums. pos (account sums).device)
-      ranges.device list is.device;
-  controller = range-of-runs one joins rows pieces (λ sums. pos (account sums).controller)
-      ranges.controller list is.controller;
-  difference = range-of-runs one joins rows pieces
-      (λ sums. pos (account sums).device -ℤ pos (account sums).controller)
-      ranges.difference list is.difference;
+account-of-runs : (rows : List Event) (Kind : Sums → Type 0) (of : AllSums → Sums)
+    → AreOf rows Kind of → (account : Sums → AccountSums) (ranges : Account)
+    → IsAccount Kind account ranges → IsAccount (Run rows) (λ sums. account (of sums)) ranges
+account-of-runs rows Kind of are account ranges is = record {
+  device = range-of-runs rows Kind of are (λ sums. pos (account sums).device) ranges.device
+      is.device;
+  controller = range-of-runs rows Kind of are (λ sums. pos (account sums).controller)
+      ranges.controller is.controller;
+  difference = range-of-runs rows Kind of are
+      (λ sums. pos (account sums).device -ℤ pos (account sums).controller) ranges.difference
+      is.difference;
+}
+
+-- A way of one device is one of all, beside some way of each other device.
+changer-are : OneActList → Joins → (rows : List Event) (pieces : List Piece)
+    → IsActList pieces rows → SomeArrive (acts_of pieces)
+    → AreOf rows (ArrivesAnywhere (ChangerArrives (acts_of pieces))) (λ sums. sums.changer)
+changer-are one joins rows pieces list some = record {
+  lift = λ sums at. (
+    record some.sums { changer = sums },
+    refl,
+    run_of joins rows pieces (record some.states { changer = at.state })
+        (record some.sums { changer = sums }) list (record { changer = at.way; bill = some.ways.bill }),
+  );
+  lower = λ all run. record {
+    state = run.states.changer;
+    way = (arrived one rows pieces all list run).changer;
+  };
+}
+
+bill-are : OneActList → Joins → (rows : List Event) (pieces : List Piece)
+    → IsActList pieces rows → SomeArrive (acts_of pieces)
+    → AreOf rows (ArrivesAnywhere (BillArrives (acts_of pieces))) (λ sums. sums.bill)
+bill-are one joins rows pieces list some = record {
+  lift = λ sums at. (
+    record some.sums { bill = sums },
+    refl,
+    run_of joins rows pieces (record some.states { bill = at.state })
+        (record some.sums { bill = sums }) list (record { changer = some.ways.changer; bill = at.way }),
+  );
+  lower = λ all run. record {
+    state = run.states.bill;
+    way = (arrived one rows pieces all list run).bill;
+  };
 }
 
 -- what a follower reports
 pub reported : OneActList → Joins → (follower : Follower) (events : List Event)
-    (report : Report) (cell : Cell) (on : StandsFor follower events)
-    → IsCell (ArrivesAnywhere (ChangerArrives (acts_of on.pieces))) cell
-    → report ≡ report_of follower.rows cell.first cell.second
+    (report : Report) (changer bill : Cell) (on : StandsFor follower events)
+    → IsCell (ArrivesAnywhere (ChangerArrives (acts_of on.pieces))) changer
+    → IsCell (ArrivesAnywhere (BillArrives (acts_of on.pieces))) bill
+    → report ≡ report_of follower.rows changer.first bill.first changer.second
     → IsReport events report
-reported one joins follower events report cell on is telling = record {
-  reached = reached-by joins follower events on;
-  coins_in = cell.first;
-  paid_out = cell.second;
-  in_runs = account-of-runs one joins events on.pieces (λ sums. sums.first) cell.first
-      (list-of follower events on) is.first;
-  out_runs = account-of-runs one joins events on.pieces (λ sums. sums.second) cell.second
-      (list-of follower events on) is.second;
-  telling = telling ∙ ap (λ rows. report_of rows cell.first cell.second) on.rows;
-}
+reported one joins follower events report changer bill on of_changer of_bill telling =
+    let list = list-of follower events on in
+    let some = some-ways follower events on in
+    let changers = account-of-runs events (ArrivesAnywhere (ChangerArrives (acts_of on.pieces)))
+    (λ sums. sums.changer) (changer-are one joins events on.pieces list some) in
+    let bills = account-of-runs events (ArrivesAnywhere (BillArrives (acts_of on.pieces)))
+    (λ sums. sums.bill) (bill-are one joins events on.pieces list some) in
+    record {
+      reached = reached-by joins follower events on;
+      coins_in = changer.first;
+      bills_in = bill.first;
+      paid_out = changer.second;
+      in_runs = changers (λ sums. sums.first) changer.first of_changer.first;
+      bill_runs = bills (λ sums. sums.first) bill.first of_bill.first;
+      out_runs = changers (λ sums. sums.second) changer.second of_changer.second;
+      telling = telling
+          ∙ ap (λ rows. report_of rows changer.first bill.first changer.second) on.rows;
+    }
 
 -- a follower has taken so many events
 pub record HasFed (old : Follower) (events : List Event) (count : ℕ) (new : Follower) : Type 0 where

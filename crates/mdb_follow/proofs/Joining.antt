@@ -1,40 +1,67 @@
 -- Ways of each device, and of all.
-use Rattle.std.proofs.Common.{arith, refl, sym, ap, subst, ◌∙◌, ◌≡◌, ◌↔◌, ◌<◌, ◌+◌, ◌&&◌, not, cond, nat_eq, inl, inr, ℕ, zero, suc, Bool, true, false, List, [], ◌∷◌, ◌++◌, length, length-append}
+use Rattle.std.proofs.Common.{arith, refl, sym, ap, ◌∙◌, ◌≡◌, ◌↔◌, ◌<◌, ◌+◌, ◌&&◌, not, cond, nat_eq, inl, inr, ℕ, zero, suc, Bool, true, false, List, [], ◌∷◌, ◌++◌, length, length-append}
 use Rattle.std.proofs.lemmas.Bool.{cases_eq}
 use Rattle.std.proofs.lemmas.Bool.Decides.{nat_tests}
+use Rattle.mdb_msgs.specs.declared.command.Device.{Device}
+use Rattle.mdb_msgs.specs.declared.command.Device.TheVariants as devices
 use Rattle.mdb_bus.specs.declared.act.Act.{Act}
 use Rattle.mdb_bus.specs.declared.act.Act.TheVariants as acts
 use Rattle.mdb_bus.specs.ActLists.{ArePieces, Piece, Whole, AskTail, ReplyTail, RepeatTail, acts_of, events_of}
 use Rattle.mdb_bus.specs.Choice.{HearsAsChosen, IsAck}
 use Rattle.mdb_bus.specs.Loss.{AllArrive, IsHeard, Loss, LossFits}
-use Rattle.mdb_cash.specs.declared.changer.state.ChangerState.{ChangerState}
-use Rattle.mdb_cash.specs.Changer.{ChangerStep, power_on}
-use Rattle.mdb_cash.specs.declared.gains.Gains.{Gains}
+use Rattle.mdb_cash.specs.Bill.{BillStep}
+use Rattle.mdb_cash.specs.Bill as bill
+use Rattle.mdb_cash.specs.BillFacts as bill_facts
+use Rattle.mdb_cash.specs.Changer.{ChangerStep}
+use Rattle.mdb_cash.specs.Changer as changer
+use Rattle.mdb_cash.specs.ChangerFacts as changer_facts
 use Rattle.mdb_cash.specs.declared.kept.Reading.{Reading}
-use Rattle.mdb_cash.specs.ChangerFacts.{Facts, facts_of}
-use Rattle.mdb_cash.specs.ChangerWays.{hearing}
 use Rattle.mdb_follow.specs.Arrivals.{Arrives}
-use Rattle.mdb_follow.specs.Sums.{Sums}
-use Rattle.mdb_follow.specs.Runs.{AllSums, HearSameAcks, IsWay, States}
+use Rattle.mdb_follow.specs.Sums.{Sums, no_sums}
+use Rattle.mdb_follow.specs.Machines.{EachArrives}
+use Rattle.mdb_follow.specs.Runs.{AllGo, AllSums, Goes, HearSameAcks, IsWay, States, at_power_on, nothing_yet}
+use Rattle.mdb_follow.proofs.Choosing.{AgreeFor, Choices, Follows, chosen, follows_as, merged, merged_agrees}
+use Rattle.mdb_follow.proofs.Machines.{IsMachineOf, Steps, bill_is, changer_is, step_as}
 
--- each way of all is a way of the changer
-pub changer_way : (loss : Loss) (pieces : List Piece) (states : States) (sums : AllSums) → IsWay loss pieces states sums
-    → Arrives (λ acts. ChangerStep (facts_of acts)) power_on (acts_of pieces) states.changer sums.changer
-changer_way loss [] states sums way = (ap (λ s. s.changer) way.0, ap (λ s. s.changer) way.1)
-changer_way loss (Whole act events ∷ pieces) states sums way =
+-- a way of a device goes on by a step
+by_one : {State : Type 0} (Step : Steps State) (first : State) (acts : List Act) (act : Act)
+    (heard : Bool) (reading : Reading) (before state : State) (sums_before sums : Sums)
+    → Arrives Step first acts before sums_before
+    → Goes (Step acts act heard reading) before state sums_before sums
+    → Arrives Step first (act ∷ acts) state sums
+by_one Step first acts act heard reading before state sums_before sums way go = record {
+  heard = heard;
+  reading = reading;
+  before = before;
+  sums_before = sums_before;
+  gains = go.gains;
+  way = way;
+  step = go.step;
+  adds = go.adds;
+}
+
+-- each way of all is a way of each device
+pub split : (loss : Loss) (pieces : List Piece) (states : States) (sums : AllSums)
+    → IsWay loss pieces states sums → EachArrives (acts_of pieces) states sums
+split loss [] states sums way = record {
+  changer = (ap (λ s. s.changer) way.0, ap (λ s. s.changer) way.1);
+  bill = (ap (λ s. s.bill) way.0, ap (λ s. s.bill) way.1);
+}
+split loss (Whole act events ∷ pieces) states sums way =
+    let earlier = split loss pieces way.before way.sums_before way.way in
     record {
-      heard = way.heard;
-      reading = way.reading;
-      before = way.before.changer;
-      sums_before = way.sums_before.changer;
-      gains = way.go.changer.gains;
-      way = changer_way loss pieces way.before way.sums_before way.way;
-      step = way.go.changer.step;
-      adds = way.go.changer.adds;
+      changer = by_one (λ acts. ChangerStep (changer_facts.facts_of acts)) changer.power_on
+          (acts_of pieces) act way.heard way.reading way.before.changer states.changer
+          way.sums_before.changer sums.changer earlier.changer way.go.changer;
+      bill = by_one (λ acts. BillStep (bill_facts.facts_of acts)) bill.power_on (acts_of pieces) act
+          way.heard way.reading way.before.bill states.bill way.sums_before.bill sums.bill
+          earlier.bill way.go.bill;
     }
-changer_way loss (AskTail bytes events ∷ pieces) states sums way = changer_way loss pieces states sums way
-changer_way loss (ReplyTail command bytes events ∷ pieces) states sums way = changer_way loss pieces states sums way
-changer_way loss (RepeatTail command reply words events ∷ pieces) states sums way = changer_way loss pieces states sums way
+split loss (AskTail bytes events ∷ pieces) states sums way = split loss pieces states sums way
+split loss (ReplyTail command bytes events ∷ pieces) states sums way =
+    split loss pieces states sums way
+split loss (RepeatTail command reply words events ∷ pieces) states sums way =
+    split loss pieces states sums way
 
 -- whether all of so many rows arrived
 all_arrive : Loss → ℕ → ℕ → Bool
@@ -84,10 +111,6 @@ heard_told loss (acts.VmcRet command reply) before count = (arrived loss before 
 heard_told loss (acts.Repeat command reply) before count = (arrived loss before count, arrives loss before count)
 heard_told loss acts.Foreign before count = (arrived loss before count, arrives loss before count)
 
--- the ways of the changer
-abbrev pub ChangerArrives : List Act → ChangerState → Sums → Type 0
-ChangerArrives acts state sums = Arrives (λ acts. ChangerStep (facts_of acts)) power_on acts state sums
-
 -- one of two, by whether two numbers are the same
 pick : ℕ → ℕ → Bool → Bool → Bool
 pick one other same apart = cond (nat_eq one other) same apart
@@ -100,120 +123,231 @@ pick_other : (one other : ℕ) (same apart : Bool) → one < other → pick one 
 unfolding pick
 pick_other one other same apart less = grind (arith, nat_tests)
 
--- which acts were heard on a way, by the number of rows before them
-chosen : (pieces : List Piece) (state : ChangerState) (sums : Sums) → ChangerArrives (acts_of pieces) state sums → ℕ → Bool
-chosen [] state sums way before = true
-chosen (Whole act events ∷ pieces) state sums way before =
-    pick before (length (events_of pieces)) way.heard (chosen pieces way.before way.sums_before way.way before)
-chosen (AskTail bytes events ∷ pieces) state sums way before = chosen pieces state sums way before
-chosen (ReplyTail command bytes events ∷ pieces) state sums way before = chosen pieces state sums way before
-chosen (RepeatTail command reply words events ∷ pieces) state sums way before = chosen pieces state sums way before
+-- which acts are heard by choices, by the number of rows before them
+chosen_at : (pieces : List Piece) → Choices (acts_of pieces) → ℕ → Bool
+chosen_at [] choices before = true
+chosen_at (Whole act events ∷ pieces) choices before =
+    pick before (length (events_of pieces)) choices.heard (chosen_at pieces choices.before before)
+chosen_at (AskTail bytes events ∷ pieces) choices before = chosen_at pieces choices before
+chosen_at (ReplyTail command bytes events ∷ pieces) choices before = chosen_at pieces choices before
+chosen_at (RepeatTail command reply words events ∷ pieces) choices before =
+    chosen_at pieces choices before
 
--- a loss agrees with a way on each ACK
-abbrev Agrees : Loss → (pieces : List Piece) (state : ChangerState) (sums : Sums) → ChangerArrives (acts_of pieces) state sums → Type 0
-Agrees loss [] state sums way = Unit {0}
-Agrees loss (Whole act events ∷ pieces) state sums way =
-    (IsAck act → IsHeard loss act (length (events_of pieces)) (length events) ↔ (way.heard ≡ true))
-    × Agrees loss pieces way.before way.sums_before way.way
-Agrees loss (AskTail bytes events ∷ pieces) state sums way = Agrees loss pieces state sums way
-Agrees loss (ReplyTail command bytes events ∷ pieces) state sums way = Agrees loss pieces state sums way
-Agrees loss (RepeatTail command reply words events ∷ pieces) state sums way = Agrees loss pieces state sums way
+-- a loss agrees with choices on each ACK
+abbrev Agrees : Loss → (pieces : List Piece) → Choices (acts_of pieces) → Type 0
+Agrees loss [] choices = Unit {0}
+Agrees loss (Whole act events ∷ pieces) choices =
+    (IsAck act
+    → IsHeard loss act (length (events_of pieces)) (length events) ↔ (choices.heard ≡ true))
+    × Agrees loss pieces choices.before
+Agrees loss (AskTail bytes events ∷ pieces) choices = Agrees loss pieces choices
+Agrees loss (ReplyTail command bytes events ∷ pieces) choices = Agrees loss pieces choices
+Agrees loss (RepeatTail command reply words events ∷ pieces) choices = Agrees loss pieces choices
 
-agrees : (choice : ℕ → Bool) (loss : Loss) (pieces : List Piece) (state : ChangerState) (sums : Sums) (way : ChangerArrives (acts_of pieces) state sums)
+agrees : (choice : ℕ → Bool) (loss : Loss) (pieces : List Piece) (choices : Choices (acts_of pieces))
     → ArePieces pieces
-    → ((before : ℕ) → before < length (events_of pieces) → choice before ≡ chosen pieces state sums way before)
-    → HearsAsChosen loss choice pieces → Agrees loss pieces state sums way
-unfolding chosen
-agrees choice loss [] state sums way are same hears = tt
-agrees choice loss (Whole act events ∷ pieces) state sums way are same hears =
-    let rows : length (events_of pieces ++ events) ≡ length (events_of pieces) + length events = length-append (events_of pieces) events in
+    → ((before : ℕ) → before < length (events_of pieces)
+    → choice before ≡ chosen_at pieces choices before)
+    → HearsAsChosen loss choice pieces → Agrees loss pieces choices
+unfolding chosen_at
+agrees choice loss [] choices are same hears = tt
+agrees choice loss (Whole act events ∷ pieces) choices are same hears =
+    let rows : length (events_of pieces ++ events) ≡ length (events_of pieces) + length events =
+    length-append (events_of pieces) events in
     let some : length events ≡ suc (length are.1.others) = ap length are.1.begins in
-    let here : choice (length (events_of pieces)) ≡ way.heard =
-    same (length (events_of pieces)) (omega (arith, rows, some)) ∙ pick_same (length (events_of pieces)) way.heard _ in (
+    let here : choice (length (events_of pieces)) ≡ choices.heard =
+    same (length (events_of pieces)) (omega (arith, rows, some))
+    ∙ pick_same (length (events_of pieces)) choices.heard _ in (
       (λ ack. ((λ h. sym here ∙ (hears.0 ack).0 h), (λ h. (hears.0 ack).1 (here ∙ h)))),
-      agrees choice loss pieces way.before way.sums_before way.way are.2
-          (λ before less. same before (omega (arith, less, rows)) ∙ pick_other before (length (events_of pieces)) way.heard _ less)
+      agrees choice loss pieces choices.before are.2
+          (λ before less. same before (omega (arith, less, rows))
+          ∙ pick_other before (length (events_of pieces)) choices.heard _ less)
           hears.1,
     )
-agrees choice loss (AskTail bytes events ∷ pieces) state sums way are same hears =
+agrees choice loss (AskTail bytes events ∷ pieces) choices are same hears =
     let rows = length-append (events_of pieces) events in
-    agrees choice loss pieces state sums way are.2 (λ before less. same before (omega (arith, less, rows))) hears
-agrees choice loss (ReplyTail command bytes events ∷ pieces) state sums way are same hears =
+    agrees choice loss pieces choices are.2
+    (λ before less. same before (omega (arith, less, rows))) hears
+agrees choice loss (ReplyTail command bytes events ∷ pieces) choices are same hears =
     let rows = length-append (events_of pieces) events in
-    agrees choice loss pieces state sums way are.2 (λ before less. same before (omega (arith, less, rows))) hears
-agrees choice loss (RepeatTail command reply words events ∷ pieces) state sums way are same hears =
+    agrees choice loss pieces choices are.2
+    (λ before less. same before (omega (arith, less, rows))) hears
+agrees choice loss (RepeatTail command reply words events ∷ pieces) choices are same hears =
     let rows = length-append (events_of pieces) events in
-    agrees choice loss pieces state sums way are.2 (λ before less. same before (omega (arith, less, rows))) hears
+    agrees choice loss pieces choices are.2
+    (λ before less. same before (omega (arith, less, rows))) hears
 
--- a step of the changer as the loss has it
-as_heard : (told heard : Bool) (Heard : Type 0) → (told ≡ true) ↔ Heard → Heard ↔ (heard ≡ true) → heard ≡ told
+-- two ways to say whether an act was heard
+as_heard : (told heard : Bool) (Heard : Type 0) → (told ≡ true) ↔ Heard → Heard ↔ (heard ≡ true)
+    → heard ≡ told
 as_heard true true Heard one other = refl
 as_heard false false Heard one other = refl
 as_heard true false Heard one other = other.0 (one.0 refl)
 as_heard false true Heard one other = sym (one.1 (other.1 refl))
 
-go_as : (act : Act) (facts : Facts) (heard told : Bool) (reading : Reading) (before after : ChangerState) (gains : Gains)
-    → (IsAck act → heard ≡ told) → ChangerStep facts act heard reading before after gains → ChangerStep facts act told reading before after gains
-go_as (acts.Ack command) facts heard told reading before after gains same step =
-    subst (λ h. ChangerStep facts (acts.Ack command) h reading before after gains) (same tt) step
-go_as (acts.VmcAck command reply) facts heard told reading before after gains same step =
-    subst (λ h. ChangerStep facts (acts.VmcAck command reply) h reading before after gains) (same tt) step
-go_as (acts.Ask command) facts heard told reading before after gains same step = hearing facts (acts.Ask command) heard told reading before after gains (λ no. no) step
-go_as (acts.Nak command) facts heard told reading before after gains same step = hearing facts (acts.Nak command) heard told reading before after gains (λ no. no) step
-go_as (acts.Reply command reply) facts heard told reading before after gains same step = hearing facts (acts.Reply command reply) heard told reading before after gains (λ no. no) step
-go_as (acts.VmcNak command reply) facts heard told reading before after gains same step = hearing facts (acts.VmcNak command reply) heard told reading before after gains (λ no. no) step
-go_as (acts.VmcRet command reply) facts heard told reading before after gains same step = hearing facts (acts.VmcRet command reply) heard told reading before after gains (λ no. no) step
-go_as (acts.Repeat command reply) facts heard told reading before after gains same step = hearing facts (acts.Repeat command reply) heard told reading before after gains (λ no. no) step
-go_as acts.Foreign facts heard told reading before after gains same step = hearing facts acts.Foreign heard told reading before after gains (λ no. no) step
-go_as (acts.Break length) facts heard told reading before after gains same step = hearing facts (acts.Break length) heard told reading before after gains (λ no. no) step
+-- choices with the hearing that a loss has
+abbrev lost : Loss → (pieces : List Piece) → Choices (acts_of pieces) → Choices (acts_of pieces)
+lost loss [] choices = choices
+lost loss (Whole act events ∷ pieces) choices = record {
+  heard = heard_in loss act (length (events_of pieces)) (length events);
+  reading = choices.reading;
+  before = lost loss pieces choices.before;
+}
+lost loss (AskTail bytes events ∷ pieces) choices = lost loss pieces choices
+lost loss (ReplyTail command bytes events ∷ pieces) choices = lost loss pieces choices
+lost loss (RepeatTail command reply words events ∷ pieces) choices = lost loss pieces choices
 
--- a way of the changer is one of all, under a loss that agrees
-way_of : (loss : Loss) (pieces : List Piece) (state : ChangerState) (sums : Sums) (way : ChangerArrives (acts_of pieces) state sums)
-    → Agrees loss pieces state sums way → IsWay loss pieces (record { changer = state }) (record { changer = sums })
-way_of loss [] state sums way agree =
-    let S : ChangerState → States = λ s. record { changer = s } in
-    let T : Sums → AllSums = λ s. record { changer = s } in
-    (ap S way.0, ap T way.1)
-way_of loss (Whole act events ∷ pieces) state sums way agree =
-    let told = heard_told loss act (length (events_of pieces)) (length events) in
-    record {
-      heard = heard_in loss act (length (events_of pieces)) (length events);
-      reading = way.reading;
-      before = record { changer = way.before };
-      sums_before = record { changer = way.sums_before };
-      way = way_of loss pieces way.before way.sums_before way.way agree.1;
-      as_lost = told;
-      go = record {
-        changer = record {
-          gains = way.gains;
-          step = go_as act (facts_of (acts_of pieces)) way.heard
-              (heard_in loss act (length (events_of pieces)) (length events)) way.reading way.before state way.gains
-              (λ ack. as_heard (heard_in loss act (length (events_of pieces)) (length events)) way.heard
-              (IsHeard loss act (length (events_of pieces)) (length events)) told (agree.0 ack))
-              way.step;
-          adds = way.adds;
-        };
-      };
-    }
-way_of loss (AskTail bytes events ∷ pieces) state sums way agree = way_of loss pieces state sums way agree
-way_of loss (ReplyTail command bytes events ∷ pieces) state sums way agree = way_of loss pieces state sums way agree
-way_of loss (RepeatTail command reply words events ∷ pieces) state sums way agree = way_of loss pieces state sums way agree
+lost_agrees : (device : Device) (loss : Loss) (pieces : List Piece)
+    (choices : Choices (acts_of pieces)) → Agrees loss pieces choices
+    → AgreeFor device (acts_of pieces) choices (lost loss pieces choices)
+lost_agrees device loss [] choices agree = tt
+lost_agrees device loss (Whole act events ∷ pieces) choices agree = (
+  (λ own. (
+    (λ ack. as_heard (heard_in loss act (length (events_of pieces)) (length events)) choices.heard
+        (IsHeard loss act (length (events_of pieces)) (length events))
+        (heard_told loss act (length (events_of pieces)) (length events)) (agree.0 ack)),
+    (λ reply. refl),
+  )),
+  lost_agrees device loss pieces choices.before agree.1,
+)
+lost_agrees device loss (AskTail bytes events ∷ pieces) choices agree =
+    lost_agrees device loss pieces choices agree
+lost_agrees device loss (ReplyTail command bytes events ∷ pieces) choices agree =
+    lost_agrees device loss pieces choices agree
+lost_agrees device loss (RepeatTail command reply words events ∷ pieces) choices agree =
+    lost_agrees device loss pieces choices agree
+
+-- each device has a way with the same choices
+record AllFollow (acts : List Act) (choices : Choices acts) (states : States)
+    (sums : AllSums) : Type 0 where
+  changer : Follows (λ acts. ChangerStep (changer_facts.facts_of acts)) changer.power_on acts choices
+      states.changer sums.changer
+  bill : Follows (λ acts. BillStep (bill_facts.facts_of acts)) bill.power_on acts choices
+      states.bill sums.bill
+
+-- states and sums, by those of each
+at_start : (states : States) → states.changer ≡ changer.power_on → states.bill ≡ bill.power_on
+    → states ≡ at_power_on
+at_start states one other =
+    let same : record { changer = states.changer; bill = states.bill } ≡ at_power_on =
+    cc (one, other) in
+    same
+
+at_nothing : (sums : AllSums) → sums.changer ≡ no_sums → sums.bill ≡ no_sums → sums ≡ nothing_yet
+at_nothing sums one other =
+    let same : record { changer = sums.changer; bill = sums.bill } ≡ nothing_yet =
+    cc (one, other) in
+    same
+
+-- then there is a way of all, under the loss of the choices
+way_of : (loss : Loss) (pieces : List Piece) (choices : Choices (acts_of pieces)) (states : States)
+    (sums : AllSums) → AllFollow (acts_of pieces) (lost loss pieces choices) states sums
+    → IsWay loss pieces states sums
+way_of loss [] choices states sums ways = (
+  at_start states ways.changer.0 ways.bill.0,
+  at_nothing sums ways.changer.1 ways.bill.1,
+)
+way_of loss (Whole act events ∷ pieces) choices states sums ways = record {
+  heard = heard_in loss act (length (events_of pieces)) (length events);
+  reading = choices.reading;
+  before = record { changer = ways.changer.before; bill = ways.bill.before };
+  sums_before = record { changer = ways.changer.sums_before; bill = ways.bill.sums_before };
+  way = way_of loss pieces choices.before
+      (record { changer = ways.changer.before; bill = ways.bill.before })
+      (record { changer = ways.changer.sums_before; bill = ways.bill.sums_before })
+      (record { changer = ways.changer.way; bill = ways.bill.way });
+  as_lost = heard_told loss act (length (events_of pieces)) (length events);
+  go = record {
+    changer = record {
+      gains = ways.changer.gains;
+      step = ways.changer.step;
+      adds = ways.changer.adds;
+    };
+    bill = record { gains = ways.bill.gains; step = ways.bill.step; adds = ways.bill.adds };
+  };
+}
+way_of loss (AskTail bytes events ∷ pieces) choices states sums ways =
+    way_of loss pieces choices states sums ways
+way_of loss (ReplyTail command bytes events ∷ pieces) choices states sums ways =
+    way_of loss pieces choices states sums ways
+way_of loss (RepeatTail command reply words events ∷ pieces) choices states sums ways =
+    way_of loss pieces choices states sums ways
+
+-- choices of each device, by the devices; those that aren't followed have no say
+by_device : {T : Type 0} → T → T → Device → T
+by_device changer bill devices.Changer = changer
+by_device changer bill devices.Bill = bill
+by_device changer bill devices.Cashless = changer
+by_device changer bill devices.Cashless2 = changer
+
+-- a device's way is one with the choices of all, as a loss that agrees with them has it
+as_merged : {device : Device} {State : Type 0} {Step : Steps State} → IsMachineOf device Step
+    → (first : State) (loss : Loss) (pieces : List Piece)
+    (all : Device → Choices (acts_of pieces)) → Agrees loss pieces (merged (acts_of pieces) all)
+    → (state : State) (sums : Sums) → Follows Step first (acts_of pieces) (all device) state sums
+    → Follows Step first (acts_of pieces) (lost loss pieces (merged (acts_of pieces) all)) state
+    sums
+as_merged {device} {State} {Step} machine first loss pieces all agree state sums way =
+    follows_as machine first (acts_of pieces) (merged (acts_of pieces) all)
+    (lost loss pieces (merged (acts_of pieces) all))
+    (lost_agrees device loss pieces (merged (acts_of pieces) all) agree) state sums
+    (follows_as machine first (acts_of pieces) (all device)
+    (merged (acts_of pieces) all) (merged_agrees (acts_of pieces) all device) state sums way)
 
 -- and there is such a loss
-pub joined : ((pieces : List Piece) → ArePieces pieces → (choice : ℕ → Bool) → (loss : Loss) × LossFits loss pieces × HearsAsChosen loss choice pieces)
-    → (pieces : List Piece) (state : ChangerState) (sums : Sums) → ArePieces pieces
-    → ChangerArrives (acts_of pieces) state sums
-    → (loss : Loss) × LossFits loss pieces × IsWay loss pieces (record { changer = state }) (record { changer = sums })
-joined law pieces state sums are way =
-    let found = law pieces are (chosen pieces state sums way) in (
+pub joined : ((pieces : List Piece) → ArePieces pieces → (choice : ℕ → Bool)
+    → (loss : Loss) × LossFits loss pieces × HearsAsChosen loss choice pieces)
+    → (pieces : List Piece) (states : States) (sums : AllSums) → ArePieces pieces
+    → EachArrives (acts_of pieces) states sums
+    → (loss : Loss) × LossFits loss pieces × IsWay loss pieces states sums
+unfolding by_device
+joined law pieces states sums are ways =
+    let c = chosen (λ acts. ChangerStep (changer_facts.facts_of acts)) changer.power_on
+    (acts_of pieces) states.changer sums.changer ways.changer in
+    let b = chosen (λ acts. BillStep (bill_facts.facts_of acts)) bill.power_on (acts_of pieces)
+    states.bill sums.bill ways.bill in
+    let all : Device → Choices (acts_of pieces) = by_device c.0 b.0 in
+    let choices = merged (acts_of pieces) all in
+    let found = law pieces are (chosen_at pieces choices) in
+    let agree = agrees (chosen_at pieces choices) found.0 pieces choices are
+    (λ before less. refl) found.2 in (
       found.0,
       found.1,
-      way_of found.0 pieces state sums way
-          (agrees (chosen pieces state sums way) found.0 pieces state sums way are (λ before less. refl) found.2),
+      way_of found.0 pieces choices states sums (record {
+        changer = as_merged changer_is changer.power_on found.0 pieces all agree states.changer
+            sums.changer c.1;
+        bill = as_merged bill_is bill.power_on found.0 pieces all agree states.bill sums.bill b.1;
+      }),
     )
 
+-- a step of each is one where an act was heard or not, but for an ACK
+goes_as : {device : Device} {State : Type 0} {Step : Steps State} → IsMachineOf device Step
+    → (acts : List Act) (act : Act) (heard told : Bool) (reading : Reading)
+    → (IsAck act → heard ≡ told) → (before after : State) (sums_before sums : Sums)
+    → Goes (Step acts act heard reading) before after sums_before sums
+    → Goes (Step acts act told reading) before after sums_before sums
+goes_as machine acts act heard told reading same before after sums_before
+    sums go = record {
+      gains = go.gains;
+      step = step_as machine acts act heard told reading reading
+          (λ own. (same, (λ reply. refl))) before after go.gains go.step;
+      adds = go.adds;
+    }
+
+all_go_as : (acts : List Act) (act : Act) (heard told : Bool) (reading : Reading)
+    → (IsAck act → heard ≡ told) → (before after : States) (sums_before sums : AllSums)
+    → AllGo acts act heard reading before after sums_before sums
+    → AllGo acts act told reading before after sums_before sums
+all_go_as acts act heard told reading same before after sums_before sums go = record {
+  changer = goes_as changer_is acts act heard told reading same before.changer after.changer
+      sums_before.changer sums.changer go.changer;
+  bill = goes_as bill_is acts act heard told reading same before.bill after.bill sums_before.bill
+      sums.bill go.bill;
+}
+
 -- where the same ACKs were heard, a way under one loss is one under the other
-heard_alike : (one other : Loss) (pieces : List Piece) (states : States) (sums : AllSums) → HearSameAcks one other pieces → IsWay one pieces states sums → IsWay other pieces states sums
+heard_alike : (one other : Loss) (pieces : List Piece) (states : States) (sums : AllSums)
+    → HearSameAcks one other pieces → IsWay one pieces states sums → IsWay other pieces states sums
 heard_alike one other [] states sums same way = way
 heard_alike one other (Whole act events ∷ pieces) states sums same way =
     let told = heard_told other act (length (events_of pieces)) (length events) in
@@ -224,22 +358,19 @@ heard_alike one other (Whole act events ∷ pieces) states sums same way =
       sums_before = way.sums_before;
       way = heard_alike one other pieces way.before way.sums_before same.1 way.way;
       as_lost = told;
-      go = record {
-        changer = record {
-          gains = way.go.changer.gains;
-          step = go_as act (facts_of (acts_of pieces)) way.heard
-              (heard_in other act (length (events_of pieces)) (length events)) way.reading way.before.changer states.changer way.go.changer.gains
-              (λ ack. as_heard (heard_in other act (length (events_of pieces)) (length events)) way.heard
-              (IsHeard other act (length (events_of pieces)) (length events)) told
-              ((λ h. way.as_lost.1 ((same.0 ack).1 h)), (λ e. (same.0 ack).0 (way.as_lost.0 e))))
-              way.go.changer.step;
-          adds = way.go.changer.adds;
-        };
-      };
+      go = all_go_as (acts_of pieces) act way.heard
+          (heard_in other act (length (events_of pieces)) (length events)) way.reading
+          (λ ack. as_heard (heard_in other act (length (events_of pieces)) (length events))
+          way.heard (IsHeard other act (length (events_of pieces)) (length events)) told
+          ((λ h. way.as_lost.1 ((same.0 ack).1 h)), (λ e. (same.0 ack).0 (way.as_lost.0 e))))
+          way.before states way.sums_before sums way.go;
     }
-heard_alike one other (AskTail bytes events ∷ pieces) states sums same way = heard_alike one other pieces states sums same way
-heard_alike one other (ReplyTail command bytes events ∷ pieces) states sums same way = heard_alike one other pieces states sums same way
-heard_alike one other (RepeatTail command reply words events ∷ pieces) states sums same way = heard_alike one other pieces states sums same way
+heard_alike one other (AskTail bytes events ∷ pieces) states sums same way =
+    heard_alike one other pieces states sums same way
+heard_alike one other (ReplyTail command bytes events ∷ pieces) states sums same way =
+    heard_alike one other pieces states sums same way
+heard_alike one other (RepeatTail command reply words events ∷ pieces) states sums same way =
+    heard_alike one other pieces states sums same way
 
 same_back : (one other : Loss) (pieces : List Piece) → HearSameAcks one other pieces → HearSameAcks other one pieces
 same_back one other [] same = tt

@@ -1,9 +1,11 @@
+pub mod Choosing
 pub mod Ends
 pub mod Following
 pub mod Joining
 pub mod Led
 pub mod Limits
 pub mod Listed
+pub mod Machines
 pub mod OneAnswer
 pub mod Places
 pub mod Reaching

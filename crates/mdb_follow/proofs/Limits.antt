@@ -21,3 +21,11 @@ pub table-within-one-more : (rows : ℕ) (entries : List (ℕ × Cell))
     → IsTableWithin ((rows + 1) * 2 ^ 32) entries
 table-within-one-more rows entries =
     table-within-weaker (rows * 2 ^ 32 + 2 ^ 32) ((rows + 1) * 2 ^ 32) entries (omega arith)
+
+-- a table that goes on from one within the limit of so many rows is within that of one row more
+pub table-within-next : (rows : ℕ) (old new : List (ℕ × Cell))
+    → IsTableWithin (rows * 2 ^ 32) old
+    → ((limit : ℕ) → IsTableWithin limit old → IsTableWithin (limit + 2 ^ 32) new)
+    → IsTableWithin ((rows + 1) * 2 ^ 32) new
+table-within-next rows old new within goes =
+    table-within-one-more rows new (goes (rows * 2 ^ 32) within)

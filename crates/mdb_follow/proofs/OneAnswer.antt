@@ -1,11 +1,17 @@
 -- Rows have one report, and a row has one offence.
-use Rattle.std.proofs.Common.{ap, arith, sym, subst, ◌∙◌, ◌≡◌, ◌⊎◌, inl, inr, ℕ, ℤ, ◌≤ℤ◌, List, [], ◌∷◌, ◌++◌, append_assoc, append-nil, length}
+use Rattle.std.proofs.Common.{ap, arith, sym, subst, ◌∙◌, ◌≡◌, ◌⊎◌, inl, inr, ℕ, ℤ, ◌≤ℤ◌, List, [], ◌∷◌, ◌++◌, append_assoc, append-nil, length, Option, Some, None}
 use Rattle.std.proofs.lemmas.Int.{ints}
 use Rattle.mdb_words.specs.declared.event.Event.{Event}
+use Rattle.mdb_msgs.specs.declared.command.Device.{Device}
+use Rattle.mdb_msgs.specs.declared.command.Device.TheVariants as devices
+use Rattle.mdb_bus.specs.declared.act.Act.{Act}
 use Rattle.mdb_bus.specs.declared.fault.Blame.{Blame}
 use Rattle.mdb_bus.specs.declared.fault.Rule.{Rule}
-use Rattle.mdb_bus.specs.ActLists.{ArePieces, HasActList, IsActList, Piece, acts_of, events_of}
+use Rattle.mdb_bus.specs.declared.fault.Rule.TheVariants as rule
+use Rattle.mdb_bus.specs.ActLists.{ArePieces, HasActList, IsActList, Piece, acts_of, events_of, with_act}
 use Rattle.mdb_bus.specs.LinkFaults.{IsLinkFault, RowBreaks, situation_of}
+use Rattle.mdb_cash.specs.Bill as bill
+use Rattle.mdb_cash.specs.Changer as changer
 use Rattle.mdb_follow.specs.declared.cell.Account.{Account}
 use Rattle.mdb_follow.specs.declared.offence.Offence.{Offence}
 use Rattle.mdb_follow.specs.declared.range.Range.{Range}
@@ -16,7 +22,10 @@ use Rattle.mdb_follow.specs.Offences.{BreaksLink, BreaksMachine, IsOffence}
 use Rattle.mdb_follow.specs.Report.{IsReport, report_of}
 use Rattle.mdb_follow.specs.Runs.{IsReached, Run}
 use Rattle.mdb_follow.specs.Senders.{sender_of}
+use Rattle.mdb_follow.specs.Offences.{ByBill, ByChanger, NoStep}
 use Rattle.mdb_follow.proofs.Following.{OneActList}
+use Rattle.mdb_follow.proofs.Machines.{bill_is, changer_is, whose, whose_none}
+use Rattle.mdb_follow.proofs.Reaching.{GoOnRowByRow, SomeArrive, before_last, some_of}
 
 -- two ends that lie within each other are one
 one-end : (a b : ℤ) → a ≤ℤ b → b ≤ℤ a → a ≡ b
@@ -51,8 +60,10 @@ pub one-report : (rows : List Event) (a b : Report) → IsReport rows a → IsRe
 one-report rows a b p q =
     let coins_in = one-account (Run rows) _ p.coins_in q.coins_in p.in_runs q.in_runs in
     let paid_out = one-account (Run rows) _ p.paid_out q.paid_out p.out_runs q.out_runs in
-    p.telling ∙ (ap (λ x. report_of (length rows) x p.paid_out) coins_in
-    ∙ (ap (λ y. report_of (length rows) q.coins_in y) paid_out ∙ sym q.telling))
+    let bills_in = one-account (Run rows) _ p.bills_in q.bills_in p.bill_runs q.bill_runs in
+    p.telling ∙ (ap (λ x. report_of (length rows) x p.bills_in p.paid_out) coins_in
+    ∙ (ap (λ y. report_of (length rows) q.coins_in y p.paid_out) bills_in
+    ∙ (ap (λ z. report_of (length rows) q.coins_in q.bills_in z) paid_out ∙ sym q.telling)))
 
 -- what the laws of the bus say
 pub record BusLaws : Type 0 where
@@ -62,6 +73,44 @@ pub record BusLaws : Type 0 where
   pub ends : (pieces : List Piece) (row : Event) (broken : Rule) → ArePieces pieces
       → RowBreaks (situation_of pieces) row broken
       → HasActList (events_of pieces ++ row ∷ []) → ⊥
+  pub goes : GoOnRowByRow
+
+-- behind acts of reached rows, and before an act of the next, each device has some way
+cut : (more : Option Act) (acts : List Act) (act : Act) (before : List Act)
+    → with_act more acts ≡ act ∷ before → SomeArrive acts → SomeArrive before
+cut None acts act before same some = before_last act before (subst SomeArrive same some)
+cut (Some last) acts act before same some =
+    let rest : acts ≡ before = cc same in
+    subst SomeArrive rest some
+
+some-before-act : BusLaws → (events : List Event) (row : Event) → IsReached events
+    → (pieces : List Piece) → IsActList pieces (events ++ row ∷ []) → (act : Act)
+    (before : List Act) → acts_of pieces ≡ act ∷ before → SomeArrive before
+some-before-act laws events row reached pieces list act before ends =
+    let run = reached.1 in
+    let from = laws.goes events row pieces list in
+    cut from.act (acts_of from.before) act before (sym from.acts ∙ ends)
+    (subst (λ ps. SomeArrive (acts_of ps))
+    (laws.one events run.pieces from.before run.act_list from.act_list)
+    (some_of events reached.0 run))
+
+-- the rule of a device's machine
+rule_of : Device → Rule
+rule_of devices.Changer = rule.Changer
+rule_of devices.Bill = rule.Bill
+rule_of devices.Cashless = rule.Cashless
+rule_of devices.Cashless2 = rule.Cashless
+
+-- a machine without a step by an act is that of the one device that has a part in it
+whose_rule : (broken : Rule) (act : Act) (before : List Act) → NoStep broken act before
+    → SomeArrive before → rule_of (whose act) ≡ broken
+unfolding rule_of
+whose_rule broken act before (ByChanger none) some =
+    ap rule_of (whose_none changer_is changer.power_on act before none some.states.changer
+    some.sums.changer some.ways.changer)
+whose_rule broken act before (ByBill none) some =
+    ap rule_of (whose_none bill_is bill.power_on act before none some.states.bill some.sums.bill
+    some.ways.bill)
 
 -- a row that breaks a rule of the link ends no act
 link-or-machine : BusLaws → (events : List Event) (row : Event) (r s : Rule) (a b : Blame)
@@ -72,28 +121,34 @@ link-or-machine laws events row r s a b p q =
       subst (λ es. IsActList q.pieces (es ++ row ∷ [])) (sym p.act_list.whole) q.act_list,
     )
 
-one-why : BusLaws → (events : List Event) (row : Event) (r s : Rule) (a b : Blame)
-    → BreaksLink events row r a ⊎ BreaksMachine events row r a
+one-why : BusLaws → (events : List Event) (row : Event) → IsReached events → (r s : Rule)
+    (a b : Blame) → BreaksLink events row r a ⊎ BreaksMachine events row r a
     → BreaksLink events row s b ⊎ BreaksMachine events row s b → (r ≡ s) × (a ≡ b)
-one-why laws events row r s a b (inl p) (inl q) =
+one-why laws events row reached r s a b (inl p) (inl q) =
     laws.one_fault p.pieces row r s a b p.fault
     (subst (λ ps. IsLinkFault ps row s b)
     (laws.one events q.pieces p.pieces q.act_list p.act_list) q.fault)
-one-why laws events row r s a b (inl p) (inr q) =
+one-why laws events row reached r s a b (inl p) (inr q) =
     absurd (link-or-machine laws events row r s a b p q)
-one-why laws events row r s a b (inr p) (inl q) =
+one-why laws events row reached r s a b (inr p) (inl q) =
     absurd (link-or-machine laws events row s r b a q p)
-one-why laws events row r s a b (inr p) (inr q) =
+one-why laws events row reached r s a b (inr p) (inr q) =
     let same : p.pieces ≡ q.pieces =
     laws.one (events ++ row ∷ []) p.pieces q.pieces p.act_list q.act_list in
     let acts : p.act ∷ p.before ≡ q.act ∷ q.before = sym p.ends ∙ (ap acts_of same ∙ q.ends) in
     let act : p.act ≡ q.act = cc in
-    (p.rule ∙ sym q.rule, p.blame ∙ (ap sender_of act ∙ sym q.blame))
+    let by-p : rule_of (whose p.act) ≡ r = whose_rule r p.act p.before p.no_step
+    (some-before-act laws events row reached p.pieces p.act_list p.act p.before p.ends) in
+    let by-q : rule_of (whose q.act) ≡ s = whose_rule s q.act q.before q.no_step
+    (some-before-act laws events row reached q.pieces q.act_list q.act q.before q.ends) in (
+      sym by-p ∙ (ap (λ x. rule_of (whose x)) act ∙ by-q),
+      p.blame ∙ (ap sender_of act ∙ sym q.blame),
+    )
 
 pub one-offence : BusLaws → (events : List Event) (row : Event) (a b : Offence)
     → IsOffence events row a → IsOffence events row b → a ≡ b
 one-offence laws events row a b p q =
-    let why = one-why laws events row a.rule b.rule a.blame b.blame p.why q.why in
+    let why = one-why laws events row p.reached a.rule b.rule a.blame b.blame p.why q.why in
     let number : a.row ≡ b.row = p.number ∙ sym q.number in
     let made : ℕ → Rule → Blame → Offence = λ n r w. record { row = n; rule = r; blame = w } in
     ap (λ n. made n a.rule a.blame) number

@@ -4,10 +4,12 @@ pub mod Entries
 pub mod Follower
 pub mod FollowerSteps
 pub mod Limits
+pub mod Machines
 pub mod Offences
 pub mod Ranges
 pub mod Report
 pub mod Runs
 pub mod Senders
+pub mod Sides
 pub mod Sums
 pub mod Tables

@@ -7,11 +7,12 @@ use Rattle.mdb_bus.specs.declared.fault.Rule.{Rule}
 use Rattle.mdb_bus.specs.declared.fault.Rule.TheVariants as rule
 use Rattle.mdb_bus.specs.ActLists.{Piece, IsActList, acts_of}
 use Rattle.mdb_bus.specs.LinkFaults.{IsLinkFault}
-use Rattle.mdb_cash.specs.declared.changer.state.ChangerState.{ChangerState}
 use Rattle.mdb_cash.specs.declared.gains.Gains.{Gains}
 use Rattle.mdb_cash.specs.declared.kept.Reading.{Reading}
-use Rattle.mdb_cash.specs.Changer.{ChangerStep, power_on}
-use Rattle.mdb_cash.specs.ChangerFacts.{facts_of}
+use Rattle.mdb_cash.specs.Bill as bill
+use Rattle.mdb_cash.specs.BillFacts as bill_facts
+use Rattle.mdb_cash.specs.Changer as changer
+use Rattle.mdb_cash.specs.ChangerFacts as changer_facts
 use Rattle.mdb_follow.specs.Arrivals.{Arrives}
 use Rattle.mdb_follow.specs.Sums.{Sums}
 use Rattle.mdb_follow.specs.declared.offence.Offence.{Offence}
@@ -25,8 +26,26 @@ pub record BreaksLink (events : List Event) (row : Event) (broken : Rule)
   pub act_list : IsActList pieces events
   pub fault : IsLinkFault pieces row broken blamed
 
--- A row ends an act that the changer and the controller can't have done: from no state to which a
--- way through the acts before it leads is there a step.
+-- From no state to which a way through the acts before leads is there a step by an act, heard or
+-- not, in whatever reading.
+abbrev pub HasNoStep : {State : Type 0}
+    → (List Act → Act → Bool → Reading → State → State → Gains → Type 0) → State → Act → List Act
+    → Type 0
+HasNoStep {State} Step first act before =
+    (state : State) (sums : Sums) → Arrives Step first before state sums → (heard : Bool)
+    (reading : Reading) (after : State) (gains : Gains)
+    → Step before act heard reading state after gains → ⊥
+
+-- The machine that a rule is of has no step by an act.
+pub data NoStep : Rule → Act → List Act → Type 0 where
+  ByChanger : {act : Act} {before : List Act}
+      → HasNoStep (λ acts. changer.ChangerStep (changer_facts.facts_of acts)) changer.power_on act
+      before → NoStep rule.Changer act before
+  ByBill : {act : Act} {before : List Act}
+      → HasNoStep (λ acts. bill.BillStep (bill_facts.facts_of acts)) bill.power_on act before
+      → NoStep rule.Bill act before
+
+-- A row ends an act that a device and the controller can't have done.
 pub record BreaksMachine (events : List Event) (row : Event) (broken : Rule)
     (blamed : Blame) : Type 0 where
   pub pieces : List Piece
@@ -34,11 +53,7 @@ pub record BreaksMachine (events : List Event) (row : Event) (broken : Rule)
   pub act : Act
   pub before : List Act
   pub ends : acts_of pieces ≡ act ∷ before
-  pub no_step : (state : ChangerState) (sums : Sums)
-      → Arrives (λ acts. ChangerStep (facts_of acts)) power_on before state sums
-      → (heard : Bool) (reading : Reading) (after : ChangerState) (gains : Gains)
-      → ChangerStep (facts_of before) act heard reading state after gains → ⊥
-  pub rule : broken ≡ rule.Changer
+  pub no_step : NoStep broken act before
   pub blame : blamed ≡ sender_of act
 
 -- the offence of a row behind rows that are reached: the row isn't

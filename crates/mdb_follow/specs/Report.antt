@@ -15,11 +15,11 @@ abbrev pub no_account : Account
 no_account = record { device = no_range; controller = no_range; difference = no_range }
 
 -- the report of so many rows with these accounts
-abbrev pub report_of : ℕ → Account → Account → Report
-report_of rows coins_in paid_out = record {
+abbrev pub report_of : ℕ → Account → Account → Account → Report
+report_of rows coins_in bills_in paid_out = record {
   rows = rows;
   decimals = replicate 4 None;
-  accounts = coins_in ∷ no_account ∷ paid_out ∷ no_account ∷ no_account ∷ no_account ∷ no_account
+  accounts = coins_in ∷ bills_in ∷ paid_out ∷ no_account ∷ no_account ∷ no_account ∷ no_account
       ∷ [];
   silences = replicate 4 0;
 }
@@ -29,7 +29,9 @@ report_of rows coins_in paid_out = record {
 pub record IsReport (events : List Event) (report : Report) : Type 0 where
   pub reached : IsReached events
   pub coins_in : Account
+  pub bills_in : Account
   pub paid_out : Account
   pub in_runs : IsAccount (Run events) (λ sums. sums.changer.first) coins_in
+  pub bill_runs : IsAccount (Run events) (λ sums. sums.bill.first) bills_in
   pub out_runs : IsAccount (Run events) (λ sums. sums.changer.second) paid_out
-  pub telling : report ≡ report_of (length events) coins_in paid_out
+  pub telling : report ≡ report_of (length events) coins_in bills_in paid_out

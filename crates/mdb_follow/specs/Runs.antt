@@ -6,26 +6,33 @@ use Rattle.mdb_bus.specs.declared.act.Act.{Act}
 use Rattle.mdb_bus.specs.ActLists.{Piece, Whole, IsActList, acts_of, events_of}
 use Rattle.mdb_bus.specs.Choice.{IsAck}
 use Rattle.mdb_bus.specs.Loss.{IsHeard, Loss, LossFits}
+use Rattle.mdb_cash.specs.declared.bill.state.BillState.{BillState}
 use Rattle.mdb_cash.specs.declared.changer.state.ChangerState.{ChangerState}
 use Rattle.mdb_cash.specs.declared.gains.Gains.{Gains}
 use Rattle.mdb_cash.specs.declared.kept.Reading.{Reading}
-use Rattle.mdb_cash.specs.Changer.{ChangerStep, power_on}
-use Rattle.mdb_cash.specs.ChangerFacts.{facts_of}
+use Rattle.mdb_cash.specs.Bill as bill
+use Rattle.mdb_cash.specs.Bill.{BillStep}
+use Rattle.mdb_cash.specs.BillFacts as bill_facts
+use Rattle.mdb_cash.specs.Changer as changer
+use Rattle.mdb_cash.specs.Changer.{ChangerStep}
+use Rattle.mdb_cash.specs.ChangerFacts as changer_facts
 use Rattle.mdb_follow.specs.Sums.{Sums, added, no_sums}
 
 -- The states of each device and the controller's dealings with it.
 pub record States : Type 0 where
   pub changer : ChangerState
+  pub bill : BillState
 
 abbrev pub at_power_on : States
-at_power_on = record { changer = power_on }
+at_power_on = record { changer = changer.power_on; bill = bill.power_on }
 
 -- what the accounts of each device have come to
 pub record AllSums : Type 0 where
   pub changer : Sums
+  pub bill : Sums
 
 abbrev pub nothing_yet : AllSums
-nothing_yet = record { changer = no_sums }
+nothing_yet = record { changer = no_sums; bill = no_sums }
 
 -- a step of one device and the controller, and its gains in their sums
 pub record Goes {State : Type 0} (Step : State → State → Gains → Type 0) (before after : State)
@@ -34,12 +41,13 @@ pub record Goes {State : Type 0} (Step : State → State → Gains → Type 0) (
   pub step : Step before after gains
   pub adds : sums ≡ added sums_before gains
 
--- A step of all by an act, behind other acts: the changer and the controller by the changer's
--- machine.
+-- A step of all by an act, behind other acts: each device and the controller by its machine.
 pub record AllGo (acts : List Act) (act : Act) (heard : Bool) (reading : Reading)
     (before after : States) (sums_before sums : AllSums) : Type 0 where
-  pub changer : Goes (ChangerStep (facts_of acts) act heard reading) before.changer after.changer
-      sums_before.changer sums.changer
+  pub changer : Goes (ChangerStep (changer_facts.facts_of acts) act heard reading) before.changer
+      after.changer sums_before.changer sums.changer
+  pub bill : Goes (BillStep (bill_facts.facts_of acts) act heard reading) before.bill
+      after.bill sums_before.bill sums.bill
 
 -- A way goes on by one act: it was heard or not, as the loss of its rows has it, and is read in
 -- one of its readings.

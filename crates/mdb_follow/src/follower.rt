@@ -1,36 +1,40 @@
 //! The follower of a recording: every possible state of each device and the controller.
 
 ghost use Rattle.std.specs.Prelude.{◌≡◌, ◌<◌, ◌≤◌, ◌+◌, ◌*◌, ◌^◌, List, [], ◌∷◌, ◌++◌, ℕ, length, Some, None, Err, IfSome, IfOk, IfErr, IsOk, OnErr};
-ghost use Rattle.std.specs.Bool.{OnFalse, OnTrue};
-ghost use Rattle.std.specs.Option.{ForSome};
+ghost use Rattle.std.specs.Option.{ForNone, ForSome, IfNone};
 ghost use Rattle.mdb_words.specs.declared.event.Event.{Event};
 ghost use Rattle.mdb_bus.specs.declared.act.Act.{Act};
-ghost use Rattle.mdb_follow.specs.Arrivals.{Arrives};
 ghost use Rattle.mdb_follow.specs.Limits.{IsTableWithin};
-ghost use Rattle.mdb_follow.specs.Sums.{Sums};
-ghost use Rattle.mdb_follow.specs.Tables.{IsTable};
 ghost use Rattle.mdb_follow.specs.Senders as spec;
+ghost use Rattle.mdb_follow.specs.Sides.{SidesFollow, SidesStop};
 
-use crate::{Offence, Report, Table, laws};
+use crate::side::{self, Side};
+use crate::{Offence, Report, laws};
 use mdb_bus::{Act, Blame, Bus, LinkFault, Rule, laws as bus_laws};
-use mdb_cash::{Changer, ChangerFacts, Pair};
+use mdb_cash::{Bill, BillFacts, Changer, ChangerFacts};
 use mdb_words::Event;
 
 /// The most rows of a recording (this profile).
 pub const ROWS_MAX: u64 = 100_000_000;
 
+type ChangerSide = Side<ChangerFacts, 4>;
+
+type BillSide = Side<BillFacts, 66>;
+
 /// What all that may have happened behind the rows so far comes to.
 ///
-/// It keeps the bus, and of each device the facts and a table of its possible states; no rows.
+/// It keeps the bus, and of each device the facts and a table of its possible states; no rows. Behind
+/// an offence nothing but the offence is of any matter.
 #[derive(Drop)]
 pub struct Follower {
     bus: Bus,
-    facts: ChangerFacts,
-    table: Table<4>,
+    changer: ChangerSide,
+    bill: BillSide,
     rows: u64,
     offence: Option<Offence>,
     ghost few: { rows ≤ 100000000 },
-    ghost within: { IsTableWithin (rows * 2 ^ 32) table },
+    ghost changer_within: { ForNone offence (IsTableWithin (rows * 2 ^ 32) changer.table) },
+    ghost bill_within: { ForNone offence (IsTableWithin (rows * 2 ^ 32) bill.table) },
     ghost numbered: { ForSome offence (λ offence. offence.row ≡ rows + 1) },
 }
 
@@ -50,8 +54,8 @@ impl Follower {
     {
         Follower {
             bus: Bus::new(),
-            facts: Changer::facts_start(),
-            table: Table::start::<Changer>(),
+            changer: side::start::<Changer, _>(),
+            bill: side::start::<Bill, _>(),
             rows: 0,
             offence: None,
         }
@@ -94,7 +98,7 @@ impl Follower {
         }
         let mut act = Act::Foreign;
         match self.bus.feed_into(event, &mut act) {
-            Err(fault) => Err(self.stop(fault)),
+            Err(fault) => Err(stop(&mut self.offence, self.rows, fault)),
             Ok(false) => {
                 self.rows += 1;
                 Ok(())
@@ -143,35 +147,19 @@ impl Follower {
         ensures followed { IfOk result (λ _. HasFollowed self.old act.now self.new) }
         ensures stopped { IfErr result (HasStopped self.old act.now self.new) }
     {
-        if follow::<Changer, 4>(&mut self.facts, &mut self.table, act) {
-            self.rows += 1;
-            Ok(())
-        } else {
-            Err(self.stop(LinkFault {
-                rule: Rule::Changer,
-                blame: sender_of(act),
-            }))
+        match lead(&mut self.changer, &mut self.bill, act) {
+            None => {
+                self.rows += 1;
+                Ok(())
+            }
+            Some(rule) => {
+                let fault = LinkFault {
+                    rule,
+                    blame: sender_of(act),
+                };
+                Err(stop(&mut self.offence, self.rows, fault))
+            }
         }
-    }
-
-    /// Notes the offence of the next row.
-    fn stop(&mut self, fault: LinkFault) -> Offence
-        requires { rows_of self.old < ROWS_MAX }
-        ensures offence { result ≡ record {
-          row = rows_of self.old + 1;
-          rule = fault.rule;
-          blame = fault.blame;
-        } }
-        ensures noted { offence_of self.new ≡ Some result }
-        ensures uncounted { rows_of self.new ≡ rows_of self.old }
-    {
-        let offence = Offence {
-            row: self.rows + 1,
-            rule: fault.rule,
-            blame: fault.blame,
-        };
-        self.offence = Some(offence);
-        offence
     }
 
     /// What the rows so far tell.
@@ -190,36 +178,52 @@ impl Follower {
         match self.offence {
             Some(offence) => Err(offence),
             None => {
-                let cell = self.table.ranges::<Changer>();
-                Ok(Report::of(self.rows, cell.first, cell.second))
+                let changer = side::ranges::<Changer, _>(&self.changer);
+                let bill = side::ranges::<Bill, _>(&self.bill);
+                Ok(Report::of(self.rows, changer.first, bill.first, changer.second))
             }
         }
     }
 }
 
-/// Follows a pair by an act: its table and its facts. Where no way leads over the act, nothing
-/// changes, and the answer is `false`.
-fn follow<P: Pair, const N: usize>(facts: &mut P::Facts, table: &mut Table<N>, act: &Act) -> bool
-    requires size { N ≡ P.CODES }
-    requires within { IsTableWithin (2 ^ 62) table.old }
-    ensures facts { OnTrue result ((acts : List Act) → P.stands_for facts.old acts
-        → P.stands_for facts.new (act.now ∷ acts)) }
-    ensures table { OnTrue result ((acts : List Act) → P.stands_for facts.old acts
-        → IsTable P.code_of P.may_step P.first acts table.old
-        → IsTable P.code_of P.may_step P.first (act.now ∷ acts) table.new) }
-    ensures none { OnFalse result ((acts : List Act) → P.stands_for facts.old acts
-        → IsTable P.code_of P.may_step P.first acts table.old
-        → (state : P.State) (sums : Sums)
-        → Arrives P.may_step P.first (act.now ∷ acts) state sums → ⊥) }
-    ensures within { (limit : ℕ) → IsTableWithin limit table.old
-        → IsTableWithin (limit + 2 ^ 32) table.new }
-    ensures same { OnFalse result ((facts.new ≡ facts.old) × (table.new ≡ table.old)) }
+/// Leads each side over an act. The answer is the rule of the first side that has no step by it.
+fn lead(changer: &mut ChangerSide, bill: &mut BillSide, act: &Act) -> Option<Rule>
+    requires changer { IsTableWithin (2 ^ 62) changer.old.table }
+    requires bill { IsTableWithin (2 ^ 62) bill.old.table }
+    ensures followed { IfNone result
+        (SidesFollow changer.old bill.old act.now changer.new bill.new) }
+    ensures stopped { IfSome result (SidesStop changer.old bill.old act.now) }
+    ensures changer_within { (limit : ℕ) → IsTableWithin limit changer.old.table
+        → IsTableWithin (limit + 2 ^ 32) changer.new.table }
+    ensures bill_within { IfNone result ((limit : ℕ) → IsTableWithin limit bill.old.table
+        → IsTableWithin (limit + 2 ^ 32) bill.new.table) }
 {
-    if !table.advance::<P>(facts, act) {
-        return false;
+    if !side::follow::<Changer, _>(changer, act) {
+        return Some(Rule::Changer);
     }
-    P::learn(facts, act);
-    true
+    if !side::follow::<Bill, _>(bill, act) {
+        return Some(Rule::Bill);
+    }
+    None
+}
+
+/// Notes the offence of the row behind so many rows.
+fn stop(noted: &mut Option<Offence>, rows: u64, fault: LinkFault) -> Offence
+    requires { rows < ROWS_MAX }
+    ensures offence { result ≡ record {
+      row = rows + 1;
+      rule = fault.rule;
+      blame = fault.blame;
+    } }
+    ensures noted { noted.new ≡ Some result }
+{
+    let offence = Offence {
+        row: rows + 1,
+        rule: fault.rule,
+        blame: fault.blame,
+    };
+    *noted = Some(offence);
+    offence
 }
 
 /// Who sends an act: the controller, or the device that it asked.

@@ -4,12 +4,8 @@ ghost use Rattle.std.specs.Prelude.{◌≡◌, ◌↔◌, List, [], ◌∷◌, �
 ghost use Rattle.mdb_words.specs.declared.event.Event.{Event};
 ghost use Rattle.mdb_bus.specs.ActLists.{ArePieces, Piece, acts_of};
 ghost use Rattle.mdb_bus.specs.Loss.{Loss, LossFits};
-ghost use Rattle.mdb_cash.specs.Changer.{ChangerStep, power_on};
-ghost use Rattle.mdb_cash.specs.ChangerFacts.{facts_of};
-ghost use Rattle.mdb_cash.specs.declared.changer.state.ChangerState.{ChangerState};
-ghost use Rattle.mdb_follow.specs.Arrivals.{Arrives};
 ghost use Rattle.mdb_follow.specs.Follower.{StandsFor};
-ghost use Rattle.mdb_follow.specs.Sums.{Sums};
+ghost use Rattle.mdb_follow.specs.Machines.{EachArrives};
 ghost use Rattle.mdb_follow.specs.declared.follower.Follower.{Follower};
 ghost use Rattle.mdb_follow.specs.declared.offence.Offence.{Offence};
 ghost use Rattle.mdb_follow.specs.declared.report.Report.{Report};
@@ -19,20 +15,17 @@ ghost use Rattle.mdb_follow.specs.Runs.{AllSums, HearSameAcks, IsReached, IsWay,
 
 use mdb_bus::laws;
 
-/// Each way of all is a way of the changer.
+/// Each way of all is a way of each device.
 pub fn ways_split()
     ensures { (loss : Loss) (pieces : List Piece) (states : States) (sums : AllSums)
-        → IsWay loss pieces states sums
-        → Arrives (λ acts. ChangerStep (facts_of acts)) power_on (acts_of pieces) states.changer
-        sums.changer }
+        → IsWay loss pieces states sums → EachArrives (acts_of pieces) states sums }
 {}
 
 /// Ways of each device are together a way of all, under one loss that fits.
 pub fn ways_join()
-    ensures { (pieces : List Piece) (changer : ChangerState) (sums : Sums) → ArePieces pieces
-        → Arrives (λ acts. ChangerStep (facts_of acts)) power_on (acts_of pieces) changer sums
-        → (loss : Loss) × LossFits loss pieces
-        × IsWay loss pieces (record { changer = changer }) (record { changer = sums }) }
+    ensures { (pieces : List Piece) (states : States) (sums : AllSums) → ArePieces pieces
+        → EachArrives (acts_of pieces) states sums
+        → (loss : Loss) × LossFits loss pieces × IsWay loss pieces states sums }
 {
     laws::acks_may_be_heard_or_not();
 }
@@ -73,6 +66,7 @@ pub fn rows_have_one_offence()
     laws::transcripts_have_one_act_list();
     laws::rows_have_one_fault();
     laws::rows_that_break_a_rule_end_the_act_list();
+    laws::act_lists_go_on_row_by_row();
 }
 
 /// The rows that a follower stands for are reached.

@@ -8,6 +8,7 @@ pub mod laws;
 mod offence;
 mod range;
 mod report;
+mod side;
 mod table;
 
 pub use cell::{Account, Cell};

@@ -4,8 +4,8 @@ use crate::Account;
 
 /// What rows that can have been tell.
 ///
-/// The changer alone is followed so far: the other accounts stand at 0, no decimals are told, and no
-/// silences are counted.
+/// Changer and validator alone are followed so far: the accounts of the readers stand at 0, no
+/// decimals are told, and no silences are counted.
 #[derive(Clone, Copy, PartialEq, Eq, Debug)]
 pub struct Report {
     /// How many rows there are.
@@ -23,15 +23,15 @@ impl Report {
     ghost use Rattle.std.specs.Prelude.{◌≡◌};
     ghost use Rattle.mdb_follow.specs.Report.{report_of};
 
-    /// The report of so many rows, with what coins in and paid out come to.
-    pub(crate) fn of(rows: u64, coins_in: Account, paid_out: Account) -> Report
-        ensures { result ≡ report_of rows coins_in paid_out }
+    /// The report of so many rows, with what coins in, bills in and paid out come to.
+    pub(crate) fn of(rows: u64, coins_in: Account, bills_in: Account, paid_out: Account) -> Report
+        ensures { result ≡ report_of rows coins_in bills_in paid_out }
     {
         const NONE: Account = Account::NOTHING;
         Report {
             rows,
             decimals: [None; 4],
-            accounts: [coins_in, NONE, paid_out, NONE, NONE, NONE, NONE],
+            accounts: [coins_in, bills_in, paid_out, NONE, NONE, NONE, NONE],
             silences: [0; 4],
         }
     }

@@ -6,4 +6,5 @@ returns c = one-offence (record {
   one = c.transcripts_have_one_act_list.ensures;
   one_fault = c.rows_have_one_fault.ensures;
   ends = c.rows_that_break_a_rule_end_the_act_list.ensures;
+  goes = c.act_lists_go_on_row_by_row.ensures;
 })

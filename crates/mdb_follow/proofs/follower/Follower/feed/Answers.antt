@@ -4,10 +4,15 @@ use Rattle.mdb_follow.proofs.Limits.{table-within-weaker}
 use Rattle.mdb_follow.proofs.Following.{if-err, if-ok, link-offence, machine-offence, reached-by, stands-on, stands-still}
 use Rattle.mdb_follow.proofs.follower.Follower.feed.Goals as goal
 
-pub invariant_of-self-in-Ok-false-clause-within : goal.invariant_of-self-in-Ok-false-clause-within
-invariant_of-self-in-Ok-false-clause-within c =
+pub invariant_of-self-in-Ok-false-clause-changer_within : goal.invariant_of-self-in-Ok-false-clause-changer_within
+invariant_of-self-in-Ok-false-clause-changer_within c going =
     table-within-weaker (c.args.self.now.rows * 2 ^ 32) ((c.args.self.now.rows + 1) * 2 ^ 32)
-    c.args.self.now.table (omega arith) c.args.self.now.within
+    c.args.self.now.changer.table (omega arith) (c.args.self.now.changer_within going)
+
+pub invariant_of-self-in-Ok-false-clause-bill_within : goal.invariant_of-self-in-Ok-false-clause-bill_within
+invariant_of-self-in-Ok-false-clause-bill_within c going =
+    table-within-weaker (c.args.self.now.rows * 2 ^ 32) ((c.args.self.now.rows + 1) * 2 ^ 32)
+    c.args.self.now.bill.table (omega arith) (c.args.self.now.bill_within going)
 
 pub returns-in-Ok-true-clause-reached : goal.returns-in-Ok-true-clause-reached
 returns-in-Ok-true-clause-reached c events on =

@@ -1,22 +1,22 @@
-use Rattle.std.proofs.Common.{◌+◌, ◌*◌, ◌^◌, ◌≤◌, ◌≡◌, arith, refl, subst}
-use Rattle.mdb_follow.specs.Limits.{IsTableWithin}
-use Rattle.mdb_follow.proofs.Limits.{table-within-weaker}
+use Rattle.mdb_follow.proofs.Limits.{table-within-next, table-within-rows}
 use Rattle.mdb_follow.proofs.follower.Follower.follow.Goals as goal
 
-pub follow-requires : goal.follow-requires
-follow-requires c =
-    let few : c.args.self.now.rows ≤ 100000000 = c.args.self.now.few in (
-      omega arith,
-      (
-        refl,
-        table-within-weaker (c.args.self.now.rows * 2 ^ 32) (2 ^ 62) c.args.self.now.table
-            (omega arith) c.args.self.now.within,
-      ),
-    )
+pub lead-requires-clause-changer : goal.lead-requires-clause-changer
+lead-requires-clause-changer c =
+    table-within-rows c.args.self.now.rows c.args.self.now.changer.table c.args.self.now.few
+    (c.args.self.now.changer_within c.requires.going)
 
-pub invariant_of-self-clause-within : goal.invariant_of-self-clause-within
-invariant_of-self-clause-within c =
-    let same : c.args.self.now.rows * 2 ^ 32 + 2 ^ 32 ≡ (c.args.self.now.rows + 1) * 2 ^ 32 =
-    omega arith in
-    subst (λ limit. IsTableWithin limit c.follow.new.table) same
-    (c.follow.ensures.within (c.args.self.now.rows * 2 ^ 32) c.args.self.now.within)
+pub lead-requires-clause-bill : goal.lead-requires-clause-bill
+lead-requires-clause-bill c =
+    table-within-rows c.args.self.now.rows c.args.self.now.bill.table c.args.self.now.few
+    (c.args.self.now.bill_within c.requires.going)
+
+pub invariant_of-self-clause-changer_within : goal.invariant_of-self-clause-changer_within
+invariant_of-self-clause-changer_within c going =
+    table-within-next c.args.self.now.rows c.args.self.now.changer.table c.lead.new.changer.table
+    (c.args.self.now.changer_within going) c.in-None.ensures.changer_within
+
+pub invariant_of-self-clause-bill_within : goal.invariant_of-self-clause-bill_within
+invariant_of-self-clause-bill_within c going =
+    table-within-next c.args.self.now.rows c.args.self.now.bill.table c.lead.new.bill.table
+    (c.args.self.now.bill_within going) c.in-None.ensures.bill_within

@@ -1,0 +1,103 @@
+-- Choices: whether each act was heard, and how it is read. Ways of machines, each with choices of its
+-- own, are ways with one list of choices.
+use Rattle.std.proofs.Common.{sym, ap, ◌≡◌, Bool, List, [], ◌∷◌}
+use Rattle.mdb_msgs.specs.declared.command.Device.{Device}
+use Rattle.mdb_bus.specs.declared.act.Act.{Act}
+use Rattle.mdb_bus.specs.Choice.{IsAck}
+use Rattle.mdb_cash.specs.declared.gains.Gains.{Gains}
+use Rattle.mdb_cash.specs.declared.kept.Reading.{Reading}
+use Rattle.mdb_cash.specs.Pair.{IsActOf, IsReply}
+use Rattle.mdb_follow.specs.Arrivals.{Arrives}
+use Rattle.mdb_follow.specs.Sums.{Sums, added, no_sums}
+use Rattle.mdb_follow.proofs.Machines.{IsMachineOf, Steps, step_as, whose, whose_ack, whose_reply}
+
+-- for each act of a list whether it was heard, and how it is read
+pub record ChoicesBy (Before : Type 0) : Type 0 where
+  pub heard : Bool
+  pub reading : Reading
+  pub before : Before
+
+abbrev pub Choices : List Act → Type 0
+Choices [] = Unit {0}
+Choices (act ∷ acts) = ChoicesBy (Choices acts)
+
+-- a way with these choices
+pub record FollowsBy {State : Type 0} (Before : State → Sums → Type 0)
+    (Step : State → State → Gains → Type 0) (state : State) (sums : Sums) : Type 0 where
+  pub before : State
+  pub sums_before : Sums
+  pub gains : Gains
+  pub way : Before before sums_before
+  pub step : Step before state gains
+  pub adds : sums ≡ added sums_before gains
+
+abbrev pub Follows : {State : Type 0} → Steps State → State → (acts : List Act) → Choices acts
+    → State → Sums → Type 0
+Follows Step first [] choices state sums = (state ≡ first) × (sums ≡ no_sums)
+Follows Step first (act ∷ acts) choices state sums =
+    FollowsBy (Follows Step first acts choices.before)
+    (Step acts act choices.heard choices.reading) state sums
+
+-- each way is one with its choices
+pub chosen : {State : Type 0} (Step : Steps State) (first : State) (acts : List Act)
+    (state : State) (sums : Sums) → Arrives Step first acts state sums
+    → (choices : Choices acts) × Follows Step first acts choices state sums
+chosen Step first [] state sums way = (tt, way)
+chosen Step first (act ∷ acts) state sums way =
+    let earlier = chosen Step first acts way.before way.sums_before way.way in (
+      record { heard = way.heard; reading = way.reading; before = earlier.0 },
+      record {
+        before = way.before;
+        sums_before = way.sums_before;
+        gains = way.gains;
+        way = earlier.1;
+        step = way.step;
+        adds = way.adds;
+      },
+    )
+
+-- two lists of choices are the same for a device, where they matter
+abbrev pub AgreeFor : Device → (acts : List Act) → Choices acts → Choices acts → Type 0
+AgreeFor device [] one other = Unit {0}
+AgreeFor device (act ∷ acts) one other =
+    (IsActOf device act
+    → (IsAck act → one.heard ≡ other.heard) × (IsReply act → one.reading ≡ other.reading))
+    × AgreeFor device acts one.before other.before
+
+-- then its ways with the one are ways with the other
+pub follows_as : {device : Device} {State : Type 0} {Step : Steps State} → IsMachineOf device Step
+    → (first : State) (acts : List Act) (one other : Choices acts) → AgreeFor device acts one other
+    → (state : State) (sums : Sums) → Follows Step first acts one state sums
+    → Follows Step first acts other state sums
+follows_as machine first [] one other same state sums way = way
+follows_as {device} {State} {Step} machine first (act ∷ acts) one other same state sums way =
+    record {
+      before = way.before;
+      sums_before = way.sums_before;
+      gains = way.gains;
+      way = follows_as machine first acts one.before other.before same.1
+          way.before way.sums_before way.way;
+      step = step_as machine acts act one.heard other.heard one.reading
+          other.reading same.0 way.before state way.gains way.step;
+      adds = way.adds;
+    }
+
+-- choices of each device are one list: to each act those of the device that has a part in it
+abbrev pub merged : (acts : List Act) → (Device → Choices acts) → Choices acts
+merged [] all = tt
+merged (act ∷ acts) all = record {
+  heard = (all (whose act)).heard;
+  reading = (all (whose act)).reading;
+  before = merged acts (λ device. (all device).before);
+}
+
+pub merged_agrees : (acts : List Act) (all : Device → Choices acts) (device : Device)
+    → AgreeFor device acts (all device) (merged acts all)
+merged_agrees [] all device = tt
+merged_agrees (act ∷ acts) all device = (
+  (λ own. (
+    (λ ack. ap (λ d. (all d).heard) (sym (whose_ack device act own ack))),
+    (λ reply. ap (λ d. (all d).reading) (sym (whose_reply device act own reply))),
+  )),
+  merged_agrees acts (λ d. (all d).before) device,
+)

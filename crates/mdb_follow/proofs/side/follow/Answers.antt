@@ -1,0 +1,22 @@
+use Rattle.std.proofs.Common.{refl}
+use Rattle.mdb_follow.specs.Sums.{added}
+use Rattle.mdb_follow.proofs.side.follow.Goals as goal
+
+pub returns-then-not-advance-clause-none : goal.returns-then-not-advance-clause-none
+returns-then-not-advance-clause-none c p acts on state sums way heard reading after gains step =
+    p.if-not-advance.ensures.none acts on.facts on.table after (added sums gains) (record {
+      heard = heard;
+      reading = reading;
+      before = state;
+      sums_before = sums;
+      gains = gains;
+      way = way;
+      step = step;
+      adds = refl;
+    })
+
+pub returns-clause-stands : goal.returns-clause-stands
+returns-clause-stands c p acts on = record {
+  facts = p.learn.ensures acts on.facts;
+  table = p.if-not-advance.ensures.table acts on.facts on.table;
+}

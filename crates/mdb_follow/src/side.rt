@@ -1,0 +1,66 @@
+//! A device and the controller, as a follower follows them.
+
+ghost use Rattle.std.specs.Prelude.{◌≡◌, ◌+◌, ◌^◌, ℕ, List, [], ◌∷◌};
+ghost use Rattle.std.specs.Bool.{OnFalse, OnTrue};
+ghost use Rattle.mdb_bus.specs.declared.act.Act.{Act};
+ghost use Rattle.mdb_follow.specs.Arrivals.{Arrives};
+ghost use Rattle.mdb_follow.specs.Limits.{IsTableWithin};
+ghost use Rattle.mdb_follow.specs.Offences.{HasNoStep};
+ghost use Rattle.mdb_follow.specs.Ranges.{IsCell};
+ghost use Rattle.mdb_follow.specs.Sides.{IsSide};
+ghost use Rattle.mdb_follow.specs.Tables.{ArrivesAnywhere};
+
+use crate::{Cell, Table};
+use mdb_bus::Act;
+use mdb_cash::Pair;
+
+/// A device and the controller, as a follower follows them: what is known behind the acts so far,
+/// and the states that are possible now.
+#[derive(Drop)]
+pub(crate) struct Side<F: Drop, const N: usize> {
+    facts: F,
+    table: Table<N>,
+}
+
+/// The side behind no act.
+pub(crate) fn start<P: Pair, const N: usize>() -> Side<P::Facts, N>
+    requires { N ≡ P.CODES }
+    ensures stands { IsSide P.stands_for P.code_of P.may_step P.first result [] }
+    ensures within { IsTableWithin 0 result.table }
+{
+    Side {
+        facts: P::facts_start(),
+        table: Table::start::<P>(),
+    }
+}
+
+/// Follows a side by an act. Where no way leads over the act, nothing changes, and the answer is
+/// `false`.
+pub(crate) fn follow<P: Pair, const N: usize>(side: &mut Side<P::Facts, N>, act: &Act) -> bool
+    requires size { N ≡ P.CODES }
+    requires within { IsTableWithin (2 ^ 62) side.old.table }
+    ensures stands { OnTrue result ((acts : List Act)
+        → IsSide P.stands_for P.code_of P.may_step P.first side.old acts
+        → IsSide P.stands_for P.code_of P.may_step P.first side.new (act.now ∷ acts)) }
+    ensures none { OnFalse result ((acts : List Act)
+        → IsSide P.stands_for P.code_of P.may_step P.first side.old acts
+        → HasNoStep P.may_step P.first act.now acts) }
+    ensures within { (limit : ℕ) → IsTableWithin limit side.old.table
+        → IsTableWithin (limit + 2 ^ 32) side.new.table }
+    ensures same { OnFalse result (side.new ≡ side.old) }
+{
+    if !side.table.advance::<P>(&side.facts, act) {
+        return false;
+    }
+    P::learn(&mut side.facts, act);
+    true
+}
+
+/// What the sums of a side may be, whatever the state is.
+pub(crate) fn ranges<P: Pair, const N: usize>(side: &Side<P::Facts, N>) -> Cell
+    ensures { (acts : List Act)
+        → IsSide P.stands_for P.code_of P.may_step P.first side.now acts
+        → IsCell (ArrivesAnywhere (Arrives P.may_step P.first acts)) result }
+{
+    side.table.ranges::<P>()
+}
