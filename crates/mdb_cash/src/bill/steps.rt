@@ -85,7 +85,8 @@ fn answer(
         escrow,
         holds: holds_behind(summary.kept.as_slice(), holds),
     };
-    Some((after, Gains::of_device(all_stacked(&facts.setup, new), 0)))
+    let gains = Gains::of_device(all_stacked(&facts.setup, new), 0);
+    Some((after, gains))
 }
 
 /// What is in escrow behind new messages. `None` where they can't be.

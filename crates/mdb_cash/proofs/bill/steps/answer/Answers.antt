@@ -18,4 +18,4 @@ returns-clause-outcome c =
     let telling = tells_only c.is_poll.ensures held_is c.messages_in-messages.ensures.parts c.summary_of-summary.ensures c.in_ok-new.ensures.found c.in_ok-new.ensures.only in
     told telling c.read.ensures c.in_ok-escrow.ensures
     (c.as_slice-2.ensures.value ∙ (c.summary_of-summary.ensures.kept_is ∙ ap kept_of c.messages_in-messages.ensures.parts))
-    c.holds_read-holds.ensures c.holds_behind.ensures c.all_stacked.ensures.value c.of_device.ensures
+    c.holds_read-holds.ensures c.holds_behind.ensures c.all_stacked.ensures.value c.of_device-gains.ensures
