@@ -15,7 +15,7 @@ pub struct Gains {
 
 impl Gains {
     /// Nothing.
-    pub(crate) fn none() -> Gains
+    pub fn none() -> Gains
         ensures { result ≡ spec.no_gains }
     {
         Gains {
@@ -25,7 +25,7 @@ impl Gains {
     }
 
     /// So much for the device.
-    pub(crate) fn of_device(first: u64, second: u64) -> Gains
+    pub fn of_device(first: u64, second: u64) -> Gains
         ensures { result ≡ spec.device_gains first second }
     {
         Gains {
@@ -35,7 +35,7 @@ impl Gains {
     }
 
     /// So much for the controller.
-    pub(crate) fn of_controller(first: u64, second: u64) -> Gains
+    pub fn of_controller(first: u64, second: u64) -> Gains
         ensures { result ≡ spec.controller_gains first second }
     {
         Gains {

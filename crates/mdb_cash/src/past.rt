@@ -105,7 +105,7 @@ pub fn effect_answered(effect: Effect, reply: &Reply) -> Effect
 
 /// Whether a reply says that the command came out of sequence: a reader's 0B. Its device doesn't
 /// take the command then.
-fn tells_out_of_sequence(reply: &Reply) -> bool
+pub fn tells_out_of_sequence(reply: &Reply) -> bool
     ensures { result ≡ spec.tells_out_of_sequence reply.now }
 {
     match reply {

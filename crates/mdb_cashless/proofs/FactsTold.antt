@@ -1,0 +1,90 @@
+use Rattle.std.proofs.Common.{◌≡◌, ◌∙◌, ◌||◌, Bool, true, false, List, [], Option, Some, None, refl, ap, sym, map, unwrap_or, if◌then◌else◌}
+use Rattle.mdb_msgs.specs.declared.command.Command.{Command}
+use Rattle.mdb_msgs.specs.declared.command.ReaderCommand.{ReaderCommand}
+use Rattle.mdb_msgs.specs.declared.command.ReaderCommand.TheVariants as reader
+use Rattle.mdb_msgs.specs.declared.command.ReaderUnit.{ReaderUnit}
+use Rattle.mdb_msgs.specs.declared.reply.Reply.{Reply}
+use Rattle.mdb_msgs.specs.declared.reply.reader.ReaderMsg.{ReaderMsg}
+use Rattle.mdb_bus.specs.declared.act.Act.TheVariants as acts
+use Rattle.mdb_cash.specs.Past.{effect_taken, or_else, resets, tells_out_of_sequence}
+use Rattle.mdb_cash.specs.PastValues.{past_behind}
+use Rattle.mdb_cashless.specs.declared.reader.transaction.Transaction.{Transaction}
+use Rattle.mdb_cashless.specs.ReaderFacts.{Facts, effect_of, effect_of_own, own_messages, own_of, own_transaction}
+use Rattle.mdb_cashless.specs.ReaderMessages.{amount_in, begin_session, config_in, last_said, messages_of, part_of}
+use Rattle.mdb_cashless.specs.ReaderValues.{facts_with, last_behind, taken, told}
+use Rattle.mdb_cashless.specs.Transactions.{transaction_of}
+use Rattle.mdb_cashless.specs.Units.{own}
+use Rattle.mdb_cashless.proofs.Behind.{same_facts}
+
+-- the facts behind a reply, where it is known whether it refuses its command
+abbrev answered : ReaderUnit → Command → Bool → List ReaderMsg → Facts → Facts
+answered unit command refused messages old =
+    record {
+      config = or_else (last_said config_in (own_messages unit command messages)) old.config;
+      asked = old.asked;
+      taken = if resets (effect_taken (effect_of unit) (if refused then None else Some command)) || begin_session (own_messages unit command messages)
+          then None
+          else or_else (own_transaction (own_of unit (if refused then None else Some command))) old.taken;
+      amount = unwrap_or (last_said amount_in (own_messages unit command messages)) old.amount;
+      past = past_behind (resets (effect_taken (effect_of unit) (if refused then None else Some command)))
+          (effect_taken (effect_of unit) (if refused then None else Some command))
+          (map part_of (own_messages unit command messages)) old.past;
+    }
+
+-- the same, where the command to the reader is known
+abbrev answered_own : Option ReaderCommand → Bool → List ReaderMsg → Facts → Facts
+answered_own found refused messages old =
+    let own_ones : List ReaderMsg = elim found [ Some c ↦ messages | None ↦ [] ] in
+    let took : Option ReaderCommand = if refused then None else found in
+    record {
+      config = or_else (last_said config_in own_ones) old.config;
+      asked = old.asked;
+      taken = if resets (effect_of_own took) || begin_session own_ones then None else or_else (own_transaction took) old.taken;
+      amount = unwrap_or (last_said amount_in own_ones) old.amount;
+      past = past_behind (resets (effect_of_own took)) (effect_of_own took) (map part_of own_ones) old.past;
+    }
+
+same_answer : (unit : ReaderUnit) (command : Command) (refused : Bool) (messages : List ReaderMsg) (old : Facts) → answered unit command refused messages old ≡ answered_own (own unit command) refused messages old
+same_answer unit command true messages old = refl
+same_answer unit command false messages old = refl
+
+-- the last transaction behind a command that is taken by an answer
+last_is : (command : ReaderCommand) (begins : Bool) (last : Option Transaction)
+    → (if resets (effect_of_own (Some command)) || begins then None else or_else (transaction_of command) last) ≡ (if begins then None else last_behind command last)
+last_is reader.Reset true last = refl
+last_is reader.Reset false last = refl
+last_is (reader.SetupConfig level columns rows display) begins last = refl
+last_is (reader.SetupPrices maximum minimum) begins last = refl
+last_is reader.Poll begins last = refl
+last_is (reader.VendRequest price item) begins last = refl
+last_is reader.VendCancel begins last = refl
+last_is (reader.VendSuccess item) begins last = refl
+last_is reader.VendFailure begins last = refl
+last_is reader.SessionComplete begins last = refl
+last_is (reader.CashSale price item) begins last = refl
+last_is reader.Disable begins last = refl
+last_is reader.Enable begins last = refl
+last_is reader.Cancel begins last = refl
+last_is (reader.RequestId identity) begins last = refl
+
+own_answer : (its : ReaderCommand) (refused : Bool) (messages : List ReaderMsg) (old : Facts) → answered_own (Some its) refused messages old ≡ told messages (taken (if refused then None else Some its) old)
+own_answer its true messages old = refl
+own_answer its false messages old = same_facts refl refl (last_is its (begin_session messages) old.taken) refl refl
+
+-- the facts behind a reply of this reader: it has taken its command or not, and has told messages
+pub replied : (unit : ReaderUnit) (command : Command) (its : ReaderCommand) (reply : Reply) (old mid new : Facts) → own unit command ≡ Some its
+    → mid ≡ taken (if tells_out_of_sequence reply then None else Some its) old → new ≡ told (messages_of reply) mid → new ≡ facts_with unit (acts.Reply command reply) old
+replied unit command its reply old mid new found mid_is new_is =
+    let refused = tells_out_of_sequence reply in
+    let messages = messages_of reply in
+    new_is ∙ (ap (told messages) mid_is ∙ (sym (own_answer its refused messages old)
+    ∙ (sym (ap (λ f. answered_own f refused messages old) found) ∙ sym (same_answer unit command refused messages old))))
+
+-- what is left by an answer, where it is known whether it takes its command
+pub left_taken : {mid : Facts} (its : ReaderCommand) (old : Facts) (refused : Bool) → refused ≡ false → mid ≡ taken (Some its) old → mid ≡ taken (if refused then None else Some its) old
+left_taken its old true e is = absurd cc
+left_taken its old false e is = is
+
+pub left_refused : {mid : Facts} (its : ReaderCommand) (old : Facts) (refused : Bool) → refused ≡ true → mid ≡ old → mid ≡ taken (if refused then None else Some its) old
+left_refused its old true e is = is
+left_refused its old false e is = absurd cc

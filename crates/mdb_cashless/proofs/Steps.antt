@@ -1,0 +1,101 @@
+use Rattle.std.proofs.Common.{◌≡◌, ◌∙◌, ◌↔◌, Bool, true, false, Option, Some, None, refl, ap, sym, subst}
+use Rattle.std.specs.Bool.{OnFalse}
+use Rattle.mdb_msgs.specs.declared.command.Command.{Command}
+use Rattle.mdb_msgs.specs.declared.command.ReaderCommand.{ReaderCommand}
+use Rattle.mdb_msgs.specs.declared.command.ReaderCommand.TheVariants as reader
+use Rattle.mdb_msgs.specs.declared.command.ReaderUnit.{ReaderUnit}
+use Rattle.mdb_msgs.specs.declared.reply.Reply.{Reply}
+use Rattle.mdb_bus.specs.declared.act.Act.{Act}
+use Rattle.mdb_bus.specs.declared.act.Act.TheVariants as acts
+use Rattle.mdb_cash.specs.declared.gains.Gains.{Gains}
+use Rattle.mdb_cash.specs.declared.kept.Reading.{Reading}
+use Rattle.mdb_cash.specs.Gains.{controller_gains, no_gains}
+use Rattle.mdb_cash.specs.Pair.{IsOutcome}
+use Rattle.mdb_cashless.specs.declared.reader.state.ReaderState.{ReaderState}
+use Rattle.mdb_cashless.specs.declared.reader.view.View.{View}
+use Rattle.mdb_cashless.specs.Reader.{AckStep, AskStep, ForOwn, ReaderStep, ReplyStep, VmcAckStep, asked, sold_to}
+use Rattle.mdb_cashless.specs.ReaderFacts.{Facts}
+use Rattle.mdb_cashless.specs.ReaderValues.{changes_view}
+use Rattle.mdb_cashless.specs.Units.{own}
+
+-- states with the same parts
+pub same_state : {one other : ReaderState} → one.device ≡ other.device → one.view ≡ other.view → one.holds ≡ other.holds → one ≡ other
+same_state {one} {other} device view holds =
+    let same : record one { holds = one.holds } ≡ record other { holds = other.holds } = cc (device, view, holds) in
+    same
+
+-- the outcome of a command to this reader
+for_own : (Step : ReaderCommand → ReaderState → ReaderState → Gains → Type 0) (before : ReaderState) (result : Option (ReaderState × Gains)) (found : Option ReaderCommand) (command : ReaderCommand)
+    → found ≡ Some command → IsOutcome (Step command before) result → IsOutcome (ForOwn found Step before) result
+for_own Step before result None command is outcome = absurd cc
+for_own Step before result (Some other) command is outcome = let same : command ≡ other = cc in subst (λ (c : ReaderCommand). IsOutcome (Step c before) result) same outcome
+
+pub asks : (facts : Facts) (before : ReaderState) (result : Option (ReaderState × Gains)) (unit : ReaderUnit) (act : Act) (command : Command) (its : ReaderCommand) (heard : Bool) (reading : Reading)
+    → act ≡ acts.Ask command → own unit command ≡ Some its → IsOutcome (AskStep facts its before) result → IsOutcome (ReaderStep unit facts act heard reading before) result
+asks facts before result unit act command its heard reading is found outcome = subst (λ (a : Act). IsOutcome (ReaderStep unit facts a heard reading before) result) (sym is) (for_own _ before result (own unit command) its found outcome)
+
+pub acks : (facts : Facts) (before : ReaderState) (result : Option (ReaderState × Gains)) (unit : ReaderUnit) (act : Act) (command : Command) (its : ReaderCommand) (heard : Bool) (reading : Reading)
+    → act ≡ acts.Ack command → own unit command ≡ Some its → IsOutcome (AckStep facts its heard before) result → IsOutcome (ReaderStep unit facts act heard reading before) result
+acks facts before result unit act command its heard reading is found outcome = subst (λ (a : Act). IsOutcome (ReaderStep unit facts a heard reading before) result) (sym is) (for_own _ before result (own unit command) its found outcome)
+
+pub replies : (facts : Facts) (before : ReaderState) (result : Option (ReaderState × Gains)) (unit : ReaderUnit) (act : Act) (command : Command) (reply : Reply) (its : ReaderCommand) (heard : Bool) (reading : Reading)
+    → act ≡ acts.Reply command reply → own unit command ≡ Some its → IsOutcome (ReplyStep facts its reply reading before) result → IsOutcome (ReaderStep unit facts act heard reading before) result
+replies facts before result unit act command reply its heard reading is found outcome = subst (λ (a : Act). IsOutcome (ReaderStep unit facts a heard reading before) result) (sym is) (for_own _ before result (own unit command) its found outcome)
+
+-- the controller's ACK has one outcome
+pub vmc_acks : (facts : Facts) (before after : ReaderState) (gains : Gains) (unit : ReaderUnit) (act : Act) (command : Command) (reply : Reply) (its : ReaderCommand) (heard : Bool) (reading : Reading)
+    → act ≡ acts.VmcAck command reply → own unit command ≡ Some its → VmcAckStep facts its reply heard before after gains → IsOutcome (ReaderStep unit facts act heard reading before) (Some (after, gains))
+vmc_acks facts before after gains unit act command reply its heard reading is found step =
+    subst (λ (a : Act). IsOutcome (ReaderStep unit facts a heard reading before) (Some (after, gains))) (sym is)
+    (for_own (λ c. VmcAckStep facts c reply heard) before (Some (after, gains)) (own unit command) its found (step, λ other more one. (one.to ∙ sym step.to, one.gained ∙ sym step.gained)))
+
+-- a command that leaves the view
+leaves : (facts : Facts) (command : ReaderCommand) (view : View) → changes_view command ≡ false → (asked facts command view ≡ Some view) × (sold_to facts command view ≡ 0)
+leaves facts reader.Reset view still = absurd cc
+leaves facts (reader.SetupConfig level columns rows display) view still = (refl, refl)
+leaves facts (reader.SetupPrices maximum minimum) view still = (refl, refl)
+leaves facts reader.Poll view still = (refl, refl)
+leaves facts (reader.VendRequest price item) view still = absurd cc
+leaves facts reader.VendCancel view still = absurd cc
+leaves facts (reader.VendSuccess item) view still = absurd cc
+leaves facts reader.VendFailure view still = absurd cc
+leaves facts reader.SessionComplete view still = absurd cc
+leaves facts (reader.CashSale price item) view still = (refl, refl)
+leaves facts reader.Disable view still = (refl, refl)
+leaves facts reader.Enable view still = (refl, refl)
+leaves facts reader.Cancel view still = (refl, refl)
+leaves facts (reader.RequestId identity) view still = (refl, refl)
+
+-- asking it changes nothing
+ask_stays : (facts : Facts) (command : ReaderCommand) (before after : ReaderState) (gains : Gains) → changes_view command ≡ false → AskStep facts command before after gains ↔ (after ≡ before) × (gains ≡ no_gains)
+ask_stays facts command before after gains still =
+    let left = leaves facts command before.view still in (
+      λ step.
+          let view : Some before.view ≡ Some after.view = sym left.0 ∙ step.view in
+          let views : after.view ≡ before.view = cc in (
+            same_state step.device views step.holds,
+            step.gained ∙ ap (controller_gains 0) left.1,
+          ),
+      λ stays.
+          record {
+            view = left.0 ∙ ap (λ (s : ReaderState). Some s.view) (sym stays.0);
+            device = ap (λ (s : ReaderState). s.device) stays.0;
+            holds = ap (λ (s : ReaderState). s.holds) stays.0;
+            gained = stays.1 ∙ ap (controller_gains 0) (sym left.1);
+          },
+    )
+
+own_stays : (found : Option ReaderCommand) (its : ReaderCommand) (facts : Facts) (before after : ReaderState) (gains : Gains) → found ≡ Some its → changes_view its ≡ false
+    → ForOwn found (AskStep facts) before after gains ↔ (after ≡ before) × (gains ≡ no_gains)
+own_stays None its facts before after gains is still = absurd cc
+own_stays (Some command) its facts before after gains is still = let same : command ≡ its = cc in ask_stays facts command before after gains (ap changes_view same ∙ still)
+
+pub asks_stay : (unit : ReaderUnit) (act : Act) (command : Command) (its : ReaderCommand) → act ≡ acts.Ask command → own unit command ≡ Some its → changes_view its ≡ false
+    → (facts : Facts) (heard : Bool) (reading : Reading) (before after : ReaderState) (gains : Gains) → ReaderStep unit facts act heard reading before after gains ↔ (after ≡ before) × (gains ≡ no_gains)
+asks_stay unit act command its is found still facts heard reading before after gains =
+    subst (λ (a : Act). ReaderStep unit facts a heard reading before after gains ↔ (after ≡ before) × (gains ≡ no_gains)) (sym is) (own_stays (own unit command) its facts before after gains found still)
+
+-- what holds where a test denies
+pub denied : {P : Type 0} (is : Bool) → (is ≡ false → P) → OnFalse is P
+denied true p = tt
+denied false p = p refl

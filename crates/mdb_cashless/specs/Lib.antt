@@ -1,0 +1,10 @@
+pub mod Reader
+pub mod ReaderCodes
+pub mod ReaderDevice
+pub mod ReaderFacts
+pub mod ReaderMessages
+pub mod ReaderValues
+pub mod ReaderView
+pub mod ReaderWays
+pub mod Transactions
+pub mod Units

@@ -1,0 +1,252 @@
+-- A cashless reader and the controller's dealings with it (MDB/ICP 4.3, cashless device; states and
+-- sums, this profile). The accounts are approved and sold.
+use Rattle.std.specs.Prelude.{◌≡◌, ℕ, ◌+◌, ◌*◌, Bool, true, false, ◌&&◌, ◌||◌, List, [], ◌∷◌, Option, Some, None, if◌then◌else◌, sum_by}
+use Rattle.mdb_msgs.specs.declared.command.ReaderCommand.{ReaderCommand}
+use Rattle.mdb_msgs.specs.declared.command.ReaderCommand.TheVariants as reader
+use Rattle.mdb_msgs.specs.declared.command.ReaderUnit.{ReaderUnit}
+use Rattle.mdb_msgs.specs.declared.reply.Reply.{Reply}
+use Rattle.mdb_msgs.specs.declared.reply.reader.ReaderMsg.{ReaderMsg}
+use Rattle.mdb_msgs.specs.declared.reply.reader.ReaderMsg.TheVariants as messages
+use Rattle.mdb_bus.specs.declared.act.Act.{Act}
+use Rattle.mdb_bus.specs.declared.act.Act.TheVariants as acts
+use Rattle.mdb_cash.specs.declared.gains.Gains.{Gains}
+use Rattle.mdb_cash.specs.declared.kept.Reading.{Reading}
+use Rattle.mdb_cash.specs.declared.kept.Reading.TheVariants.{Plain, Restart}
+use Rattle.mdb_cash.specs.Gains.{no_gains, controller_gains, device_gains}
+use Rattle.mdb_cash.specs.Kept.{Tells, held, holds_acked, holds_behind, kept_of}
+use Rattle.mdb_cash.specs.Pair.{Stays}
+use Rattle.mdb_cash.specs.Past.{or_else, resets, tells_out_of_sequence}
+use Rattle.mdb_cashless.specs.declared.reader.device.DeviceState.TheVariants as device
+use Rattle.mdb_cashless.specs.declared.reader.report.ReaderConfig.{ReaderConfig}
+use Rattle.mdb_cashless.specs.declared.reader.report.ReaderReport.{ReaderReport}
+use Rattle.mdb_cashless.specs.declared.reader.report.ReaderReport.TheVariants.{VendApproved}
+use Rattle.mdb_cashless.specs.declared.reader.state.ReaderState.{ReaderState}
+use Rattle.mdb_cashless.specs.declared.reader.view.View.{View}
+use Rattle.mdb_cashless.specs.declared.reader.view.View.TheVariants as view
+use Rattle.mdb_cashless.specs.declared.reader.transaction.Transaction.{Transaction}
+use Rattle.mdb_cashless.specs.ReaderDevice as reader_device
+use Rattle.mdb_cashless.specs.ReaderDevice.{all_told, effect}
+use Rattle.mdb_cashless.specs.ReaderFacts.{Facts, effect_of_own, own_transaction}
+use Rattle.mdb_cashless.specs.ReaderMessages.{config_in, last_said, messages_of, parts_of}
+use Rattle.mdb_cashless.specs.ReaderView as reader_view
+use Rattle.mdb_cashless.specs.ReaderView.{all_heard, awaits, heard, sent}
+use Rattle.mdb_cashless.specs.Transactions.{is_again, transaction_of}
+use Rattle.mdb_cashless.specs.Units.{own}
+
+-- the power-on state: the reader is Inactive and holds nothing, and the controller knows of no
+-- session
+abbrev pub power_on : ReaderState
+power_on = record { device = device.Inactive; view = view.NoSession; holds = false }
+
+-- the value of an amount by a config message: its scale factor times the amount; 0 where there is
+-- none yet
+abbrev pub value : Option ReaderConfig → ℕ → ℕ
+value None amount = 0
+value (Some config) amount = config.scale * amount
+
+-- what a new kept message adds to the reader's approved: the value of a message 05
+abbrev pub approved : Option ReaderConfig → ReaderReport → ℕ
+approved config (VendApproved amount) = value config amount
+approved config report = 0
+
+abbrev pub all_approved : Option ReaderConfig → List ReaderReport → ℕ
+all_approved config reports = sum_by (approved config) reports
+
+-- what a heard message adds to the controller's approved: the value of a message 05 that makes its
+-- view Approved
+abbrev pub approved_to : Option ReaderConfig → View → ReaderMsg → ℕ
+approved_to config before (messages.VendApproved amount) =
+    if awaits before then value config amount else 0
+approved_to config before message = 0
+
+abbrev pub all_approved_to : Option ReaderConfig → View → List ReaderMsg → ℕ
+all_approved_to config before [] = 0
+all_approved_to config before (message ∷ messages) =
+    approved_to config before message + all_approved_to config (heard message before) messages
+
+-- whether a command is POLL
+abbrev pub is_poll : ReaderCommand → Bool
+is_poll reader.Poll = true
+is_poll command = false
+
+-- whether a command that the reader takes ends what it holds: RESET and the transaction commands
+abbrev pub drops : ReaderCommand → Bool
+drops reader.Reset = true
+drops command = elim (transaction_of command) [ Some transaction ↦ true | None ↦ false ]
+
+-- whether a command is the last transaction that the reader took, while it still holds what it told
+-- behind that: the controller may not have heard the answer, and so tells it again
+abbrev pub is_repeated : Facts → ReaderCommand → Bool → Bool
+is_repeated facts command holds =
+    holds && elim (transaction_of command) [
+      | Some transaction ↦ is_again facts.taken transaction
+      | None ↦ false
+    ]
+
+-- The reader takes a command. A transaction command that is repeated while it holds has no effect.
+-- Any other command has its effect; a transaction command and RESET drop what was held.
+abbrev pub take : Facts → ReaderCommand → ReaderState → ReaderState
+take facts command before =
+    if is_repeated facts command before.holds then before
+    else record {
+      device = effect command before.device;
+      view = before.view;
+      holds = if drops command then false else before.holds;
+    }
+
+-- what that adds to the reader's sold: VEND SUCCESS in Approved is a sale of the last amount of 05
+abbrev pub sold : Facts → ReaderCommand → ReaderState → ℕ
+sold facts command before =
+    if is_repeated facts command before.holds then 0
+    else if reader_device.is_sale command before.device then value facts.config facts.amount
+    else 0
+
+-- The view behind a command that the controller sends; None where it may not send it. RESET ends
+-- its session, and the commands that are neither RESET nor a transaction leave it.
+abbrev pub asked : Facts → ReaderCommand → View → Option View
+asked facts reader.Reset before = Some view.NoSession
+asked facts command before =
+    elim (transaction_of command) [
+      | Some transaction ↦ sent facts.asked transaction before
+      | None ↦ Some before
+    ]
+
+-- what that adds to the controller's sold: VEND SUCCESS in the view Approved is a sale of the last
+-- amount of 05
+abbrev pub sold_to : Facts → ReaderCommand → View → ℕ
+sold_to facts command before =
+    elim (transaction_of command) [
+      | Some transaction ↦
+          if reader_view.is_sale transaction before then value facts.config facts.amount else 0
+      | None ↦ 0
+    ]
+
+-- The controller asks. Where it may not send the command, there is no step.
+pub record AskStep (facts : Facts) (command : ReaderCommand) (before after : ReaderState)
+    (gains : Gains) : Type 0 where
+  pub view : asked facts command before.view ≡ Some after.view
+  pub device : after.device ≡ before.device
+  pub holds : after.holds ≡ before.holds
+  pub gained : gains ≡ controller_gains 0 (sold_to facts command before.view)
+
+-- the view behind hearing that the reader took a command: that tells something of a transaction
+-- command
+abbrev pub view_taken : ReaderCommand → View → View
+view_taken command before =
+    elim (transaction_of command) [
+      | Some transaction ↦ reader_view.taken before
+      | None ↦ before
+    ]
+
+-- the view behind an answer that takes a command, which the controller heard or didn't hear
+abbrev pub view_heard : Bool → ReaderCommand → View → View
+view_heard heard command before = if heard then view_taken command before else before
+
+-- The reader acknowledges, and by that takes the command; the controller may hear that. While the
+-- reader holds something, ACK is no answer to POLL.
+pub record AckStep (facts : Facts) (command : ReaderCommand) (heard : Bool)
+    (before after : ReaderState) (gains : Gains) : Type 0 where
+  pub poll : is_poll command && before.holds ≡ false
+  pub to : after ≡ record (take facts command before) {
+    view = view_heard heard command before.view;
+  }
+  pub gained : gains ≡ device_gains 0 (sold facts command before)
+
+-- the state of the reader once a reply is read: behind a restart it is in its power-on state, and
+-- holds nothing; the controller doesn't know of that yet
+abbrev pub read : Reading → ReaderState → ReaderState
+read Plain before = before
+read Restart before = record before { device = device.Inactive; holds = false }
+
+-- the command that the reader takes by a reply: none where the reply says that it came out of
+-- sequence
+abbrev pub taken : ReaderCommand → Reply → Option ReaderCommand
+taken command reply = if tells_out_of_sequence reply then None else Some command
+
+-- the state behind taking it, if it is taken, and what that adds to the reader's sold
+abbrev pub take_any : Facts → Option ReaderCommand → ReaderState → ReaderState
+take_any facts None before = before
+take_any facts (Some command) before = take facts command before
+
+abbrev pub sold_any : Facts → Option ReaderCommand → ReaderState → ℕ
+sold_any facts None before = 0
+sold_any facts (Some command) before = sold facts command before
+
+-- the state before the messages of a reply
+abbrev pub before_messages : Facts → ReaderCommand → Reply → Reading → ReaderState → ReaderState
+before_messages facts command reply reading before =
+    take_any facts (taken command reply) (read reading before)
+
+-- whether a reset message is owed where a command is taken, if one is: behind RESET it is
+abbrev pub owes_reset : Facts → Option ReaderCommand → Bool
+owes_reset facts command = resets (effect_of_own command) || facts.past.reset_owed
+
+-- the last transaction that the reader took where a command is taken, if one is
+abbrev pub last_transaction : Facts → Option ReaderCommand → Option Transaction
+last_transaction facts command = or_else (own_transaction command) facts.taken
+
+-- The reader replies with data, which is read as plain or as telling of a restart. If it takes the
+-- command by that, the command has its effect first. Then come the messages: behind those that it
+-- holds stand the new ones, each of which has its effect. They are valued by the reply's own config
+-- message, if it has one; a sale is not. A transaction command that is taken is already the last
+-- one, and behind RESET a reset message is owed.
+pub record ReplyStep (facts : Facts) (command : ReaderCommand) (reply : Reply)
+    (reading : Reading) (before after : ReaderState) (gains : Gains) : Type 0 where
+  pub news : List ReaderReport
+  pub tells : Tells (is_poll command) reading (owes_reset facts (taken command reply))
+      (held (before_messages facts command reply reading before).holds facts.past.kept)
+      (parts_of reply) news
+  pub told : all_told (last_transaction facts (taken command reply)) news
+      (before_messages facts command reply reading before).device ≡ Some after.device
+  pub view : after.view ≡ before.view
+  pub holds : after.holds ≡ holds_behind (kept_of (parts_of reply))
+      (before_messages facts command reply reading before).holds
+  pub gained : gains ≡ device_gains
+      (all_approved (or_else (last_said config_in (messages_of reply)) facts.config) news)
+      (sold_any facts (taken command reply) (read reading before))
+
+-- the view behind hearing that the reply's command was taken, if it was
+abbrev pub view_answered : Option ReaderCommand → View → View
+view_answered None before = before
+view_answered (Some command) before = view_taken command before
+
+-- The controller acknowledges a reply: it has heard that the reader took the command, and then the
+-- messages in order. The reader may hear that.
+pub record VmcAckStep (facts : Facts) (command : ReaderCommand) (reply : Reply) (heard : Bool)
+    (before after : ReaderState) (gains : Gains) : Type 0 where
+  pub to : after ≡ record {
+    device = before.device;
+    view = all_heard (messages_of reply) (view_answered (taken command reply) before.view);
+    holds = holds_acked heard (kept_of (parts_of reply)) before.holds;
+  }
+  pub gained : gains ≡ controller_gains
+      (all_approved_to facts.config (view_answered (taken command reply) before.view)
+      (messages_of reply)) 0
+
+-- a step by a command to this reader; a command to another device changes nothing
+abbrev pub ForOwn : Option ReaderCommand
+    → (ReaderCommand → ReaderState → ReaderState → Gains → Type 0)
+    → ReaderState → ReaderState → Gains → Type 0
+ForOwn None Step = Stays
+ForOwn (Some command) Step = Step command
+
+-- A step of a reader and the controller, behind acts that leave these facts. Whether the act was
+-- heard matters for an ACK alone, of either side, and the reading for a reply.
+abbrev pub ReaderStep : ReaderUnit → Facts → Act → Bool → Reading → ReaderState → ReaderState
+    → Gains → Type 0
+ReaderStep unit facts (acts.Ask command) heard reading =
+    ForOwn (own unit command) (AskStep facts)
+ReaderStep unit facts (acts.Ack command) heard reading =
+    ForOwn (own unit command) (λ c. AckStep facts c heard)
+ReaderStep unit facts (acts.Reply command reply) heard reading =
+    ForOwn (own unit command) (λ c. ReplyStep facts c reply reading)
+ReaderStep unit facts (acts.VmcAck command reply) heard reading =
+    ForOwn (own unit command) (λ c. VmcAckStep facts c reply heard)
+ReaderStep unit facts (acts.Break length) heard reading =
+    λ before after gains. (after ≡ power_on) × (gains ≡ no_gains)
+-- NAK, RET, repeats and foreign traffic change nothing
+ReaderStep unit facts (acts.Nak command) heard reading = Stays
+ReaderStep unit facts (acts.VmcNak command reply) heard reading = Stays
+ReaderStep unit facts (acts.VmcRet command reply) heard reading = Stays
+ReaderStep unit facts (acts.Repeat command reply) heard reading = Stays
+ReaderStep unit facts acts.Foreign heard reading = Stays

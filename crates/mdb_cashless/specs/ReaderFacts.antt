@@ -1,0 +1,104 @@
+-- What is known of a reader behind a list of acts, the newest first (this profile).
+use Rattle.std.specs.Prelude.{ℕ, Bool, List, [], ◌∷◌, Option, Some, None, unwrap_or, if◌then◌else◌, map, ◌||◌}
+use Rattle.mdb_msgs.specs.declared.command.Command.{Command}
+use Rattle.mdb_msgs.specs.declared.command.ReaderCommand.{ReaderCommand}
+use Rattle.mdb_msgs.specs.declared.command.ReaderCommand.TheVariants as reader
+use Rattle.mdb_msgs.specs.declared.command.ReaderUnit.{ReaderUnit}
+use Rattle.mdb_msgs.specs.declared.reply.reader.ReaderMsg.{ReaderMsg}
+use Rattle.mdb_bus.specs.declared.act.Act.{Act}
+use Rattle.mdb_bus.specs.declared.act.Act.TheVariants as acts
+use Rattle.mdb_cash.specs.declared.kept.Part.{Part}
+use Rattle.mdb_cash.specs.declared.past.Effect.{Effect}
+use Rattle.mdb_cash.specs.declared.past.Effect.TheVariants as effects
+use Rattle.mdb_cash.specs.Past.{PastFacts, last_told, or_else, past_of, powers_on, taken_by}
+use Rattle.mdb_cashless.specs.declared.reader.report.ReaderConfig.{ReaderConfig}
+use Rattle.mdb_cashless.specs.declared.reader.report.ReaderReport.{ReaderReport}
+use Rattle.mdb_cashless.specs.declared.reader.transaction.Transaction.{Transaction}
+use Rattle.mdb_cashless.specs.ReaderMessages.{amount_in, begin_session, config_in, last_said, messages_of, part_of}
+use Rattle.mdb_cashless.specs.Transactions.{transaction_of}
+use Rattle.mdb_cashless.specs.Units.{own}
+
+-- the messages of a reply, if it is this reader's
+abbrev pub own_messages : ReaderUnit → Command → List ReaderMsg → List ReaderMsg
+own_messages unit command messages =
+    elim (own unit command) [ Some c ↦ messages | None ↦ [] ]
+
+-- the messages that the reader tells by an act, heard or not
+abbrev pub messages_by : ReaderUnit → Act → List ReaderMsg
+messages_by unit (acts.Reply command reply) = own_messages unit command (messages_of reply)
+messages_by unit act = []
+
+-- the last config message and the last amount of a message 05 that the reader tells by an act
+abbrev pub config_by : ReaderUnit → Act → Option ReaderConfig
+config_by unit act = last_said config_in (messages_by unit act)
+
+abbrev pub amount_by : ReaderUnit → Act → Option ℕ
+amount_by unit act = last_said amount_in (messages_by unit act)
+
+-- what they are to the reader that keeps some of them
+abbrev pub parts_by : ReaderUnit → Act → List (Part ReaderReport)
+parts_by unit act = map part_of (messages_by unit act)
+
+-- What a command is to the reader that takes it: its RESET, or nothing that counts for what it keeps.
+abbrev pub effect_of_own : Option ReaderCommand → Effect
+effect_of_own (Some reader.Reset) = effects.Reset
+effect_of_own command = effects.Other
+
+abbrev pub effect_of : ReaderUnit → Command → Effect
+effect_of unit command = effect_of_own (own unit command)
+
+-- what a command is to this reader, if there is one
+abbrev pub own_of : ReaderUnit → Option Command → Option ReaderCommand
+own_of unit None = None
+own_of unit (Some command) = own unit command
+
+-- the transaction command to this reader that a command is
+abbrev pub own_transaction : Option ReaderCommand → Option Transaction
+own_transaction None = None
+own_transaction (Some command) = transaction_of command
+
+-- the transaction command that the controller sends by an act, and that the reader takes by it
+abbrev pub asked_by : ReaderUnit → Act → Option Transaction
+asked_by unit (acts.Ask command) = own_transaction (own unit command)
+asked_by unit act = None
+
+abbrev pub transaction_taken_by : ReaderUnit → Act → Option Transaction
+transaction_taken_by unit act = own_transaction (own_of unit (taken_by act))
+
+-- Whether there is no last transaction behind an act: behind a break, a RESET that the reader takes,
+-- and a reply that begins a session, even if that reply takes a transaction command.
+abbrev pub ends_transactions : ReaderUnit → Act → Bool
+ends_transactions unit act =
+    powers_on (effect_of unit) act || begin_session (messages_by unit act)
+
+-- the last transaction that the reader took
+abbrev pub last_taken : ReaderUnit → List Act → Option Transaction
+last_taken unit [] = None
+last_taken unit (act ∷ acts) =
+    if ends_transactions unit act then None
+    else or_else (transaction_taken_by unit act) (last_taken unit acts)
+
+-- The facts. Breaks and RESETs leave the config message, the last transaction command sent, and the
+-- amount.
+pub record Facts : Type 0 where
+  -- the last config message, of the last reply that has one
+  pub config : Option ReaderConfig
+  -- the last transaction command that the controller sent
+  pub asked : Option Transaction
+  -- the last transaction that the reader took
+  pub taken : Option Transaction
+  -- the amount of the last message 05, of the last reply that has one; 0 where there was none
+  pub amount : ℕ
+  -- the reset message, and the last kept list; a reader has no types that could be enabled
+  pub past : PastFacts ReaderReport
+
+-- the facts behind acts
+abbrev pub facts_of : ReaderUnit → List Act → Facts
+facts_of unit acts =
+    record {
+      config = last_told (config_by unit) acts;
+      asked = last_told (asked_by unit) acts;
+      taken = last_taken unit acts;
+      amount = unwrap_or (last_told (amount_by unit) acts) 0;
+      past = past_of (effect_of unit) (parts_by unit) acts;
+    }

@@ -1,0 +1,16 @@
+//! What a cashless reader and the controller may do, and the money that moves by it.
+//!
+//! [`Reader`] is the [`Pair`](mdb_cash::Pair) of a cashless reader: at 10H, or at 60H. Nothing here
+//! takes memory.
+#![tactic(auto)]
+
+pub mod laws;
+mod reader;
+
+pub use reader::Reader;
+pub use reader::device::{DeviceState, Place};
+pub use reader::facts::ReaderFacts;
+pub use reader::report::{ReaderConfig, ReaderReport};
+pub use reader::state::ReaderState;
+pub use reader::transaction::Transaction;
+pub use reader::view::View;

@@ -1,0 +1,103 @@
+//! A cashless reader and the controller.
+
+ghost use Rattle.std.specs.Prelude.{◌≡◌, ◌<◌, List, [], ◌∷◌};
+ghost use Rattle.mdb_bus.specs.declared.act.Act.{Act};
+ghost use Rattle.mdb_cashless.specs.Reader as spec;
+ghost use Rattle.mdb_cashless.specs.ReaderCodes as codes;
+ghost use Rattle.mdb_cashless.specs.ReaderFacts.{facts_of};
+ghost use Rattle.mdb_cashless.specs.ReaderValues.{facts_in};
+ghost use Rattle.mdb_cashless.specs.ReaderWays as ways;
+ghost use Rattle.mdb_cashless.specs.Units as units;
+
+mod answers;
+pub(crate) mod device;
+pub(crate) mod facts;
+pub(crate) mod report;
+pub(crate) mod state;
+mod steps;
+mod taking;
+pub(crate) mod transaction;
+mod unit;
+mod values;
+pub(crate) mod view;
+
+use facts::ReaderFacts;
+use mdb_bus::Act;
+use mdb_cash::{Gains, Pair, Reading};
+use state::ReaderState;
+use steps::{concerns, step};
+use unit::unit_of;
+
+/// A cashless reader and the controller's dealings with it (MDB/ICP 4.3, cashless device). `UNIT`
+/// says which: 0 is the reader at 10H, and any other number that at 60H. Its accounts are approved
+/// and sold.
+pub struct Reader<const UNIT: usize>;
+
+impl<const UNIT: usize> Pair for Reader<UNIT> {
+    const CODES: usize = 176;
+
+    ghost CODES = { 176 };
+
+    type Facts = ReaderFacts;
+
+    type State = ReaderState;
+
+    ghost device = { units.device_of_unit (units.unit_of UNIT) };
+
+    ghost code_of = { codes.code_of };
+
+    ghost first = { spec.power_on };
+
+    ghost stands_for = { λ facts acts. facts_in facts ≡ facts_of (units.unit_of UNIT) acts };
+
+    ghost may_step = { λ acts. spec.ReaderStep (units.unit_of UNIT)
+        (facts_of (units.unit_of UNIT) acts) };
+
+    fn start() -> usize {
+        ReaderState::power_on().code()
+    }
+
+    fn facts_start() -> ReaderFacts {
+        ReaderFacts::start()
+    }
+
+    fn learn(facts: &mut ReaderFacts, act: &Act) {
+        facts.learn(unit_of(UNIT), act);
+    }
+
+    fn concerns(act: &Act) -> bool {
+        concerns(unit_of(UNIT), act)
+    }
+
+    fn code(state: ReaderState) -> usize {
+        state.code()
+    }
+
+    fn state(code: usize) -> ReaderState {
+        ReaderState::at(code)
+    }
+
+    fn outcome(
+        facts: &ReaderFacts,
+        act: &Act,
+        heard: bool,
+        reading: Reading,
+        before: ReaderState,
+    ) -> Option<(ReaderState, Gains)> {
+        step(unit_of(UNIT), facts, act, heard, reading, before)
+    }
+
+    ghost apart = { codes.apart };
+
+    ghost below = { codes.below };
+
+    ghost whole = { codes.whole };
+
+    ghost hearing = { λ acts. ways.hearing (units.unit_of UNIT) (facts_of (units.unit_of UNIT) acts) };
+
+    ghost readings = { λ acts. ways.readings (units.unit_of UNIT)
+        (facts_of (units.unit_of UNIT) acts) };
+
+    ghost elsewhere = { λ acts. ways.elsewhere (units.unit_of UNIT)
+        (facts_of (units.unit_of UNIT) acts) };
+}

@@ -1,0 +1,157 @@
+//! What is known of a reader behind the acts so far.
+
+ghost use Rattle.std.specs.Prelude.{◌≡◌, List, [], ◌∷◌, Some};
+ghost use Rattle.mdb_cashless.specs.ReaderFacts.{effect_of_own};
+ghost use Rattle.mdb_cashless.specs.ReaderValues as values;
+
+use super::report::{
+    ReaderConfig, ReaderReport, begin_session, last_amount, last_config, messages_of, summary_of,
+};
+use super::transaction::{Transaction, transaction_of};
+use super::unit::own;
+use mdb_bus::Act;
+use mdb_cash::laws::what_counts_goes_on_act_by_act;
+use mdb_cash::past::{Effect, Past, tells_out_of_sequence};
+use mdb_msgs::{Command, ReaderCommand, ReaderMsg, ReaderUnit, Reply};
+
+/// What counts of the acts so far for a reader (this profile): a running value, which doesn't grow
+/// with them.
+#[derive(Drop)]
+pub struct ReaderFacts {
+    /// The last config message.
+    pub(crate) config: Option<ReaderConfig>,
+    /// The last transaction command that the controller sent.
+    pub(crate) asked: Option<Transaction>,
+    /// The last transaction that the reader took.
+    pub(crate) taken: Option<Transaction>,
+    /// The amount of the last approval, in units of the scale factor.
+    pub(crate) amount: u16,
+    /// The reset message, and the last kept list.
+    pub(crate) past: Past<ReaderReport, 35>,
+}
+
+impl ReaderFacts {
+    ghost use Rattle.std.specs.Prelude.{◌≤◌, length};
+    ghost use Rattle.mdb_msgs.specs.declared.command.ReaderUnit.{ReaderUnit};
+    ghost use Rattle.mdb_bus.specs.declared.act.Act.{Act};
+    ghost use Rattle.mdb_bus.specs.declared.act.Act.TheVariants as acts;
+    ghost use Rattle.mdb_cashless.specs.ReaderFacts.{facts_of};
+    ghost use Rattle.mdb_cashless.specs.ReaderValues.{facts_in, facts_with, powered, taken, told};
+
+    /// The facts behind no act.
+    pub(crate) fn start() -> ReaderFacts
+        ensures { (unit : ReaderUnit) → facts_in result ≡ facts_of unit [] }
+    {
+        ReaderFacts {
+            config: None,
+            asked: None,
+            taken: None,
+            amount: 0,
+            past: Past::start(),
+        }
+    }
+
+    /// Takes one act more into the facts.
+    pub(crate) fn learn(&mut self, unit: ReaderUnit, act: &Act)
+        ensures { (acts : List Act) → facts_in self.old ≡ facts_of unit acts
+            → facts_in self.new ≡ facts_of unit (act.now ∷ acts) }
+    {
+        what_counts_goes_on_act_by_act::<ReaderReport>();
+        self.note(unit, act);
+    }
+
+    /// Notes what an act tells.
+    fn note(&mut self, unit: ReaderUnit, act: &Act)
+        ensures { facts_in self.new ≡ facts_with unit act.now (facts_in self.old) }
+    {
+        match act {
+            Act::Ask(command) => self.ask(unit, command),
+            Act::Ack(command) => self.acknowledge(unit, command),
+            Act::Reply(command, reply) => self.reply(unit, command, reply),
+            Act::Break(_) => self.power_on(),
+            _ => {}
+        }
+    }
+
+    /// The controller asks.
+    fn ask(&mut self, unit: ReaderUnit, command: &Command)
+        ensures { facts_in self.new
+            ≡ facts_with unit (acts.Ask command.now) (facts_in self.old) }
+    {
+        if let Some(command) = own(unit, command) {
+            self.asked = transaction_of(command).or(self.asked);
+        }
+    }
+
+    /// A device acknowledges.
+    fn acknowledge(&mut self, unit: ReaderUnit, command: &Command)
+        ensures { facts_in self.new
+            ≡ facts_with unit (acts.Ack command.now) (facts_in self.old) }
+    {
+        if let Some(command) = own(unit, command) {
+            self.take(command);
+        }
+    }
+
+    /// The reader takes a command.
+    fn take(&mut self, command: ReaderCommand)
+        ensures { facts_in self.new ≡ taken (Some command) (facts_in self.old) }
+    {
+        self.past.take(effect_of(command));
+        self.taken = last_behind(command, self.taken);
+    }
+
+    /// All devices are put into their power-on states.
+    fn power_on(&mut self)
+        ensures { facts_in self.new ≡ powered (facts_in self.old) }
+    {
+        self.past.power_on();
+        self.taken = None;
+    }
+
+    /// A device replies.
+    fn reply(&mut self, unit: ReaderUnit, command: &Command, reply: &Reply)
+        ensures { facts_in self.new
+            ≡ facts_with unit (acts.Reply command.now reply.now) (facts_in self.old) }
+    {
+        if let Some(command) = own(unit, command) {
+            if !tells_out_of_sequence(reply) {
+                self.take(command);
+            }
+            self.note_messages(messages_of(reply).as_slice());
+        }
+    }
+
+    /// Notes what the messages of a reply tell.
+    fn note_messages(&mut self, messages: &[ReaderMsg])
+        requires { length messages.now ≤ 35 }
+        ensures { facts_in self.new ≡ told messages.now (facts_in self.old) }
+    {
+        self.config = last_config(messages).or(self.config);
+        self.amount = last_amount(messages).unwrap_or(self.amount);
+        if begin_session(messages) {
+            self.taken = None;
+        }
+        self.past.keep(summary_of(messages));
+    }
+}
+
+/// What a command is to the reader that takes it.
+fn effect_of(command: ReaderCommand) -> Effect
+    ensures { result ≡ effect_of_own (Some command) }
+{
+    match command {
+        ReaderCommand::Reset => Effect::Reset,
+        _ => Effect::Other,
+    }
+}
+
+/// The last transaction behind a command that is taken.
+fn last_behind(command: ReaderCommand, last: Option<Transaction>) -> Option<Transaction>
+    ensures { result ≡ values.last_behind command last }
+{
+    match command {
+        ReaderCommand::Reset => None,
+        _ => transaction_of(command).or(last),
+    }
+}

@@ -1,0 +1,53 @@
+//! The states of a reader and the controller.
+
+ghost use Rattle.std.specs.Prelude.{◌≡◌, ◌<◌};
+
+use super::device::DeviceState;
+use super::view::View;
+
+/// A state of a cashless reader and the controller's dealings with it (this profile).
+#[derive(Clone, Copy, PartialEq, Eq, Debug)]
+pub struct ReaderState {
+    /// The reader.
+    pub device: DeviceState,
+    /// The controller's view of it.
+    pub view: View,
+    /// Whether the reader holds kept messages.
+    pub holds: bool,
+}
+
+impl ReaderState {
+    ghost use Rattle.mdb_cashless.specs.Reader as spec;
+    ghost use Rattle.mdb_cashless.specs.ReaderCodes.{code_of};
+
+    /// The state at power-on.
+    pub(crate) fn power_on() -> ReaderState
+        ensures { result ≡ spec.power_on }
+    {
+        ReaderState {
+            device: DeviceState::Inactive,
+            view: View::NoSession,
+            holds: false,
+        }
+    }
+
+    /// Its code.
+    pub(crate) fn code(self) -> usize
+        ensures code { result ≡ code_of self }
+        ensures below { result < 176 }
+    {
+        16 * self.device.number() + 2 * self.view.number() + usize::from(self.holds)
+    }
+
+    /// The state of a code.
+    pub(crate) fn at(code: usize) -> ReaderState
+        requires { code < 176 }
+        ensures { code_of result ≡ code }
+    {
+        ReaderState {
+            device: DeviceState::at(code / 16),
+            view: View::at(code % 16 / 2),
+            holds: code % 2 == 1,
+        }
+    }
+}

@@ -1,0 +1,158 @@
+//! The steps of a reader and the controller.
+
+ghost use Rattle.std.specs.Prelude.{◌≡◌, ◌≤◌, ◌↔◌, Bool, IfSome};
+ghost use Rattle.std.specs.Bool.{OnFalse, OnTrue};
+ghost use Rattle.mdb_cash.specs.declared.gains.Gains.{Gains};
+ghost use Rattle.mdb_cash.specs.declared.kept.Reading.{Reading};
+ghost use Rattle.mdb_cash.specs.Gains.{IsSmall, no_gains};
+ghost use Rattle.mdb_cash.specs.Pair.{IsActOf, IsOutcome};
+ghost use Rattle.mdb_cashless.specs.declared.reader.state.ReaderState.{ReaderState};
+ghost use Rattle.mdb_cashless.specs.ReaderFacts.{Facts};
+ghost use Rattle.mdb_cashless.specs.Units.{device_of_unit};
+ghost use Rattle.mdb_cashless.specs.Reader as spec;
+ghost use Rattle.mdb_cashless.specs.ReaderValues.{changes_view, facts_in};
+
+use super::answers::{answer, vmc_ack};
+use super::facts::ReaderFacts;
+use super::state::ReaderState;
+use super::taking::{is_poll, sold, take, view_heard};
+use super::transaction::transaction_of;
+use super::unit::own;
+use super::values::value;
+use super::view::View;
+use mdb_bus::Act;
+use mdb_cash::{Gains, Reading};
+use mdb_msgs::{ReaderCommand, ReaderUnit};
+
+/// The step by an act that was heard or not, in a reading, from a state: the state behind it, and
+/// its gains. `None` where there is no such step.
+pub(crate) fn step(
+    unit: ReaderUnit,
+    facts: &ReaderFacts,
+    act: &Act,
+    heard: bool,
+    reading: Reading,
+    before: ReaderState,
+) -> Option<(ReaderState, Gains)>
+    ensures outcome { IsOutcome
+        (spec.ReaderStep unit (facts_in facts.now) act.now heard reading before) result }
+    ensures small { IfSome result (λ outcome. IsSmall outcome.1) }
+{
+    let stays = (before, Gains::none());
+    match act {
+        Act::Ask(command) => match own(unit, command) {
+            Some(command) => ask(facts, command, before),
+            None => Some(stays),
+        },
+        Act::Ack(command) => match own(unit, command) {
+            Some(command) => ack(facts, command, heard, before),
+            None => Some(stays),
+        },
+        Act::Reply(command, reply) => match own(unit, command) {
+            Some(command) => answer(facts, command, reply, reading, before),
+            None => Some(stays),
+        },
+        Act::VmcAck(command, reply) => match own(unit, command) {
+            Some(command) => Some(vmc_ack(facts, command, reply, heard, before)),
+            None => Some(stays),
+        },
+        Act::Break(_) => Some((ReaderState::power_on(), Gains::none())),
+        Act::Nak(_) | Act::VmcNak(..) | Act::VmcRet(..) | Act::Repeat(..) | Act::Foreign => {
+            Some(stays)
+        }
+    }
+}
+
+/// The controller asks.
+fn ask(
+    facts: &ReaderFacts,
+    command: ReaderCommand,
+    before: ReaderState,
+) -> Option<(ReaderState, Gains)>
+    ensures outcome { IsOutcome (spec.AskStep (facts_in facts.now) command before) result }
+    ensures small { IfSome result (λ outcome. IsSmall outcome.1) }
+{
+    let view = asked(facts, command, before.view)?;
+    let after = ReaderState {
+        device: before.device,
+        view,
+        holds: before.holds,
+    };
+    let sold = sold_to(facts, command, before.view);
+    Some((after, Gains::of_controller(0, sold)))
+}
+
+/// The view behind a command that the controller sends; `None` where it may not send it.
+fn asked(facts: &ReaderFacts, command: ReaderCommand, view: View) -> Option<View>
+    ensures { result ≡ spec.asked (facts_in facts.now) command view }
+{
+    match command {
+        ReaderCommand::Reset => Some(View::NoSession),
+        _ => match transaction_of(command) {
+            Some(transaction) => view.sent(facts.asked, transaction),
+            None => Some(view),
+        },
+    }
+}
+
+/// What that adds to the controller's sold.
+fn sold_to(facts: &ReaderFacts, command: ReaderCommand, view: View) -> u64
+    ensures value { result ≡ spec.sold_to (facts_in facts.now) command view }
+    ensures small { result ≤ 16711425 }
+{
+    match transaction_of(command) {
+        Some(transaction) if view.is_sale(transaction) => value(facts.config, facts.amount),
+        _ => 0,
+    }
+}
+
+/// The reader acknowledges.
+fn ack(
+    facts: &ReaderFacts,
+    command: ReaderCommand,
+    heard: bool,
+    before: ReaderState,
+) -> Option<(ReaderState, Gains)>
+    ensures outcome { IsOutcome (spec.AckStep (facts_in facts.now) command heard before) result }
+    ensures small { IfSome result (λ outcome. IsSmall outcome.1) }
+{
+    if is_poll(command) && before.holds {
+        return None;
+    }
+    let taken = take(facts, command, before);
+    let after = ReaderState {
+        device: taken.device,
+        view: view_heard(heard, command, before.view),
+        holds: taken.holds,
+    };
+    let sold = sold(facts, command, before);
+    Some((after, Gains::of_device(0, sold)))
+}
+
+/// Whether an act may change a state or a sum of this reader.
+pub(crate) fn concerns(unit: ReaderUnit, act: &Act) -> bool
+    ensures own { OnTrue result (IsActOf (device_of_unit unit) act.now) }
+    ensures still { OnFalse result ((facts : Facts) (heard : Bool) (reading : Reading)
+        (before after : ReaderState) (gains : Gains)
+        → spec.ReaderStep unit facts act.now heard reading before after gains
+        ↔ (after ≡ before) × (gains ≡ no_gains)) }
+{
+    match act {
+        Act::Ask(command) => match own(unit, command) {
+            Some(command) => changes_view(command),
+            None => false,
+        },
+        Act::Ack(command) | Act::Reply(command, _) | Act::VmcAck(command, _) => {
+            own(unit, command).is_some()
+        }
+        Act::Break(_) => true,
+        Act::Nak(_) | Act::VmcNak(..) | Act::VmcRet(..) | Act::Repeat(..) | Act::Foreign => false,
+    }
+}
+
+/// Whether the controller's view may change behind a command that it sends.
+fn changes_view(command: ReaderCommand) -> bool
+    ensures { result ≡ changes_view command }
+{
+    matches!(command, ReaderCommand::Reset) || transaction_of(command).is_some()
+}

@@ -1,0 +1,76 @@
+//! What taking a command does to a reader and to the controller's view of it.
+
+ghost use Rattle.std.specs.Prelude.{◌≡◌, ◌≤◌};
+ghost use Rattle.mdb_cashless.specs.Reader as spec;
+ghost use Rattle.mdb_cashless.specs.ReaderValues.{facts_in};
+
+use super::facts::ReaderFacts;
+use super::state::ReaderState;
+use super::transaction::{is_again, transaction_of};
+use super::values::value;
+use super::view::View;
+use mdb_msgs::ReaderCommand;
+
+/// The view behind an answer that takes a command, which the controller heard or didn't hear.
+pub(crate) fn view_heard(heard: bool, command: ReaderCommand, view: View) -> View
+    ensures { result ≡ spec.view_heard heard command view }
+{
+    match transaction_of(command) {
+        Some(_) if heard => view.taken(),
+        _ => view,
+    }
+}
+
+/// Whether a command is the last transaction that the reader took, while it still holds what it
+/// told behind that.
+fn is_repeated(facts: &ReaderFacts, command: ReaderCommand, holds: bool) -> bool
+    ensures { result ≡ spec.is_repeated (facts_in facts.now) command holds }
+{
+    match transaction_of(command) {
+        Some(transaction) => holds && is_again(facts.taken, transaction),
+        None => false,
+    }
+}
+
+/// Whether a command that the reader takes ends what it holds.
+fn drops(command: ReaderCommand) -> bool
+    ensures { result ≡ spec.drops command }
+{
+    match command {
+        ReaderCommand::Reset => true,
+        _ => transaction_of(command).is_some(),
+    }
+}
+
+/// The reader takes a command.
+pub(crate) fn take(facts: &ReaderFacts, command: ReaderCommand, before: ReaderState) -> ReaderState
+    ensures { result ≡ spec.take (facts_in facts.now) command before }
+{
+    if is_repeated(facts, command, before.holds) {
+        return before;
+    }
+    ReaderState {
+        device: before.device.behind(command),
+        view: before.view,
+        holds: before.holds && !drops(command),
+    }
+}
+
+/// What that adds to the reader's sold.
+pub(crate) fn sold(facts: &ReaderFacts, command: ReaderCommand, before: ReaderState) -> u64
+    ensures value { result ≡ spec.sold (facts_in facts.now) command before }
+    ensures small { result ≤ 16711425 }
+{
+    if !is_repeated(facts, command, before.holds) && before.device.is_sale(command) {
+        value(facts.config, facts.amount)
+    } else {
+        0
+    }
+}
+
+/// Whether a command is POLL.
+pub(crate) fn is_poll(command: ReaderCommand) -> bool
+    ensures { result ≡ spec.is_poll command }
+{
+    matches!(command, ReaderCommand::Poll)
+}
