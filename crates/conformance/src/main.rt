@@ -10,7 +10,7 @@ use std::io::Write;
 use std::{fs, io};
 
 /// The files of cases, one for each subject.
-const FILES: [&str; 11] = [
+const FILES: [&str; 12] = [
     "rows.cases",
     "times.cases",
     "commands.cases",
@@ -21,6 +21,7 @@ const FILES: [&str; 11] = [
     "order-of-rules.cases",
     "changer.cases",
     "bill.cases",
+    "cashless.cases",
     "worked.cases",
 ];
 

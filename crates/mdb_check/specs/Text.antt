@@ -67,6 +67,10 @@ report_text (Yes report) =
     ++ account_line (codes "coins-in") (get_or report.accounts 0 no_account)
     ++ account_line (codes "bills-in") (get_or report.accounts 1 no_account)
     ++ account_line (codes "paid-out") (get_or report.accounts 2 no_account)
+    ++ account_line (codes "approved") (get_or report.accounts 3 no_account)
+    ++ account_line (codes "sold") (get_or report.accounts 4 no_account)
+    ++ account_line (codes "approved-2") (get_or report.accounts 5 no_account)
+    ++ account_line (codes "sold-2") (get_or report.accounts 6 no_account)
 report_text (No offence) =
     line (codes "verdict no") ++ line (codes "row " ++ decimal offence.row)
     ++ line (codes "rule " ++ rule_word offence.rule)

@@ -16,7 +16,11 @@ const ROWS: &[u8] = b"1000,M,108\n2200,M,008\n4200,S,100\n24200,M,10B\n\
 const REPORT: &[u8] = b"verdict yes\nrows 8\n\
 coins-in device 0..0 controller 0..0 difference 0..0\n\
 bills-in device 0..0 controller 0..0 difference 0..0\n\
-paid-out device 0..0 controller 0..0 difference 0..0\n";
+paid-out device 0..0 controller 0..0 difference 0..0\n\
+approved device 0..0 controller 0..0 difference 0..0\n\
+sold device 0..0 controller 0..0 difference 0..0\n\
+approved-2 device 0..0 controller 0..0 difference 0..0\n\
+sold-2 device 0..0 controller 0..0 difference 0..0\n";
 
 /// `ROWS` up to a reply whose sum is wrong.
 const WRONG_SUM: &[u8] =

@@ -78,7 +78,11 @@ fn write_report<W: Write>(writer: &mut W, report: &Report) -> io::Result<()>
     write_head(writer, report.rows)?;
     write_account(writer, "coins-in", &report.accounts[0])?;
     write_account(writer, "bills-in", &report.accounts[1])?;
-    write_account(writer, "paid-out", &report.accounts[2])
+    write_account(writer, "paid-out", &report.accounts[2])?;
+    write_account(writer, "approved", &report.accounts[3])?;
+    write_account(writer, "sold", &report.accounts[4])?;
+    write_account(writer, "approved-2", &report.accounts[5])?;
+    write_account(writer, "sold-2", &report.accounts[6])
 }
 
 /// Writes the first two lines of a yes.

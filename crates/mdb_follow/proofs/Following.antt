@@ -4,6 +4,7 @@ use Rattle.std.proofs.lemmas.List.{take_all, take_more}
 use Rattle.std.proofs.Math.Seq.{split_at}
 use Rattle.std.specs.Prelude.{Result, Ok, Err, IfErr, IfOk, IsErrAnd, OnErr}
 use Rattle.mdb_words.specs.declared.event.Event.{Event}
+use Rattle.mdb_msgs.specs.declared.command.ReaderUnit.TheVariants.{First, Second}
 use Rattle.mdb_bus.specs.declared.act.Act.{Act}
 use Rattle.mdb_bus.specs.declared.bus.Bus.{Bus}
 use Rattle.mdb_bus.specs.declared.fault.LinkFault.{LinkFault}
@@ -23,12 +24,12 @@ use Rattle.mdb_follow.specs.Ranges.{IsAccount, IsCell, IsRange}
 use Rattle.mdb_follow.specs.Sums.{AccountSums, Sums}
 use Rattle.mdb_follow.specs.Tables.{ArrivesAnywhere}
 use Rattle.mdb_follow.specs.Offences.{HasOffence, IsOffence}
-use Rattle.mdb_follow.specs.Report.{IsReport, report_of}
+use Rattle.mdb_follow.specs.Report.{Accounts, IsReport, listed, report_of}
 use Rattle.mdb_follow.specs.declared.cell.Account.{Account}
 use Rattle.mdb_follow.specs.Runs.{AllSums, IsReached, Run, States}
-use Rattle.mdb_follow.specs.Machines.{EachArrives, BillArrives, ChangerArrives}
-use Rattle.mdb_follow.specs.Offences.{ByBill, ByChanger, NoStep}
-use Rattle.mdb_follow.specs.Sides.{IsBillSide, IsChangerSide}
+use Rattle.mdb_follow.specs.Machines.{EachArrives, BillArrives, ChangerArrives, ReaderArrives}
+use Rattle.mdb_follow.specs.Offences.{ByBill, ByChanger, ByReader, NoStep}
+use Rattle.mdb_follow.specs.Sides.{AreSides}
 use Rattle.mdb_follow.proofs.Reaching.{Joins, SomeArrive, run_of}
 use Rattle.mdb_follow.proofs.Joining.{split}
 
@@ -84,9 +85,24 @@ arrived one rows pieces sums list run =
 pub some-ways : (follower : Follower) (events : List Event) (on : StandsFor follower events)
     → SomeArrive (acts_of on.pieces)
 some-ways follower events on = record {
-  states = record { changer = on.changer.table.some.0; bill = on.bill.table.some.0 };
-  sums = record { changer = on.changer.table.some.1; bill = on.bill.table.some.1 };
-  ways = record { changer = on.changer.table.some.2; bill = on.bill.table.some.2 };
+  states = record {
+    changer = on.sides.changer.table.some.0;
+    bill = on.sides.bill.table.some.0;
+    cashless = on.sides.cashless.table.some.0;
+    cashless2 = on.sides.cashless2.table.some.0;
+  };
+  sums = record {
+    changer = on.sides.changer.table.some.1;
+    bill = on.sides.bill.table.some.1;
+    cashless = on.sides.cashless.table.some.1;
+    cashless2 = on.sides.cashless2.table.some.1;
+  };
+  ways = record {
+    changer = on.sides.changer.table.some.2;
+    bill = on.sides.bill.table.some.2;
+    cashless = on.sides.cashless.table.some.2;
+    cashless2 = on.sides.cashless2.table.some.2;
+  };
 }
 
 -- so its rows are reached
@@ -108,6 +124,13 @@ stuck rule act before (ByChanger none) states sums ways =
 stuck rule act before (ByBill none) states sums ways =
     let way = ways.bill in
     none way.before way.sums_before way.way way.heard way.reading states.bill way.gains way.step
+stuck rule act before (ByReader First none) states sums ways =
+    let way = ways.cashless in
+    none way.before way.sums_before way.way way.heard way.reading states.cashless way.gains way.step
+stuck rule act before (ByReader Second none) states sums ways =
+    let way = ways.cashless2 in
+    none way.before way.sums_before way.way way.heard way.reading states.cashless2 way.gains
+    way.step
 
 -- and rows with such acts aren't reached
 unreached : OneActList → (rows : List Event) (pieces : List Piece) → IsActList pieces rows
@@ -119,38 +142,33 @@ unreached one rows pieces list none reached =
 -- no act ended
 pub stands-still : (old new : Follower) (bus : Bus) (events : List Event) (row : Event)
     (on : StandsFor old events) → GoesOn bus on.pieces row None → new.bus ≡ bus
-    → new.changer ≡ old.changer → new.bill ≡ old.bill → new.rows ≡ old.rows + 1
-    → new.offence ≡ old.offence → StandsFor new (events ++ row ∷ [])
-stands-still old new bus events row on goes same_bus same_changer same_bill more same = record {
+    → new.sides ≡ old.sides → new.rows ≡ old.rows + 1 → new.offence ≡ old.offence
+    → StandsFor new (events ++ row ∷ [])
+stands-still old new bus events row on goes same_bus same_sides more same = record {
   pieces = goes.longer;
   on_bus = subst (λ b. link.StandsFor b goes.longer) (sym same_bus) goes.stands;
   whole = goes.rows ∙ ap (λ rows. rows ++ row ∷ []) on.whole;
   rows = more ∙ ap (λ n. n + 1) on.rows ∙ sym (length-append events (row ∷ []));
   going = same ∙ on.going;
-  changer = subst (IsChangerSide new.changer) (sym goes.acts)
-      (subst (λ side. IsChangerSide side (acts_of on.pieces)) (sym same_changer) on.changer);
-  bill = subst (IsBillSide new.bill) (sym goes.acts)
-      (subst (λ side. IsBillSide side (acts_of on.pieces)) (sym same_bill) on.bill);
+  sides = subst (AreSides new.sides) (sym goes.acts)
+      (subst (λ sides. AreSides sides (acts_of on.pieces)) (sym same_sides) on.sides);
 }
 
 -- an act was followed
 pub stands-on : (old mid new : Follower) (events : List Event) (row : Event) (act : Act)
     (on : StandsFor old events) → GoesOn mid.bus on.pieces row (Some act)
-    → mid.changer ≡ old.changer → mid.bill ≡ old.bill → mid.rows ≡ old.rows
-    → mid.offence ≡ old.offence → HasFollowed mid act new → StandsFor new (events ++ row ∷ [])
-stands-on old mid new events row act on goes same_changer same_bill same_rows same has = record {
+    → mid.sides ≡ old.sides → mid.rows ≡ old.rows → mid.offence ≡ old.offence
+    → HasFollowed mid act new → StandsFor new (events ++ row ∷ [])
+stands-on old mid new events row act on goes same_sides same_rows same has = record {
   pieces = goes.longer;
   on_bus = subst (λ b. link.StandsFor b goes.longer) (sym has.on_bus) goes.stands;
   whole = goes.rows ∙ ap (λ rows. rows ++ row ∷ []) on.whole;
   rows = has.rows ∙ ap (λ n. n + 1) (same_rows ∙ on.rows)
       ∙ sym (length-append events (row ∷ []));
   going = has.going ∙ same ∙ on.going;
-  changer = subst (IsChangerSide new.changer) (sym goes.acts)
-      (has.sides.changer_goes (acts_of on.pieces)
-      (subst (λ side. IsChangerSide side (acts_of on.pieces)) (sym same_changer) on.changer));
-  bill = subst (IsBillSide new.bill) (sym goes.acts)
-      (has.sides.bill_goes (acts_of on.pieces)
-      (subst (λ side. IsBillSide side (acts_of on.pieces)) (sym same_bill) on.bill));
+  sides = subst (AreSides new.sides) (sym goes.acts)
+      (has.sides (acts_of on.pieces)
+      (subst (λ sides. AreSides sides (acts_of on.pieces)) (sym same_sides) on.sides));
 }
 
 -- a row breaks a rule of the link
@@ -180,15 +198,13 @@ link-offence joins old events row on fault offence is impossible number rule bla
 -- a machine has no step by an act
 pub machine-offence : OneActList → Joins → (old mid new : Follower) (events : List Event)
     (row : Event) (act : Act) (offence : Offence) (on : StandsFor old events)
-    → GoesOn mid.bus on.pieces row (Some act) → mid.changer ≡ old.changer → mid.bill ≡ old.bill
-    → mid.rows ≡ old.rows → HasStopped mid act new offence → IsOffence events row offence
-machine-offence one joins old mid new events row act offence on goes same_changer same_bill
-    same_rows has =
+    → GoesOn mid.bus on.pieces row (Some act) → mid.sides ≡ old.sides → mid.rows ≡ old.rows
+    → HasStopped mid act new offence → IsOffence events row offence
+machine-offence one joins old mid new events row act offence on goes same_sides same_rows has =
     let list : IsActList goes.longer (events ++ row ∷ []) =
     list-on mid.bus events row on.pieces (Some act) on.whole goes in
     let none : NoStep offence.rule act (acts_of on.pieces) = has.none (acts_of on.pieces)
-    (subst (λ side. IsChangerSide side (acts_of on.pieces)) (sym same_changer) on.changer)
-    (subst (λ side. IsBillSide side (acts_of on.pieces)) (sym same_bill) on.bill) in
+    (subst (λ sides. AreSides sides (acts_of on.pieces)) (sym same_sides) on.sides) in
     record {
       reached = reached-by joins old events on;
       not_reached = unreached one (events ++ row ∷ []) goes.longer list
@@ -248,7 +264,13 @@ changer-are one joins rows pieces list some = record {
     record some.sums { changer = sums },
     refl,
     run_of joins rows pieces (record some.states { changer = at.state })
-        (record some.sums { changer = sums }) list (record { changer = at.way; bill = some.ways.bill }),
+        (record some.sums { changer = sums }) list
+        (record {
+          changer = at.way;
+          bill = some.ways.bill;
+          cashless = some.ways.cashless;
+          cashless2 = some.ways.cashless2;
+        }),
   );
   lower = λ all run. record {
     state = run.states.changer;
@@ -264,7 +286,13 @@ bill-are one joins rows pieces list some = record {
     record some.sums { bill = sums },
     refl,
     run_of joins rows pieces (record some.states { bill = at.state })
-        (record some.sums { bill = sums }) list (record { changer = some.ways.changer; bill = at.way }),
+        (record some.sums { bill = sums }) list
+        (record {
+          changer = some.ways.changer;
+          bill = at.way;
+          cashless = some.ways.cashless;
+          cashless2 = some.ways.cashless2;
+        }),
   );
   lower = λ all run. record {
     state = run.states.bill;
@@ -272,30 +300,97 @@ bill-are one joins rows pieces list some = record {
   };
 }
 
+cashless-are : OneActList → Joins → (rows : List Event) (pieces : List Piece)
+    → IsActList pieces rows → SomeArrive (acts_of pieces)
+    → AreOf rows (ArrivesAnywhere (ReaderArrives First (acts_of pieces))) (λ sums. sums.cashless)
+cashless-are one joins rows pieces list some = record {
+  lift = λ sums at. (
+    record some.sums { cashless = sums },
+    refl,
+    run_of joins rows pieces (record some.states { cashless = at.state })
+        (record some.sums { cashless = sums }) list
+        (record {
+          changer = some.ways.changer;
+          bill = some.ways.bill;
+          cashless = at.way;
+          cashless2 = some.ways.cashless2;
+        }),
+  );
+  lower = λ all run. record {
+    state = run.states.cashless;
+    way = (arrived one rows pieces all list run).cashless;
+  };
+}
+
+cashless2-are : OneActList → Joins → (rows : List Event) (pieces : List Piece)
+    → IsActList pieces rows → SomeArrive (acts_of pieces)
+    → AreOf rows (ArrivesAnywhere (ReaderArrives Second (acts_of pieces))) (λ sums. sums.cashless2)
+cashless2-are one joins rows pieces list some = record {
+  lift = λ sums at. (
+    record some.sums { cashless2 = sums },
+    refl,
+    run_of joins rows pieces (record some.states { cashless2 = at.state })
+        (record some.sums { cashless2 = sums }) list
+        (record {
+          changer = some.ways.changer;
+          bill = some.ways.bill;
+          cashless = some.ways.cashless;
+          cashless2 = at.way;
+        }),
+  );
+  lower = λ all run. record {
+    state = run.states.cashless2;
+    way = (arrived one rows pieces all list run).cashless2;
+  };
+}
+
+-- the accounts of the sides
+abbrev pub accounts_in : Cell → Cell → Cell → Cell → Accounts
+accounts_in changer bill cashless cashless2 = record {
+  coins_in = changer.first;
+  bills_in = bill.first;
+  paid_out = changer.second;
+  approved = cashless.first;
+  sold = cashless.second;
+  approved2 = cashless2.first;
+  sold2 = cashless2.second;
+}
+
 -- what a follower reports
 pub reported : OneActList → Joins → (follower : Follower) (events : List Event)
-    (report : Report) (changer bill : Cell) (on : StandsFor follower events)
+    (report : Report) (changer bill cashless cashless2 : Cell) (on : StandsFor follower events)
     → IsCell (ArrivesAnywhere (ChangerArrives (acts_of on.pieces))) changer
     → IsCell (ArrivesAnywhere (BillArrives (acts_of on.pieces))) bill
-    → report ≡ report_of follower.rows changer.first bill.first changer.second
+    → IsCell (ArrivesAnywhere (ReaderArrives First (acts_of on.pieces))) cashless
+    → IsCell (ArrivesAnywhere (ReaderArrives Second (acts_of on.pieces))) cashless2
+    → report ≡ report_of follower.rows (listed (accounts_in changer bill cashless cashless2))
     → IsReport events report
-reported one joins follower events report changer bill on of_changer of_bill telling =
+reported one joins follower events report changer bill cashless cashless2 on of_changer of_bill
+    of_cashless of_cashless2 telling =
     let list = list-of follower events on in
     let some = some-ways follower events on in
     let changers = account-of-runs events (ArrivesAnywhere (ChangerArrives (acts_of on.pieces)))
     (λ sums. sums.changer) (changer-are one joins events on.pieces list some) in
     let bills = account-of-runs events (ArrivesAnywhere (BillArrives (acts_of on.pieces)))
     (λ sums. sums.bill) (bill-are one joins events on.pieces list some) in
+    let ones = account-of-runs events (ArrivesAnywhere (ReaderArrives First (acts_of on.pieces)))
+    (λ sums. sums.cashless) (cashless-are one joins events on.pieces list some) in
+    let twos = account-of-runs events (ArrivesAnywhere (ReaderArrives Second (acts_of on.pieces)))
+    (λ sums. sums.cashless2) (cashless2-are one joins events on.pieces list some) in
     record {
       reached = reached-by joins follower events on;
-      coins_in = changer.first;
-      bills_in = bill.first;
-      paid_out = changer.second;
-      in_runs = changers (λ sums. sums.first) changer.first of_changer.first;
-      bill_runs = bills (λ sums. sums.first) bill.first of_bill.first;
-      out_runs = changers (λ sums. sums.second) changer.second of_changer.second;
-      telling = telling
-          ∙ ap (λ rows. report_of rows changer.first bill.first changer.second) on.rows;
+      accounts = accounts_in changer bill cashless cashless2;
+      of_runs = record {
+        coins_in = changers (λ sums. sums.first) changer.first of_changer.first;
+        bills_in = bills (λ sums. sums.first) bill.first of_bill.first;
+        paid_out = changers (λ sums. sums.second) changer.second of_changer.second;
+        approved = ones (λ sums. sums.first) cashless.first of_cashless.first;
+        sold = ones (λ sums. sums.second) cashless.second of_cashless.second;
+        approved2 = twos (λ sums. sums.first) cashless2.first of_cashless2.first;
+        sold2 = twos (λ sums. sums.second) cashless2.second of_cashless2.second;
+      };
+      telling = telling ∙ ap
+          (λ rows. report_of rows (listed (accounts_in changer bill cashless cashless2))) on.rows;
     }
 
 -- a follower has taken so many events

@@ -4,6 +4,7 @@ use Rattle.std.proofs.lemmas.Bool.{cases_eq}
 use Rattle.std.proofs.lemmas.Bool.Decides.{nat_tests}
 use Rattle.mdb_msgs.specs.declared.command.Device.{Device}
 use Rattle.mdb_msgs.specs.declared.command.Device.TheVariants as devices
+use Rattle.mdb_msgs.specs.declared.command.ReaderUnit.TheVariants.{First, Second}
 use Rattle.mdb_bus.specs.declared.act.Act.{Act}
 use Rattle.mdb_bus.specs.declared.act.Act.TheVariants as acts
 use Rattle.mdb_bus.specs.ActLists.{ArePieces, Piece, Whole, AskTail, ReplyTail, RepeatTail, acts_of, events_of}
@@ -15,13 +16,17 @@ use Rattle.mdb_cash.specs.BillFacts as bill_facts
 use Rattle.mdb_cash.specs.Changer.{ChangerStep}
 use Rattle.mdb_cash.specs.Changer as changer
 use Rattle.mdb_cash.specs.ChangerFacts as changer_facts
+use Rattle.mdb_cash.specs.declared.gains.Gains.{Gains}
 use Rattle.mdb_cash.specs.declared.kept.Reading.{Reading}
+use Rattle.mdb_cashless.specs.Reader.{ReaderStep}
+use Rattle.mdb_cashless.specs.Reader as reader
+use Rattle.mdb_cashless.specs.ReaderFacts as reader_facts
 use Rattle.mdb_follow.specs.Arrivals.{Arrives}
 use Rattle.mdb_follow.specs.Sums.{Sums, no_sums}
 use Rattle.mdb_follow.specs.Machines.{EachArrives}
 use Rattle.mdb_follow.specs.Runs.{AllGo, AllSums, Goes, HearSameAcks, IsWay, States, at_power_on, nothing_yet}
-use Rattle.mdb_follow.proofs.Choosing.{AgreeFor, Choices, Follows, chosen, follows_as, merged, merged_agrees}
-use Rattle.mdb_follow.proofs.Machines.{IsMachineOf, Steps, bill_is, changer_is, step_as}
+use Rattle.mdb_follow.proofs.Choosing.{AgreeFor, Choices, Follows, FollowsBy, chosen, follows_as, merged, merged_agrees}
+use Rattle.mdb_follow.proofs.Machines.{IsMachineOf, Steps, bill_is, changer_is, reader_is, step_as}
 
 -- a way of a device goes on by a step
 by_one : {State : Type 0} (Step : Steps State) (first : State) (acts : List Act) (act : Act)
@@ -46,6 +51,8 @@ pub split : (loss : Loss) (pieces : List Piece) (states : States) (sums : AllSum
 split loss [] states sums way = record {
   changer = (ap (λ s. s.changer) way.0, ap (λ s. s.changer) way.1);
   bill = (ap (λ s. s.bill) way.0, ap (λ s. s.bill) way.1);
+  cashless = (ap (λ s. s.cashless) way.0, ap (λ s. s.cashless) way.1);
+  cashless2 = (ap (λ s. s.cashless2) way.0, ap (λ s. s.cashless2) way.1);
 }
 split loss (Whole act events ∷ pieces) states sums way =
     let earlier = split loss pieces way.before way.sums_before way.way in
@@ -56,6 +63,13 @@ split loss (Whole act events ∷ pieces) states sums way =
       bill = by_one (λ acts. BillStep (bill_facts.facts_of acts)) bill.power_on (acts_of pieces) act
           way.heard way.reading way.before.bill states.bill way.sums_before.bill sums.bill
           earlier.bill way.go.bill;
+      cashless = by_one (λ acts. ReaderStep First (reader_facts.facts_of First acts))
+          reader.power_on (acts_of pieces) act way.heard way.reading way.before.cashless
+          states.cashless way.sums_before.cashless sums.cashless earlier.cashless way.go.cashless;
+      cashless2 = by_one (λ acts. ReaderStep Second (reader_facts.facts_of Second acts))
+          reader.power_on (acts_of pieces) act way.heard way.reading way.before.cashless2
+          states.cashless2 way.sums_before.cashless2 sums.cashless2 earlier.cashless2
+          way.go.cashless2;
     }
 split loss (AskTail bytes events ∷ pieces) states sums way = split loss pieces states sums way
 split loss (ReplyTail command bytes events ∷ pieces) states sums way =
@@ -224,46 +238,76 @@ record AllFollow (acts : List Act) (choices : Choices acts) (states : States)
       states.changer sums.changer
   bill : Follows (λ acts. BillStep (bill_facts.facts_of acts)) bill.power_on acts choices
       states.bill sums.bill
+  cashless : Follows (λ acts. ReaderStep First (reader_facts.facts_of First acts)) reader.power_on
+      acts choices states.cashless sums.cashless
+  cashless2 : Follows (λ acts. ReaderStep Second (reader_facts.facts_of Second acts))
+      reader.power_on acts choices states.cashless2 sums.cashless2
 
 -- states and sums, by those of each
 at_start : (states : States) → states.changer ≡ changer.power_on → states.bill ≡ bill.power_on
+    → states.cashless ≡ reader.power_on → states.cashless2 ≡ reader.power_on
     → states ≡ at_power_on
-at_start states one other =
-    let same : record { changer = states.changer; bill = states.bill } ≡ at_power_on =
-    cc (one, other) in
+at_start states c b one two =
+    let same : record states { cashless2 = states.cashless2 } ≡ at_power_on = cc (c, b, one, two) in
     same
 
-at_nothing : (sums : AllSums) → sums.changer ≡ no_sums → sums.bill ≡ no_sums → sums ≡ nothing_yet
-at_nothing sums one other =
-    let same : record { changer = sums.changer; bill = sums.bill } ≡ nothing_yet =
-    cc (one, other) in
+at_nothing : (sums : AllSums) → sums.changer ≡ no_sums → sums.bill ≡ no_sums
+    → sums.cashless ≡ no_sums → sums.cashless2 ≡ no_sums → sums ≡ nothing_yet
+at_nothing sums c b one two =
+    let same : record sums { cashless2 = sums.cashless2 } ≡ nothing_yet = cc (c, b, one, two) in
     same
+
+-- the last step of a way
+gone : {State : Type 0} {Before : State → Sums → Type 0}
+    {Step : State → State → Gains → Type 0} {state : State} {sums : Sums}
+    → (way : FollowsBy Before Step state sums)
+    → Goes Step way.before state way.sums_before sums
+gone way = record { gains = way.gains; step = way.step; adds = way.adds }
+
+-- where the ways are before the last act
+abbrev states_before : {act : Act} {acts : List Act} {choices : Choices (act ∷ acts)}
+    {states : States} {sums : AllSums} → AllFollow (act ∷ acts) choices states sums → States
+states_before ways = record {
+  changer = ways.changer.before;
+  bill = ways.bill.before;
+  cashless = ways.cashless.before;
+  cashless2 = ways.cashless2.before;
+}
+
+abbrev sums_before : {act : Act} {acts : List Act} {choices : Choices (act ∷ acts)}
+    {states : States} {sums : AllSums} → AllFollow (act ∷ acts) choices states sums → AllSums
+sums_before ways = record {
+  changer = ways.changer.sums_before;
+  bill = ways.bill.sums_before;
+  cashless = ways.cashless.sums_before;
+  cashless2 = ways.cashless2.sums_before;
+}
 
 -- then there is a way of all, under the loss of the choices
 way_of : (loss : Loss) (pieces : List Piece) (choices : Choices (acts_of pieces)) (states : States)
     (sums : AllSums) → AllFollow (acts_of pieces) (lost loss pieces choices) states sums
     → IsWay loss pieces states sums
 way_of loss [] choices states sums ways = (
-  at_start states ways.changer.0 ways.bill.0,
-  at_nothing sums ways.changer.1 ways.bill.1,
+  at_start states ways.changer.0 ways.bill.0 ways.cashless.0 ways.cashless2.0,
+  at_nothing sums ways.changer.1 ways.bill.1 ways.cashless.1 ways.cashless2.1,
 )
 way_of loss (Whole act events ∷ pieces) choices states sums ways = record {
   heard = heard_in loss act (length (events_of pieces)) (length events);
   reading = choices.reading;
-  before = record { changer = ways.changer.before; bill = ways.bill.before };
-  sums_before = record { changer = ways.changer.sums_before; bill = ways.bill.sums_before };
-  way = way_of loss pieces choices.before
-      (record { changer = ways.changer.before; bill = ways.bill.before })
-      (record { changer = ways.changer.sums_before; bill = ways.bill.sums_before })
-      (record { changer = ways.changer.way; bill = ways.bill.way });
+  before = states_before ways;
+  sums_before = sums_before ways;
+  way = way_of loss pieces choices.before (states_before ways) (sums_before ways) (record {
+    changer = ways.changer.way;
+    bill = ways.bill.way;
+    cashless = ways.cashless.way;
+    cashless2 = ways.cashless2.way;
+  });
   as_lost = heard_told loss act (length (events_of pieces)) (length events);
   go = record {
-    changer = record {
-      gains = ways.changer.gains;
-      step = ways.changer.step;
-      adds = ways.changer.adds;
-    };
-    bill = record { gains = ways.bill.gains; step = ways.bill.step; adds = ways.bill.adds };
+    changer = gone ways.changer;
+    bill = gone ways.bill;
+    cashless = gone ways.cashless;
+    cashless2 = gone ways.cashless2;
   };
 }
 way_of loss (AskTail bytes events ∷ pieces) choices states sums ways =
@@ -273,12 +317,12 @@ way_of loss (ReplyTail command bytes events ∷ pieces) choices states sums ways
 way_of loss (RepeatTail command reply words events ∷ pieces) choices states sums ways =
     way_of loss pieces choices states sums ways
 
--- choices of each device, by the devices; those that aren't followed have no say
-by_device : {T : Type 0} → T → T → Device → T
-by_device changer bill devices.Changer = changer
-by_device changer bill devices.Bill = bill
-by_device changer bill devices.Cashless = changer
-by_device changer bill devices.Cashless2 = changer
+-- choices of each device, by the devices
+by_device : {T : Type 0} → T → T → T → T → Device → T
+by_device changer bill cashless cashless2 devices.Changer = changer
+by_device changer bill cashless cashless2 devices.Bill = bill
+by_device changer bill cashless cashless2 devices.Cashless = cashless
+by_device changer bill cashless cashless2 devices.Cashless2 = cashless2
 
 -- a device's way is one with the choices of all, as a loss that agrees with them has it
 as_merged : {device : Device} {State : Type 0} {Step : Steps State} → IsMachineOf device Step
@@ -306,7 +350,11 @@ joined law pieces states sums are ways =
     (acts_of pieces) states.changer sums.changer ways.changer in
     let b = chosen (λ acts. BillStep (bill_facts.facts_of acts)) bill.power_on (acts_of pieces)
     states.bill sums.bill ways.bill in
-    let all : Device → Choices (acts_of pieces) = by_device c.0 b.0 in
+    let one = chosen (λ acts. ReaderStep First (reader_facts.facts_of First acts)) reader.power_on
+    (acts_of pieces) states.cashless sums.cashless ways.cashless in
+    let two = chosen (λ acts. ReaderStep Second (reader_facts.facts_of Second acts)) reader.power_on
+    (acts_of pieces) states.cashless2 sums.cashless2 ways.cashless2 in
+    let all : Device → Choices (acts_of pieces) = by_device c.0 b.0 one.0 two.0 in
     let choices = merged (acts_of pieces) all in
     let found = law pieces are (chosen_at pieces choices) in
     let agree = agrees (chosen_at pieces choices) found.0 pieces choices are
@@ -317,6 +365,10 @@ joined law pieces states sums are ways =
         changer = as_merged changer_is changer.power_on found.0 pieces all agree states.changer
             sums.changer c.1;
         bill = as_merged bill_is bill.power_on found.0 pieces all agree states.bill sums.bill b.1;
+        cashless = as_merged (reader_is First) reader.power_on found.0 pieces all agree
+            states.cashless sums.cashless one.1;
+        cashless2 = as_merged (reader_is Second) reader.power_on found.0 pieces all agree
+            states.cashless2 sums.cashless2 two.1;
       }),
     )
 
@@ -343,6 +395,10 @@ all_go_as acts act heard told reading same before after sums_before sums go = re
       sums_before.changer sums.changer go.changer;
   bill = goes_as bill_is acts act heard told reading same before.bill after.bill sums_before.bill
       sums.bill go.bill;
+  cashless = goes_as (reader_is First) acts act heard told reading same before.cashless
+      after.cashless sums_before.cashless sums.cashless go.cashless;
+  cashless2 = goes_as (reader_is Second) acts act heard told reading same before.cashless2
+      after.cashless2 sums_before.cashless2 sums.cashless2 go.cashless2;
 }
 
 -- where the same ACKs were heard, a way under one loss is one under the other

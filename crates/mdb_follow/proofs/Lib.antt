@@ -11,3 +11,4 @@ pub mod Places
 pub mod Reaching
 pub mod TwoSteps
 pub mod Ways
+pub mod Within

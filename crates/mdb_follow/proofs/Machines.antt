@@ -4,6 +4,7 @@ use Rattle.std.proofs.lemmas.Bool.{cases_eq}
 use Rattle.mdb_msgs.specs.Commands.{device_of}
 use Rattle.mdb_msgs.specs.declared.command.Device.{Device}
 use Rattle.mdb_msgs.specs.declared.command.Device.TheVariants as devices
+use Rattle.mdb_msgs.specs.declared.command.ReaderUnit.{ReaderUnit}
 use Rattle.mdb_bus.specs.declared.act.Act.{Act}
 use Rattle.mdb_bus.specs.declared.act.Act.TheVariants as kinds
 use Rattle.mdb_bus.specs.Choice.{IsAck}
@@ -20,6 +21,11 @@ use Rattle.mdb_cash.specs.ChangerFacts as changer_facts
 use Rattle.mdb_cash.specs.ChangerWays as changer_ways
 use Rattle.mdb_cash.specs.Gains.{no_gains}
 use Rattle.mdb_cash.specs.Pair.{IsActOf, IsReply}
+use Rattle.mdb_cashless.specs.Reader.{ReaderStep}
+use Rattle.mdb_cashless.specs.Reader as reader
+use Rattle.mdb_cashless.specs.ReaderFacts as reader_facts
+use Rattle.mdb_cashless.specs.ReaderWays as reader_ways
+use Rattle.mdb_cashless.specs.Units.{device_of_unit}
 use Rattle.mdb_follow.specs.Arrivals.{Arrives}
 use Rattle.mdb_follow.specs.Offences.{HasNoStep}
 use Rattle.mdb_follow.specs.Sums.{Sums}
@@ -28,8 +34,9 @@ use Rattle.mdb_follow.specs.Sums.{Sums}
 abbrev pub Steps : Type 0 → Type 1
 Steps State = List Act → Act → Bool → Reading → State → State → Gains → Type 0
 
--- A machine of a device: only for an ACK it matters whether it was heard, only for a reply how it is
--- read, an act in which the device has no part changes nothing, and by a break there is always a step.
+-- A machine of a device: only for an ACK it matters whether it was heard, only for a reply how it
+-- is read, an act in which the device has no part changes nothing, and by a break there is always a
+-- step.
 pub record IsMachineOf (device : Device) {State : Type 0} (Step : Steps State) : Type 0 where
   pub hearing : (acts : List Act) (act : Act) (one other : Bool) (reading : Reading)
       (before after : State) (gains : Gains) → (IsAck act → ⊥)
@@ -57,6 +64,15 @@ bill_is = record {
   readings = λ acts. bill_ways.readings (bill_facts.facts_of acts);
   elsewhere = λ acts. bill_ways.elsewhere (bill_facts.facts_of acts);
   breaks = λ acts length before. (bill.power_on, no_gains, (refl, refl));
+}
+
+pub reader_is : (unit : ReaderUnit)
+    → IsMachineOf (device_of_unit unit) (λ acts. ReaderStep unit (reader_facts.facts_of unit acts))
+reader_is unit = record {
+  hearing = λ acts. reader_ways.hearing unit (reader_facts.facts_of unit acts);
+  readings = λ acts. reader_ways.readings unit (reader_facts.facts_of unit acts);
+  elsewhere = λ acts. reader_ways.elsewhere unit (reader_facts.facts_of unit acts);
+  breaks = λ acts length before. (reader.power_on, no_gains, (refl, refl));
 }
 
 -- two devices are one, or they aren't

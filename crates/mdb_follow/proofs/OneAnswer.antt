@@ -4,6 +4,7 @@ use Rattle.std.proofs.lemmas.Int.{ints}
 use Rattle.mdb_words.specs.declared.event.Event.{Event}
 use Rattle.mdb_msgs.specs.declared.command.Device.{Device}
 use Rattle.mdb_msgs.specs.declared.command.Device.TheVariants as devices
+use Rattle.mdb_msgs.specs.declared.command.ReaderUnit.TheVariants.{First, Second}
 use Rattle.mdb_bus.specs.declared.act.Act.{Act}
 use Rattle.mdb_bus.specs.declared.fault.Blame.{Blame}
 use Rattle.mdb_bus.specs.declared.fault.Rule.{Rule}
@@ -12,6 +13,7 @@ use Rattle.mdb_bus.specs.ActLists.{ArePieces, HasActList, IsActList, Piece, acts
 use Rattle.mdb_bus.specs.LinkFaults.{IsLinkFault, RowBreaks, situation_of}
 use Rattle.mdb_cash.specs.Bill as bill
 use Rattle.mdb_cash.specs.Changer as changer
+use Rattle.mdb_cashless.specs.Reader as reader
 use Rattle.mdb_follow.specs.declared.cell.Account.{Account}
 use Rattle.mdb_follow.specs.declared.offence.Offence.{Offence}
 use Rattle.mdb_follow.specs.declared.range.Range.{Range}
@@ -19,12 +21,12 @@ use Rattle.mdb_follow.specs.declared.report.Report.{Report}
 use Rattle.mdb_follow.specs.Ranges.{IsAccount, IsRange}
 use Rattle.mdb_follow.specs.Sums.{AccountSums}
 use Rattle.mdb_follow.specs.Offences.{BreaksLink, BreaksMachine, IsOffence}
-use Rattle.mdb_follow.specs.Report.{IsReport, report_of}
-use Rattle.mdb_follow.specs.Runs.{IsReached, Run}
+use Rattle.mdb_follow.specs.Report.{Accounts, AreAccounts, IsReport, listed, report_of}
+use Rattle.mdb_follow.specs.Runs.{AllSums, IsReached, Run}
 use Rattle.mdb_follow.specs.Senders.{sender_of}
-use Rattle.mdb_follow.specs.Offences.{ByBill, ByChanger, NoStep}
+use Rattle.mdb_follow.specs.Offences.{ByBill, ByChanger, ByReader, NoStep}
 use Rattle.mdb_follow.proofs.Following.{OneActList}
-use Rattle.mdb_follow.proofs.Machines.{bill_is, changer_is, whose, whose_none}
+use Rattle.mdb_follow.proofs.Machines.{bill_is, changer_is, reader_is, whose, whose_none}
 use Rattle.mdb_follow.proofs.Reaching.{GoOnRowByRow, SomeArrive, before_last, some_of}
 
 -- two ends that lie within each other are one
@@ -56,14 +58,23 @@ one-account Kind account a b p q =
     ∙ (ap (λ y. made b.device y a.difference) controller
     ∙ ap (λ z. made b.device b.controller z) difference)
 
+-- and so have all accounts
+one-list : (Kind : AllSums → Type 0) (a b : Accounts) → AreAccounts Kind a → AreAccounts Kind b
+    → listed a ≡ listed b
+one-list Kind a b p q =
+    let coins_in = one-account Kind _ a.coins_in b.coins_in p.coins_in q.coins_in in
+    let bills_in = one-account Kind _ a.bills_in b.bills_in p.bills_in q.bills_in in
+    let paid_out = one-account Kind _ a.paid_out b.paid_out p.paid_out q.paid_out in
+    let approved = one-account Kind _ a.approved b.approved p.approved q.approved in
+    let sold = one-account Kind _ a.sold b.sold p.sold q.sold in
+    let approved2 = one-account Kind _ a.approved2 b.approved2 p.approved2 q.approved2 in
+    let sold2 = one-account Kind _ a.sold2 b.sold2 p.sold2 q.sold2 in
+    cc (coins_in, bills_in, paid_out, approved, sold, approved2, sold2)
+
 pub one-report : (rows : List Event) (a b : Report) → IsReport rows a → IsReport rows b → a ≡ b
 one-report rows a b p q =
-    let coins_in = one-account (Run rows) _ p.coins_in q.coins_in p.in_runs q.in_runs in
-    let paid_out = one-account (Run rows) _ p.paid_out q.paid_out p.out_runs q.out_runs in
-    let bills_in = one-account (Run rows) _ p.bills_in q.bills_in p.bill_runs q.bill_runs in
-    p.telling ∙ (ap (λ x. report_of (length rows) x p.bills_in p.paid_out) coins_in
-    ∙ (ap (λ y. report_of (length rows) q.coins_in y p.paid_out) bills_in
-    ∙ (ap (λ z. report_of (length rows) q.coins_in q.bills_in z) paid_out ∙ sym q.telling)))
+    p.telling ∙ (ap (report_of (length rows)) (one-list (Run rows) p.accounts q.accounts p.of_runs
+    q.of_runs) ∙ sym q.telling)
 
 -- what the laws of the bus say
 pub record BusLaws : Type 0 where
@@ -111,6 +122,12 @@ whose_rule broken act before (ByChanger none) some =
 whose_rule broken act before (ByBill none) some =
     ap rule_of (whose_none bill_is bill.power_on act before none some.states.bill some.sums.bill
     some.ways.bill)
+whose_rule broken act before (ByReader First none) some =
+    ap rule_of (whose_none (reader_is First) reader.power_on act before none some.states.cashless
+    some.sums.cashless some.ways.cashless)
+whose_rule broken act before (ByReader Second none) some =
+    ap rule_of (whose_none (reader_is Second) reader.power_on act before none some.states.cashless2
+    some.sums.cashless2 some.ways.cashless2)
 
 -- a row that breaks a rule of the link ends no act
 link-or-machine : BusLaws → (events : List Event) (row : Event) (r s : Rule) (a b : Blame)

@@ -28,9 +28,24 @@ pub record SomeArrive (acts : List Act) : Type 0 where
 -- a way through acts begins with one through the acts before the last
 pub before_last : (act : Act) (before : List Act) → SomeArrive (act ∷ before) → SomeArrive before
 before_last act before some = record {
-  states = record { changer = some.ways.changer.before; bill = some.ways.bill.before };
-  sums = record { changer = some.ways.changer.sums_before; bill = some.ways.bill.sums_before };
-  ways = record { changer = some.ways.changer.way; bill = some.ways.bill.way };
+  states = record {
+    changer = some.ways.changer.before;
+    bill = some.ways.bill.before;
+    cashless = some.ways.cashless.before;
+    cashless2 = some.ways.cashless2.before;
+  };
+  sums = record {
+    changer = some.ways.changer.sums_before;
+    bill = some.ways.bill.sums_before;
+    cashless = some.ways.cashless.sums_before;
+    cashless2 = some.ways.cashless2.sums_before;
+  };
+  ways = record {
+    changer = some.ways.changer.way;
+    bill = some.ways.bill.way;
+    cashless = some.ways.cashless.way;
+    cashless2 = some.ways.cashless2.way;
+  };
 }
 
 pub some_before : (act : Option Act) (before : List Act) → SomeArrive (with_act act before)

@@ -5,7 +5,7 @@ use Rattle.mdb_bus.specs.ActLists.{Piece, acts_of, events_of}
 use Rattle.mdb_bus.specs.Bus as bus
 use Rattle.mdb_follow.specs.declared.follower.Follower.{Follower}
 use Rattle.mdb_follow.specs.declared.offence.Offence.{Offence}
-use Rattle.mdb_follow.specs.Sides.{IsBillSide, IsChangerSide}
+use Rattle.mdb_follow.specs.Sides.{AreSides}
 
 -- how many rows it has accepted, and the offence that it has met
 abbrev pub rows_of : Follower → ℕ
@@ -21,5 +21,4 @@ pub record StandsFor (follower : Follower) (events : List Event) : Type 0 where
   pub whole : events_of pieces ≡ events
   pub rows : follower.rows ≡ length events
   pub going : follower.offence ≡ None
-  pub changer : IsChangerSide follower.changer (acts_of pieces)
-  pub bill : IsBillSide follower.bill (acts_of pieces)
+  pub sides : AreSides follower.sides (acts_of pieces)

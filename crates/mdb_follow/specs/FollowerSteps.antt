@@ -11,7 +11,7 @@ pub record HasFollowed (old : Follower) (act : Act) (new : Follower) : Type 0 wh
   pub on_bus : new.bus ≡ old.bus
   pub rows : new.rows ≡ old.rows + 1
   pub going : new.offence ≡ old.offence
-  pub sides : SidesFollow old.changer old.bill act new.changer new.bill
+  pub sides : SidesFollow old.sides act new.sides
 
 -- A follower has stopped at an act by which a machine has no step.
 pub record HasStopped (old : Follower) (act : Act) (new : Follower)
@@ -20,4 +20,4 @@ pub record HasStopped (old : Follower) (act : Act) (new : Follower)
   pub blame : offence.blame ≡ sender_of act
   pub noted : new.offence ≡ Some offence
   pub uncounted : new.rows ≡ old.rows
-  pub none : SidesStop old.changer old.bill act offence.rule
+  pub none : SidesStop old.sides act offence.rule

@@ -1,6 +1,7 @@
 -- The first row that cannot be, and why.
 use Rattle.std.specs.Prelude.{◌≡◌, ◌⊎◌, ◌+◌, ◌++◌, Bool, List, [], ◌∷◌, length}
 use Rattle.mdb_words.specs.declared.event.Event.{Event}
+use Rattle.mdb_msgs.specs.declared.command.ReaderUnit.{ReaderUnit}
 use Rattle.mdb_bus.specs.declared.act.Act.{Act}
 use Rattle.mdb_bus.specs.declared.fault.Blame.{Blame}
 use Rattle.mdb_bus.specs.declared.fault.Rule.{Rule}
@@ -13,6 +14,8 @@ use Rattle.mdb_cash.specs.Bill as bill
 use Rattle.mdb_cash.specs.BillFacts as bill_facts
 use Rattle.mdb_cash.specs.Changer as changer
 use Rattle.mdb_cash.specs.ChangerFacts as changer_facts
+use Rattle.mdb_cashless.specs.Reader as reader
+use Rattle.mdb_cashless.specs.ReaderFacts as reader_facts
 use Rattle.mdb_follow.specs.Arrivals.{Arrives}
 use Rattle.mdb_follow.specs.Sums.{Sums}
 use Rattle.mdb_follow.specs.declared.offence.Offence.{Offence}
@@ -36,7 +39,7 @@ HasNoStep {State} Step first act before =
     (reading : Reading) (after : State) (gains : Gains)
     → Step before act heard reading state after gains → ⊥
 
--- The machine that a rule is of has no step by an act.
+-- A machine that a rule is of has no step by an act. Both readers have one rule.
 pub data NoStep : Rule → Act → List Act → Type 0 where
   ByChanger : {act : Act} {before : List Act}
       → HasNoStep (λ acts. changer.ChangerStep (changer_facts.facts_of acts)) changer.power_on act
@@ -44,6 +47,9 @@ pub data NoStep : Rule → Act → List Act → Type 0 where
   ByBill : {act : Act} {before : List Act}
       → HasNoStep (λ acts. bill.BillStep (bill_facts.facts_of acts)) bill.power_on act before
       → NoStep rule.Bill act before
+  ByReader : {act : Act} {before : List Act} (unit : ReaderUnit)
+      → HasNoStep (λ acts. reader.ReaderStep unit (reader_facts.facts_of unit acts))
+      reader.power_on act before → NoStep rule.Cashless act before
 
 -- A row ends an act that a device and the controller can't have done.
 pub record BreaksMachine (events : List Event) (row : Event) (broken : Rule)

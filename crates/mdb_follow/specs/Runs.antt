@@ -2,6 +2,7 @@
 -- money that moved by it (this profile). Pieces and acts stand newest first.
 use Rattle.std.specs.Prelude.{◌≡◌, ◌↔◌, ℕ, Bool, true, List, [], ◌∷◌, length}
 use Rattle.mdb_words.specs.declared.event.Event.{Event}
+use Rattle.mdb_msgs.specs.declared.command.ReaderUnit.TheVariants.{First, Second}
 use Rattle.mdb_bus.specs.declared.act.Act.{Act}
 use Rattle.mdb_bus.specs.ActLists.{Piece, Whole, IsActList, acts_of, events_of}
 use Rattle.mdb_bus.specs.Choice.{IsAck}
@@ -16,23 +17,42 @@ use Rattle.mdb_cash.specs.BillFacts as bill_facts
 use Rattle.mdb_cash.specs.Changer as changer
 use Rattle.mdb_cash.specs.Changer.{ChangerStep}
 use Rattle.mdb_cash.specs.ChangerFacts as changer_facts
+use Rattle.mdb_cashless.specs.declared.reader.state.ReaderState.{ReaderState}
+use Rattle.mdb_cashless.specs.Reader as reader
+use Rattle.mdb_cashless.specs.Reader.{ReaderStep}
+use Rattle.mdb_cashless.specs.ReaderFacts as reader_facts
 use Rattle.mdb_follow.specs.Sums.{Sums, added, no_sums}
 
--- The states of each device and the controller's dealings with it.
+-- The states of each device and the controller's dealings with it: the changer, the validator, the
+-- reader at 10H and that at 60H.
 pub record States : Type 0 where
   pub changer : ChangerState
   pub bill : BillState
+  pub cashless : ReaderState
+  pub cashless2 : ReaderState
 
 abbrev pub at_power_on : States
-at_power_on = record { changer = changer.power_on; bill = bill.power_on }
+at_power_on = record {
+  changer = changer.power_on;
+  bill = bill.power_on;
+  cashless = reader.power_on;
+  cashless2 = reader.power_on;
+}
 
 -- what the accounts of each device have come to
 pub record AllSums : Type 0 where
   pub changer : Sums
   pub bill : Sums
+  pub cashless : Sums
+  pub cashless2 : Sums
 
 abbrev pub nothing_yet : AllSums
-nothing_yet = record { changer = no_sums; bill = no_sums }
+nothing_yet = record {
+  changer = no_sums;
+  bill = no_sums;
+  cashless = no_sums;
+  cashless2 = no_sums;
+}
 
 -- a step of one device and the controller, and its gains in their sums
 pub record Goes {State : Type 0} (Step : State → State → Gains → Type 0) (before after : State)
@@ -48,6 +68,10 @@ pub record AllGo (acts : List Act) (act : Act) (heard : Bool) (reading : Reading
       after.changer sums_before.changer sums.changer
   pub bill : Goes (BillStep (bill_facts.facts_of acts) act heard reading) before.bill
       after.bill sums_before.bill sums.bill
+  pub cashless : Goes (ReaderStep First (reader_facts.facts_of First acts) act heard reading)
+      before.cashless after.cashless sums_before.cashless sums.cashless
+  pub cashless2 : Goes (ReaderStep Second (reader_facts.facts_of Second acts) act heard reading)
+      before.cashless2 after.cashless2 sums_before.cashless2 sums.cashless2
 
 -- A way goes on by one act: it was heard or not, as the loss of its rows has it, and is read in
 -- one of its readings.

@@ -1,5 +1,7 @@
 -- What a side of a follower stands for: a device and the controller.
 use Rattle.std.specs.Prelude.{◌≡◌, ℕ, Bool, List, ◌∷◌}
+use Rattle.mdb_msgs.specs.declared.command.ReaderUnit.{ReaderUnit}
+use Rattle.mdb_msgs.specs.declared.command.ReaderUnit.TheVariants.{First, Second}
 use Rattle.mdb_bus.specs.declared.act.Act.{Act}
 use Rattle.mdb_bus.specs.declared.fault.Rule.{Rule}
 use Rattle.mdb_cash.specs.declared.bill.facts.BillFacts.{BillFacts}
@@ -14,7 +16,14 @@ use Rattle.mdb_cash.specs.Changer as changer
 use Rattle.mdb_cash.specs.ChangerCodes as changer_codes
 use Rattle.mdb_cash.specs.ChangerFacts as changer_facts
 use Rattle.mdb_cash.specs.ChangerValues as changer_values
+use Rattle.mdb_cashless.specs.declared.reader.facts.ReaderFacts.{ReaderFacts}
+use Rattle.mdb_cashless.specs.Reader as reader
+use Rattle.mdb_cashless.specs.ReaderCodes as reader_codes
+use Rattle.mdb_cashless.specs.ReaderFacts as reader_facts
+use Rattle.mdb_cashless.specs.ReaderValues as reader_values
 use Rattle.mdb_follow.specs.declared.side.Side.{Side}
+use Rattle.mdb_follow.specs.declared.sides.Sides.{Sides}
+use Rattle.mdb_follow.specs.Limits.{IsTableWithin}
 use Rattle.mdb_follow.specs.Offences.{NoStep}
 use Rattle.mdb_follow.specs.Tables.{IsTable}
 
@@ -40,14 +49,31 @@ IsBillSide side acts =
     IsSide (λ facts acts. bill_values.facts_in facts ≡ bill_facts.facts_of acts)
     bill_codes.code_of (λ acts. bill.BillStep (bill_facts.facts_of acts)) bill.power_on side acts
 
--- Each side has followed an act. This and the next serve private functions.
-pub record SidesFollow {M N : ℕ} (changer : Side ChangerFacts M) (bill : Side BillFacts N) (act : Act)
-    (changer_new : Side ChangerFacts M) (bill_new : Side BillFacts N) : Type 0 where
-  pub changer_goes : (acts : List Act) → IsChangerSide changer acts
-      → IsChangerSide changer_new (act ∷ acts)
-  pub bill_goes : (acts : List Act) → IsBillSide bill acts → IsBillSide bill_new (act ∷ acts)
+-- a reader's
+abbrev pub IsReaderSide : {N : ℕ} → ReaderUnit → Side ReaderFacts N → List Act → Type 0
+IsReaderSide unit side acts =
+    IsSide (λ facts acts. reader_values.facts_in facts ≡ reader_facts.facts_of unit acts)
+    reader_codes.code_of (λ acts. reader.ReaderStep unit (reader_facts.facts_of unit acts))
+    reader.power_on side acts
 
--- One of them has no step by it.
-abbrev pub SidesStop : {M N : ℕ} → Side ChangerFacts M → Side BillFacts N → Act → Rule → Type 0
-SidesStop changer bill act rule =
-    (acts : List Act) → IsChangerSide changer acts → IsBillSide bill acts → NoStep rule act acts
+-- all sides stand for acts
+pub record AreSides (sides : Sides) (acts : List Act) : Type 0 where
+  pub changer : IsChangerSide sides.changer acts
+  pub bill : IsBillSide sides.bill acts
+  pub cashless : IsReaderSide First sides.cashless acts
+  pub cashless2 : IsReaderSide Second sides.cashless2 acts
+
+-- All ends of all tables are at most so far from 0. This and what follows serve private functions.
+pub record AreWithin (limit : ℕ) (sides : Sides) : Type 0 where
+  pub changer : IsTableWithin limit sides.changer.table
+  pub bill : IsTableWithin limit sides.bill.table
+  pub cashless : IsTableWithin limit sides.cashless.table
+  pub cashless2 : IsTableWithin limit sides.cashless2.table
+
+-- each side has followed an act
+abbrev pub SidesFollow : Sides → Act → Sides → Type 0
+SidesFollow sides act new = (acts : List Act) → AreSides sides acts → AreSides new (act ∷ acts)
+
+-- one of them has no step by it
+abbrev pub SidesStop : Sides → Act → Rule → Type 0
+SidesStop sides act rule = (acts : List Act) → AreSides sides acts → NoStep rule act acts

@@ -4,22 +4,17 @@ ghost use Rattle.std.specs.Prelude.{◌≡◌, ◌<◌, ◌≤◌, ◌+◌, ◌*
 ghost use Rattle.std.specs.Option.{ForNone, ForSome, IfNone};
 ghost use Rattle.mdb_words.specs.declared.event.Event.{Event};
 ghost use Rattle.mdb_bus.specs.declared.act.Act.{Act};
-ghost use Rattle.mdb_follow.specs.Limits.{IsTableWithin};
 ghost use Rattle.mdb_follow.specs.Senders as spec;
-ghost use Rattle.mdb_follow.specs.Sides.{SidesFollow, SidesStop};
+ghost use Rattle.mdb_follow.specs.Sides.{AreWithin};
 
-use crate::side::{self, Side};
-use crate::{Offence, Report, laws};
-use mdb_bus::{Act, Blame, Bus, LinkFault, Rule, laws as bus_laws};
-use mdb_cash::{Bill, BillFacts, Changer, ChangerFacts};
+use crate::sides::{Cashless, Cashless2, Sides};
+use crate::{Offence, Report, laws, side};
+use mdb_bus::{Act, Blame, Bus, LinkFault, laws as bus_laws};
+use mdb_cash::{Bill, Changer};
 use mdb_words::Event;
 
 /// The most rows of a recording (this profile).
 pub const ROWS_MAX: u64 = 100_000_000;
-
-type ChangerSide = Side<ChangerFacts, 4>;
-
-type BillSide = Side<BillFacts, 66>;
 
 /// What all that may have happened behind the rows so far comes to.
 ///
@@ -28,13 +23,11 @@ type BillSide = Side<BillFacts, 66>;
 #[derive(Drop)]
 pub struct Follower {
     bus: Bus,
-    changer: ChangerSide,
-    bill: BillSide,
+    sides: Sides,
     rows: u64,
     offence: Option<Offence>,
     ghost few: { rows ≤ 100000000 },
-    ghost changer_within: { ForNone offence (IsTableWithin (rows * 2 ^ 32) changer.table) },
-    ghost bill_within: { ForNone offence (IsTableWithin (rows * 2 ^ 32) bill.table) },
+    ghost within: { ForNone offence (AreWithin (rows * 2 ^ 32) sides) },
     ghost numbered: { ForSome offence (λ offence. offence.row ≡ rows + 1) },
 }
 
@@ -54,8 +47,7 @@ impl Follower {
     {
         Follower {
             bus: Bus::new(),
-            changer: side::start::<Changer, _>(),
-            bill: side::start::<Bill, _>(),
+            sides: Sides::start(),
             rows: 0,
             offence: None,
         }
@@ -147,7 +139,7 @@ impl Follower {
         ensures followed { IfOk result (λ _. HasFollowed self.old act.now self.new) }
         ensures stopped { IfErr result (HasStopped self.old act.now self.new) }
     {
-        match lead(&mut self.changer, &mut self.bill, act) {
+        match self.sides.lead(act) {
             None => {
                 self.rows += 1;
                 Ok(())
@@ -178,33 +170,23 @@ impl Follower {
         match self.offence {
             Some(offence) => Err(offence),
             None => {
-                let changer = side::ranges::<Changer, _>(&self.changer);
-                let bill = side::ranges::<Bill, _>(&self.bill);
-                Ok(Report::of(self.rows, changer.first, bill.first, changer.second))
+                let changer = side::ranges::<Changer, _>(&self.sides.changer);
+                let bill = side::ranges::<Bill, _>(&self.sides.bill);
+                let cashless = side::ranges::<Cashless, _>(&self.sides.cashless);
+                let cashless2 = side::ranges::<Cashless2, _>(&self.sides.cashless2);
+                let accounts = [
+                    changer.first,
+                    bill.first,
+                    changer.second,
+                    cashless.first,
+                    cashless.second,
+                    cashless2.first,
+                    cashless2.second,
+                ];
+                Ok(Report::of(self.rows, accounts))
             }
         }
     }
-}
-
-/// Leads each side over an act. The answer is the rule of the first side that has no step by it.
-fn lead(changer: &mut ChangerSide, bill: &mut BillSide, act: &Act) -> Option<Rule>
-    requires changer { IsTableWithin (2 ^ 62) changer.old.table }
-    requires bill { IsTableWithin (2 ^ 62) bill.old.table }
-    ensures followed { IfNone result
-        (SidesFollow changer.old bill.old act.now changer.new bill.new) }
-    ensures stopped { IfSome result (SidesStop changer.old bill.old act.now) }
-    ensures changer_within { (limit : ℕ) → IsTableWithin limit changer.old.table
-        → IsTableWithin (limit + 2 ^ 32) changer.new.table }
-    ensures bill_within { IfNone result ((limit : ℕ) → IsTableWithin limit bill.old.table
-        → IsTableWithin (limit + 2 ^ 32) bill.new.table) }
-{
-    if !side::follow::<Changer, _>(changer, act) {
-        return Some(Rule::Changer);
-    }
-    if !side::follow::<Bill, _>(bill, act) {
-        return Some(Rule::Bill);
-    }
-    None
 }
 
 /// Notes the offence of the row behind so many rows.

@@ -9,6 +9,7 @@ mod offence;
 mod range;
 mod report;
 mod side;
+mod sides;
 mod table;
 
 pub use cell::{Account, Cell};

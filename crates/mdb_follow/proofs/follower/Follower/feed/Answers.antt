@@ -1,18 +1,13 @@
 use Rattle.std.proofs.Common.{◌+◌, ◌*◌, ◌^◌, None, Some, ap, arith, refl, subst}
 use Rattle.mdb_bus.specs.Bus.{GoesOn, ended_act}
-use Rattle.mdb_follow.proofs.Limits.{table-within-weaker}
+use Rattle.mdb_follow.proofs.Within.{sides-within-weaker}
 use Rattle.mdb_follow.proofs.Following.{if-err, if-ok, link-offence, machine-offence, reached-by, stands-on, stands-still}
 use Rattle.mdb_follow.proofs.follower.Follower.feed.Goals as goal
 
-pub invariant_of-self-in-Ok-false-clause-changer_within : goal.invariant_of-self-in-Ok-false-clause-changer_within
-invariant_of-self-in-Ok-false-clause-changer_within c going =
-    table-within-weaker (c.args.self.now.rows * 2 ^ 32) ((c.args.self.now.rows + 1) * 2 ^ 32)
-    c.args.self.now.changer.table (omega arith) (c.args.self.now.changer_within going)
-
-pub invariant_of-self-in-Ok-false-clause-bill_within : goal.invariant_of-self-in-Ok-false-clause-bill_within
-invariant_of-self-in-Ok-false-clause-bill_within c going =
-    table-within-weaker (c.args.self.now.rows * 2 ^ 32) ((c.args.self.now.rows + 1) * 2 ^ 32)
-    c.args.self.now.bill.table (omega arith) (c.args.self.now.bill_within going)
+pub invariant_of-self-in-Ok-false-clause-within : goal.invariant_of-self-in-Ok-false-clause-within
+invariant_of-self-in-Ok-false-clause-within c going =
+    sides-within-weaker (c.args.self.now.rows * 2 ^ 32) ((c.args.self.now.rows + 1) * 2 ^ 32)
+    c.args.self.now.sides (omega arith) (c.args.self.now.within going)
 
 pub returns-in-Ok-true-clause-reached : goal.returns-in-Ok-true-clause-reached
 returns-in-Ok-true-clause-reached c events on =
@@ -21,7 +16,7 @@ returns-in-Ok-true-clause-reached c events on =
     c.in-Ok-true.field-0-test (c.in-Ok-true.ensures.goes_on on.pieces on.on_bus) in
     if-ok c.follow.result _ _
     (λ _ has. stands-on c.args.self.now _ c.follow.new.self events c.args.event c.feed_into.new.act on
-    goes refl refl refl refl has)
+    goes refl refl refl has)
     c.follow.ensures.followed
 
 pub returns-in-Ok-true-clause-offence : goal.returns-in-Ok-true-clause-offence
@@ -32,7 +27,7 @@ returns-in-Ok-true-clause-offence c events on =
     if-err c.follow.result _ _
     (λ offence has. machine-offence c.transcripts_have_one_act_list.ensures c.ways_join.ensures
     c.args.self.now _ c.follow.new.self events c.args.event c.feed_into.new.act offence on goes
-    refl refl refl has)
+    refl refl has)
     c.follow.ensures.stopped
 
 pub returns-in-Ok-false-clause-reached : goal.returns-in-Ok-false-clause-reached
@@ -41,7 +36,6 @@ returns-in-Ok-false-clause-reached c events on =
     subst (λ b. GoesOn c.feed_into.new.self on.pieces c.args.event (ended_act b c.feed_into.new.act))
     c.in-Ok-false.field-0-test (c.in-Ok-false.ensures.goes_on on.pieces on.on_bus) in
     stands-still c.args.self.now _ c.feed_into.new.self events c.args.event on goes refl refl refl refl
-    refl
 
 pub returns-in-Err-clause-offence : goal.returns-in-Err-clause-offence
 returns-in-Err-clause-offence c events on =
