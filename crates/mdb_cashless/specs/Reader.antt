@@ -146,7 +146,7 @@ view_heard heard command before = if heard then view_taken command before else b
 -- reader holds something, ACK is no answer to POLL.
 pub record AckStep (facts : Facts) (command : ReaderCommand) (heard : Bool)
     (before after : ReaderState) (gains : Gains) : Type 0 where
-  pub poll : is_poll command && before.holds ≡ false
+  pub poll : (is_poll command && before.holds) ≡ false
   pub to : after ≡ record (take facts command before) {
     view = view_heard heard command before.view;
   }
@@ -181,7 +181,8 @@ before_messages facts command reply reading before =
 abbrev pub owes_reset : Facts → Option ReaderCommand → Bool
 owes_reset facts command = resets (effect_of_own command) || facts.past.reset_owed
 
--- the last transaction that the reader took where a command is taken, if one is
+-- the last transaction that the reader took where a command is taken, if one is (behind RESET there
+-- is none, but the reader is Inactive then, and no message asks)
 abbrev pub last_transaction : Facts → Option ReaderCommand → Option Transaction
 last_transaction facts command = or_else (own_transaction command) facts.taken
 
