@@ -73,6 +73,10 @@ impl Pair for Bill {
         }
     }
 
+    fn rests(act: &Act, state: BillState) -> bool {
+        matches!(act, Act::Ack(Command::Bill(BillCommand::Poll))) && !state.holds
+    }
+
     fn code(state: BillState) -> usize {
         state.code()
     }

@@ -71,6 +71,10 @@ impl Pair for Changer {
         )
     }
 
+    fn rests(act: &Act, state: ChangerState) -> bool {
+        matches!(act, Act::Ack(Command::Changer(ChangerCommand::Poll))) && !state.holds
+    }
+
     fn code(state: ChangerState) -> usize {
         state.code()
     }

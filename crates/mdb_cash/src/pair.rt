@@ -70,6 +70,14 @@ pub trait Pair {
             → may_step acts act.now heard reading before after gains
             ↔ (after ≡ before) × (gains ≡ no_gains)) };
 
+    /// Whether an act leaves a state and the sums, whether it was heard or not and however it is
+    /// read: an ACK to POLL does, where nothing is held. It may say no though the act does.
+    fn rests(act: &Act, state: Self::State) -> bool
+        ensures { OnTrue result ((acts : List Act) (heard : Bool) (reading : Reading)
+            (after : Self.State) (gains : Gains)
+            → may_step acts act.now heard reading state after gains
+            ↔ (after ≡ state) × (gains ≡ no_gains)) };
+
     /// The code of a state.
     fn code(state: Self::State) -> usize
         ensures { result ≡ code_of state };

@@ -1,5 +1,5 @@
-use Rattle.std.proofs.Common.{◌≡◌, ◌∙◌, ◌↔◌, Bool, true, false, Option, Some, None, refl, ap, sym, subst}
-use Rattle.std.specs.Bool.{OnFalse}
+use Rattle.std.proofs.Common.{◌≡◌, ◌∙◌, ◌↔◌, Bool, true, false, not, Option, Some, None, refl, ap, sym, subst}
+use Rattle.std.specs.Bool.{OnFalse, OnTrue}
 use Rattle.mdb_msgs.specs.declared.command.Command.{Command}
 use Rattle.mdb_msgs.specs.declared.command.ReaderCommand.{ReaderCommand}
 use Rattle.mdb_msgs.specs.declared.command.ReaderCommand.TheVariants as reader
@@ -9,11 +9,12 @@ use Rattle.mdb_bus.specs.declared.act.Act.{Act}
 use Rattle.mdb_bus.specs.declared.act.Act.TheVariants as acts
 use Rattle.mdb_cash.specs.declared.gains.Gains.{Gains}
 use Rattle.mdb_cash.specs.declared.kept.Reading.{Reading}
-use Rattle.mdb_cash.specs.Gains.{controller_gains, no_gains}
+use Rattle.mdb_cash.specs.Gains.{controller_gains, device_gains, no_gains}
 use Rattle.mdb_cash.specs.Pair.{IsOutcome}
+use Rattle.mdb_cashless.specs.declared.reader.device.DeviceState.{DeviceState}
 use Rattle.mdb_cashless.specs.declared.reader.state.ReaderState.{ReaderState}
 use Rattle.mdb_cashless.specs.declared.reader.view.View.{View}
-use Rattle.mdb_cashless.specs.Reader.{AckStep, AskStep, ForOwn, ReaderStep, ReplyStep, VmcAckStep, asked, sold_to}
+use Rattle.mdb_cashless.specs.Reader.{AckStep, AskStep, ForOwn, ReaderStep, ReplyStep, VmcAckStep, asked, sold, sold_to, take, view_heard}
 use Rattle.mdb_cashless.specs.ReaderFacts.{Facts}
 use Rattle.mdb_cashless.specs.ReaderValues.{changes_view}
 use Rattle.mdb_cashless.specs.Units.{own}
@@ -99,3 +100,52 @@ asks_stay unit act command its is found still facts heard reading before after g
 pub denied : {P : Type 0} (is : Bool) → (is ≡ false → P) → OnFalse is P
 denied true p = tt
 denied false p = p refl
+
+-- a POLL that is acknowledged while nothing is held changes nothing
+same_behind : (facts : Facts) (heard : Bool) (device : DeviceState) (view : View)
+    → record (take facts reader.Poll (record { device = device; view = view; holds = false })) {
+      view = view_heard heard reader.Poll view;
+    } ≡ record { device = device; view = view; holds = false }
+same_behind facts true device view = refl
+same_behind facts false device view = refl
+
+none_sold : (facts : Facts) (device : DeviceState) (view : View)
+    → sold facts reader.Poll (record { device = device; view = view; holds = false }) ≡ 0
+none_sold facts device view = refl
+
+rests_apart : (facts : Facts) (heard : Bool) (device : DeviceState) (view : View)
+    (after : ReaderState) (gains : Gains)
+    → AckStep facts reader.Poll heard (record { device = device; view = view; holds = false }) after gains
+    ↔ (after ≡ record { device = device; view = view; holds = false }) × (gains ≡ no_gains)
+rests_apart facts heard device view after gains = (
+  (λ step. (
+    step.to ∙ same_behind facts heard device view,
+    step.gained ∙ ap (device_gains 0) (none_sold facts device view),
+  )),
+  (λ both. record {
+    poll = refl;
+    to = both.0 ∙ sym (same_behind facts heard device view);
+    gained = both.1 ∙ sym (ap (device_gains 0) (none_sold facts device view));
+  }),
+)
+
+pub poll_rests : (facts : Facts) (heard : Bool) (reading : Reading) (state after : ReaderState)
+    (gains : Gains) (unit : ReaderUnit) (act : Act) (command : Command) → act ≡ acts.Ack command
+    → own unit command ≡ Some reader.Poll → state.holds ≡ false
+    → ReaderStep unit facts act heard reading state after gains
+    ↔ (after ≡ state) × (gains ≡ no_gains)
+poll_rests facts heard reading state after gains unit act command is found free =
+    let same : record { device = state.device; view = state.view; holds = false } ≡ state =
+    same_state refl refl (sym free) in
+    subst (λ (a : Act). ReaderStep unit facts a heard reading state after gains
+    ↔ (after ≡ state) × (gains ≡ no_gains)) (sym is)
+    (subst (λ (o : Option ReaderCommand). ForOwn o (λ c. AckStep facts c heard) state after gains
+    ↔ (after ≡ state) × (gains ≡ no_gains)) (sym found)
+    (subst (λ (s : ReaderState). AckStep facts reader.Poll heard s after gains
+    ↔ (after ≡ s) × (gains ≡ no_gains)) same
+    (rests_apart facts heard state.device state.view after gains)))
+
+-- what holds where a test says no
+pub where_not : {P : Type 0} (is : Bool) → (is ≡ false → P) → OnTrue (not is) P
+where_not true p = tt
+where_not false p = p refl

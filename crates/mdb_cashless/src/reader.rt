@@ -25,7 +25,7 @@ use facts::ReaderFacts;
 use mdb_bus::Act;
 use mdb_cash::{Gains, Pair, Reading};
 use state::ReaderState;
-use steps::{concerns, step};
+use steps::{concerns, rests, step};
 use unit::unit_of;
 
 /// A cashless reader and the controller's dealings with it (MDB/ICP 4.3, cashless device). `UNIT`
@@ -67,6 +67,10 @@ impl<const UNIT: usize> Pair for Reader<UNIT> {
 
     fn concerns(act: &Act) -> bool {
         concerns(unit_of(UNIT), act)
+    }
+
+    fn rests(act: &Act, state: ReaderState) -> bool {
+        rests(unit_of(UNIT), act, state)
     }
 
     fn code(state: ReaderState) -> usize {

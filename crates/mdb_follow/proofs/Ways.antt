@@ -1,6 +1,6 @@
 -- Ways through one act more.
-use Rattle.std.proofs.Common.{◌≡◌, ◌⊎◌, inl, inr, ℕ, refl, sym, ◌∙◌, ap, subst, add-zero, Bool, true, List, [], ◌∷◌}
-use Rattle.std.specs.Prelude.{Contains, ◌↔◌}
+use Rattle.std.proofs.Common.{◌<◌, ◌+◌, length, take, ◌≡◌, ◌⊎◌, inl, inr, ℕ, refl, sym, ◌∙◌, ap, subst, add-zero, Bool, true, List, [], ◌∷◌}
+use Rattle.std.specs.Prelude.{All, Contains, slice_index_or, ◌↔◌}
 use Rattle.mdb_bus.specs.declared.act.Act.{Act}
 use Rattle.mdb_cash.specs.declared.gains.Gains.{Gains}
 use Rattle.mdb_cash.specs.declared.kept.Reading.{Reading}
@@ -13,7 +13,9 @@ use Rattle.mdb_follow.specs.Cells.{joined_cell}
 use Rattle.mdb_follow.specs.Ranges.{IsCell}
 use Rattle.mdb_follow.specs.Sums.{Sums, added}
 use Rattle.mdb_follow.specs.Tables.{ArrivesAnywhere, ArrivesAt, Bounds, IsTable}
-use Rattle.mdb_follow.specs.Entries.{joined_cells}
+use Rattle.std.proofs.lemmas.List.{take_more}
+use Rattle.std.proofs.lemmas.List.Elements.{All-append, All-cons, All-contains, All-nil}
+use Rattle.mdb_follow.specs.Entries.{AllRest, RestsAt, joined_cells}
 use Rattle.mdb_follow.proofs.Ends.{cell-joined, cell-same}
 use Rattle.mdb_follow.proofs.Led.{Led}
 use Rattle.mdb_follow.proofs.Listed.{bounds-same, contains-cases, contains-here, contains-none, contains-there}
@@ -73,14 +75,15 @@ table-led {State} code_of Step first act acts from into apart table led =
 no-gains : (sums : Sums) → sums ≡ added sums no_gains
 no-gains sums = simp add-zero
 
--- An act that is no matter of the pair leaves what arrives.
-pub table-same : {State : Type 0} (code_of : State → ℕ)
+-- An act that changes nothing wherever a way leads leaves what arrives.
+table-still : {State : Type 0} (code_of : State → ℕ)
     (Step : List Act → Act → Bool → Reading → State → State → Gains → Type 0) (first : State)
     (act : Act) (acts : List Act) (entries : List (ℕ × Cell))
-    → ((acts : List Act) (heard : Bool) (reading : Reading) (before after : State) (gains : Gains)
+    → ((before : State) (sums : Sums) → Arrives Step first acts before sums → (heard : Bool)
+    (reading : Reading) (after : State) (gains : Gains)
     → Step acts act heard reading before after gains ↔ (after ≡ before) × (gains ≡ no_gains))
     → IsTable code_of Step first acts entries → IsTable code_of Step first (act ∷ acts) entries
-table-same {State} code_of Step first act acts entries steps table = record {
+table-still {State} code_of Step first act acts entries steps table = record {
   some = (
     table.some.0,
     table.some.1,
@@ -91,7 +94,8 @@ table-same {State} code_of Step first act acts entries steps table = record {
       sums_before = table.some.1;
       gains = no_gains;
       way = table.some.2;
-      step = (steps acts true Plain table.some.0 table.some.0 no_gains).1 (refl, refl);
+      step = (steps table.some.0 table.some.1 table.some.2 true Plain table.some.0 no_gains).1
+          (refl, refl);
       adds = no-gains table.some.1;
     },
   );
@@ -106,13 +110,13 @@ table-same {State} code_of Step first act acts entries steps table = record {
           sums_before = sums;
           gains = no_gains;
           way = a.way;
-          step = (steps acts true Plain a.state a.state no_gains).1 (refl, refl);
+          step = (steps a.state sums a.way true Plain a.state no_gains).1 (refl, refl);
           adds = no-gains sums;
         };
       })
       (λ code sums a.
-      let s = (steps acts a.way.heard a.way.reading a.way.before a.state a.way.gains).0
-      a.way.step in
+      let s = (steps a.way.before a.way.sums_before a.way.way a.way.heard a.way.reading a.state
+      a.way.gains).0 a.way.step in
       record {
         state = a.state;
         is = a.is;
@@ -122,6 +126,52 @@ table-same {State} code_of Step first act acts entries steps table = record {
       })
       table.bounds;
 }
+
+-- An act that is no matter of the pair is one.
+pub table-same : {State : Type 0} (code_of : State → ℕ)
+    (Step : List Act → Act → Bool → Reading → State → State → Gains → Type 0) (first : State)
+    (act : Act) (acts : List Act) (entries : List (ℕ × Cell))
+    → ((acts : List Act) (heard : Bool) (reading : Reading) (before after : State) (gains : Gains)
+    → Step acts act heard reading before after gains ↔ (after ≡ before) × (gains ≡ no_gains))
+    → IsTable code_of Step first acts entries → IsTable code_of Step first (act ∷ acts) entries
+table-same code_of Step first act acts entries steps table =
+    table-still code_of Step first act acts entries
+    (λ before sums way heard reading after gains. steps acts heard reading before after gains) table
+
+-- So is an act that leaves the states of all entries.
+pub table-rests : {State : Type 0} (code_of : State → ℕ)
+    (Step : List Act → Act → Bool → Reading → State → State → Gains → Type 0) (first : State)
+    (act : Act) (acts : List Act) (entries : List (ℕ × Cell))
+    → AllRest code_of Step act entries
+    → IsTable code_of Step first acts entries → IsTable code_of Step first (act ∷ acts) entries
+table-rests code_of Step first act acts entries rests table =
+    table-still code_of Step first act acts entries
+    (λ before sums way heard reading after gains.
+    let there = table.bounds.whole (code_of before) sums
+    (record { state = before; is = refl; way = way }) in
+    All-contains (λ (entry : ℕ × Cell). RestsAt code_of Step act entry.0) entries
+    (code_of before, there.0) rests there.1 acts heard reading before after gains refl)
+    table
+
+-- One entry more rests.
+pub rests-more : {State : Type 0} (code_of : State → ℕ)
+    (Step : List Act → Act → Bool → Reading → State → State → Gains → Type 0) (act : Act)
+    (entries : List (ℕ × Cell)) (i : ℕ) (d : ℕ × Cell) (state : State) → i < length entries
+    → ((one other : State) → code_of one ≡ code_of other → one ≡ other)
+    → code_of state ≡ (slice_index_or entries i d).0
+    → ((acts : List Act) (heard : Bool) (reading : Reading) (after : State) (gains : Gains)
+    → Step acts act heard reading state after gains ↔ (after ≡ state) × (gains ≡ no_gains))
+    → AllRest code_of Step act (take i entries) → AllRest code_of Step act (take (i + 1) entries)
+rests-more {State} code_of Step act entries i d state within apart is here before =
+    let Rests : ℕ × Cell → Type 0 = λ entry. RestsAt code_of Step act entry.0 in
+    let one : RestsAt code_of Step act (slice_index_or entries i d).0 =
+    λ acts heard reading other after gains same.
+    subst (λ (s : State). Step acts act heard reading s after gains
+    ↔ (after ≡ s) × (gains ≡ no_gains)) (apart state other (is ∙ sym same))
+    (here acts heard reading after gains) in
+    subst (All Rests) (sym (take_more entries i d within))
+    (All-append Rests (take i entries) (slice_index_or entries i d ∷ []) before
+    (All-cons Rests _ [] one (All-nil Rests)))
 
 -- Where there is no entry, nothing arrives.
 pub nothing-arrives : {State : Type 0} (code_of : State → ℕ)

@@ -8,7 +8,7 @@ ghost use Rattle.mdb_follow.specs.Limits.{IsTableWithin};
 ghost use Rattle.mdb_follow.specs.Ranges.{IsCell};
 ghost use Rattle.mdb_follow.specs.Sums.{Sums};
 ghost use Rattle.mdb_follow.specs.Tables.{ArrivesAnywhere, ArrivesAt, Bounds, IsTable};
-ghost use Rattle.mdb_follow.specs.Entries.{AreBelow};
+ghost use Rattle.mdb_follow.specs.Entries.{AllRest, AreBelow};
 
 use crate::Cell;
 use crate::entries::{add_steps, join_all};
@@ -80,6 +80,9 @@ impl<const N: usize> Table<N> {
         if !P::concerns(act) {
             return true;
         }
+        if self.rests::<P>(act) {
+            return true;
+        }
         if self.turned {
             fill::<P, N>(
                 facts,
@@ -108,6 +111,18 @@ impl<const N: usize> Table<N> {
         true
     }
 
+    /// Whether an act leaves all states that are possible now, and the sums.
+    fn rests<P: Pair>(&self, act: &Act) -> bool
+        requires { N ≡ P.CODES }
+        ensures { OnTrue result (AllRest P.code_of P.may_step act.now self.now) }
+    {
+        if self.turned {
+            all_rest::<P>(act, self.other.as_slice())
+        } else {
+            all_rest::<P>(act, self.one.as_slice())
+        }
+    }
+
     /// What the sums may be, whatever the state is.
     pub fn ranges<P: Pair>(&self) -> Cell
         ensures { (acts : List Act) → IsTable P.code_of P.may_step P.first acts self.now
@@ -119,6 +134,19 @@ impl<const N: usize> Table<N> {
             join_all(self.one.as_slice())
         }
     }
+}
+
+/// Whether an act leaves the states of all entries, and the sums.
+fn all_rest<P: Pair>(act: &Act, entries: &[(usize, Cell)]) -> bool
+    requires { AreBelow P.CODES entries.now }
+    ensures { OnTrue result (AllRest P.code_of P.may_step act.now entries.now) }
+{
+    for (code, _) in entries {
+        if !P::rests(act, P::state(*code)) {
+            return false;
+        }
+    }
+    true
 }
 
 /// Makes the entries behind an act from those before it. What the places hold at first is no

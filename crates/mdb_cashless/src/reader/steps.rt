@@ -150,6 +150,23 @@ pub(crate) fn concerns(unit: ReaderUnit, act: &Act) -> bool
     }
 }
 
+/// Whether an act leaves a state and the sums, whether it was heard or not and however it is read:
+/// an ACK to POLL does, where nothing is held.
+pub(crate) fn rests(unit: ReaderUnit, act: &Act, state: ReaderState) -> bool
+    ensures { OnTrue result ((facts : Facts) (heard : Bool) (reading : Reading)
+        (after : ReaderState) (gains : Gains)
+        → spec.ReaderStep unit facts act.now heard reading state after gains
+        ↔ (after ≡ state) × (gains ≡ no_gains)) }
+{
+    match act {
+        Act::Ack(command) => match own(unit, command) {
+            Some(ReaderCommand::Poll) => !state.holds,
+            _ => false,
+        },
+        _ => false,
+    }
+}
+
 /// Whether the controller's view may change behind a command that it sends.
 fn changes_view(command: ReaderCommand) -> bool
     ensures { result ≡ changes_view command }

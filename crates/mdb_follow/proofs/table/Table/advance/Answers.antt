@@ -3,7 +3,7 @@ use Rattle.mdb_follow.specs.Limits.{IsTableWithin}
 use Rattle.mdb_follow.specs.Tables.{IsTable}
 use Rattle.mdb_follow.proofs.Limits.{table-within-weaker}
 use Rattle.mdb_follow.proofs.Listed.{nil-told, seen-again, seen-one, seen-other, seen-still, some-told}
-use Rattle.mdb_follow.proofs.Ways.{nothing-arrives, table-same, table-some}
+use Rattle.mdb_follow.proofs.Ways.{nothing-arrives, table-rests, table-same, table-some}
 use Rattle.mdb_follow.proofs.table.Table.advance.Goals as goal
 
 pub returns-then-not-concerns-clause-table : goal.returns-then-not-concerns-clause-table
@@ -14,6 +14,16 @@ returns-then-not-concerns-clause-table g c acts stands table =
 
 pub returns-then-not-concerns-clause-within : goal.returns-then-not-concerns-clause-within
 returns-then-not-concerns-clause-within g c limit all =
+    table-within-weaker limit (limit + 2 ^ 32) c.args.self.now (omega arith) all
+
+pub returns-then-rests-clause-table : goal.returns-then-rests-clause-table
+returns-then-rests-clause-table g c acts stands table =
+    let p = g.P.Pair in
+    table-rests p.code_of p.may_step p.first c.args.act.now acts c.args.self.now c.if-rests.ensures
+    table
+
+pub returns-then-rests-clause-within : goal.returns-then-rests-clause-within
+returns-then-rests-clause-within g c limit all =
     table-within-weaker limit (limit + 2 ^ 32) c.args.self.now (omega arith) all
 
 pub returns-then-is_empty-clause-none : goal.returns-then-is_empty-clause-none

@@ -1,0 +1,8 @@
+use Rattle.std.proofs.Common.{take}
+use Rattle.mdb_follow.specs.Entries.{AllRest}
+use Rattle.mdb_follow.proofs.table.all_rest.Given as goal
+
+abbrev pub invariant-loop-code : goal.invariant-loop-code
+invariant-loop-code g l =
+    let p = g.P.Pair in
+    AllRest p.code_of p.may_step l.act (take l.code-index l.entries)
