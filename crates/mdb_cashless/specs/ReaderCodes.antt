@@ -54,7 +54,8 @@ device_at (suc (suc (suc (suc (suc (suc zero)))))) = device.Vend place.Enabled
 device_at (suc (suc (suc (suc (suc (suc (suc zero))))))) = device.Approved place.Disabled
 device_at (suc (suc (suc (suc (suc (suc (suc (suc zero)))))))) = device.Approved place.Enabled
 device_at (suc (suc (suc (suc (suc (suc (suc (suc (suc zero))))))))) = device.Ending place.Disabled
-device_at (suc (suc (suc (suc (suc (suc (suc (suc (suc (suc n)))))))))) = device.Ending place.Enabled
+device_at (suc (suc (suc (suc (suc (suc (suc (suc (suc (suc n)))))))))) =
+    device.Ending place.Enabled
 
 abbrev view_at : ℕ → View
 view_at zero = view.NoSession
@@ -128,8 +129,11 @@ small_holds false = omega arith
 -- the parts of a code
 same_parts : (d v h e w i : ℕ) → v < 8 → h < 2 → w < 8 → i < 2
     → 16 * d + 2 * v + h ≡ 16 * e + 2 * w + i → (d ≡ e) × (v ≡ w) × (h ≡ i)
-same_parts d v h e w i p q r s same =
-    (omega (arith, p, q, r, s, same), omega (arith, p, q, r, s, same), omega (arith, p, q, r, s, same))
+same_parts d v h e w i p q r s same = (
+  omega (arith, p, q, r, s, same),
+  omega (arith, p, q, r, s, same),
+  omega (arith, p, q, r, s, same),
+)
 
 -- two states have two codes
 pub apart : (one other : ReaderState) → code_of one ≡ code_of other → one ≡ other

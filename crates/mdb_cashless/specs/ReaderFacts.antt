@@ -39,7 +39,8 @@ amount_by unit act = last_said amount_in (messages_by unit act)
 abbrev pub parts_by : ReaderUnit → Act → List (Part ReaderReport)
 parts_by unit act = map part_of (messages_by unit act)
 
--- What a command is to the reader that takes it: its RESET, or nothing that counts for what it keeps.
+-- What a command is to the reader that takes it: its RESET, or nothing that counts for what it
+-- keeps.
 abbrev pub effect_of_own : Option ReaderCommand → Effect
 effect_of_own (Some reader.Reset) = effects.Reset
 effect_of_own command = effects.Other
@@ -65,8 +66,8 @@ asked_by unit act = None
 abbrev pub transaction_taken_by : ReaderUnit → Act → Option Transaction
 transaction_taken_by unit act = own_transaction (own_of unit (taken_by act))
 
--- Whether there is no last transaction behind an act: behind a break, a RESET that the reader takes,
--- and a reply that begins a session, even if that reply takes a transaction command.
+-- Whether there is no last transaction behind an act: behind a break, a RESET that the reader
+-- takes, and a reply that begins a session, even if that reply takes a transaction command.
 abbrev pub ends_transactions : ReaderUnit → Act → Bool
 ends_transactions unit act =
     powers_on (effect_of unit) act || begin_session (messages_by unit act)

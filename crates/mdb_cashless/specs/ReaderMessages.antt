@@ -13,7 +13,8 @@ use Rattle.mdb_cashless.specs.declared.reader.report.ReaderConfig.{ReaderConfig}
 use Rattle.mdb_cashless.specs.declared.reader.report.ReaderReport.{ReaderReport}
 use Rattle.mdb_cashless.specs.declared.reader.report.ReaderReport.TheVariants.{SessionBegun, VendApproved, VendDenied, SessionEnded}
 
--- the messages 03, 05, 06 and 07 are kept, and say all that their bytes are; 00 is the reset message
+-- the messages 03, 05, 06 and 07 are kept, and say all that their bytes are; 00 is the reset
+-- message
 abbrev pub part_of : ReaderMsg → Part ReaderReport
 part_of messages.JustReset = part.Reset
 part_of (messages.BeginSession funds) = part.Kept (SessionBegun funds)

@@ -97,7 +97,8 @@ impl<const UNIT: usize> Pair for Reader<UNIT> {
 
     ghost whole = { codes.whole };
 
-    ghost hearing = { λ acts. ways.hearing (units.unit_of UNIT) (facts_of (units.unit_of UNIT) acts) };
+    ghost hearing = { λ acts. ways.hearing (units.unit_of UNIT)
+        (facts_of (units.unit_of UNIT) acts) };
 
     ghost readings = { λ acts. ways.readings (units.unit_of UNIT)
         (facts_of (units.unit_of UNIT) acts) };
