@@ -1,17 +1,24 @@
-use Rattle.std.proofs.Common.{◌≡◌, ◌∙◌, ℕ, Bool, List, Some, ap, sym}
+use Rattle.std.proofs.Common.{◌≡◌, ◌∙◌, ◌↔◌, ◌&&◌, ◌==◌, not, ℕ, Bool, true, false, List, [], ◌∷◌, Some, refl, ap, sym, subst, length, map, arith, if◌then◌else◌}
+use Rattle.std.specs.Bool.{OnFalse}
 use Rattle.std.specs.List.{AllByRecursion}
+use Rattle.std.proofs.lemmas.Bool.{eqb-true}
 use Rattle.mdb_msgs.specs.declared.command.ChangerCommand.{ChangerCommand}
+use Rattle.mdb_msgs.specs.declared.command.Command.TheVariants as commands
 use Rattle.mdb_msgs.specs.declared.reply.Reply.{Reply}
+use Rattle.mdb_msgs.specs.declared.reply.changer.ChangerMsg.{ChangerMsg}
+use Rattle.mdb_bus.specs.declared.act.Act.{Act}
+use Rattle.mdb_bus.specs.declared.act.Act.TheVariants as acts
 use Rattle.mdb_cash.specs.declared.changer.report.ChangerReport.{ChangerReport}
 use Rattle.mdb_cash.specs.declared.changer.state.ChangerState.{ChangerState}
 use Rattle.mdb_cash.specs.declared.gains.Gains.{Gains}
+use Rattle.mdb_cash.specs.declared.kept.Part.{Part}
 use Rattle.mdb_cash.specs.declared.kept.Reading.{Reading}
-use Rattle.mdb_cash.specs.Changer.{MayBeNew, ReplyStep, VmcAckStep, all_deposited, all_paid_by_hand, is_poll}
-use Rattle.mdb_cash.specs.ChangerFacts.{Facts}
-use Rattle.mdb_cash.specs.ChangerMessages.{parts_of}
-use Rattle.mdb_cash.specs.Gains.{device_gains}
-use Rattle.mdb_cash.specs.Kept.{held, holds_behind, holds_read, kept_of}
-use Rattle.mdb_cash.specs.Pair.{IsOutcome}
+use Rattle.mdb_cash.specs.Changer.{ChangerStep, MayBeNew, ReplyStep, VmcAckStep, all_deposited, all_paid_by_hand, is_poll}
+use Rattle.mdb_cash.specs.ChangerFacts.{Facts, facts_of}
+use Rattle.mdb_cash.specs.ChangerMessages.{part_of, parts_of}
+use Rattle.mdb_cash.specs.Gains.{controller_gains, device_gains, no_gains}
+use Rattle.mdb_cash.specs.Kept.{has_reset, held, holds_acked, holds_behind, holds_read, kept_of}
+use Rattle.mdb_cash.specs.Pair.{IsOutcome, Stays}
 use Rattle.mdb_cash.proofs.KeptLists.{TellsOnly}
 
 -- a reply that tells these news, and no others
@@ -38,3 +45,39 @@ told {facts} {command} {reply} {reading} {before} {news} {kept} {holds} {behind}
 pub acknowledged : {facts : Facts} {command : ChangerCommand} {reply : Reply} {heard : Bool} {before after : ChangerState} {gains : Gains}
     → VmcAckStep facts command reply heard before after gains → IsOutcome (VmcAckStep facts command reply heard before) (Some (after, gains))
 acknowledged step = (step, λ other more its. (its.to ∙ sym step.to, its.gained ∙ sym step.gained))
+
+-- an ACK of a reply without messages of the changer changes nothing
+idle_ack : (facts : Facts) (command : ChangerCommand) (reply : Reply) (heard : Bool) (before after : ChangerState) (gains : Gains) → parts_of reply ≡ []
+    → VmcAckStep facts command reply heard before after gains ↔ Stays before after gains
+idle_ack facts command reply heard before after gains none =
+    let to_is : acked command heard before (parts_of reply) ≡ before = ap (acked command heard before) none ∙ same_owed (is_poll command) in
+    let gains_are : gained facts command (parts_of reply) ≡ no_gains = ap (gained facts command) none ∙ nothing (is_poll command) in (
+      λ step. (step.to ∙ to_is, step.gained ∙ gains_are),
+      λ stays. record { to = stays.0 ∙ sym to_is; gained = stays.1 ∙ sym gains_are },
+    )
+  where
+    acked : ChangerCommand → Bool → ChangerState → List (Part ChangerReport) → ChangerState
+    acked c h b parts = record {
+      holds = holds_acked h (kept_of parts) b.holds;
+      owed = if is_poll c && has_reset parts then false else b.owed;
+    }
+
+    gained : Facts → ChangerCommand → List (Part ChangerReport) → Gains
+    gained f c parts = if is_poll c then controller_gains (all_deposited f.setup (kept_of parts)) (all_paid_by_hand f.setup (kept_of parts)) else no_gains
+
+    same_owed : {b : ChangerState} (poll : Bool) → record b { owed = if poll && false then false else b.owed } ≡ b
+    same_owed true = refl
+    same_owed false = refl
+
+    nothing : (poll : Bool) → (if poll then controller_gains 0 0 else no_gains) ≡ no_gains
+    nothing true = refl
+    nothing false = refl
+
+pub idle : (act : Act) (command : ChangerCommand) (reply : Reply) (messages : List ChangerMsg) (empty : Bool) → act ≡ acts.VmcAck (commands.Changer command) reply → map part_of messages ≡ parts_of reply → empty ≡ (length messages == 0)
+    → OnFalse (not empty) ((past : List Act) (heard : Bool) (reading : Reading) (before after : ChangerState) (gains : Gains) → ChangerStep (facts_of past) act heard reading before after gains ↔ (after ≡ before) × (gains ≡ no_gains))
+idle act command reply messages false is parts e = tt
+idle act command reply [] true is parts e = λ past heard reading before after gains.
+    subst (λ (a : Act). ChangerStep (facts_of past) a heard reading before after gains ↔ (after ≡ before) × (gains ≡ no_gains)) (sym is) (idle_ack (facts_of past) command reply heard before after gains (sym parts))
+idle act command reply (m ∷ messages) true is parts e =
+    let none : length (m ∷ messages) ≡ 0 = eqb-true (length (m ∷ messages)) 0 (sym e) in
+    absurd (omega (arith, none))

@@ -22,6 +22,7 @@ pub use facts::ChangerFacts;
 use mdb_bus::Act;
 use mdb_msgs::{ChangerCommand, Command};
 pub use report::ChangerReport;
+use report::messages_in;
 pub use state::ChangerState;
 use steps::step;
 
@@ -61,14 +62,19 @@ impl Pair for Changer {
     }
 
     fn concerns(act: &Act) -> bool {
-        matches!(
-            act,
-            Act::Ask(Command::Changer(ChangerCommand::Reset | ChangerCommand::Dispense(_)))
-                | Act::Ack(Command::Changer(_))
-                | Act::Reply(Command::Changer(_), _)
-                | Act::VmcAck(Command::Changer(_), _)
-                | Act::Break(_)
-        )
+        match act {
+            Act::Ask(Command::Changer(command)) => matches!(
+                command,
+                ChangerCommand::Reset | ChangerCommand::Dispense(_)
+            ),
+            Act::Ack(Command::Changer(command)) => matches!(
+                command,
+                ChangerCommand::Dispense(_) | ChangerCommand::Reset | ChangerCommand::Poll
+            ),
+            Act::VmcAck(Command::Changer(_), reply) => !messages_in(reply).is_empty(),
+            Act::Reply(Command::Changer(_), _) | Act::Break(_) => true,
+            _ => false,
+        }
     }
 
     fn rests(act: &Act, state: ChangerState) -> bool {
