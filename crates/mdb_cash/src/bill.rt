@@ -57,10 +57,12 @@ impl Pair for Bill {
         BillFacts::start()
     }
 
+    #[inline(always)]
     fn learn(facts: &mut BillFacts, act: &Act) {
         facts.learn(act);
     }
 
+    #[inline(always)]
     fn concerns(act: &Act) -> bool {
         match act {
             Act::Ack(Command::Bill(command)) => matches!(

@@ -57,10 +57,12 @@ impl Pair for Changer {
         ChangerFacts::start()
     }
 
+    #[inline(always)]
     fn learn(facts: &mut ChangerFacts, act: &Act) {
         facts.learn(act);
     }
 
+    #[inline(always)]
     fn concerns(act: &Act) -> bool {
         match act {
             Act::Ask(Command::Changer(command)) => matches!(

@@ -79,12 +79,3 @@ replied unit command its reply old mid new found mid_is new_is =
     let messages = messages_of reply in
     new_is ∙ (ap (told messages) mid_is ∙ (sym (own_answer its refused messages old)
     ∙ (sym (ap (λ f. answered_own f refused messages old) found) ∙ sym (same_answer unit command refused messages old))))
-
--- what is left by an answer, where it is known whether it takes its command
-pub left_taken : {mid : Facts} (its : ReaderCommand) (old : Facts) (refused : Bool) → refused ≡ false → mid ≡ taken (Some its) old → mid ≡ taken (if refused then None else Some its) old
-left_taken its old true e is = absurd cc
-left_taken its old false e is = is
-
-pub left_refused : {mid : Facts} (its : ReaderCommand) (old : Facts) (refused : Bool) → refused ≡ true → mid ≡ old → mid ≡ taken (if refused then None else Some its) old
-left_refused its old true e is = is
-left_refused its old false e is = absurd cc

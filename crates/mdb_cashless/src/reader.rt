@@ -61,10 +61,12 @@ impl<const UNIT: usize> Pair for Reader<UNIT> {
         ReaderFacts::start()
     }
 
+    #[inline(always)]
     fn learn(facts: &mut ReaderFacts, act: &Act) {
         facts.learn(unit_of(UNIT), act);
     }
 
+    #[inline(always)]
     fn concerns(act: &Act) -> bool {
         concerns(unit_of(UNIT), act)
     }

@@ -37,6 +37,8 @@ impl BillFacts {
     }
 
     /// Takes one act more into the facts.
+    // Inlined, so that an act of another device costs little more than the look at whose it is.
+    #[inline(always)]
     pub(crate) fn learn(&mut self, act: &Act)
         ensures { (acts : List Act) → facts_in self.old ≡ facts_of acts
             → facts_in self.new ≡ facts_of (act.now ∷ acts) }
@@ -45,6 +47,7 @@ impl BillFacts {
     }
 
     /// Notes what an act tells.
+    #[inline(always)]
     fn note(&mut self, act: &Act)
         ensures { facts_in self.new ≡ facts_with act.now (facts_in self.old) }
     {
@@ -57,6 +60,7 @@ impl BillFacts {
     }
 
     /// The validator replies.
+    #[inline(never)]
     fn reply(&mut self, command: BillCommand, reply: &Reply)
         ensures { facts_in self.new
             ≡ facts_with (acts.Reply (commands.Bill command) reply.now) (facts_in self.old) }

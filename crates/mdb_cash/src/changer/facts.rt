@@ -43,6 +43,8 @@ impl ChangerFacts {
     }
 
     /// Takes one act more into the facts.
+    // Inlined, so that an act of another device costs little more than the look at whose it is.
+    #[inline(always)]
     pub(crate) fn learn(&mut self, act: &Act)
         ensures { (acts : List Act) → facts_in self.old ≡ facts_of acts
             → facts_in self.new ≡ facts_of (act.now ∷ acts) }
@@ -51,6 +53,7 @@ impl ChangerFacts {
     }
 
     /// Notes what an act tells.
+    #[inline(always)]
     fn note(&mut self, act: &Act)
         ensures { facts_in self.new ≡ facts_with act.now (facts_in self.old) }
     {
@@ -74,6 +77,7 @@ impl ChangerFacts {
     }
 
     /// The changer replies.
+    #[inline(never)]
     fn reply(&mut self, command: ChangerCommand, reply: &Reply)
         ensures { facts_in self.new
             ≡ facts_with (acts.Reply (commands.Changer command) reply.now) (facts_in self.old) }

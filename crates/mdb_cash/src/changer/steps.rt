@@ -17,6 +17,7 @@ use mdb_msgs::{ChangerCommand, Command, Reply};
 
 /// The step by an act that was heard or not, in a reading, from a state: the state behind it, and
 /// its gains. `None` where there is no such step.
+#[inline(always)]
 pub(crate) fn step(
     facts: &ChangerFacts,
     act: &Act,
@@ -113,6 +114,7 @@ fn ack(
 }
 
 /// The changer replies with data.
+#[inline(never)]
 fn answer(
     facts: &ChangerFacts,
     command: ChangerCommand,
@@ -147,6 +149,7 @@ fn answer(
 }
 
 /// The controller acknowledges a reply.
+#[inline(never)]
 fn vmc_ack(
     facts: &ChangerFacts,
     command: ChangerCommand,

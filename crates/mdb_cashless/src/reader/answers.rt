@@ -91,6 +91,7 @@ fn last_transaction(facts: &ReaderFacts, command: Option<ReaderCommand>) -> Opti
 }
 
 /// The reader replies with data.
+#[inline(never)]
 pub(crate) fn answer(
     facts: &ReaderFacts,
     command: ReaderCommand,
@@ -164,6 +165,7 @@ fn view_answered(command: Option<ReaderCommand>, view: View) -> View
 }
 
 /// The controller acknowledges a reply.
+#[inline(never)]
 pub(crate) fn vmc_ack(
     facts: &ReaderFacts,
     command: ReaderCommand,

@@ -2,7 +2,6 @@
 
 ghost use Rattle.std.specs.Prelude.{◌≡◌, List, [], ◌∷◌, Some};
 ghost use Rattle.mdb_cashless.specs.ReaderFacts.{effect_of_own};
-ghost use Rattle.mdb_cashless.specs.ReaderValues as values;
 
 use super::report::{
     ReaderConfig, ReaderReport, begin_session, last_amount, last_config, messages_of, summary_of,
@@ -35,8 +34,12 @@ impl ReaderFacts {
     ghost use Rattle.mdb_msgs.specs.declared.command.ReaderUnit.{ReaderUnit};
     ghost use Rattle.mdb_bus.specs.declared.act.Act.{Act};
     ghost use Rattle.mdb_bus.specs.declared.act.Act.TheVariants as acts;
+    ghost use Rattle.mdb_cashless.specs.Reader.{taken as answered};
     ghost use Rattle.mdb_cashless.specs.ReaderFacts.{facts_of};
+    ghost use Rattle.mdb_cashless.specs.ReaderMessages.{messages_of};
+    ghost use Rattle.mdb_cash.specs.Past.{or_else};
     ghost use Rattle.mdb_cashless.specs.ReaderValues.{facts_in, facts_with, powered, taken, told};
+    ghost use Rattle.mdb_cashless.specs.Transactions.{transaction_of as transaction};
 
     /// The facts behind no act.
     pub(crate) fn start() -> ReaderFacts
@@ -52,6 +55,8 @@ impl ReaderFacts {
     }
 
     /// Takes one act more into the facts.
+    // Inlined, so that an act of another device costs little more than the look at whose it is.
+    #[inline(always)]
     pub(crate) fn learn(&mut self, unit: ReaderUnit, act: &Act)
         ensures { (acts : List Act) → facts_in self.old ≡ facts_of unit acts
             → facts_in self.new ≡ facts_of unit (act.now ∷ acts) }
@@ -61,6 +66,7 @@ impl ReaderFacts {
     }
 
     /// Notes what an act tells.
+    #[inline(always)]
     fn note(&mut self, unit: ReaderUnit, act: &Act)
         ensures { facts_in self.new ≡ facts_with unit act.now (facts_in self.old) }
     {
@@ -74,16 +80,20 @@ impl ReaderFacts {
     }
 
     /// The controller asks.
+    #[inline(always)]
     fn ask(&mut self, unit: ReaderUnit, command: &Command)
         ensures { facts_in self.new
             ≡ facts_with unit (acts.Ask command.now) (facts_in self.old) }
     {
         if let Some(command) = own(unit, command) {
-            self.asked = transaction_of(command).or(self.asked);
+            if let Some(transaction) = transaction_of(command) {
+                self.asked = Some(transaction);
+            }
         }
     }
 
     /// A device acknowledges.
+    #[inline(always)]
     fn acknowledge(&mut self, unit: ReaderUnit, command: &Command)
         ensures { facts_in self.new
             ≡ facts_with unit (acts.Ack command.now) (facts_in self.old) }
@@ -94,11 +104,26 @@ impl ReaderFacts {
     }
 
     /// The reader takes a command.
+    #[inline(always)]
     fn take(&mut self, command: ReaderCommand)
         ensures { facts_in self.new ≡ taken (Some command) (facts_in self.old) }
     {
         self.past.take(effect_of(command));
-        self.taken = last_behind(command, self.taken);
+        match command {
+            ReaderCommand::Reset => self.taken = None,
+            _ => self.note_taken(command),
+        }
+    }
+
+    /// The reader takes a command that isn't RESET.
+    #[inline(always)]
+    fn note_taken(&mut self, command: ReaderCommand)
+        ensures { self.new
+            ≡ record self.old { taken = or_else (transaction command) self.old.taken } }
+    {
+        if let Some(transaction) = transaction_of(command) {
+            self.taken = Some(transaction);
+        }
     }
 
     /// All devices are put into their power-on states.
@@ -110,16 +135,26 @@ impl ReaderFacts {
     }
 
     /// A device replies.
+    #[inline(always)]
     fn reply(&mut self, unit: ReaderUnit, command: &Command, reply: &Reply)
         ensures { facts_in self.new
             ≡ facts_with unit (acts.Reply command.now reply.now) (facts_in self.old) }
     {
         if let Some(command) = own(unit, command) {
-            if !tells_out_of_sequence(reply) {
-                self.take(command);
-            }
-            self.note_messages(messages_of(reply).as_slice());
+            self.answer(command, reply);
         }
+    }
+
+    /// The reader replies.
+    #[inline(never)]
+    fn answer(&mut self, command: ReaderCommand, reply: &Reply)
+        ensures { facts_in self.new
+            ≡ told (messages_of reply.now) (taken (answered command reply.now) (facts_in self.old)) }
+    {
+        if !tells_out_of_sequence(reply) {
+            self.take(command);
+        }
+        self.note_messages(messages_of(reply).as_slice());
     }
 
     /// Notes what the messages of a reply tell.
@@ -143,15 +178,5 @@ fn effect_of(command: ReaderCommand) -> Effect
     match command {
         ReaderCommand::Reset => Effect::Reset,
         _ => Effect::Other,
-    }
-}
-
-/// The last transaction behind a command that is taken.
-fn last_behind(command: ReaderCommand, last: Option<Transaction>) -> Option<Transaction>
-    ensures { result ≡ values.last_behind command last }
-{
-    match command {
-        ReaderCommand::Reset => None,
-        _ => transaction_of(command).or(last),
     }
 }

@@ -26,6 +26,7 @@ use mdb_msgs::{ReaderCommand, ReaderUnit};
 
 /// The step by an act that was heard or not, in a reading, from a state: the state behind it, and
 /// its gains. `None` where there is no such step.
+#[inline(always)]
 pub(crate) fn step(
     unit: ReaderUnit,
     facts: &ReaderFacts,
@@ -107,6 +108,7 @@ fn sold_to(facts: &ReaderFacts, command: ReaderCommand, view: View) -> u64
 }
 
 /// The reader acknowledges.
+#[inline(always)]
 fn ack(
     facts: &ReaderFacts,
     command: ReaderCommand,
@@ -130,6 +132,7 @@ fn ack(
 }
 
 /// Whether an act may change a state or a sum of this reader.
+#[inline(always)]
 pub(crate) fn concerns(unit: ReaderUnit, act: &Act) -> bool
     ensures own { OnTrue result (IsActOf (device_of_unit unit) act.now) }
     ensures still { OnFalse result ((facts : Facts) (heard : Bool) (reading : Reading)

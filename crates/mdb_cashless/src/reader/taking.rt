@@ -43,6 +43,7 @@ fn drops(command: ReaderCommand) -> bool
 }
 
 /// The reader takes a command.
+#[inline(always)]
 pub(crate) fn take(facts: &ReaderFacts, command: ReaderCommand, before: ReaderState) -> ReaderState
     ensures { result ≡ spec.take (facts_in facts.now) command before }
 {

@@ -6,6 +6,7 @@ ghost use Rattle.mdb_cashless.specs.Units as spec;
 use mdb_msgs::{Command, ReaderCommand, ReaderUnit};
 
 /// The reader of a number: 0 is the first, and any other number the second.
+#[inline(always)]
 pub(crate) fn unit_of(number: usize) -> ReaderUnit
     ensures { result ≡ spec.unit_of number }
 {
@@ -17,6 +18,7 @@ pub(crate) fn unit_of(number: usize) -> ReaderUnit
 }
 
 /// The command to this reader that a command is.
+#[inline(always)]
 pub(crate) fn own(unit: ReaderUnit, command: &Command) -> Option<ReaderCommand>
     ensures { result ≡ spec.own unit command.now }
 {
