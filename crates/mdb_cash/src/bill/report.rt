@@ -58,6 +58,7 @@ pub(crate) fn messages_in(reply: &Reply) -> &[BillMsg]
 }
 
 /// What counts of messages for what the validator keeps.
+#[inline(always)]
 pub(crate) fn summary_of(messages: &[BillMsg]) -> Summary<BillReport, 16>
     requires { length messages.now ≤ 16 }
     ensures { IsSummary result.kept.items result.reset result.early

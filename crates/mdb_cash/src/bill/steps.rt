@@ -17,7 +17,6 @@ use mdb_msgs::{BillCommand, Command, Reply};
 
 /// The step by an act that was heard or not, in a reading, from a state: the state behind it, and
 /// its gains. `None` where there is no such step.
-#[inline(always)]
 pub(crate) fn step(
     facts: &BillFacts,
     act: &Act,
@@ -62,7 +61,6 @@ fn ack(command: BillCommand, before: BillState) -> Option<(BillState, Gains)>
 }
 
 /// The validator replies with data.
-#[inline(never)]
 fn answer(
     facts: &BillFacts,
     command: BillCommand,
@@ -135,7 +133,6 @@ fn take(facts: &BillFacts, message: BillReport, escrow: Escrow) -> Option<Escrow
 }
 
 /// The controller acknowledges a reply.
-#[inline(never)]
 fn vmc_ack(
     facts: &BillFacts,
     command: BillCommand,

@@ -67,6 +67,7 @@ pub(crate) fn messages_in(reply: &Reply) -> &[ChangerMsg]
 }
 
 /// What counts of messages for what the changer keeps.
+#[inline(always)]
 pub(crate) fn summary_of(messages: &[ChangerMsg]) -> Summary<ChangerReport, 16>
     requires { length messages.now ≤ 16 }
     ensures { IsSummary result.kept.items result.reset result.early

@@ -17,7 +17,6 @@ use mdb_msgs::{ChangerCommand, Command, Reply};
 
 /// The step by an act that was heard or not, in a reading, from a state: the state behind it, and
 /// its gains. `None` where there is no such step.
-#[inline(always)]
 pub(crate) fn step(
     facts: &ChangerFacts,
     act: &Act,
@@ -114,7 +113,6 @@ fn ack(
 }
 
 /// The changer replies with data.
-#[inline(never)]
 fn answer(
     facts: &ChangerFacts,
     command: ChangerCommand,
@@ -149,7 +147,6 @@ fn answer(
 }
 
 /// The controller acknowledges a reply.
-#[inline(never)]
 fn vmc_ack(
     facts: &ChangerFacts,
     command: ChangerCommand,

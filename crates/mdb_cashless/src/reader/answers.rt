@@ -91,7 +91,6 @@ fn last_transaction(facts: &ReaderFacts, command: Option<ReaderCommand>) -> Opti
 }
 
 /// The reader replies with data.
-#[inline(never)]
 pub(crate) fn answer(
     facts: &ReaderFacts,
     command: ReaderCommand,
@@ -165,7 +164,6 @@ fn view_answered(command: Option<ReaderCommand>, view: View) -> View
 }
 
 /// The controller acknowledges a reply.
-#[inline(never)]
 pub(crate) fn vmc_ack(
     facts: &ReaderFacts,
     command: ReaderCommand,

@@ -72,6 +72,7 @@ pub(crate) fn messages_of(reply: &Reply) -> ArrayVec<ReaderMsg, 35>
 }
 
 /// What counts of messages for what the reader keeps.
+#[inline(always)]
 pub(crate) fn summary_of(messages: &[ReaderMsg]) -> Summary<ReaderReport, 35>
     requires { length messages.now ≤ 35 }
     ensures { IsSummary result.kept.items result.reset result.early
