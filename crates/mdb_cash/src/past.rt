@@ -115,7 +115,7 @@ pub fn tells_out_of_sequence(reply: &Reply) -> bool
 }
 
 /// Whether one of a reader's messages says so.
-fn tell_out_of_sequence(messages: &[ReaderMsg]) -> bool
+pub fn tell_out_of_sequence(messages: &[ReaderMsg]) -> bool
     ensures { result ≡ list_any spec.is_out_of_sequence messages.now }
 {
     messages.iter().any(|message| is_out_of_sequence(*message))

@@ -4,7 +4,8 @@ ghost use Rattle.std.specs.Prelude.{◌≡◌, ◌≤◌, ◌<◌, ◌^◌, ◌|
 ghost use Rattle.std.specs.Bool.{OnFalse};
 ghost use Rattle.mdb_cash.specs.Gains.{IsSmall};
 ghost use Rattle.mdb_cash.specs.Kept.{MayBeRead};
-ghost use Rattle.mdb_cashless.specs.ReaderMessages.{part_of};
+ghost use Rattle.mdb_msgs.specs.declared.reply.Reply.{Reply};
+ghost use Rattle.mdb_cashless.specs.ReaderMessages.{messages_of, part_of};
 ghost use Rattle.mdb_cash.specs.Pair.{IsOutcome};
 ghost use Rattle.mdb_cashless.specs.Reader as spec;
 ghost use Rattle.mdb_cashless.specs.ReaderDevice as reader_device;
@@ -20,15 +21,16 @@ use super::transaction::{Transaction, transaction_of};
 use super::values::{all_approved, approved_to};
 use super::view::View;
 use mdb_cash::kept::{held, holds_acked, holds_behind};
-use mdb_cash::past::tells_out_of_sequence;
+use mdb_cash::past::tell_out_of_sequence;
 use mdb_cash::{Gains, Reading};
 use mdb_msgs::{ReaderCommand, ReaderMsg, Reply};
 
-/// The command that the reader takes by a reply.
-fn taken(command: ReaderCommand, reply: &Reply) -> Option<ReaderCommand>
-    ensures { result ≡ spec.taken command reply.now }
+/// The command that the reader takes by a reply of these messages.
+fn taken(command: ReaderCommand, messages: &[ReaderMsg]) -> Option<ReaderCommand>
+    ensures { (reply : Reply) → messages.now ≡ messages_of reply
+        → result ≡ spec.taken command reply }
 {
-    if tells_out_of_sequence(reply) {
+    if tell_out_of_sequence(messages) {
         None
     } else {
         Some(command)
@@ -108,7 +110,7 @@ pub(crate) fn answer(
         return None;
     }
     let summary = summary_of(messages);
-    let taken = taken(command, reply);
+    let taken = taken(command, messages);
     let start = read(reading, before);
     let middle = take_any(facts, taken, start);
     let held = held(middle.holds, facts.past.kept.as_slice());
@@ -175,10 +177,11 @@ pub(crate) fn vmc_ack(
         result.0 result.1 }
     ensures small { IsSmall result.1 }
 {
-    let messages = messages_of(reply);
-    let summary = summary_of(messages.as_slice());
-    let start = view_answered(taken(command, reply), before.view);
-    let (view, approved) = hear(facts.config, start, messages.as_slice());
+    let list = messages_of(reply);
+    let messages = list.as_slice();
+    let summary = summary_of(messages);
+    let start = view_answered(taken(command, messages), before.view);
+    let (view, approved) = hear(facts.config, start, messages);
     let after = ReaderState {
         device: before.device,
         view,

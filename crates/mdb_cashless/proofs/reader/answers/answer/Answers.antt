@@ -16,8 +16,8 @@ returns-in_err-new-clause-outcome c =
     let looked : Looked (facts_in c.args.facts.now) c.args.command c.args.reply.now c.args.reading c.args.before c.is_poll.result c.owes_reset.result summary.reset summary.early c.take_any-middle.result c.held-held.result.now summary.kept.items =
     record {
       polls = c.is_poll.ensures;
-      owed_is = c.owes_reset.ensures ∙ ap (owes_reset (facts_in c.args.facts.now)) c.taken-taken.ensures;
-      middle_is = c.take_any-middle.ensures ∙ (ap (λ t. take_any (facts_in c.args.facts.now) t c.read-start.result) c.taken-taken.ensures
+      owed_is = c.owes_reset.ensures ∙ ap (owes_reset (facts_in c.args.facts.now)) (c.taken-taken.ensures c.args.reply.now messages);
+      middle_is = c.take_any-middle.ensures ∙ (ap (λ t. take_any (facts_in c.args.facts.now) t c.read-start.result) (c.taken-taken.ensures c.args.reply.now messages)
           ∙ ap (take_any (facts_in c.args.facts.now) (taken c.args.command c.args.reply.now)) c.read-start.ensures);
       holding_is = c.held-held.ensures ∙ ap (held c.take_any-middle.result.holds) c.as_slice.ensures.value;
       summary = subst (λ (ms : List ReaderMsg). IsSummary summary.kept.items summary.reset summary.early (map part_of ms)) messages c.summary_of-summary.ensures;
@@ -31,17 +31,17 @@ returns-clause-outcome c =
     let looked : Looked (facts_in c.args.facts.now) c.args.command c.args.reply.now c.args.reading c.args.before c.is_poll.result c.owes_reset.result summary.reset summary.early c.take_any-middle.result c.held-held.result.now summary.kept.items =
     record {
       polls = c.is_poll.ensures;
-      owed_is = c.owes_reset.ensures ∙ ap (owes_reset (facts_in c.args.facts.now)) c.taken-taken.ensures;
-      middle_is = c.take_any-middle.ensures ∙ (ap (λ t. take_any (facts_in c.args.facts.now) t c.read-start.result) c.taken-taken.ensures
+      owed_is = c.owes_reset.ensures ∙ ap (owes_reset (facts_in c.args.facts.now)) (c.taken-taken.ensures c.args.reply.now messages);
+      middle_is = c.take_any-middle.ensures ∙ (ap (λ t. take_any (facts_in c.args.facts.now) t c.read-start.result) (c.taken-taken.ensures c.args.reply.now messages)
           ∙ ap (take_any (facts_in c.args.facts.now) (taken c.args.command c.args.reply.now)) c.read-start.ensures);
       holding_is = c.held-held.ensures ∙ ap (held c.take_any-middle.result.holds) c.as_slice.ensures.value;
       summary = subst (λ (ms : List ReaderMsg). IsSummary summary.kept.items summary.reset summary.early (map part_of ms)) messages c.summary_of-summary.ensures;
     } in
     let told_is = sym c.all_told.ensures ∙ c.in_ok-device.was in
-    let last_is = c.last_transaction.ensures ∙ ap (last_transaction (facts_in c.args.facts.now)) c.taken-taken.ensures in
+    let last_is = c.last_transaction.ensures ∙ ap (last_transaction (facts_in c.args.facts.now)) (c.taken-taken.ensures c.args.reply.now messages) in
     let behind_is = c.holds_behind.ensures ∙ ap (λ ks. holds_behind ks c.take_any-middle.result.holds) c.as_slice-2.ensures.value in
     let config_is = c.or-config.ensures ∙ (or_is c.last_config.result c.args.facts.now.config
     ∙ ap (λ o. or_else o c.args.facts.now.config) (c.last_config.ensures ∙ ap (last_said config_in) messages)) in
-    let sold_is = c.sold_any.ensures.value ∙ (ap (λ t. sold_any (facts_in c.args.facts.now) t c.read-start.result) c.taken-taken.ensures
+    let sold_is = c.sold_any.ensures.value ∙ (ap (λ t. sold_any (facts_in c.args.facts.now) t c.read-start.result) (c.taken-taken.ensures c.args.reply.now messages)
     ∙ ap (sold_any (facts_in c.args.facts.now) (taken c.args.command c.args.reply.now)) c.read-start.ensures) in
     told looked c.in_ok-new.ensures.found c.in_ok-new.ensures.only last_is told_is behind_is config_is c.all_approved-approved.ensures.value sold_is c.of_device.ensures
