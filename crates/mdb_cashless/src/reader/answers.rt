@@ -93,6 +93,8 @@ fn last_transaction(facts: &ReaderFacts, command: Option<ReaderCommand>) -> Opti
 }
 
 /// The reader replies with data.
+// Inlined, like the rest of a step, so that its outcome is not moved from place to place.
+#[inline(always)]
 pub(crate) fn answer(
     facts: &ReaderFacts,
     command: ReaderCommand,
@@ -166,6 +168,7 @@ fn view_answered(command: Option<ReaderCommand>, view: View) -> View
 }
 
 /// The controller acknowledges a reply.
+#[inline(always)]
 pub(crate) fn vmc_ack(
     facts: &ReaderFacts,
     command: ReaderCommand,
