@@ -10,7 +10,7 @@ use super::transaction::{Transaction, transaction_of};
 use super::unit::own;
 use mdb_bus::Act;
 use mdb_cash::laws::what_counts_goes_on_act_by_act;
-use mdb_cash::past::{Effect, Past, tells_out_of_sequence};
+use mdb_cash::past::{Effect, Past, tell_out_of_sequence};
 use mdb_msgs::{Command, ReaderCommand, ReaderMsg, ReaderUnit, Reply};
 
 /// What counts of the acts so far for a reader (this profile): a running value, which doesn't grow
@@ -151,10 +151,12 @@ impl ReaderFacts {
         ensures { facts_in self.new
             ≡ told (messages_of reply.now) (taken (answered command reply.now) (facts_in self.old)) }
     {
-        if !tells_out_of_sequence(reply) {
+        let list = messages_of(reply);
+        let messages = list.as_slice();
+        if !tell_out_of_sequence(messages) {
             self.take(command);
         }
-        self.note_messages(messages_of(reply).as_slice());
+        self.note_messages(messages);
     }
 
     /// Notes what the messages of a reply tell.
