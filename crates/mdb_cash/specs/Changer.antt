@@ -102,8 +102,8 @@ AckStep facts _ heard before after gains = Stays before after gains
 
 -- The changer replies with data, which is read as plain or as telling of a restart. What is new
 -- counts for the changer. Data answers SETUP, TUBE STATUS, POLL and IDENTIFICATION alone: the
--- changer answers RESET, COIN TYPE and DISPENSE by ACK or NAK, so what it does behind those stands
--- in `AckStep`.
+-- changer answers all other commands by ACK or NAK, RESET, COIN TYPE and DISPENSE among them, so
+-- what it does behind those stands in `AckStep`.
 pub record ReplyStep (facts : Facts) (command : ChangerCommand) (reply : Reply)
     (reading : Reading) (before after : ChangerState) (gains : Gains) : Type 0 where
   pub news : List ChangerReport

@@ -102,7 +102,8 @@ sold facts command before =
     else 0
 
 -- The view behind a command that the controller sends; None where it may not send it. RESET ends
--- its session, and the commands that are neither RESET nor a transaction leave it.
+-- the session in its view, taken or not; the commands that are neither RESET nor a transaction leave
+-- the view.
 abbrev pub asked : Facts → ReaderCommand → View → Option View
 asked facts reader.Reset before = Some view.NoSession
 asked facts command before =
@@ -177,7 +178,8 @@ abbrev pub before_messages : Facts → ReaderCommand → Reply → Reading → R
 before_messages facts command reply reading before =
     take_any facts (taken command reply) (read reading before)
 
--- whether a reset message is owed where a command is taken, if one is: behind RESET it is
+-- whether a reset message is owed where a command is taken, if one is: behind RESET it is (which is
+-- of no matter, since no kept message stands in an answer to RESET)
 abbrev pub owes_reset : Facts → Option ReaderCommand → Bool
 owes_reset facts command = resets (effect_of_own command) || facts.past.reset_owed
 

@@ -86,7 +86,7 @@ pub record Facts : Type 0 where
   pub config : Option ReaderConfig
   -- the last transaction command that the controller sent
   pub asked : Option Transaction
-  -- the last transaction that the reader took
+  -- the last transaction that the reader took; none behind what ends them (`ends_transactions`)
   pub taken : Option Transaction
   -- the amount of the last message 05, of the last reply that has one; 0 where there was none
   pub amount : ℕ

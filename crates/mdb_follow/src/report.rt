@@ -9,12 +9,12 @@ use crate::Account;
 pub struct Report {
     /// How many rows there are.
     pub rows: u64,
-    /// The decimal places of changer, validator and the two readers, as far as the rows tell them.
+    /// The decimal places of changer, validator and the two readers; none are told so far.
     pub decimals: [Option<u8>; 4],
     /// Coins in, bills in, paid out, approved and sold by the reader at 10H, and approved and sold
     /// by the reader at 60H, in smallest units of money.
     pub accounts: [Account; 7],
-    /// How often changer, validator and each reader were silent for too long.
+    /// How often changer, validator and each reader were silent for too long; not counted so far.
     pub silences: [u64; 4],
 }
 

@@ -126,7 +126,7 @@ impl ReaderFacts {
         }
     }
 
-    /// All devices are put into their power-on states.
+    /// A break puts the reader into its power-on state.
     fn power_on(&mut self)
         ensures { facts_in self.new ≡ powered (facts_in self.old) }
     {

@@ -30,7 +30,7 @@ pub enum ReaderReport {
     SessionEnded,
 }
 
-/// What counts of a reader's config message (MDB/ICP 4.3, cashless device).
+/// What is known of a reader by its config message (MDB/ICP 4.3, cashless device).
 #[derive(Clone, Copy, PartialEq, Eq, Debug)]
 pub struct ReaderConfig {
     /// Z5: the scale factor, in smallest units of money.
