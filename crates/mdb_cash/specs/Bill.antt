@@ -98,8 +98,8 @@ AckStep _ before after gains = Stays before after gains
 
 -- The validator replies with data, which is read as plain or as telling of a restart. What is new
 -- counts for the validator, and moves what is in escrow. Data answers SETUP, POLL, STACKER and
--- IDENTIFICATION alone: the validator answers all other commands by ACK or NAK, RESET, BILL TYPE and
--- ESCROW among them, so what it does behind those stands in `AckStep`.
+-- IDENTIFICATION alone: the validator answers all other commands by ACK or NAK, RESET, BILL TYPE
+-- and ESCROW among them, so what it does behind those stands in `AckStep`.
 pub record ReplyStep (facts : Facts) (command : BillCommand) (reply : Reply)
     (reading : Reading) (before after : BillState) (gains : Gains) : Type 0 where
   pub news : List BillReport

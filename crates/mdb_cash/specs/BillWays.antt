@@ -1,5 +1,6 @@
 -- That it matters for ACKs alone whether they were heard, for replies alone how they are read, and
--- that acts of other devices change nothing. This proves laws of the trait `Pair` for the validator.
+-- that acts of other devices change nothing. This proves laws of the trait `Pair` for the
+-- validator.
 use Rattle.std.specs.Prelude.{◌≡◌, ◌↔◌, Bool, refl}
 use Rattle.mdb_msgs.specs.declared.command.Device.TheVariants as devices
 use Rattle.mdb_msgs.specs.declared.command.Command.TheVariants.{Changer, Bill, Reader}

@@ -35,8 +35,8 @@ abbrev pub parts_by : Act → List (Part ChangerReport)
 parts_by (acts.Reply (commands.Changer command) reply) = parts_of reply
 parts_by _ = []
 
--- What a command is to the changer that takes it: its RESET, or a COIN TYPE, which enables the types
--- of Y1-Y2. (No data answers either, so it is ACK that takes them.)
+-- What a command is to the changer that takes it: its RESET, or a COIN TYPE, which enables the
+-- types of Y1-Y2. (No data answers either, so it is ACK that takes them.)
 abbrev pub effect_of : Command → Effect
 effect_of (commands.Changer changer.Reset) = effects.Reset
 effect_of (commands.Changer (changer.CoinType enable manual)) = effects.Enable enable

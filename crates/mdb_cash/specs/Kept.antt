@@ -41,8 +41,8 @@ pub record IsSummary {M : Type 0} (kept : List M) (reset early : Bool)
   pub reset_is : reset ≡ has_reset parts
   pub early_is : early ≡ keeps_early parts
 
--- Each reply can be read as plain. A restart can be read where there is a reset message, and no kept
--- message in front of the first one.
+-- Each reply can be read as plain. A restart can be read where there is a reset message, and no
+-- kept message in front of the first one.
 abbrev pub CanBeRead : Reading → Bool → Bool → Type 0
 CanBeRead Plain reset early = Unit {0}
 CanBeRead Restart reset early = (reset ≡ true) × (early ≡ false)

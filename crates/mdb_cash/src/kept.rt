@@ -72,8 +72,8 @@ pub struct Summary<M: Drop, const CAP: usize> {
     pub kept: ArrayVec<M, CAP>,
     /// Whether there is a reset message.
     pub reset: bool,
-    /// Whether a kept message stands before the first reset message; without a reset message, whether
-    /// there is a kept message.
+    /// Whether a kept message stands before the first reset message; without a reset message,
+    /// whether there is a kept message.
     pub early: bool,
 }
 

@@ -1,4 +1,5 @@
-//! Laws of kept messages, and of what counts of the acts so far. Each function's contract is the law.
+//! Laws of kept messages, and of what counts of the acts so far. Each function's contract is the
+//! law.
 
 ghost use Rattle.std.specs.Prelude.{◌≡◌, ◌↔◌, List, ◌∷◌};
 ghost use Rattle.mdb_msgs.specs.declared.command.Command.{Command};

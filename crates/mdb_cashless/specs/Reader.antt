@@ -102,8 +102,8 @@ sold facts command before =
     else 0
 
 -- The view behind a command that the controller sends; None where it may not send it. RESET ends
--- the session in its view, taken or not; the commands that are neither RESET nor a transaction leave
--- the view.
+-- the session in its view, taken or not; the commands that are neither RESET nor a transaction
+-- leave the view.
 abbrev pub asked : Facts → ReaderCommand → View → Option View
 asked facts reader.Reset before = Some view.NoSession
 asked facts command before =

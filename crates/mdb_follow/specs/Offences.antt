@@ -51,7 +51,7 @@ pub data NoStep : Rule → Act → List Act → Type 0 where
       → HasNoStep (λ acts. reader.ReaderStep unit (reader_facts.facts_of unit acts))
       reader.power_on act before → NoStep rule.Cashless act before
 
--- The newest act of the rows up to this one is one that a device and the controller can't have done.
+-- The newest act of the rows up to this one can't have been done by its device and the controller.
 -- (Where the rows before it are reached, as `IsOffence` has it, this row ends that act.)
 pub record BreaksMachine (events : List Event) (row : Event) (broken : Rule)
     (blamed : Blame) : Type 0 where

@@ -7,8 +7,8 @@ use Rattle.mdb_bus.specs.declared.fault.Blame.{Blame}
 use Rattle.mdb_bus.specs.declared.fault.Blame.TheVariants as blame
 use Rattle.mdb_bus.specs.LinkFaults.{blame_on}
 
--- Who sends an act: a peripheral answers, and all else is the controller's. Foreign traffic may be a
--- peripheral's too, but every state allows it, so nobody is to blame for it here.
+-- Who sends an act: a peripheral answers, and all else is the controller's. Foreign traffic may be
+-- a peripheral's too, but every state allows it, so nobody is to blame for it here.
 abbrev pub sender_of : Act → Blame
 sender_of (acts.Ack command) = blame_on (Some (device_of command))
 sender_of (acts.Nak command) = blame_on (Some (device_of command))

@@ -18,8 +18,8 @@ pub const ROWS_MAX: u64 = 100_000_000;
 
 /// What all that may have happened behind the rows so far comes to.
 ///
-/// It keeps the bus, and of each device the facts and a table of its possible states; no rows. Behind
-/// an offence nothing but the offence is of any matter.
+/// It keeps the bus, and of each device the facts and a table of its possible states; no rows.
+/// Behind an offence nothing but the offence is of any matter.
 #[derive(Drop)]
 pub struct Follower {
     bus: Bus,
