@@ -171,8 +171,8 @@ pub fn add_all<T: Message, const CAP: usize>(summary: &mut Summary<T::Kept, CAP>
 }
 
 /// Whether messages may be read so, by what is quickly seen: none without a reset message tell of a
-/// restart.
-pub fn may_be_read<T: Message>(reading: Reading, messages: &[T]) -> bool
+/// restart. A yes promises nothing: `Summary::told` has the last word.
+pub(crate) fn may_be_read<T: Message>(reading: Reading, messages: &[T]) -> bool
     ensures { OnFalse result (MayBeRead reading (map T.part_of messages.now) → ⊥) }
 {
     if let Reading::Restart = reading {

@@ -38,7 +38,8 @@ pub struct Records<R> {
 }
 
 impl<R: Read + Drop> Records<R> {
-    ghost use Rattle.mdb_records.specs.ToCome.{Advances, IsOverLimit, IsUncut, ToCome, current_fields, fault_of};
+    ghost use Rattle.mdb_records.specs.ToCome.{Advances, IsOverLimit, IsUncut, ToCome};
+    ghost use Rattle.mdb_records.specs.ToCome.{current_fields, fault_of};
 
     /// The records of the text that `reader` has left, which may be at most `limit` bytes long:
     /// past them one more byte is asked for, to tell the end from a longer text. Fields are

@@ -132,7 +132,7 @@ pub(crate) fn answer(
 }
 
 /// Whether messages may be read so, by what is quickly seen: none without a reset message tell of a
-/// restart.
+/// restart. A yes promises nothing: `Summary::told` has the last word.
 fn may_be_read(reading: Reading, messages: &[ReaderMsg]) -> bool
     ensures { OnFalse result (MayBeRead reading (map part_of messages.now) → ⊥) }
 {

@@ -149,7 +149,8 @@ impl ReaderFacts {
     #[inline(never)]
     fn answer(&mut self, command: ReaderCommand, reply: &Reply)
         ensures { facts_in self.new
-            ≡ told (messages_of reply.now) (taken (answered command reply.now) (facts_in self.old)) }
+            ≡ told (messages_of reply.now)
+            (taken (answered command reply.now) (facts_in self.old)) }
     {
         let list = messages_of(reply);
         let messages = list.as_slice();
