@@ -18,7 +18,7 @@ use Rattle.mdb_bus.specs.declared.levels.Levels.{Levels}
 use Rattle.mdb_bus.specs.Step.{Step}
 use Rattle.mdb_bus.specs.Step as step
 use Rattle.mdb_bus.specs.ActLists.{ArePieces, HasActList, Piece, Position, Quiet, InAsk, Asked, InReply, Replied, Returned, InRepeat, InForeign, IsRepeatFront, acts_of, with_act, events_of, last_of, levels_of, position_of}
-use Rattle.mdb_bus.specs.Bus.{GoesOn, HasGone, StandsFor, ended_act, position_at}
+use Rattle.mdb_bus.specs.Bus.{GoesOn, Grown, HasGone, StandsFor, ended_act, position_at}
 use Rattle.mdb_bus.specs.LinkFaults.{IsFirstBroken, IsLinkFault, RowBreaks, Situation, asked_device, blame_of, situation_of}
 use Rattle.mdb_bus.specs.Steps.{IsAt, IsEnded, IsJudged, IsReadAt, IsSound, Leads, WordLeads, act_after, asked_behind, asked_with, levels_behind, levels_with, pieces_after, position_after}
 use Rattle.mdb_bus.specs.declared.judged.Judged.{Judged}
@@ -161,8 +161,16 @@ stands_by old new pieces row next act stands leads gone =
       };
       rows = more.rows;
       acts = more.acts ∙ acts_same stands.position went.advanced.act;
+      grown = subst Goes (ended stands.position went.advanced.act) more.grown;
     }
   where
+    Goes : Option Act → Type 0
+    Goes a = Grown pieces row a (pieces_after pieces row next)
+
+    ended : position_of pieces ≡ position_at old.place → act ≡ act_after (position_at old.place) next
+        → act_after (position_of pieces) next ≡ act
+    ended position is = ap (λ p. act_after p next) position ∙ sym is
+
     acts_same : position_of pieces ≡ position_at old.place → act ≡ act_after (position_at old.place) next
         → with_act (act_after (position_of pieces) next) (acts_of pieces)
         ≡ with_act act (acts_of pieces)

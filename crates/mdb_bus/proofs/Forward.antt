@@ -1,5 +1,5 @@
 -- A row that a position leads on by extends the act list.
-use Rattle.std.proofs.Common.{arith, refl, ap, sym, subst, ◌∙◌, ◌≡◌, ◌+◌, ◌<◌, ◌≤◌, ℕ, List, [], ◌∷◌, ◌++◌, inl, inr, Some, length, length-append, append_assoc}
+use Rattle.std.proofs.Common.{◌⊎◌, arith, refl, ap, sym, subst, ◌∙◌, ◌≡◌, ◌+◌, ◌<◌, ◌≤◌, ℕ, List, [], ◌∷◌, ◌++◌, inl, inr, Some, length, length-append, append_assoc}
 use Rattle.std.proofs.lemmas.List.Elements.{All-append, All-from_recursion}
 use Rattle.mdb_words.specs.declared.limits.TheConstants.{BREAK_LENGTH_MIN}
 use Rattle.mdb_words.specs.declared.event.Event.{Event}
@@ -15,9 +15,10 @@ use Rattle.mdb_bus.specs.declared.act.Act.TheVariants as acts
 use Rattle.mdb_bus.specs.Step.{Step}
 use Rattle.mdb_bus.specs.Step as step
 use Rattle.mdb_bus.specs.Acts.{Say}
-use Rattle.mdb_bus.specs.ActLists.{Piece, Whole, AskTail, ReplyTail, RepeatTail, Position, Quiet, InAsk, Asked, InReply, Replied, Returned, InRepeat, InForeign, ArePieces, AreSpaced, IsPiece, IsReplyFront, IsSaid, MayCome, MayStand, PieceFitsLevels, acts_of, events_of, last_of, left_open, levels_of, piece_events, position_of, with_act}
+use Rattle.mdb_bus.specs.ActLists.{Piece, Whole, AskTail, ReplyTail, RepeatTail, Position, Quiet, InAsk, Asked, InReply, Replied, Returned, InRepeat, InForeign, ArePieces, AreSpaced, IsPiece, IsReplyFront, IsSaid, IsTail, MayCome, MayStand, PieceFitsLevels, act_in, acts_of, events_of, last_of, left_open, levels_of, piece_events, position_of, with_act}
+use Rattle.mdb_bus.specs.Bus.{Grown}
 use Rattle.mdb_bus.specs.LinkFaults.{asked_device, situation_of}
-use Rattle.mdb_bus.specs.Steps.{Answers, AnswersReply, BeginsRepeat, GoesOnAsking, GoesOnRepeating, GoesOnReplying, InBlock, IsSound, Leads, Opens, WordLeads, act_after, act_in, asked_behind, grown, levels_behind, piece_after, pieces_after, position_after}
+use Rattle.mdb_bus.specs.Steps.{Answers, AnswersReply, BeginsRepeat, GoesOnAsking, GoesOnRepeating, GoesOnReplying, InBlock, IsSound, Leads, Opens, WordLeads, act_after, asked_behind, grown, levels_behind, piece_after, pieces_after, position_after}
 use Rattle.mdb_bus.proofs.Rows.{begins_block, say_byte, say_sum, say_word, spaced_more}
 
 -- what a step makes of pieces
@@ -28,12 +29,14 @@ pub record Extended (pieces : List Piece) (row : Event) (next : Step) : Type 0 w
   pub position : position_of (pieces_after pieces row next) ≡ position_after (position_of pieces) next
   pub levels : levels_of (pieces_after pieces row next) ≡ levels_behind (levels_of pieces) next
   pub asked : asked_device (pieces_after pieces row next) ≡ asked_behind (asked_device pieces) next
+  pub grown : Grown pieces row (act_after (position_of pieces) next) (pieces_after pieces row next)
 
 -- a step and the piece that it adds agree on what they leave
 record Adds (next : Step) (piece : List Event → Piece) : Type 0 where
   rows : (events : List Event) → piece_events (piece events) ≡ events
   acts : (events : List Event) (pieces : List Piece)
       → acts_of (piece events ∷ pieces) ≡ with_act (act_in (piece [])) (acts_of pieces)
+  act : (events : List Event) → act_in (piece events) ≡ act_in (piece [])
   position : (events : List Event) (pieces : List Piece)
       → position_of (piece events ∷ pieces) ≡ position_of (piece [] ∷ [])
   levels : (events : List Event) (pieces : List Piece)
@@ -45,6 +48,7 @@ adds_ask_byte : (byte : ℕ) (bytes : List ℕ) → Adds (step.AskByte byte) (As
 adds_ask_byte byte bytes = record {
   rows = λ e. refl;
   acts = λ e p. refl;
+  act = λ e. refl;
   position = λ e p. refl;
   levels = λ e p. refl;
   asked = λ e p. refl;
@@ -54,6 +58,7 @@ adds_ask : (command : Command) → Adds (step.Ask command) (Whole (acts.Ask comm
 adds_ask command = record {
   rows = λ e. refl;
   acts = λ e p. refl;
+  act = λ e. refl;
   position = λ e p. refl;
   levels = λ e p. refl;
   asked = λ e p. refl;
@@ -63,6 +68,7 @@ adds_foreign : Adds step.Foreign (Whole acts.Foreign)
 adds_foreign = record {
   rows = λ e. refl;
   acts = λ e p. refl;
+  act = λ e. refl;
   position = λ e p. refl;
   levels = λ e p. refl;
   asked = λ e p. refl;
@@ -72,6 +78,7 @@ adds_ack : (command : Command) → Adds step.Ack (Whole (acts.Ack command))
 adds_ack command = record {
   rows = λ e. refl;
   acts = λ e p. refl;
+  act = λ e. refl;
   position = λ e p. refl;
   levels = λ e p. refl;
   asked = λ e p. refl;
@@ -81,6 +88,7 @@ adds_nak : (command : Command) → Adds step.Nak (Whole (acts.Nak command))
 adds_nak command = record {
   rows = λ e. refl;
   acts = λ e p. refl;
+  act = λ e. refl;
   position = λ e p. refl;
   levels = λ e p. refl;
   asked = λ e p. refl;
@@ -90,6 +98,7 @@ adds_reply_byte : (command : Command) (byte : ℕ) (bytes : List ℕ) → Adds (
 adds_reply_byte command byte bytes = record {
   rows = λ e. refl;
   acts = λ e p. refl;
+  act = λ e. refl;
   position = λ e p. refl;
   levels = λ e p. refl;
   asked = λ e p. refl;
@@ -99,6 +108,7 @@ adds_reply : (command : Command) (reply : Reply) → Adds (step.Reply reply) (Wh
 adds_reply command reply = record {
   rows = λ e. refl;
   acts = λ e p. refl;
+  act = λ e. refl;
   position = λ e p. refl;
   levels = λ e p. refl;
   asked = λ e p. refl;
@@ -108,6 +118,7 @@ adds_vmc_ack : (command : Command) (reply : Reply) → Adds step.VmcAck (Whole (
 adds_vmc_ack command reply = record {
   rows = λ e. refl;
   acts = λ e p. refl;
+  act = λ e. refl;
   position = λ e p. refl;
   levels = λ e p. refl;
   asked = λ e p. refl;
@@ -117,6 +128,7 @@ adds_vmc_nak : (command : Command) (reply : Reply) → Adds step.VmcNak (Whole (
 adds_vmc_nak command reply = record {
   rows = λ e. refl;
   acts = λ e p. refl;
+  act = λ e. refl;
   position = λ e p. refl;
   levels = λ e p. refl;
   asked = λ e p. refl;
@@ -126,6 +138,7 @@ adds_vmc_ret : (command : Command) (reply : Reply) → Adds step.VmcRet (Whole (
 adds_vmc_ret command reply = record {
   rows = λ e. refl;
   acts = λ e p. refl;
+  act = λ e. refl;
   position = λ e p. refl;
   levels = λ e p. refl;
   asked = λ e p. refl;
@@ -136,6 +149,7 @@ adds_repeat_word : (command : Command) (reply : Reply) (word : ℕ) (words : Lis
 adds_repeat_word command reply word words = record {
   rows = λ e. refl;
   acts = λ e p. refl;
+  act = λ e. refl;
   position = λ e p. refl;
   levels = λ e p. refl;
   asked = λ e p. refl;
@@ -145,6 +159,7 @@ adds_repeat : (command : Command) (reply : Reply) → Adds step.Repeat (Whole (a
 adds_repeat command reply = record {
   rows = λ e. refl;
   acts = λ e p. refl;
+  act = λ e. refl;
   position = λ e p. refl;
   levels = λ e p. refl;
   asked = λ e p. refl;
@@ -154,18 +169,26 @@ adds_break : (length : ℕ) → Adds (step.Break length) (Whole (acts.Break leng
 adds_break length = record {
   rows = λ e. refl;
   acts = λ e p. refl;
+  act = λ e. refl;
   position = λ e p. refl;
   levels = λ e p. refl;
   asked = λ e p. refl;
 }
 
+-- what a row goes on from: the pieces, or a tail, the newest of them
+abbrev GoesOnFromPieces : List Piece → List Event → List Piece → Type 0
+GoesOnFromPieces pieces begun rest =
+    ((begun ≡ []) × (pieces ≡ rest))
+    ⊎ ((tail : Piece) × IsTail tail × (piece_events tail ≡ begun) × (pieces ≡ tail ∷ rest))
+
 -- pieces that a step leads to, as they stand, are what it makes of the pieces before it
-extended : (pieces rest : List Piece) (events : List Event) (row : Event) (next : Step) (piece : List Event → Piece)
+extended : (pieces rest : List Piece) (begun events : List Event) (row : Event) (next : Step) (piece : List Event → Piece)
     → Adds next piece → piece_after (position_of pieces) next ≡ piece
     → pieces_after pieces row next ≡ piece events ∷ rest → ArePieces (piece events ∷ rest)
     → events_of rest ++ events ≡ events_of pieces ++ row ∷ [] → acts_of pieces ≡ acts_of rest
-    → levels_of pieces ≡ levels_of rest → asked_device pieces ≡ asked_device rest → Extended pieces row next
-extended pieces rest events row next piece adds added made are rows same_acts same_levels same_asked =
+    → levels_of pieces ≡ levels_of rest → asked_device pieces ≡ asked_device rest
+    → events ≡ begun ++ row ∷ [] → GoesOnFromPieces pieces begun rest → Extended pieces row next
+extended pieces rest begun events row next piece adds added made are rows same_acts same_levels same_asked begins from =
     let Right : List Piece → Type 0 = λ ps. ArePieces ps in
     let act : act_in (piece []) ≡ act_after (position_of pieces) next =
     ap (λ (p : List Event → Piece). act_in (p [])) (sym added) in
@@ -182,6 +205,15 @@ extended pieces rest events row next piece adds added made are rows same_acts sa
           ∙ (adds.levels events rest ∙ ap (λ ls. levels_behind ls next) (sym same_levels));
       asked = ap asked_device made
           ∙ (adds.asked events rest ∙ ap (λ a. asked_behind a next) (sym same_asked));
+      grown = record {
+        newest = piece events;
+        earlier = rest;
+        are = made;
+        begun = begun;
+        events = adds.rows events ∙ begins;
+        ends = adds.act events ∙ act;
+        from = from;
+      };
     }
 
 -- a piece of one event behind pieces
@@ -196,17 +228,19 @@ fresh pieces row next piece adds added made are said comes levels =
     record { said = said; spaced = subst Spaced (sym (adds.rows (row ∷ []))) tt } in
     let stands : MayStand pieces (piece (row ∷ [])) =
     record { first = row; others = []; begins = adds.rows (row ∷ []); comes = comes; levels = levels } in
-    extended pieces pieces (row ∷ []) row next piece adds added made (right, stands, are) refl refl refl refl
+    extended pieces pieces [] (row ∷ []) row next piece adds added made (right, stands, are) refl refl refl refl
+    refl (inl (refl, refl))
 
 -- a tail has no effect on what pieces leave
-record IsTail (tail : Piece) : Type 0 where
+record HasNoEffect (tail : Piece) : Type 0 where
+  open_end : IsTail tail
   acts : (pieces : List Piece) → acts_of (tail ∷ pieces) ≡ acts_of pieces
   levels : (pieces : List Piece) → levels_of (tail ∷ pieces) ≡ levels_of pieces
   asked : (pieces : List Piece) → asked_device (tail ∷ pieces) ≡ asked_device pieces
 
 -- a tail at the head goes on, or ends
 longer : (tail : Piece) (pieces : List Piece) (row : Event) (next : Step) (piece : List Event → Piece)
-    → IsTail tail → Adds next piece → piece_after (position_of (tail ∷ pieces)) next ≡ piece
+    → HasNoEffect tail → Adds next piece → piece_after (position_of (tail ∷ pieces)) next ≡ piece
     → pieces_after (tail ∷ pieces) row next ≡ piece (piece_events tail ++ row ∷ []) ∷ pieces
     → ArePieces (tail ∷ pieces) → IsSaid (piece (piece_events tail ++ row ∷ []))
     → ((first : Event) (others : List Event) → piece_events tail ≡ first ∷ others
@@ -232,9 +266,9 @@ longer tail pieces row next piece is_tail adds added made are said comes levels 
       comes = comes stood.first stood.others stood.begins stood.comes;
       levels = levels;
     } in
-    extended (tail ∷ pieces) pieces (old ++ row ∷ []) row next piece adds added made (right, stands, are.2)
+    extended (tail ∷ pieces) pieces old (old ++ row ∷ []) row next piece adds added made (right, stands, are.2)
     (sym (append_assoc (events_of pieces) old (row ∷ []))) (is_tail.acts pieces) (is_tail.levels pieces)
-    (is_tail.asked pieces)
+    (is_tail.asked pieces) refl (inr (tail, is_tail.open_end, refl, refl))
 
 -- a position where no tail is open
 abbrev IsFree : Position → Type 0
@@ -432,7 +466,7 @@ in_ask bytes events pieces at word (step.AskByte byte) are leads =
     let says : Say Controller (controller_words (bytes ++ byte ∷ [])) (events ++ row ∷ []) =
     subst Spoken leads.0 (say_byte bytes events at word said.0.some said.1) in
     longer (AskTail bytes events) pieces row (step.AskByte byte) (AskTail (bytes ++ byte ∷ []))
-    (record { acts = λ ps. refl; levels = λ ps. refl; asked = λ ps. refl })
+    (record { open_end = tt; acts = λ ps. refl; levels = λ ps. refl; asked = λ ps. refl })
     (adds_ask_byte byte (bytes ++ byte ∷ [])) refl refl are (leads.2, says)
     (λ first others is comes. comes) tt leads.3
 in_ask bytes events pieces at word (step.Ask command) are leads =
@@ -444,7 +478,7 @@ in_ask bytes events pieces at word (step.Ask command) are leads =
     let says : Say Controller (controller_words (block_of (command_bytes command))) (events ++ row ∷ []) =
     subst Spoken spells.bytes (say_byte bytes events at word said.0.some said.1) in
     longer (AskTail bytes events) pieces row (step.Ask command) (Whole (acts.Ask command))
-    (record { acts = λ ps. refl; levels = λ ps. refl; asked = λ ps. refl })
+    (record { open_end = tt; acts = λ ps. refl; levels = λ ps. refl; asked = λ ps. refl })
     (adds_ask command) refl refl are (subst Spelled spells.bytes spells, says)
     (λ first others is comes. comes) tt leads.2
 in_ask bytes events pieces at word step.Foreign are leads =
@@ -454,7 +488,7 @@ in_ask bytes events pieces at word step.Foreign are leads =
     say_byte bytes events at word said.0.some said.1 in
     let Spoken : List Event → Type 0 = λ es. Say Controller (controller_words bytes) es in
     longer (AskTail bytes events) pieces row step.Foreign (Whole acts.Foreign)
-    (record { acts = λ ps. refl; levels = λ ps. refl; asked = λ ps. refl })
+    (record { open_end = tt; acts = λ ps. refl; levels = λ ps. refl; asked = λ ps. refl })
     adds_foreign refl refl are (inl (bytes ++ word ∷ [], leads.1, says))
     (λ first others is comes. inl (begins_block bytes first others said.0.some (subst Spoken is said.1), comes))
     tt leads.2
@@ -479,7 +513,7 @@ in_reply command bytes events pieces at word (step.ReplyByte byte) are leads =
     } in
     let Spoken : ℕ → Type 0 = λ w. Say Peripheral (bytes ++ w ∷ []) (events ++ row ∷ []) in
     longer (ReplyTail command bytes events) pieces row (step.ReplyByte byte) (ReplyTail command (bytes ++ byte ∷ []))
-    (record { acts = λ ps. refl; levels = λ ps. refl; asked = λ ps. refl })
+    (record { open_end = tt; acts = λ ps. refl; levels = λ ps. refl; asked = λ ps. refl })
     (adds_reply_byte command byte (bytes ++ byte ∷ [])) refl refl are
     (front, subst Spoken leads.0 (say_word Peripheral bytes events at word said.1))
     (λ first others is comes. comes) tt leads.3
@@ -488,7 +522,7 @@ in_reply command bytes events pieces at word (step.Reply reply) are leads =
     let row = Word at Peripheral word in
     let Spoken : List ℕ → Type 0 = λ bs. Say Peripheral (peripheral_words (block_of bs)) (events ++ row ∷ []) in
     longer (ReplyTail command bytes events) pieces row (step.Reply reply) (Whole (acts.Reply command reply))
-    (record { acts = λ ps. refl; levels = λ ps. refl; asked = λ ps. refl })
+    (record { open_end = tt; acts = λ ps. refl; levels = λ ps. refl; asked = λ ps. refl })
     (adds_reply command reply) refl refl are
     (leads.1, subst Spoken leads.2 (say_sum bytes events at word leads.0 said.1))
     (λ first others is comes. comes) leads.3 leads.4
@@ -504,7 +538,7 @@ in_repeat command reply words events pieces at word (step.RepeatWord told) are l
     let Front : ℕ → Type 0 = λ w. IsSaid (RepeatTail command reply (words ++ w ∷ []) (events ++ row ∷ [])) in
     longer (RepeatTail command reply words events) pieces row (step.RepeatWord told)
     (RepeatTail command reply (words ++ told ∷ []))
-    (record { acts = λ ps. refl; levels = λ ps. refl; asked = λ ps. refl })
+    (record { open_end = tt; acts = λ ps. refl; levels = λ ps. refl; asked = λ ps. refl })
     (adds_repeat_word command reply told (words ++ told ∷ [])) refl refl are
     (subst Front leads.0 (leads.1, say_word Peripheral words events at word are.0.said.1))
     (λ first others is comes. comes) tt leads.2
@@ -512,7 +546,7 @@ in_repeat command reply words events pieces at word step.Repeat are leads =
     let row = Word at Peripheral word in
     let Spoken : List ℕ → Type 0 = λ ws. Say Peripheral ws (events ++ row ∷ []) in
     longer (RepeatTail command reply words events) pieces row step.Repeat (Whole (acts.Repeat command reply))
-    (record { acts = λ ps. refl; levels = λ ps. refl; asked = λ ps. refl })
+    (record { open_end = tt; acts = λ ps. refl; levels = λ ps. refl; asked = λ ps. refl })
     (adds_repeat command reply) refl refl are
     (subst Spoken leads.0 (say_word Peripheral words events at word are.0.said.1))
     (λ first others is comes. comes) tt leads.1

@@ -41,6 +41,16 @@ piece_events (AskTail bytes events) = events
 piece_events (ReplyTail command bytes events) = events
 piece_events (RepeatTail command reply bytes events) = events
 
+-- the act that a piece is, if it is a whole one
+abbrev pub act_in : Piece → Option Act
+act_in (Whole act events) = Some act
+act_in _ = None
+
+-- a piece is a tail
+abbrev pub IsTail : Piece → Type 0
+IsTail (Whole act events) = ⊥
+IsTail _ = Unit {0}
+
 -- the gaps between the words of one act
 abbrev pub AreSpaced : List Event → Type 0
 AreSpaced [] = Unit {0}

@@ -1,5 +1,5 @@
 -- What a bus stands for: it never stores the rows that it was fed.
-use Rattle.std.specs.Prelude.{◌≡◌, List, [], ◌∷◌, ◌++◌, take, Bool, true, false, Option, Some, None}
+use Rattle.std.specs.Prelude.{◌≡◌, ◌⊎◌, List, [], ◌∷◌, ◌++◌, take, Bool, true, false, Option, Some, None}
 use Rattle.mdb_words.specs.declared.event.Event.{Event}
 use Rattle.mdb_bus.specs.declared.act.Act.{Act}
 use Rattle.mdb_bus.specs.declared.bus.Bus.{Bus}
@@ -9,7 +9,7 @@ use Rattle.mdb_bus.specs.declared.place.Phase.{Phase}
 use Rattle.mdb_bus.specs.declared.place.Phase.TheVariants as phase
 use Rattle.mdb_bus.specs.Step.{Step}
 use Rattle.mdb_bus.specs.Acts.{reply_words}
-use Rattle.mdb_bus.specs.ActLists.{Piece, Position, Quiet, InAsk, Asked, InReply, Replied, Returned, InRepeat, InForeign, ArePieces, acts_of, events_of, last_of, levels_of, position_of, with_act}
+use Rattle.mdb_bus.specs.ActLists.{Piece, Position, Quiet, InAsk, Asked, InReply, Replied, Returned, InRepeat, InForeign, ArePieces, IsTail, act_in, acts_of, events_of, last_of, levels_of, piece_events, position_of, with_act}
 use Rattle.mdb_bus.specs.LinkFaults.{asked_device}
 use Rattle.mdb_bus.specs.Steps.{HasAdvanced, asked_behind, levels_behind}
 
@@ -42,12 +42,27 @@ abbrev pub ended_act : Bool → Act → Option Act
 ended_act true act = Some act
 ended_act false act = None
 
+-- Pieces have gone on by a row: with a new piece of this row alone, or with what a tail, the newest
+-- of them, has become by it. The act is the one that the row ends, if it ends one.
+pub record Grown (pieces : List Piece) (row : Event) (act : Option Act)
+    (longer : List Piece) : Type 0 where
+  pub newest : Piece
+  pub earlier : List Piece
+  pub are : longer ≡ newest ∷ earlier
+  -- the rows before this one that the newest piece has
+  pub begun : List Event
+  pub events : piece_events newest ≡ begun ++ row ∷ []
+  pub ends : act_in newest ≡ act
+  pub from : ((begun ≡ []) × (pieces ≡ earlier))
+      ⊎ ((tail : Piece) × IsTail tail × (piece_events tail ≡ begun) × (pieces ≡ tail ∷ earlier))
+
 -- A bus stands for one row more, and tells the act that the row ends, if it ends one.
 pub record GoesOn (bus : Bus) (pieces : List Piece) (row : Event) (act : Option Act) : Type 0 where
   pub longer : List Piece
   pub stands : StandsFor bus longer
   pub rows : events_of longer ≡ events_of pieces ++ row ∷ []
   pub acts : acts_of longer ≡ with_act act (acts_of pieces)
+  pub grown : Grown pieces row act longer
 
 -- A bus has gone a step by a row. This serves its private functions.
 pub record HasGone (old : Bus) (next : Step) (row : Event) (new : Bus)

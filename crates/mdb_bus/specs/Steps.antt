@@ -31,7 +31,7 @@ use Rattle.mdb_bus.specs.declared.judged.Judged.TheVariants as judged
 use Rattle.mdb_bus.specs.Step.{Step, SomeStep}
 use Rattle.mdb_bus.specs.Step as step
 use Rattle.mdb_bus.specs.Acts.{IsForeignOpening, IsReply, reply_words}
-use Rattle.mdb_bus.specs.ActLists.{Piece, Whole, AskTail, ReplyTail, RepeatTail, Position, Quiet, InAsk, Asked, InReply, Replied, Returned, InRepeat, InForeign, BlockMayCome, BreakMayCome, InTime, IsAskFront, IsLow, IsRepeatFront, IsReplyFront, NotBefore, NotBehind, level_for, levels_after, position_of, tells_high}
+use Rattle.mdb_bus.specs.ActLists.{Piece, Whole, AskTail, ReplyTail, RepeatTail, Position, Quiet, InAsk, Asked, InReply, Replied, Returned, InRepeat, InForeign, BlockMayCome, BreakMayCome, InTime, IsAskFront, IsLow, IsRepeatFront, IsReplyFront, NotBefore, NotBehind, act_in, level_for, levels_after, position_of, tells_high}
 use Rattle.mdb_bus.specs.LinkFaults.{HasHighLevels, IsBefore, IsFirstBroken, IsOutside, Situation}
 
 -- in the time of the next word of a block
@@ -263,11 +263,6 @@ pieces_after pieces row next = grown pieces row (piece_after (position_of pieces
 -- where the bus is behind a step
 abbrev pub position_after : Position → Step → Position
 position_after position next = position_of (piece_after position next [] ∷ [])
-
--- the act that a piece is, if it is a whole one
-abbrev pub act_in : Piece → Option Act
-act_in (Whole act events) = Some act
-act_in _ = None
 
 -- the act that a step ends
 abbrev pub act_after : Position → Step → Option Act
