@@ -9,7 +9,7 @@ use Rattle.mdb_bus.specs.declared.act.Act.{Act}
 use Rattle.mdb_bus.specs.declared.bus.Bus.{Bus}
 use Rattle.mdb_bus.specs.declared.fault.LinkFault.{LinkFault}
 use Rattle.mdb_bus.specs.declared.fault.Rule.{Rule}
-use Rattle.mdb_bus.specs.ActLists.{HasActList, IsActList, Piece, acts_of, events_of}
+use Rattle.mdb_bus.specs.ActLists.{HasActList, IsActList, Piece, Whole, AskTail, ReplyTail, RepeatTail, act_in, acts_of, events_of, piece_events}
 use Rattle.mdb_bus.specs.Bus as link
 use Rattle.mdb_bus.specs.Bus.{GoesOn}
 use Rattle.mdb_bus.specs.LinkFaults.{IsLinkFault}
@@ -195,6 +195,19 @@ link-offence joins old events row on fault offence is impossible number rule bla
   });
 }
 
+-- a piece that is an act is a whole one
+whole-piece : (piece : Piece) (act : Act) (events : List Event) → act_in piece ≡ Some act
+    → piece_events piece ≡ events → piece ≡ Whole act events
+whole-piece (Whole other rows) act events ends same =
+    let is : other ≡ act = cc ends in ap (λ a. Whole a rows) is ∙ ap (Whole act) same
+whole-piece (AskTail bytes rows) act events ends same = absurd (cc ends)
+whole-piece (ReplyTail command bytes rows) act events ends same = absurd (cc ends)
+whole-piece (RepeatTail command reply words rows) act events ends same = absurd (cc ends)
+
+-- the acts behind the same act
+last-alike : (act : Act) (acts more : List Act) → act ∷ acts ≡ act ∷ more → acts ≡ more
+last-alike act acts more same = cc same
+
 -- a machine has no step by an act
 pub machine-offence : OneActList → Joins → (old mid new : Follower) (events : List Event)
     (row : Event) (act : Act) (offence : Offence) (on : StandsFor old events)
@@ -205,6 +218,12 @@ machine-offence one joins old mid new events row act offence on goes same_sides 
     list-on mid.bus events row on.pieces (Some act) on.whole goes in
     let none : NoStep offence.rule act (acts_of on.pieces) = has.none (acts_of on.pieces)
     (subst (λ sides. AreSides sides (acts_of on.pieces)) (sym same_sides) on.sides) in
+    let grown = goes.grown in
+    let are : goes.longer ≡ Whole act (grown.begun ++ row ∷ []) ∷ grown.earlier =
+    grown.are ∙ ap (λ p. p ∷ grown.earlier) (whole-piece grown.newest act
+    (grown.begun ++ row ∷ []) grown.ends grown.events) in
+    let same : acts_of on.pieces ≡ acts_of grown.earlier = last-alike act (acts_of on.pieces)
+    (acts_of grown.earlier) (sym goes.acts ∙ ap acts_of are) in
     record {
       reached = reached-by joins old events on;
       not_reached = unreached one (events ++ row ∷ []) goes.longer list
@@ -212,12 +231,11 @@ machine-offence one joins old mid new events row act offence on goes same_sides 
           (subst (λ acts. EachArrives acts states sums) goes.acts ways));
       number = has.number ∙ ap (λ n. n + 1) (same_rows ∙ on.rows);
       why = inr (record {
-        pieces = goes.longer;
-        act_list = list;
         act = act;
-        before = acts_of on.pieces;
-        ends = goes.acts;
-        no_step = none;
+        begun = grown.begun;
+        earlier = grown.earlier;
+        act_list = subst (λ ps. IsActList ps (events ++ row ∷ [])) are list;
+        no_step = subst (NoStep offence.rule act) same none;
         blame = has.blame;
       });
     }

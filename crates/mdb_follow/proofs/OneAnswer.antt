@@ -1,5 +1,5 @@
 -- Rows have one report, and a row has one offence.
-use Rattle.std.proofs.Common.{ap, arith, sym, subst, ◌∙◌, ◌≡◌, ◌⊎◌, inl, inr, ℕ, ℤ, ◌≤ℤ◌, List, [], ◌∷◌, ◌++◌, append_assoc, append-nil, length, Option, Some, None}
+use Rattle.std.proofs.Common.{ap, arith, refl, sym, subst, ◌∙◌, ◌≡◌, ◌⊎◌, inl, inr, ℕ, ℤ, ◌≤ℤ◌, List, [], ◌∷◌, ◌++◌, append_assoc, append-nil, length, Option, Some, None}
 use Rattle.std.proofs.lemmas.Int.{ints}
 use Rattle.mdb_words.specs.declared.event.Event.{Event}
 use Rattle.mdb_msgs.specs.declared.command.Device.{Device}
@@ -9,7 +9,7 @@ use Rattle.mdb_bus.specs.declared.act.Act.{Act}
 use Rattle.mdb_bus.specs.declared.fault.Blame.{Blame}
 use Rattle.mdb_bus.specs.declared.fault.Rule.{Rule}
 use Rattle.mdb_bus.specs.declared.fault.Rule.TheVariants as rule
-use Rattle.mdb_bus.specs.ActLists.{ArePieces, HasActList, IsActList, Piece, acts_of, events_of, with_act}
+use Rattle.mdb_bus.specs.ActLists.{ArePieces, HasActList, IsActList, Piece, Whole, acts_of, events_of, with_act}
 use Rattle.mdb_bus.specs.LinkFaults.{IsLinkFault, RowBreaks, situation_of}
 use Rattle.mdb_cash.specs.Bill as bill
 use Rattle.mdb_cash.specs.Changer as changer
@@ -129,13 +129,19 @@ whose_rule broken act before (ByReader Second none) some =
     ap rule_of (whose_none (reader_is Second) reader.power_on act before none some.states.cashless2
     some.sums.cashless2 some.ways.cashless2)
 
+-- the act list up to a row that ends an act by which a machine has no step
+abbrev broken-list : (events : List Event) (row : Event) (r : Rule) (a : Blame)
+    → BreaksMachine events row r a → List Piece
+broken-list events row r a p = Whole p.act (p.begun ++ row ∷ []) ∷ p.earlier
+
 -- a row that breaks a rule of the link ends no act
 link-or-machine : BusLaws → (events : List Event) (row : Event) (r s : Rule) (a b : Blame)
     → BreaksLink events row r a → BreaksMachine events row s b → ⊥
 link-or-machine laws events row r s a b p q =
     laws.ends p.pieces row r p.act_list.in_order p.fault.rule.breaks (
-      q.pieces,
-      subst (λ es. IsActList q.pieces (es ++ row ∷ [])) (sym p.act_list.whole) q.act_list,
+      broken-list events row s b q,
+      subst (λ es. IsActList (broken-list events row s b q) (es ++ row ∷ []))
+          (sym p.act_list.whole) q.act_list,
     )
 
 one-why : BusLaws → (events : List Event) (row : Event) → IsReached events → (r s : Rule)
@@ -150,14 +156,15 @@ one-why laws events row reached r s a b (inl p) (inr q) =
 one-why laws events row reached r s a b (inr p) (inl q) =
     absurd (link-or-machine laws events row s r b a q p)
 one-why laws events row reached r s a b (inr p) (inr q) =
-    let same : p.pieces ≡ q.pieces =
-    laws.one (events ++ row ∷ []) p.pieces q.pieces p.act_list q.act_list in
-    let acts : p.act ∷ p.before ≡ q.act ∷ q.before = sym p.ends ∙ (ap acts_of same ∙ q.ends) in
-    let act : p.act ≡ q.act = cc in
-    let by-p : rule_of (whose p.act) ≡ r = whose_rule r p.act p.before p.no_step
-    (some-before-act laws events row reached p.pieces p.act_list p.act p.before p.ends) in
-    let by-q : rule_of (whose q.act) ≡ s = whose_rule s q.act q.before q.no_step
-    (some-before-act laws events row reached q.pieces q.act_list q.act q.before q.ends) in (
+    let one = broken-list events row r a p in
+    let other = broken-list events row s b q in
+    let same : one ≡ other = laws.one (events ++ row ∷ []) one other p.act_list q.act_list in
+    let acts : p.act ∷ acts_of p.earlier ≡ q.act ∷ acts_of q.earlier = ap acts_of same in
+    let act : p.act ≡ q.act = cc acts in
+    let by-p : rule_of (whose p.act) ≡ r = whose_rule r p.act (acts_of p.earlier) p.no_step
+    (some-before-act laws events row reached one p.act_list p.act (acts_of p.earlier) refl) in
+    let by-q : rule_of (whose q.act) ≡ s = whose_rule s q.act (acts_of q.earlier) q.no_step
+    (some-before-act laws events row reached other q.act_list q.act (acts_of q.earlier) refl) in (
       sym by-p ∙ (ap (λ x. rule_of (whose x)) act ∙ by-q),
       p.blame ∙ (ap sender_of act ∙ sym q.blame),
     )

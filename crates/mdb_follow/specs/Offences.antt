@@ -6,7 +6,7 @@ use Rattle.mdb_bus.specs.declared.act.Act.{Act}
 use Rattle.mdb_bus.specs.declared.fault.Blame.{Blame}
 use Rattle.mdb_bus.specs.declared.fault.Rule.{Rule}
 use Rattle.mdb_bus.specs.declared.fault.Rule.TheVariants as rule
-use Rattle.mdb_bus.specs.ActLists.{Piece, IsActList, acts_of}
+use Rattle.mdb_bus.specs.ActLists.{Piece, Whole, IsActList, acts_of}
 use Rattle.mdb_bus.specs.LinkFaults.{IsLinkFault}
 use Rattle.mdb_cash.specs.declared.gains.Gains.{Gains}
 use Rattle.mdb_cash.specs.declared.kept.Reading.{Reading}
@@ -51,16 +51,15 @@ pub data NoStep : Rule → Act → List Act → Type 0 where
       → HasNoStep (λ acts. reader.ReaderStep unit (reader_facts.facts_of unit acts))
       reader.power_on act before → NoStep rule.Cashless act before
 
--- The newest act of the rows up to this one can't have been done by its device and the controller.
--- (Where the rows before it are reached, as `IsOffence` has it, this row ends that act.)
+-- The act that a row ends can't have been done by its device and the controller.
 pub record BreaksMachine (events : List Event) (row : Event) (broken : Rule)
     (blamed : Blame) : Type 0 where
-  pub pieces : List Piece
-  pub act_list : IsActList pieces (events ++ row ∷ [])
   pub act : Act
-  pub before : List Act
-  pub ends : acts_of pieces ≡ act ∷ before
-  pub no_step : NoStep broken act before
+  -- its rows before this one
+  pub begun : List Event
+  pub earlier : List Piece
+  pub act_list : IsActList (Whole act (begun ++ row ∷ []) ∷ earlier) (events ++ row ∷ [])
+  pub no_step : NoStep broken act (acts_of earlier)
   pub blame : blamed ≡ sender_of act
 
 -- the offence of a row behind rows that are reached: the row isn't
