@@ -5,3 +5,4 @@ pub mod Said
 pub mod Steps
 pub mod Transactions
 pub mod Resets
+pub mod Sales

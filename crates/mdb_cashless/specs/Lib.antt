@@ -6,5 +6,7 @@ pub mod ReaderMessages
 pub mod ReaderValues
 pub mod ReaderView
 pub mod ReaderWays
+pub mod SaleViews
+pub mod Sales
 pub mod Transactions
 pub mod Units

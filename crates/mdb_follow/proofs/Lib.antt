@@ -9,6 +9,7 @@ pub mod Machines
 pub mod OneAnswer
 pub mod Places
 pub mod Reaching
+pub mod Sales
 pub mod TwoSteps
 pub mod Ways
 pub mod Within

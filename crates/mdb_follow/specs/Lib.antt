@@ -9,6 +9,7 @@ pub mod Offences
 pub mod Ranges
 pub mod Report
 pub mod Runs
+pub mod Sales
 pub mod Senders
 pub mod Sides
 pub mod Sums

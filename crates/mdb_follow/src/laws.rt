@@ -12,8 +12,10 @@ ghost use Rattle.mdb_follow.specs.declared.report.Report.{Report};
 ghost use Rattle.mdb_follow.specs.Offences.{IsOffence};
 ghost use Rattle.mdb_follow.specs.Report.{IsReport};
 ghost use Rattle.mdb_follow.specs.Runs.{AllSums, HearSameAcks, IsReached, IsWay, States};
+ghost use Rattle.mdb_follow.specs.Sales.{SalesFollowApprovals};
 
 use mdb_bus::laws;
+use mdb_cashless::laws as cashless_laws;
 
 /// Each way of all is a way of each device.
 pub fn ways_split()
@@ -75,4 +77,14 @@ pub fn followers_stand_for_reached_rows()
         → IsReached rows }
 {
     ways_join();
+}
+
+/// In every run of rows, each sale at either reader follows its approval: before each VEND SUCCESS
+/// the controller has requested a sale, the reader has approved one, and the controller has
+/// acknowledged that.
+pub fn sales_follow_their_approvals()
+    ensures { (rows : List Event) → SalesFollowApprovals rows }
+{
+    cashless_laws::views_tell_of_the_sale();
+    cashless_laws::views_allow_approved_sales_alone();
 }

@@ -1,0 +1,470 @@
+-- What the controller's view tells of the sale under way, act by act.
+use Rattle.std.proofs.Common.{arith, refl, sym, ap, subst, ◌∙◌, ◌≡◌, ◌⊎◌, ◌↔◌, inl, inr, ℕ, suc, Bool, true, false, List, [], ◌∷◌, ◌++◌, All, Contains, Option, Some, None, if◌then◌else◌}
+use Rattle.std.proofs.lemmas.List.Elements.{All-cons, All-head, All-nil, All-tail}
+use Rattle.mdb_msgs.specs.declared.command.Command.{Command}
+use Rattle.mdb_msgs.specs.declared.command.Command.TheVariants as commands
+use Rattle.mdb_msgs.specs.declared.command.ReaderCommand.{ReaderCommand}
+use Rattle.mdb_msgs.specs.declared.command.ReaderCommand.TheVariants as reader
+use Rattle.mdb_msgs.specs.declared.command.ReaderUnit.{ReaderUnit}
+use Rattle.mdb_msgs.specs.declared.command.ReaderUnit.TheVariants.{First, Second}
+use Rattle.mdb_msgs.specs.declared.reply.Reply.{Reply}
+use Rattle.mdb_msgs.specs.declared.reply.reader.ReaderMsg.{ReaderMsg}
+use Rattle.mdb_msgs.specs.declared.reply.reader.ReaderMsg.TheVariants as messages
+use Rattle.mdb_bus.specs.declared.act.Act.{Act}
+use Rattle.mdb_bus.specs.declared.act.Act.TheVariants as acts
+use Rattle.mdb_cash.specs.declared.gains.Gains.{Gains}
+use Rattle.mdb_cash.specs.declared.kept.Reading.{Reading}
+use Rattle.mdb_cash.specs.Past.{last_told, or_else}
+use Rattle.mdb_cashless.specs.declared.reader.state.ReaderState.{ReaderState}
+use Rattle.mdb_cashless.specs.declared.reader.transaction.Transaction.{Transaction}
+use Rattle.mdb_cashless.specs.declared.reader.transaction.Transaction.TheVariants.{Request, Cancel, Success, Failure, Complete}
+use Rattle.mdb_cashless.specs.declared.reader.view.View.{View}
+use Rattle.mdb_cashless.specs.declared.reader.view.View.TheVariants.{NoSession, Idle, Asked, Waiting, Approved, SuccessOwed, FailureOwed, Ending}
+use Rattle.mdb_cashless.specs.Reader.{AckStep, AskStep, ForOwn, ReaderStep, ReplyStep, VmcAckStep, asked, taken, view_answered, view_heard}
+use Rattle.mdb_cashless.specs.ReaderFacts.{asked_by, facts_of, own_transaction}
+use Rattle.mdb_cashless.specs.ReaderMessages.{messages_of}
+use Rattle.mdb_cashless.specs.ReaderView as reader_view
+use Rattle.mdb_cashless.specs.ReaderView.{all_heard, heard, sent}
+use Rattle.mdb_cashless.specs.SaleViews.{AcksLastReply, TellsOfSale}
+use Rattle.mdb_cashless.specs.Sales.{EndsInReply, IsApproved, IsRequested, LeavesSale}
+use Rattle.mdb_cashless.specs.Transactions.{is_again, is_same, transaction_of}
+use Rattle.mdb_cashless.specs.Units.{own}
+
+own_is : (unit : ReaderUnit) (command : Command) (its : ReaderCommand) → own unit command ≡ Some its → command ≡ commands.Reader unit its
+own_is First (commands.Changer c) its e = absurd cc
+own_is First (commands.Bill c) its e = absurd cc
+own_is First (commands.Reader First c) its e = let same : c ≡ its = cc in ap (λ (x : ReaderCommand). commands.Reader First x) same
+own_is First (commands.Reader Second c) its e = absurd cc
+own_is Second (commands.Changer c) its e = absurd cc
+own_is Second (commands.Bill c) its e = absurd cc
+own_is Second (commands.Reader First c) its e = absurd cc
+own_is Second (commands.Reader Second c) its e = let same : c ≡ its = cc in ap (λ (x : ReaderCommand). commands.Reader Second x) same
+
+own_of_unit : (unit : ReaderUnit) (its : ReaderCommand) → own unit (commands.Reader unit its) ≡ Some its
+own_of_unit First its = refl
+own_of_unit Second its = refl
+
+-- one act more, by which the sale stays as it stands
+still_requested : (unit : ReaderUnit) (act : Act) (so_far : List Act) (is : IsRequested unit so_far)
+    → LeavesSale unit (λ t. (t ≡ Request is.price is.item) ⊎ (t ≡ Cancel)) act → IsRequested unit (act ∷ so_far)
+still_requested unit act so_far is leaves = record {
+  price = is.price;
+  item = is.item;
+  since = act ∷ is.since;
+  before = is.before;
+  order = ap (λ (l : List Act). act ∷ l) is.order;
+  undecided = All-cons (LeavesSale unit (λ t. (t ≡ Request is.price is.item) ⊎ (t ≡ Cancel))) act is.since leaves is.undecided;
+}
+
+still_approved : (unit : ReaderUnit) (item : ℕ) (act : Act) (so_far : List Act) → IsApproved unit item so_far
+    → LeavesSale unit (λ t. t ≡ Success item) act → IsApproved unit item (act ∷ so_far)
+still_approved unit item act so_far is leaves = record {
+  command = is.command;
+  reply = is.reply;
+  amount = is.amount;
+  since = act ∷ is.since;
+  before = is.before;
+  order = ap (λ (l : List Act). act ∷ l) is.order;
+  unsold = All-cons (LeavesSale unit (λ t. t ≡ Success item)) act is.since leaves is.unsold;
+  replied = is.replied;
+  approves = is.approves;
+  requested = is.requested;
+}
+
+last_still : (unit : ReaderUnit) (act : Act) (so_far : List Act) → asked_by unit act ≡ None → last_told (asked_by unit) (act ∷ so_far) ≡ last_told (asked_by unit) so_far
+last_still unit act so_far none = ap (λ (o : Option Transaction). or_else o (last_told (asked_by unit) so_far)) none
+
+-- an act that is no matter of the sale, whatever may come
+still : (unit : ReaderUnit) (view : View) (act : Act) (so_far : List Act) → ((May : Transaction → Type 0) → LeavesSale unit May act) → asked_by unit act ≡ None
+    → TellsOfSale unit view so_far → TellsOfSale unit view (act ∷ so_far)
+still unit NoSession act so_far leaves none tells = tt
+still unit Idle act so_far leaves none tells = tt
+still unit Asked act so_far leaves none tells = still_requested unit act so_far tells (leaves _)
+still unit Waiting act so_far leaves none tells = still_requested unit act so_far tells (leaves _)
+still unit Approved act so_far leaves none tells = λ item. still_approved unit item act so_far (tells item) (leaves _)
+still unit SuccessOwed act so_far leaves none tells = (tells.0, last_still unit act so_far none ∙ tells.1, still_approved unit tells.0 act so_far tells.2 (leaves _))
+still unit FailureOwed act so_far leaves none tells = tt
+still unit Ending act so_far leaves none tells = tt
+
+-- the view behind hearing that a transaction command was taken
+tells_taken : (unit : ReaderUnit) (view : View) (so_far : List Act) → TellsOfSale unit view so_far → TellsOfSale unit (reader_view.taken view) so_far
+tells_taken unit NoSession so_far tells = tt
+tells_taken unit Idle so_far tells = tt
+tells_taken unit Asked so_far tells = tells
+tells_taken unit Waiting so_far tells = tells
+tells_taken unit Approved so_far tells = tells
+tells_taken unit SuccessOwed so_far tells = tt
+tells_taken unit FailureOwed so_far tells = tt
+tells_taken unit Ending so_far tells = tt
+
+tells_taken_of : (unit : ReaderUnit) (found : Option Transaction) (view : View) (so_far : List Act) → TellsOfSale unit view so_far
+    → TellsOfSale unit (elim found [ Some transaction ↦ reader_view.taken view | None ↦ view ]) so_far
+tells_taken_of unit None view so_far tells = tells
+tells_taken_of unit (Some t) view so_far tells = tells_taken unit view so_far tells
+
+tells_heard : (unit : ReaderUnit) (heard : Bool) (its : ReaderCommand) (view : View) (so_far : List Act) → TellsOfSale unit view so_far → TellsOfSale unit (view_heard heard its view) so_far
+tells_heard unit false its view so_far tells = tells
+tells_heard unit true its view so_far tells = tells_taken_of unit (transaction_of its) view so_far tells
+
+tells_answered : (unit : ReaderUnit) (found : Option ReaderCommand) (view : View) (so_far : List Act) → TellsOfSale unit view so_far → TellsOfSale unit (view_answered found view) so_far
+tells_answered unit None view so_far tells = tells
+tells_answered unit (Some its) view so_far tells = tells_taken_of unit (transaction_of its) view so_far tells
+
+-- What messages make of a view, for anything that views tell: 05 alone approves.
+hear : (Tells : View → Type 0) → Tells NoSession → Tells Idle → (message : ReaderMsg)
+    → ((amount : ℕ) → message ≡ messages.VendApproved amount → Tells Asked → Tells Approved)
+    → ((amount : ℕ) → message ≡ messages.VendApproved amount → Tells Waiting → Tells Approved)
+    → (view : View) → Tells view → Tells (heard message view)
+hear Tells none idle messages.JustReset one two view tells = none
+hear Tells none idle (messages.BeginSession funds) one two NoSession tells = idle
+hear Tells none idle (messages.BeginSession funds) one two Idle tells = tells
+hear Tells none idle (messages.BeginSession funds) one two Asked tells = tells
+hear Tells none idle (messages.BeginSession funds) one two Waiting tells = tells
+hear Tells none idle (messages.BeginSession funds) one two Approved tells = tells
+hear Tells none idle (messages.BeginSession funds) one two SuccessOwed tells = tells
+hear Tells none idle (messages.BeginSession funds) one two FailureOwed tells = tells
+hear Tells none idle (messages.BeginSession funds) one two Ending tells = tells
+hear Tells none idle (messages.VendApproved amount) one two NoSession tells = tells
+hear Tells none idle (messages.VendApproved amount) one two Idle tells = tells
+hear Tells none idle (messages.VendApproved amount) one two Asked tells = one amount refl tells
+hear Tells none idle (messages.VendApproved amount) one two Waiting tells = two amount refl tells
+hear Tells none idle (messages.VendApproved amount) one two Approved tells = tells
+hear Tells none idle (messages.VendApproved amount) one two SuccessOwed tells = tells
+hear Tells none idle (messages.VendApproved amount) one two FailureOwed tells = tells
+hear Tells none idle (messages.VendApproved amount) one two Ending tells = tells
+hear Tells none idle messages.VendDenied one two NoSession tells = tells
+hear Tells none idle messages.VendDenied one two Idle tells = tells
+hear Tells none idle messages.VendDenied one two Asked tells = idle
+hear Tells none idle messages.VendDenied one two Waiting tells = idle
+hear Tells none idle messages.VendDenied one two Approved tells = tells
+hear Tells none idle messages.VendDenied one two SuccessOwed tells = tells
+hear Tells none idle messages.VendDenied one two FailureOwed tells = tells
+hear Tells none idle messages.VendDenied one two Ending tells = tells
+hear Tells none idle messages.EndSession one two NoSession tells = tells
+hear Tells none idle messages.EndSession one two Idle tells = tells
+hear Tells none idle messages.EndSession one two Asked tells = tells
+hear Tells none idle messages.EndSession one two Waiting tells = tells
+hear Tells none idle messages.EndSession one two Approved tells = tells
+hear Tells none idle messages.EndSession one two SuccessOwed tells = tells
+hear Tells none idle messages.EndSession one two FailureOwed tells = tells
+hear Tells none idle messages.EndSession one two Ending tells = none
+hear Tells none idle message one two view tells = tells
+
+hear_all : (Tells : View → Type 0) → Tells NoSession → Tells Idle → (said : List ReaderMsg)
+    → ((amount : ℕ) → Contains said (messages.VendApproved amount) → Tells Asked → Tells Approved)
+    → ((amount : ℕ) → Contains said (messages.VendApproved amount) → Tells Waiting → Tells Approved)
+    → (view : View) → Tells view → Tells (all_heard said view)
+hear_all Tells none idle [] one two view tells = tells
+hear_all Tells none idle (message ∷ said) one two view tells =
+    hear_all Tells none idle said
+    (λ amount is. one amount (suc is.0, omega (arith, is.1), is.2))
+    (λ amount is. two amount (suc is.0, omega (arith, is.1), is.2))
+    (heard message view)
+    (hear Tells none idle message
+    (λ amount is. one amount (0, omega arith, is))
+    (λ amount is. two amount (0, omega arith, is))
+    view tells)
+
+-- a request stands before acts that ask nothing
+before_act : (unit : ReaderUnit) (act : Act) (so_far : List Act) → ((command : Command) → act ≡ acts.Ask command → ⊥)
+    → (price item : ℕ) (since before : List Act) → act ∷ so_far ≡ since ++ (acts.Ask (commands.Reader unit (reader.VendRequest price item)) ∷ before)
+    → All (LeavesSale unit (λ t. (t ≡ Request price item) ⊎ (t ≡ Cancel))) since → IsRequested unit so_far
+before_act unit act so_far other price item [] before order all = absurd (other (commands.Reader unit (reader.VendRequest price item)) cc)
+before_act unit act so_far other price item (x ∷ since) before order all = record {
+  price = price;
+  item = item;
+  since = since;
+  before = before;
+  order = cc;
+  undecided = All-tail (LeavesSale unit (λ t. (t ≡ Request price item) ⊎ (t ≡ Cancel))) x since all;
+}
+
+requested_before : (unit : ReaderUnit) (act : Act) (so_far : List Act) → ((command : Command) → act ≡ acts.Ask command → ⊥) → IsRequested unit (act ∷ so_far) → IsRequested unit so_far
+requested_before unit act so_far other is = before_act unit act so_far other is.price is.item is.since is.before is.order is.undecided
+
+asks_nothing : (command : Command) (reply : Reply) (act : Act) → (act ≡ acts.VmcRet command reply) ⊎ (act ≡ acts.Repeat command reply) → (asked : Command) → act ≡ acts.Ask asked → ⊥
+asks_nothing command reply act (inl is) asked e = cc
+asks_nothing command reply act (inr is) asked e = cc
+
+before_reply : (unit : ReaderUnit) (command : Command) (reply : Reply) (again before : List Act)
+    → All (λ act. (act ≡ acts.VmcRet command reply) ⊎ (act ≡ acts.Repeat command reply)) again
+    → IsRequested unit (again ++ (acts.Reply command reply ∷ before)) → IsRequested unit before
+before_reply unit command reply [] before all is = requested_before unit (acts.Reply command reply) before (λ asked e. cc) is
+before_reply unit command reply (act ∷ again) before all is =
+    let P : Act → Type 0 = λ x. (x ≡ acts.VmcRet command reply) ⊎ (x ≡ acts.Repeat command reply) in
+    before_reply unit command reply again before (All-tail P act again all)
+    (requested_before unit act (again ++ (acts.Reply command reply ∷ before)) (asks_nothing command reply act (All-head P act again all)) is)
+
+-- the controller acknowledges the reply that approves
+approves : (unit : ReaderUnit) (its : ReaderCommand) (reply : Reply) (so_far : List Act) → EndsInReply (commands.Reader unit its) reply so_far
+    → IsRequested unit (acts.VmcAck (commands.Reader unit its) reply ∷ so_far) → (amount : ℕ) → Contains (messages_of reply) (messages.VendApproved amount)
+    → (item : ℕ) → IsApproved unit item (acts.VmcAck (commands.Reader unit its) reply ∷ so_far)
+approves unit its reply so_far ends is amount said item =
+    let here = requested_before unit (acts.VmcAck (commands.Reader unit its) reply) so_far (λ asked e. cc) is in
+    record {
+      command = its;
+      reply = reply;
+      amount = amount;
+      since = [];
+      before = so_far;
+      order = refl;
+      unsold = All-nil (LeavesSale unit (λ t. t ≡ Success item));
+      replied = ends;
+      approves = said;
+      requested = before_reply unit (commands.Reader unit its) reply ends.again ends.before ends.repeats (subst (IsRequested unit) ends.order here);
+    }
+
+acked_own : (unit : ReaderUnit) (its : ReaderCommand) (reply : Reply) (so_far : List Act) (view : View) → EndsInReply (commands.Reader unit its) reply so_far → TellsOfSale unit view so_far
+    → TellsOfSale unit (all_heard (messages_of reply) (view_answered (taken its reply) view)) (acts.VmcAck (commands.Reader unit its) reply ∷ so_far)
+acked_own unit its reply so_far view ends tells =
+    let so_now : List Act = acts.VmcAck (commands.Reader unit its) reply ∷ so_far in
+    hear_all (λ v. TellsOfSale unit v so_now) tt tt (messages_of reply)
+    (λ amount said is. approves unit its reply so_far ends is amount said)
+    (λ amount said is. approves unit its reply so_far ends is amount said)
+    (view_answered (taken its reply) view)
+    (tells_answered unit (taken its reply) view so_now
+    (still unit view (acts.VmcAck (commands.Reader unit its) reply) so_far (λ May. tt) refl tells))
+
+-- the view of a step that stays
+stays_view : (unit : ReaderUnit) (act : Act) (so_far : List Act) (before after : ReaderState) → ((May : Transaction → Type 0) → LeavesSale unit May act) → asked_by unit act ≡ None
+    → TellsOfSale unit before.view so_far → after.view ≡ before.view → TellsOfSale unit after.view (act ∷ so_far)
+stays_view unit act so_far before after leaves none tells same =
+    subst (λ (v : View). TellsOfSale unit v (act ∷ so_far)) (sym same) (still unit before.view act so_far leaves none tells)
+
+view_of : (one other : ReaderState) → one ≡ other → one.view ≡ other.view
+view_of one other e = ap (λ (s : ReaderState). s.view) e
+
+acked : (unit : ReaderUnit) (facts_heard : Bool) (command : Command) (reply : Reply) (so_far : List Act) (before after : ReaderState) (gains : Gains) (found : Option ReaderCommand)
+    → own unit command ≡ found → EndsInReply command reply so_far → TellsOfSale unit before.view so_far
+    → ForOwn found (λ c. VmcAckStep (facts_of unit so_far) c reply facts_heard) before after gains
+    → TellsOfSale unit after.view (acts.VmcAck command reply ∷ so_far)
+acked unit h command reply so_far before after gains None is ends tells step =
+    stays_view unit (acts.VmcAck command reply) so_far before after (λ May. tt) refl tells (view_of after before step.0)
+acked unit h command reply so_far before after gains (Some its) is ends tells step =
+    let same = own_is unit command its is in
+    subst (λ (v : View). TellsOfSale unit v (acts.VmcAck command reply ∷ so_far)) (sym (ap (λ (s : ReaderState). s.view) step.to))
+    (subst (λ (c : Command). TellsOfSale unit (all_heard (messages_of reply) (view_answered (taken its reply) before.view)) (acts.VmcAck c reply ∷ so_far)) (sym same)
+    (acked_own unit its reply so_far before.view (subst (λ (c : Command). EndsInReply c reply so_far) same ends) tells))
+
+acknowledged : (unit : ReaderUnit) (h : Bool) (command : Command) (so_far : List Act) (before after : ReaderState) (gains : Gains) (found : Option ReaderCommand)
+    → TellsOfSale unit before.view so_far → ForOwn found (λ c. AckStep (facts_of unit so_far) c h) before after gains
+    → TellsOfSale unit after.view (acts.Ack command ∷ so_far)
+acknowledged unit h command so_far before after gains None tells step =
+    stays_view unit (acts.Ack command) so_far before after (λ May. tt) refl tells (view_of after before step.0)
+acknowledged unit h command so_far before after gains (Some its) tells step =
+    subst (λ (v : View). TellsOfSale unit v (acts.Ack command ∷ so_far)) (sym (ap (λ (s : ReaderState). s.view) step.to))
+    (still unit (view_heard h its before.view) (acts.Ack command) so_far (λ May. tt) refl (tells_heard unit h its before.view so_far tells))
+
+replied : (unit : ReaderUnit) (reading : Reading) (command : Command) (reply : Reply) (so_far : List Act) (before after : ReaderState) (gains : Gains) (found : Option ReaderCommand)
+    → TellsOfSale unit before.view so_far → ForOwn found (λ c. ReplyStep (facts_of unit so_far) c reply reading) before after gains
+    → TellsOfSale unit after.view (acts.Reply command reply ∷ so_far)
+replied unit reading command reply so_far before after gains None tells step =
+    stays_view unit (acts.Reply command reply) so_far before after (λ May. tt) refl tells (view_of after before step.0)
+replied unit reading command reply so_far before after gains (Some its) tells step =
+    stays_view unit (acts.Reply command reply) so_far before after (λ May. tt) refl tells step.view
+
+-- an ask that is no matter of the sale: of another device, or neither RESET nor a transaction
+-- command
+no_matter : (unit : ReaderUnit) (command : Command) (found : Option ReaderCommand) → own unit command ≡ found → (found ≡ Some reader.Reset → ⊥) → own_transaction found ≡ None
+    → (May : Transaction → Type 0) → LeavesSale unit May (acts.Ask command)
+no_matter unit command found is other none May = (
+  (λ e. other (sym is ∙ e)),
+  (λ t e. let clash = sym e ∙ ap own_transaction is ∙ none in absurd cc),
+)
+
+none_asked : (unit : ReaderUnit) (command : Command) (found : Option ReaderCommand) → own unit command ≡ found → own_transaction found ≡ None → asked_by unit (acts.Ask command) ≡ None
+none_asked unit command found is none = ap own_transaction is ∙ none
+
+-- it leaves the view
+plain : (unit : ReaderUnit) (command : Command) (its : ReaderCommand) (so_far : List Act) (before after : View) → own unit command ≡ Some its → (its ≡ reader.Reset → ⊥) → transaction_of its ≡ None
+    → TellsOfSale unit before so_far → Some before ≡ Some after → TellsOfSale unit after (acts.Ask command ∷ so_far)
+plain unit command its so_far before after is other none tells sends =
+    let same : before ≡ after = cc in
+    subst (λ (v : View). TellsOfSale unit v (acts.Ask command ∷ so_far)) same
+    (still unit before (acts.Ask command) so_far
+    (no_matter unit command (Some its) is (λ e. let e' : its ≡ reader.Reset = cc in other e') none)
+    (none_asked unit command (Some its) is none) tells)
+
+-- the law of transactions with the same fields
+abbrev SameFields : Type 0
+SameFields = (one other : Transaction) → (is_same one other ≡ true) ↔ (one ≡ other)
+
+-- a transaction command is again the last one
+is_last : SameFields → (last : Option Transaction) (t : Transaction) → is_again last t ≡ true → last ≡ Some t
+is_last law None t again = absurd cc
+is_last law (Some one) t again = ap (λ (x : Transaction). Some x) ((law one t).0 again)
+
+-- what is sent where a test says so
+sent_where : (is : Bool) (to after : View) → (if is then Some to else None) ≡ Some after → (is ≡ true) × (to ≡ after)
+sent_where true to after e = (refl, cc)
+sent_where false to after e = absurd cc
+
+-- a transaction command leaves a sale where it may come
+leaves_own : (unit : ReaderUnit) (command : Command) (its : ReaderCommand) (t : Transaction) (May : Transaction → Type 0) → own unit command ≡ Some its → transaction_of its ≡ Some t
+    → (its ≡ reader.Reset → ⊥) → May t → LeavesSale unit May (acts.Ask command)
+leaves_own unit command its t May is found other may = (
+  (λ e. let same : its ≡ reader.Reset = (let both = sym is ∙ e in cc) in other same),
+  (λ one e. let both = sym e ∙ ap own_transaction is ∙ found in let same : t ≡ one = cc in subst May same may),
+)
+
+-- the controller requests a sale
+requests : (unit : ReaderUnit) (command : Command) (price item : ℕ) (so_far : List Act) → own unit command ≡ Some (reader.VendRequest price item) → IsRequested unit (acts.Ask command ∷ so_far)
+requests unit command price item so_far is = record {
+  price = price;
+  item = item;
+  since = [];
+  before = so_far;
+  order = ap (λ (c : Command). acts.Ask c ∷ so_far) (own_is unit command (reader.VendRequest price item) is);
+  undecided = All-nil (LeavesSale unit (λ t. (t ≡ Request price item) ⊎ (t ≡ Cancel)));
+}
+
+-- the view behind each transaction command
+asks_request : SameFields → (unit : ReaderUnit) (command : Command) (price item : ℕ) (so_far : List Act) (before after : View) → own unit command ≡ Some (reader.VendRequest price item)
+    → TellsOfSale unit before so_far → sent (last_told (asked_by unit) so_far) (Request price item) before ≡ Some after
+    → TellsOfSale unit after (acts.Ask command ∷ so_far)
+asks_request law unit command price item so_far NoSession after is tells sends = absurd cc
+asks_request law unit command price item so_far Idle after is tells sends = let same : Asked ≡ after = cc in subst (λ (v : View). TellsOfSale unit v (acts.Ask command ∷ so_far)) same (requests unit command price item so_far is)
+asks_request law unit command price item so_far Asked after is tells sends = let found = sent_where (is_again (last_told (asked_by unit) so_far) (Request price item)) Asked after sends in subst (λ (v : View). TellsOfSale unit v (acts.Ask command ∷ so_far)) found.1 (requests unit command price item so_far is)
+asks_request law unit command price item so_far Waiting after is tells sends = absurd cc
+asks_request law unit command price item so_far Approved after is tells sends = absurd cc
+asks_request law unit command price item so_far SuccessOwed after is tells sends = absurd cc
+asks_request law unit command price item so_far FailureOwed after is tells sends = absurd cc
+asks_request law unit command price item so_far Ending after is tells sends = absurd cc
+
+asks_cancel : SameFields → (unit : ReaderUnit) (command : Command) (so_far : List Act) (before after : View) → own unit command ≡ Some reader.VendCancel
+    → TellsOfSale unit before so_far → sent (last_told (asked_by unit) so_far) Cancel before ≡ Some after
+    → TellsOfSale unit after (acts.Ask command ∷ so_far)
+asks_cancel law unit command so_far NoSession after is tells sends = absurd cc
+asks_cancel law unit command so_far Idle after is tells sends = absurd cc
+asks_cancel law unit command so_far Asked after is tells sends = let same : Waiting ≡ after = cc in subst (λ (v : View). TellsOfSale unit v (acts.Ask command ∷ so_far)) same (still_requested unit (acts.Ask command) so_far tells (leaves_own unit command reader.VendCancel Cancel _ is refl (λ e. cc) (inr refl)))
+asks_cancel law unit command so_far Waiting after is tells sends = let same : Waiting ≡ after = cc in subst (λ (v : View). TellsOfSale unit v (acts.Ask command ∷ so_far)) same (still_requested unit (acts.Ask command) so_far tells (leaves_own unit command reader.VendCancel Cancel _ is refl (λ e. cc) (inr refl)))
+asks_cancel law unit command so_far Approved after is tells sends = absurd cc
+asks_cancel law unit command so_far SuccessOwed after is tells sends = absurd cc
+asks_cancel law unit command so_far FailureOwed after is tells sends = absurd cc
+asks_cancel law unit command so_far Ending after is tells sends = absurd cc
+
+asks_failure : SameFields → (unit : ReaderUnit) (command : Command) (so_far : List Act) (before after : View) → own unit command ≡ Some reader.VendFailure
+    → TellsOfSale unit before so_far → sent (last_told (asked_by unit) so_far) Failure before ≡ Some after
+    → TellsOfSale unit after (acts.Ask command ∷ so_far)
+asks_failure law unit command so_far NoSession after is tells sends = absurd cc
+asks_failure law unit command so_far Idle after is tells sends = absurd cc
+asks_failure law unit command so_far Asked after is tells sends = absurd cc
+asks_failure law unit command so_far Waiting after is tells sends = absurd cc
+asks_failure law unit command so_far Approved after is tells sends = let same : FailureOwed ≡ after = cc in subst (λ (v : View). TellsOfSale unit v (acts.Ask command ∷ so_far)) same (tt)
+asks_failure law unit command so_far SuccessOwed after is tells sends = absurd cc
+asks_failure law unit command so_far FailureOwed after is tells sends = let same : FailureOwed ≡ after = cc in subst (λ (v : View). TellsOfSale unit v (acts.Ask command ∷ so_far)) same (tt)
+asks_failure law unit command so_far Ending after is tells sends = absurd cc
+
+asks_complete : SameFields → (unit : ReaderUnit) (command : Command) (so_far : List Act) (before after : View) → own unit command ≡ Some reader.SessionComplete
+    → TellsOfSale unit before so_far → sent (last_told (asked_by unit) so_far) Complete before ≡ Some after
+    → TellsOfSale unit after (acts.Ask command ∷ so_far)
+asks_complete law unit command so_far NoSession after is tells sends = absurd cc
+asks_complete law unit command so_far Idle after is tells sends = let same : Ending ≡ after = cc in subst (λ (v : View). TellsOfSale unit v (acts.Ask command ∷ so_far)) same (tt)
+asks_complete law unit command so_far Asked after is tells sends = absurd cc
+asks_complete law unit command so_far Waiting after is tells sends = absurd cc
+asks_complete law unit command so_far Approved after is tells sends = absurd cc
+asks_complete law unit command so_far SuccessOwed after is tells sends = absurd cc
+asks_complete law unit command so_far FailureOwed after is tells sends = absurd cc
+asks_complete law unit command so_far Ending after is tells sends = let same : Ending ≡ after = cc in subst (λ (v : View). TellsOfSale unit v (acts.Ask command ∷ so_far)) same (tt)
+
+-- a sale that is asked is owed
+owed : (unit : ReaderUnit) (command : Command) (item : ℕ) (so_far : List Act) → own unit command ≡ Some (reader.VendSuccess item) → IsApproved unit item so_far
+    → TellsOfSale unit SuccessOwed (acts.Ask command ∷ so_far)
+owed unit command item so_far is approved = (
+  item,
+  ap (λ (o : Option ReaderCommand). or_else (own_transaction o) (last_told (asked_by unit) so_far)) is,
+  still_approved unit item (acts.Ask command) so_far approved (leaves_own unit command (reader.VendSuccess item) (Success item) _ is refl (λ e. cc) refl),
+)
+
+-- the sale is approved that the controller may ask
+same_item : (unit : ReaderUnit) (one other : ℕ) (so_far : List Act) → Success one ≡ Success other → IsApproved unit one so_far → IsApproved unit other so_far
+same_item unit one other so_far same approved = let items : one ≡ other = cc in subst (λ (i : ℕ). IsApproved unit i so_far) items approved
+
+sale_approved : SameFields → (unit : ReaderUnit) (item : ℕ) (so_far : List Act) (before after : View) → TellsOfSale unit before so_far
+    → sent (last_told (asked_by unit) so_far) (Success item) before ≡ Some after → IsApproved unit item so_far
+sale_approved law unit item so_far NoSession after tells sends = absurd cc
+sale_approved law unit item so_far Idle after tells sends = absurd cc
+sale_approved law unit item so_far Asked after tells sends = absurd cc
+sale_approved law unit item so_far Waiting after tells sends = absurd cc
+sale_approved law unit item so_far Approved after tells sends = tells item
+sale_approved law unit item so_far SuccessOwed after tells sends =
+    let found = sent_where (is_again (last_told (asked_by unit) so_far) (Success item)) SuccessOwed after sends in
+    let last = sym tells.1 ∙ is_last law (last_told (asked_by unit) so_far) (Success item) found.0 in
+    let same : Success tells.0 ≡ Success item = cc in
+    same_item unit tells.0 item so_far same tells.2
+sale_approved law unit item so_far FailureOwed after tells sends = absurd cc
+sale_approved law unit item so_far Ending after tells sends = absurd cc
+
+asks_success : SameFields → (unit : ReaderUnit) (command : Command) (item : ℕ) (so_far : List Act) (before after : View) → own unit command ≡ Some (reader.VendSuccess item)
+    → TellsOfSale unit before so_far → sent (last_told (asked_by unit) so_far) (Success item) before ≡ Some after
+    → TellsOfSale unit after (acts.Ask command ∷ so_far)
+asks_success law unit command item so_far NoSession after is tells sends = absurd cc
+asks_success law unit command item so_far Idle after is tells sends = absurd cc
+asks_success law unit command item so_far Asked after is tells sends = absurd cc
+asks_success law unit command item so_far Waiting after is tells sends = absurd cc
+asks_success law unit command item so_far Approved after is tells sends = let same : SuccessOwed ≡ after = cc in subst (λ (v : View). TellsOfSale unit v (acts.Ask command ∷ so_far)) same (owed unit command item so_far is (sale_approved law unit item so_far Approved after tells sends))
+asks_success law unit command item so_far SuccessOwed after is tells sends = let found = sent_where (is_again (last_told (asked_by unit) so_far) (Success item)) SuccessOwed after sends in subst (λ (v : View). TellsOfSale unit v (acts.Ask command ∷ so_far)) found.1 (owed unit command item so_far is (sale_approved law unit item so_far SuccessOwed after tells sends))
+asks_success law unit command item so_far FailureOwed after is tells sends = absurd cc
+asks_success law unit command item so_far Ending after is tells sends = absurd cc
+
+-- the view behind each command to the reader
+asks_own : SameFields → (unit : ReaderUnit) (command : Command) (its : ReaderCommand) (so_far : List Act) (before after : View) → own unit command ≡ Some its
+    → TellsOfSale unit before so_far → asked (facts_of unit so_far) its before ≡ Some after → TellsOfSale unit after (acts.Ask command ∷ so_far)
+asks_own law unit command reader.Reset so_far before after is tells sends =
+    let same : NoSession ≡ after = cc in subst (λ (v : View). TellsOfSale unit v (acts.Ask command ∷ so_far)) same tt
+asks_own law unit command (reader.VendRequest price item) so_far before after is tells sends = asks_request law unit command price item so_far before after is tells sends
+asks_own law unit command reader.VendCancel so_far before after is tells sends = asks_cancel law unit command so_far before after is tells sends
+asks_own law unit command (reader.VendSuccess item) so_far before after is tells sends = asks_success law unit command item so_far before after is tells sends
+asks_own law unit command reader.VendFailure so_far before after is tells sends = asks_failure law unit command so_far before after is tells sends
+asks_own law unit command reader.SessionComplete so_far before after is tells sends = asks_complete law unit command so_far before after is tells sends
+asks_own law unit command (reader.SetupConfig level columns rows display) so_far before after is tells sends = plain unit command (reader.SetupConfig level columns rows display) so_far before after is (λ e. cc) refl tells sends
+asks_own law unit command (reader.SetupPrices maximum minimum) so_far before after is tells sends = plain unit command (reader.SetupPrices maximum minimum) so_far before after is (λ e. cc) refl tells sends
+asks_own law unit command reader.Poll so_far before after is tells sends = plain unit command reader.Poll so_far before after is (λ e. cc) refl tells sends
+asks_own law unit command (reader.CashSale price item) so_far before after is tells sends = plain unit command (reader.CashSale price item) so_far before after is (λ e. cc) refl tells sends
+asks_own law unit command reader.Disable so_far before after is tells sends = plain unit command reader.Disable so_far before after is (λ e. cc) refl tells sends
+asks_own law unit command reader.Enable so_far before after is tells sends = plain unit command reader.Enable so_far before after is (λ e. cc) refl tells sends
+asks_own law unit command reader.Cancel so_far before after is tells sends = plain unit command reader.Cancel so_far before after is (λ e. cc) refl tells sends
+asks_own law unit command (reader.RequestId identity) so_far before after is tells sends = plain unit command (reader.RequestId identity) so_far before after is (λ e. cc) refl tells sends
+
+asks : SameFields → (unit : ReaderUnit) (command : Command) (so_far : List Act) (before after : ReaderState) (gains : Gains) (found : Option ReaderCommand) → own unit command ≡ found
+    → TellsOfSale unit before.view so_far → ForOwn found (AskStep (facts_of unit so_far)) before after gains → TellsOfSale unit after.view (acts.Ask command ∷ so_far)
+asks law unit command so_far before after gains None is tells step =
+    stays_view unit (acts.Ask command) so_far before after (no_matter unit command None is (λ e. cc) refl) (none_asked unit command None is refl) tells (view_of after before step.0)
+asks law unit command so_far before after gains (Some its) is tells step = asks_own law unit command its so_far before.view after.view is tells step.view
+
+-- each step keeps what the view tells
+pub steps_tell : SameFields → (unit : ReaderUnit) (so_far : List Act) (act : Act) (heard : Bool) (reading : Reading) (before after : ReaderState) (gains : Gains)
+    → AcksLastReply act so_far → TellsOfSale unit before.view so_far → ReaderStep unit (facts_of unit so_far) act heard reading before after gains
+    → TellsOfSale unit after.view (act ∷ so_far)
+steps_tell law unit so_far (acts.Ask command) heard reading before after gains ends tells step = asks law unit command so_far before after gains (own unit command) refl tells step
+steps_tell law unit so_far (acts.Ack command) heard reading before after gains ends tells step = acknowledged unit heard command so_far before after gains (own unit command) tells step
+steps_tell law unit so_far (acts.Nak command) heard reading before after gains ends tells step =
+    stays_view unit (acts.Nak command) so_far before after (λ May. tt) refl tells (view_of after before step.0)
+steps_tell law unit so_far (acts.Reply command reply) heard reading before after gains ends tells step = replied unit reading command reply so_far before after gains (own unit command) tells step
+steps_tell law unit so_far (acts.VmcAck command reply) heard reading before after gains ends tells step =
+    acked unit heard command reply so_far before after gains (own unit command) refl ends tells step
+steps_tell law unit so_far (acts.VmcNak command reply) heard reading before after gains ends tells step =
+    stays_view unit (acts.VmcNak command reply) so_far before after (λ May. tt) refl tells (view_of after before step.0)
+steps_tell law unit so_far (acts.VmcRet command reply) heard reading before after gains ends tells step =
+    stays_view unit (acts.VmcRet command reply) so_far before after (λ May. tt) refl tells (view_of after before step.0)
+steps_tell law unit so_far (acts.Repeat command reply) heard reading before after gains ends tells step =
+    stays_view unit (acts.Repeat command reply) so_far before after (λ May. tt) refl tells (view_of after before step.0)
+steps_tell law unit so_far acts.Foreign heard reading before after gains ends tells step =
+    stays_view unit acts.Foreign so_far before after (λ May. tt) refl tells (view_of after before step.0)
+steps_tell law unit so_far (acts.Break length) heard reading before after gains ends tells step =
+    subst (λ (v : View). TellsOfSale unit v (acts.Break length ∷ so_far)) (sym (ap (λ (s : ReaderState). s.view) step.0)) tt
+
+-- a sale is asked where it is approved
+asked_sale : SameFields → (unit : ReaderUnit) (so_far : List Act) (item : ℕ) (before after : ReaderState) (gains : Gains) (found : Option ReaderCommand) → found ≡ Some (reader.VendSuccess item)
+    → TellsOfSale unit before.view so_far → ForOwn found (AskStep (facts_of unit so_far)) before after gains → IsApproved unit item so_far
+asked_sale law unit so_far item before after gains None is tells step = absurd cc
+asked_sale law unit so_far item before after gains (Some its) is tells step =
+    let same : its ≡ reader.VendSuccess item = cc in
+    let sends = (subst (λ (c : ReaderCommand). AskStep (facts_of unit so_far) c before after gains) same step).view in
+    sale_approved law unit item so_far before.view after.view tells sends
+
+pub sales_approved : SameFields → (unit : ReaderUnit) (so_far : List Act) (item : ℕ) (heard : Bool) (reading : Reading) (before after : ReaderState) (gains : Gains)
+    → TellsOfSale unit before.view so_far → ReaderStep unit (facts_of unit so_far) (acts.Ask (commands.Reader unit (reader.VendSuccess item))) heard reading before after gains
+    → IsApproved unit item so_far
+sales_approved law unit so_far item heard reading before after gains tells step =
+    asked_sale law unit so_far item before after gains (own unit (commands.Reader unit (reader.VendSuccess item))) (own_of_unit unit (reader.VendSuccess item)) tells step

@@ -1,0 +1,12 @@
+-- Sales in runs: what is sold was approved before.
+use Rattle.std.specs.Prelude.{List}
+use Rattle.mdb_words.specs.declared.event.Event.{Event}
+use Rattle.mdb_msgs.specs.declared.command.ReaderUnit.{ReaderUnit}
+use Rattle.mdb_bus.specs.ActLists.{acts_of}
+use Rattle.mdb_cashless.specs.Sales.{SalesAreApproved}
+use Rattle.mdb_follow.specs.Runs.{AllSums, Run}
+
+-- In every run of the rows, each sale at either reader follows its approval.
+abbrev pub SalesFollowApprovals : List Event → Type 0
+SalesFollowApprovals rows = (sums : AllSums) (run : Run rows sums) (unit : ReaderUnit)
+    → SalesAreApproved unit (acts_of run.pieces)
