@@ -39,6 +39,7 @@ impl Follower {
     ghost use Rattle.mdb_follow.specs.FollowerSteps.{HasFollowed, HasStopped};
     ghost use Rattle.mdb_follow.specs.Offences.{HasOffence, IsOffence};
     ghost use Rattle.mdb_follow.specs.Report.{IsReport};
+    ghost use Rattle.mdb_follow.specs.Sales.{SalesFollowApprovals};
 
     /// The follower before the first row: recording began at power-on or at a break.
     pub fn new() -> Follower
@@ -74,6 +75,8 @@ impl Follower {
             → IfOk result (λ _. StandsFor self.new (events ++ event ∷ [])) }
         ensures is_reached { (events : List Event) → StandsFor self.old events
             → IfOk result (λ _. IsReached (events ++ event ∷ [])) }
+        ensures sales { (events : List Event) → StandsFor self.old events
+            → IfOk result (λ _. SalesFollowApprovals (events ++ event ∷ [])) }
         ensures offence { (events : List Event) → StandsFor self.old events
             → IfErr result (IsOffence events event) }
         ensures noted { IfErr result (λ offence. offence_of self.new ≡ Some offence) }
@@ -84,6 +87,7 @@ impl Follower {
             (result ≡ Err offence) × (self.new ≡ self.old)) }
     {
         laws::ways_join();
+        laws::sales_follow_their_approvals();
         bus_laws::transcripts_have_one_act_list();
         if let Some(offence) = self.offence {
             return Err(offence);
@@ -110,6 +114,8 @@ impl Follower {
             → IfOk result (λ _. StandsFor self.new (before ++ events.now)) }
         ensures is_reached { (before : List Event) → StandsFor self.old before
             → IfOk result (λ _. IsReached (before ++ events.now)) }
+        ensures sales { (before : List Event) → StandsFor self.old before
+            → IfOk result (λ _. SalesFollowApprovals (before ++ events.now)) }
         ensures offence { (before : List Event) → StandsFor self.old before
             → IfErr result (HasOffence before events.now) }
         ensures noted { IfErr result (λ offence. offence_of self.new ≡ Some offence) }
@@ -123,6 +129,7 @@ impl Follower {
         ensures idle { events.now ≡ [] → offence_of self.old ≡ None → IsOk result }
     {
         laws::ways_join();
+        laws::sales_follow_their_approvals();
         if let Some(offence) = self.offence {
             return Err(offence);
         }

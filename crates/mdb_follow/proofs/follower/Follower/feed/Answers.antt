@@ -1,4 +1,4 @@
-use Rattle.std.proofs.Common.{◌+◌, ◌*◌, ◌^◌, None, Some, ap, arith, refl, subst}
+use Rattle.std.proofs.Common.{◌+◌, ◌*◌, ◌^◌, ◌∷◌, ◌++◌, [], None, Some, ap, arith, refl, subst}
 use Rattle.mdb_bus.specs.Bus.{GoesOn, ended_act}
 use Rattle.mdb_follow.proofs.Within.{sides-within-weaker}
 use Rattle.mdb_follow.proofs.Following.{if-err, if-ok, link-offence, machine-offence, reached-by, stands-on, stands-still}
@@ -54,3 +54,13 @@ returns-in-Ok-true-clause-is_reached c events on =
 pub returns-in-Ok-false-clause-is_reached : goal.returns-in-Ok-false-clause-is_reached
 returns-in-Ok-false-clause-is_reached c events on =
     reached-by c.ways_join.ensures _ _ (returns-in-Ok-false-clause-reached c events on)
+
+pub returns-in-Ok-true-clause-sales : goal.returns-in-Ok-true-clause-sales
+returns-in-Ok-true-clause-sales c events on =
+    if-ok c.follow.result _ _
+    (λ _ has. c.sales_follow_their_approvals.ensures (events ++ c.args.event ∷ []))
+    c.follow.ensures.followed
+
+pub returns-in-Ok-false-clause-sales : goal.returns-in-Ok-false-clause-sales
+returns-in-Ok-false-clause-sales c events on =
+    c.sales_follow_their_approvals.ensures (events ++ c.args.event ∷ [])

@@ -52,3 +52,7 @@ returns-clause-counted c =
 pub returns-clause-is_reached : goal.returns-clause-is_reached
 returns-clause-is_reached c earlier on =
     reached-by c.ways_join.ensures _ _ (returns-clause-reached c earlier on)
+
+pub returns-clause-sales : goal.returns-clause-sales
+returns-clause-sales c earlier on =
+    c.sales_follow_their_approvals.ensures (earlier ++ c.args.events.now)
