@@ -14,6 +14,7 @@ use Rattle.mdb_follow.specs.declared.offence.Offence.{Offence}
 use Rattle.mdb_follow.specs.Follower.{StandsFor}
 use Rattle.mdb_follow.specs.Offences.{IsOffence}
 use Rattle.mdb_follow.specs.Runs.{IsReached}
+use Rattle.mdb_follow.specs.Sales.{SalesFollowApprovals}
 use Rattle.mdb_check.specs.declared.outcome.Outcome.{Outcome}
 use Rattle.mdb_check.specs.declared.outcome.Outcome.TheVariants.{Yes, No}
 use Rattle.mdb_check.specs.Verdict.{AreRows, IsAnswer, IsBadRow, IsImpossible, IsTooLong, IsYes, LeadUpTo, run_fault_of}
@@ -45,10 +46,10 @@ rows_push [] (e ∷ rows) fields event told row = absurd told
 rows_push (r ∷ records) [] fields event told row = absurd told
 
 -- the text ends
-pub ended : {R : Type 0} → (remaining : R → Option (List ℕ)) (all : List (List (List ℕ))) (old new : Records R) (follower : Follower) (count : ℕ) → Progress remaining all old follower count
+pub ended : {R : Type 0} → ((rows : List Event) → SalesFollowApprovals rows) → (remaining : R → Option (List ℕ)) (all : List (List (List ℕ))) (old new : Records R) (follower : Follower) (count : ℕ) → Progress remaining all old follower count
     → (found : Bool) → found ≡ false → ((rows : List (List (List ℕ))) → ToCome remaining old rows → Advances remaining new found rows) → count ≤ ROWS_MAX
     → (outcome : Outcome) → ((rows : List Event) → StandsFor follower rows → IsYes rows outcome) → IsAnswer all (Ok outcome)
-ended remaining all old new follower count progress found is advances few outcome tells_yes = told outcome (tells_yes progress.before progress.stands)
+ended sales remaining all old new follower count progress found is advances few outcome tells_yes = told outcome (tells_yes progress.before progress.stands)
   where
     Q : Bool → Type 0
     Q f = Advances remaining new f progress.rest
@@ -60,7 +61,7 @@ ended remaining all old new follower count progress found is advances few outcom
     told (Yes report) is_report =
         let none : progress.rest ≡ [] = subst Q is (advances progress.rest progress.to_come) in
         let whole : progress.done ≡ all = sym (append-nil progress.done) ∙ (ap (λ l. progress.done ++ l) (sym none) ∙ sym progress.split) in
-        record { rows = progress.before; told = subst P whole progress.told; few = omega (arith, progress.number, few); is = is_report }
+        record { rows = progress.before; told = subst P whole progress.told; few = omega (arith, progress.number, few); is = is_report; sales = sales progress.before }
     told (No offence) never = absurd never
 
 -- a record was found

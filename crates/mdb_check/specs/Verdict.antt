@@ -9,6 +9,7 @@ use Rattle.mdb_follow.specs.declared.report.Report.{Report}
 use Rattle.mdb_follow.specs.Offences.{IsOffence}
 use Rattle.mdb_follow.specs.Report.{IsReport}
 use Rattle.mdb_follow.specs.Runs.{IsReached}
+use Rattle.mdb_follow.specs.Sales.{SalesFollowApprovals}
 use Rattle.mdb_records.specs.declared.ReadFault.{ReadFault}
 use Rattle.mdb_records.specs.declared.ReadFault.TheVariants as reading
 use Rattle.mdb_check.specs.declared.outcome.Outcome.{Outcome}
@@ -24,12 +25,14 @@ AreRows [] (event ∷ rows) = ⊥
 AreRows (fields ∷ records) [] = ⊥
 
 -- All records are rows, and the controller and its peripherals can have said these words at these
--- times: the rows have a run. The report is what their runs tell.
+-- times: the rows have a run. The report is what their runs tell, and in each of them every sale at
+-- a reader follows its approval.
 pub record IsPossible (records : List (List (List ℕ))) (report : Report) : Type 0 where
   pub rows : List Event
   pub told : AreRows records rows
   pub few : length rows ≤ ROWS_MAX
   pub is : IsReport rows report
+  pub sales : SalesFollowApprovals rows
 
 -- Rows that can be lead up to a record.
 pub record LeadUpTo (records : List (List (List ℕ))) (rows : List Event)

@@ -84,6 +84,7 @@ fn verdict_on<R: Read + Drop>(records: &mut Records<R>) -> Result<Outcome, RunFa
     ensures not_write { IfErr result (λ fault. fault ≢ RunFault.Write) }
 {
     laws::followers_stand_for_reached_rows();
+    laws::sales_follow_their_approvals();
     let mut follower = Follower::new();
     for row in 0..ROWS_MAX {
         let found = records.advance()?;

@@ -13,7 +13,7 @@ loop-row-init g c = record {
 
 pub returns-then-not-found-clause-answer : goal.returns-then-not-found-clause-answer
 returns-then-not-found-clause-answer g c all to_come =
-    reading.ended g.R.Read.remaining all c.loop-row.records c.advance.new.self c.loop-row.follower c.loop-row.row
+    reading.ended c.sales_follow_their_approvals.ensures g.R.Read.remaining all c.loop-row.records c.advance.new.self c.loop-row.follower c.loop-row.row
     (c.loop-row.invariant.taken all to_come) c.in_ok-found.found c.if-not-found.true c.in_ok-found.ensures.next (omega arith) c.outcome_of.result c.outcome_of.ensures
 
 pub returns-in-Err-clause-answer : goal.returns-in-Err-clause-answer
@@ -48,5 +48,5 @@ returns-then-more-clause-answer g c all to_come =
 
 pub returns-clause-answer : goal.returns-clause-answer
 returns-clause-answer g c all to_come =
-    reading.ended g.R.Read.remaining all c.loop-row.records c.advance-2.new.self c.loop-row.follower c.loop-row.row
+    reading.ended c.sales_follow_their_approvals.ensures g.R.Read.remaining all c.loop-row.records c.advance-2.new.self c.loop-row.follower c.loop-row.row
     (c.loop-row.invariant.taken all to_come) c.in_ok-more.more c.if-more.false c.in_ok-more.ensures.next (omega arith) c.outcome_of-2.result c.outcome_of-2.ensures
