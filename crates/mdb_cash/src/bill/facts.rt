@@ -20,6 +20,7 @@ pub struct BillFacts {
 }
 
 impl BillFacts {
+    ghost use Rattle.std.specs.Prelude.{option_map};
     ghost use Rattle.mdb_bus.specs.declared.act.Act.TheVariants as acts;
     ghost use Rattle.mdb_bus.specs.declared.act.Act.{Act};
     ghost use Rattle.mdb_cash.specs.BillFacts.{facts_of, setup_of};
@@ -34,6 +35,14 @@ impl BillFacts {
             setup: None,
             past: Past::start(),
         }
+    }
+
+    /// The decimal places of the validator's amounts: Z6 of its last setup table, where it has told
+    /// one (MDB/ICP 4.3, bill validator).
+    pub fn decimals(&self) -> Option<u8>
+        ensures { result ≡ option_map (λ setup. setup.decimals) (facts_in self.now).setup }
+    {
+        self.setup.as_ref().map(|setup| setup.decimals)
     }
 
     /// Takes one act more into the facts.

@@ -22,7 +22,7 @@ pub struct ChangerFacts {
 }
 
 impl ChangerFacts {
-    ghost use Rattle.std.specs.Prelude.{◌↔◌, IsTrue};
+    ghost use Rattle.std.specs.Prelude.{◌↔◌, IsTrue, option_map};
     ghost use Rattle.std.specs.List.{AllByRecursion};
     ghost use Rattle.mdb_cash.specs.Changer as steps;
     ghost use Rattle.mdb_bus.specs.declared.act.Act.TheVariants as acts;
@@ -40,6 +40,14 @@ impl ChangerFacts {
             past: Past::start(),
             dispense: None,
         }
+    }
+
+    /// The decimal places of the changer's amounts: Z5 of its last setup table, where it has told
+    /// one (MDB/ICP 4.3, coin changer).
+    pub fn decimals(&self) -> Option<u8>
+        ensures { result ≡ option_map (λ setup. setup.decimals) (facts_in self.now).setup }
+    {
+        self.setup.as_ref().map(|setup| setup.decimals)
     }
 
     /// Takes one act more into the facts.

@@ -30,7 +30,7 @@ pub struct ReaderFacts {
 }
 
 impl ReaderFacts {
-    ghost use Rattle.std.specs.Prelude.{◌≤◌, length};
+    ghost use Rattle.std.specs.Prelude.{◌≤◌, length, option_map};
     ghost use Rattle.mdb_msgs.specs.declared.command.ReaderUnit.{ReaderUnit};
     ghost use Rattle.mdb_bus.specs.declared.act.Act.{Act};
     ghost use Rattle.mdb_bus.specs.declared.act.Act.TheVariants as acts;
@@ -52,6 +52,22 @@ impl ReaderFacts {
             amount: 0,
             past: Past::start(),
         }
+    }
+
+    /// The decimal places of the reader's amounts: Z6 of its last config message, where it has told
+    /// one (MDB/ICP 4.3, cashless device).
+    pub fn decimals(&self) -> Option<u8>
+        ensures { result ≡ option_map (λ config. config.decimals) (facts_in self.now).config }
+    {
+        self.config.map(|config| config.decimals)
+    }
+
+    /// The reader's response time, in seconds: Z7 of its last config message, where it has told one
+    /// (MDB/ICP 4.3, cashless device).
+    pub fn response_time(&self) -> Option<u8>
+        ensures { result ≡ option_map (λ config. config.response) (facts_in self.now).config }
+    {
+        self.config.map(|config| config.response)
     }
 
     /// Takes one act more into the facts.
