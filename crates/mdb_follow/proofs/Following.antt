@@ -4,6 +4,7 @@ use Rattle.std.proofs.lemmas.List.{take_all, take_more}
 use Rattle.std.proofs.Math.Seq.{split_at}
 use Rattle.std.specs.Prelude.{Result, Ok, Err, IfErr, IfOk, IsErrAnd, OnErr}
 use Rattle.mdb_words.specs.declared.event.Event.{Event}
+use Rattle.mdb_words.specs.Event.{start_of}
 use Rattle.mdb_msgs.specs.declared.command.ReaderUnit.TheVariants.{First, Second}
 use Rattle.mdb_bus.specs.declared.act.Act.{Act}
 use Rattle.mdb_bus.specs.declared.bus.Bus.{Bus}
@@ -30,6 +31,9 @@ use Rattle.mdb_follow.specs.Runs.{AllSums, IsReached, Run, States}
 use Rattle.mdb_follow.specs.Machines.{EachArrives, BillArrives, ChangerArrives, ReaderArrives}
 use Rattle.mdb_follow.specs.Offences.{ByBill, ByChanger, ByReader, NoStep}
 use Rattle.mdb_follow.specs.Sides.{AreSides}
+use Rattle.mdb_follow.specs.Silences.{asks_of}
+use Rattle.mdb_follow.specs.SilencesKept.{AreSilences, SilencesFollow}
+use Rattle.mdb_follow.proofs.Asks.{asks-go-on, asks-stay, same-silences}
 use Rattle.mdb_follow.proofs.Reaching.{Joins, SomeArrive, run_of}
 use Rattle.mdb_follow.proofs.Joining.{split}
 
@@ -142,9 +146,9 @@ unreached one rows pieces list none reached =
 -- no act ended
 pub stands-still : (old new : Follower) (bus : Bus) (events : List Event) (row : Event)
     (on : StandsFor old events) → GoesOn bus on.pieces row None → new.bus ≡ bus
-    → new.sides ≡ old.sides → new.rows ≡ old.rows + 1 → new.offence ≡ old.offence
-    → StandsFor new (events ++ row ∷ [])
-stands-still old new bus events row on goes same_bus same_sides more same = record {
+    → new.sides ≡ old.sides → new.silences ≡ old.silences → new.rows ≡ old.rows + 1
+    → new.offence ≡ old.offence → StandsFor new (events ++ row ∷ [])
+stands-still old new bus events row on goes same_bus same_sides same_silences more same = record {
   pieces = goes.longer;
   on_bus = subst (λ b. link.StandsFor b goes.longer) (sym same_bus) goes.stands;
   whole = goes.rows ∙ ap (λ rows. rows ++ row ∷ []) on.whole;
@@ -152,24 +156,36 @@ stands-still old new bus events row on goes same_bus same_sides more same = reco
   going = same ∙ on.going;
   sides = subst (AreSides new.sides) (sym goes.acts)
       (subst (λ sides. AreSides sides (acts_of on.pieces)) (sym same_sides) on.sides);
+  silences = same-silences new.silences (λ device. asks_of device on.pieces)
+      (λ device. asks_of device goes.longer)
+      (λ device. sym (asks-stay device on.pieces row goes.longer goes.grown))
+      (subst (λ silences. AreSilences silences (λ device. asks_of device on.pieces))
+      (sym same_silences) on.silences);
 }
 
 -- an act was followed
 pub stands-on : (old mid new : Follower) (events : List Event) (row : Event) (act : Act)
     (on : StandsFor old events) → GoesOn mid.bus on.pieces row (Some act)
-    → mid.sides ≡ old.sides → mid.rows ≡ old.rows → mid.offence ≡ old.offence
-    → HasFollowed mid act new → StandsFor new (events ++ row ∷ [])
-stands-on old mid new events row act on goes same_sides same_rows same has = record {
-  pieces = goes.longer;
-  on_bus = subst (λ b. link.StandsFor b goes.longer) (sym has.on_bus) goes.stands;
-  whole = goes.rows ∙ ap (λ rows. rows ++ row ∷ []) on.whole;
-  rows = has.rows ∙ ap (λ n. n + 1) (same_rows ∙ on.rows)
-      ∙ sym (length-append events (row ∷ []));
-  going = has.going ∙ same ∙ on.going;
-  sides = subst (AreSides new.sides) (sym goes.acts)
-      (has.sides (acts_of on.pieces)
-      (subst (λ sides. AreSides sides (acts_of on.pieces)) (sym same_sides) on.sides));
-}
+    → mid.sides ≡ old.sides → mid.silences ≡ old.silences → mid.rows ≡ old.rows
+    → mid.offence ≡ old.offence → (at : ℕ) → at ≡ start_of row → HasFollowed mid act at new
+    → StandsFor new (events ++ row ∷ [])
+stands-on old mid new events row act on goes same_sides same_silences same_rows same at start has =
+    let sides : AreSides new.sides (act ∷ acts_of on.pieces) = has.sides (acts_of on.pieces)
+    (subst (λ sides. AreSides sides (acts_of on.pieces)) (sym same_sides) on.sides) in record {
+      pieces = goes.longer;
+      on_bus = subst (λ b. link.StandsFor b goes.longer) (sym has.on_bus) goes.stands;
+      whole = goes.rows ∙ ap (λ rows. rows ++ row ∷ []) on.whole;
+      rows = has.rows ∙ ap (λ n. n + 1) (same_rows ∙ on.rows)
+          ∙ sym (length-append events (row ∷ []));
+      going = has.going ∙ same ∙ on.going;
+      sides = subst (AreSides new.sides) (sym goes.acts) sides;
+      silences = same-silences new.silences _ (λ device. asks_of device goes.longer)
+          (λ device. asks-go-on device on.pieces row act goes.longer new.sides goes.grown sides)
+          (subst (λ at. SilencesFollow mid.silences act at new.sides new.silences) start has.silences
+          (λ device. asks_of device on.pieces)
+          (subst (λ silences. AreSilences silences (λ device. asks_of device on.pieces))
+          (sym same_silences) on.silences));
+    }
 
 -- a row breaks a rule of the link
 pub link-offence : Joins → (old : Follower) (events : List Event) (row : Event)
@@ -381,7 +397,8 @@ pub reported : OneActList → Joins → (follower : Follower) (events : List Eve
     → IsCell (ArrivesAnywhere (BillArrives (acts_of on.pieces))) bill
     → IsCell (ArrivesAnywhere (ReaderArrives First (acts_of on.pieces))) cashless
     → IsCell (ArrivesAnywhere (ReaderArrives Second (acts_of on.pieces))) cashless2
-    → report ≡ report_of follower.rows (listed (accounts_in changer bill cashless cashless2))
+    → report ≡ report_of follower.rows on.pieces
+    (listed (accounts_in changer bill cashless cashless2))
     → IsReport events report
 reported one joins follower events report changer bill cashless cashless2 on of_changer of_bill
     of_cashless of_cashless2 telling =
@@ -397,6 +414,8 @@ reported one joins follower events report changer bill cashless cashless2 on of_
     (λ sums. sums.cashless2) (cashless2-are one joins events on.pieces list some) in
     record {
       reached = reached-by joins follower events on;
+      pieces = on.pieces;
+      act_list = list;
       accounts = accounts_in changer bill cashless cashless2;
       of_runs = record {
         coins_in = changers (λ sums. sums.first) changer.first of_changer.first;
@@ -407,8 +426,8 @@ reported one joins follower events report changer bill cashless cashless2 on of_
         approved2 = twos (λ sums. sums.first) cashless2.first of_cashless2.first;
         sold2 = twos (λ sums. sums.second) cashless2.second of_cashless2.second;
       };
-      telling = telling ∙ ap
-          (λ rows. report_of rows (listed (accounts_in changer bill cashless cashless2))) on.rows;
+      telling = telling ∙ ap (λ rows. report_of rows on.pieces
+          (listed (accounts_in changer bill cashless cashless2))) on.rows;
     }
 
 -- a follower has taken so many events

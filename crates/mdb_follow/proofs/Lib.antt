@@ -1,3 +1,4 @@
+pub mod Asks
 pub mod Choosing
 pub mod Ends
 pub mod Following
@@ -10,6 +11,7 @@ pub mod OneAnswer
 pub mod Places
 pub mod Reaching
 pub mod Sales
+pub mod Silent
 pub mod TwoSteps
 pub mod Ways
 pub mod Within

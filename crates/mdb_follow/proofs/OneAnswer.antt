@@ -71,10 +71,14 @@ one-list Kind a b p q =
     let sold2 = one-account Kind _ a.sold2 b.sold2 p.sold2 q.sold2 in
     cc (coins_in, bills_in, paid_out, approved, sold, approved2, sold2)
 
-pub one-report : (rows : List Event) (a b : Report) → IsReport rows a → IsReport rows b → a ≡ b
-one-report rows a b p q =
-    p.telling ∙ (ap (report_of (length rows)) (one-list (Run rows) p.accounts q.accounts p.of_runs
-    q.of_runs) ∙ sym q.telling)
+pub one-report : OneActList → (rows : List Event) (a b : Report) → IsReport rows a
+    → IsReport rows b → a ≡ b
+one-report one rows a b p q =
+    p.telling
+    ∙ (ap (λ pieces. report_of (length rows) pieces (listed p.accounts))
+    (one rows p.pieces q.pieces p.act_list q.act_list)
+    ∙ (ap (report_of (length rows) q.pieces)
+    (one-list (Run rows) p.accounts q.accounts p.of_runs q.of_runs) ∙ sym q.telling))
 
 -- what the laws of the bus say
 pub record BusLaws : Type 0 where

@@ -6,6 +6,8 @@ use Rattle.mdb_bus.specs.Bus as bus
 use Rattle.mdb_follow.specs.declared.follower.Follower.{Follower}
 use Rattle.mdb_follow.specs.declared.offence.Offence.{Offence}
 use Rattle.mdb_follow.specs.Sides.{AreSides}
+use Rattle.mdb_follow.specs.Silences.{asks_of}
+use Rattle.mdb_follow.specs.SilencesKept.{AreSilences}
 
 -- how many rows it has accepted, and the offence that it has met
 abbrev pub rows_of : Follower → ℕ
@@ -14,7 +16,8 @@ rows_of follower = follower.rows
 abbrev pub offence_of : Follower → Option Offence
 offence_of follower = follower.offence
 
--- A follower stands for events: its bus does, and each of its sides stands for their acts.
+-- A follower stands for events: its bus does, each of its sides stands for their acts, and its
+-- silences are those of their asks.
 pub record StandsFor (follower : Follower) (events : List Event) : Type 0 where
   pub pieces : List Piece
   pub on_bus : bus.StandsFor follower.bus pieces
@@ -22,3 +25,4 @@ pub record StandsFor (follower : Follower) (events : List Event) : Type 0 where
   pub rows : follower.rows ≡ length events
   pub going : follower.offence ≡ None
   pub sides : AreSides follower.sides (acts_of pieces)
+  pub silences : AreSilences follower.silences (λ device. asks_of device pieces)

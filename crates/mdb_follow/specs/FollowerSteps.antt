@@ -1,17 +1,19 @@
 -- What a follower does by an act. This serves private functions.
-use Rattle.std.specs.Prelude.{◌≡◌, ◌+◌, Some}
+use Rattle.std.specs.Prelude.{◌≡◌, ◌+◌, ℕ, Some}
 use Rattle.mdb_bus.specs.declared.act.Act.{Act}
 use Rattle.mdb_follow.specs.declared.follower.Follower.{Follower}
 use Rattle.mdb_follow.specs.declared.offence.Offence.{Offence}
 use Rattle.mdb_follow.specs.Senders.{sender_of}
 use Rattle.mdb_follow.specs.Sides.{SidesFollow, SidesStop}
+use Rattle.mdb_follow.specs.SilencesKept.{SilencesFollow}
 
--- A follower has followed an act.
-pub record HasFollowed (old : Follower) (act : Act) (new : Follower) : Type 0 where
+-- A follower has followed an act whose last word started at a time.
+pub record HasFollowed (old : Follower) (act : Act) (at : ℕ) (new : Follower) : Type 0 where
   pub on_bus : new.bus ≡ old.bus
   pub rows : new.rows ≡ old.rows + 1
   pub going : new.offence ≡ old.offence
   pub sides : SidesFollow old.sides act new.sides
+  pub silences : SilencesFollow old.silences act at new.sides new.silences
 
 -- A follower has stopped at an act by which a machine has no step.
 pub record HasStopped (old : Follower) (act : Act) (new : Follower)

@@ -12,5 +12,7 @@ pub mod Runs
 pub mod Sales
 pub mod Senders
 pub mod Sides
+pub mod Silences
+pub mod SilencesKept
 pub mod Sums
 pub mod Tables

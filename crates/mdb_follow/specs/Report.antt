@@ -1,11 +1,20 @@
 -- What is reported of rows that can have been.
-use Rattle.std.specs.Prelude.{◌≡◌, ℕ, List, [], ◌∷◌, length, None, pos, replicate}
+use Rattle.std.specs.Prelude.{◌≡◌, ℕ, List, [], ◌∷◌, length, map, Option, option_map, pos}
 use Rattle.mdb_words.specs.declared.event.Event.{Event}
+use Rattle.mdb_msgs.specs.declared.command.Device.{Device}
+use Rattle.mdb_msgs.specs.declared.command.Device.TheVariants as devices
+use Rattle.mdb_msgs.specs.declared.command.ReaderUnit.TheVariants.{First, Second}
+use Rattle.mdb_bus.specs.declared.act.Act.{Act}
+use Rattle.mdb_bus.specs.ActLists.{IsActList, Piece, acts_of}
+use Rattle.mdb_cash.specs.BillFacts as bill_facts
+use Rattle.mdb_cash.specs.ChangerFacts as changer_facts
+use Rattle.mdb_cashless.specs.ReaderFacts as reader_facts
 use Rattle.mdb_follow.specs.declared.cell.Account.{Account}
 use Rattle.mdb_follow.specs.declared.range.Range.{Range}
 use Rattle.mdb_follow.specs.declared.report.Report.{Report}
 use Rattle.mdb_follow.specs.Ranges.{IsAccount}
 use Rattle.mdb_follow.specs.Runs.{AllSums, IsReached, Run}
+use Rattle.mdb_follow.specs.Silences.{silences}
 
 -- what an account is of which nothing is told
 abbrev pub no_range : Range
@@ -40,19 +49,37 @@ listed accounts =
     accounts.coins_in ∷ accounts.bills_in ∷ accounts.paid_out ∷ accounts.approved ∷ accounts.sold
     ∷ accounts.approved2 ∷ accounts.sold2 ∷ []
 
--- the report of so many rows with these accounts
-abbrev pub report_of : ℕ → List Account → Report
-report_of rows accounts = record {
+-- the decimal places that a device has told in these acts: in its last setup table, a reader in its
+-- last config message, heard or not
+abbrev pub decimals_of : Device → List Act → Option ℕ
+decimals_of devices.Changer acts =
+    option_map (λ setup. setup.decimals) (changer_facts.facts_of acts).setup
+decimals_of devices.Bill acts =
+    option_map (λ setup. setup.decimals) (bill_facts.facts_of acts).setup
+decimals_of devices.Cashless acts =
+    option_map (λ config. config.decimals) (reader_facts.facts_of First acts).config
+decimals_of devices.Cashless2 acts =
+    option_map (λ config. config.decimals) (reader_facts.facts_of Second acts).config
+
+-- the devices in the order of a report
+abbrev pub reported : List Device
+reported = devices.Changer ∷ devices.Bill ∷ devices.Cashless ∷ devices.Cashless2 ∷ []
+
+-- the report of so many rows, which are these pieces, with these accounts
+abbrev pub report_of : ℕ → List Piece → List Account → Report
+report_of rows pieces accounts = record {
   rows = rows;
-  decimals = replicate 4 None;
+  decimals = map (λ device. decimals_of device (acts_of pieces)) reported;
   accounts = accounts;
-  silences = replicate 4 0;
+  silences = map (λ device. silences device pieces) reported;
 }
 
 -- The report on rows that are reached: each end of each range is the value of some run, and no
--- run's lies outside.
+-- run's lies outside. Decimals and silences are those of the act list.
 pub record IsReport (events : List Event) (report : Report) : Type 0 where
   pub reached : IsReached events
+  pub pieces : List Piece
+  pub act_list : IsActList pieces events
   pub accounts : Accounts
   pub of_runs : AreAccounts (Run events) accounts
-  pub telling : report ≡ report_of (length events) (listed accounts)
+  pub telling : report ≡ report_of (length events) pieces (listed accounts)

@@ -6,28 +6,33 @@ ghost use Rattle.mdb_words.specs.declared.event.Event.{Event};
 ghost use Rattle.mdb_bus.specs.declared.act.Act.{Act};
 ghost use Rattle.mdb_follow.specs.Senders as spec;
 ghost use Rattle.mdb_follow.specs.Sides.{AreWithin};
+ghost use Rattle.mdb_follow.specs.SilencesKept.{AreFew};
 
 use crate::sides::{Cashless, Cashless2, Sides};
+use crate::silence::Silences;
 use crate::{Offence, Report, laws, side};
 use mdb_bus::{Act, Blame, Bus, LinkFault, laws as bus_laws};
 use mdb_cash::{Bill, Changer};
-use mdb_words::Event;
+use mdb_words::{Event, Time};
 
 /// The most rows of a recording (this profile).
 pub const ROWS_MAX: u64 = 100_000_000;
 
 /// What all that may have happened behind the rows so far comes to.
 ///
-/// It keeps the bus, and of each device the facts and a table of its possible states; no rows.
+/// It keeps the bus, and of each device the facts, a table of its possible states, and what counts
+/// of its silences; no rows.
 /// Behind an offence nothing but the offence is of any matter.
 #[derive(Drop)]
 pub struct Follower {
     bus: Bus,
     sides: Sides,
+    silences: Silences,
     rows: u64,
     offence: Option<Offence>,
     ghost few: { rows ≤ 100000000 },
     ghost within: { ForNone offence (AreWithin (rows * 2 ^ 32) sides) },
+    ghost few_silences: { AreFew rows silences },
     ghost numbered: { ForSome offence (λ offence. offence.row ≡ rows + 1) },
 }
 
@@ -49,6 +54,7 @@ impl Follower {
         Follower {
             bus: Bus::new(),
             sides: Sides::start(),
+            silences: Silences::NONE,
             rows: 0,
             offence: None,
         }
@@ -99,7 +105,7 @@ impl Follower {
                 self.rows += 1;
                 Ok(())
             }
-            Ok(true) => self.follow(&act),
+            Ok(true) => self.follow(&act, event.start()),
         }
     }
 
@@ -139,15 +145,16 @@ impl Follower {
         Ok(())
     }
 
-    /// Follows an act that a row ended.
-    fn follow(&mut self, act: &Act) -> Result<(), Offence>
+    /// Follows an act that a row ended, which started at a time.
+    fn follow(&mut self, act: &Act, at: Time) -> Result<(), Offence>
         requires room { rows_of self.old < ROWS_MAX }
         requires going { offence_of self.old ≡ None }
-        ensures followed { IfOk result (λ _. HasFollowed self.old act.now self.new) }
+        ensures followed { IfOk result (λ _. HasFollowed self.old act.now at self.new) }
         ensures stopped { IfErr result (HasStopped self.old act.now self.new) }
     {
         match self.sides.lead(act) {
             None => {
+                self.silences.follow(act, at, &self.sides);
                 self.rows += 1;
                 Ok(())
             }
@@ -190,7 +197,7 @@ impl Follower {
                     cashless2.first,
                     cashless2.second,
                 ];
-                Ok(Report::of(self.rows, accounts))
+                Ok(Report::of(self.rows, accounts, &self.sides, &self.silences))
             }
         }
     }

@@ -58,7 +58,9 @@ pub fn fronts_of_reached_rows_are_reached()
 /// Rows have one report: each of its ends is the least or the greatest of all runs.
 pub fn rows_have_one_report()
     ensures { (rows : List Event) (a b : Report) → IsReport rows a → IsReport rows b → a ≡ b }
-{}
+{
+    laws::transcripts_have_one_act_list();
+}
 
 /// A row has one offence: one number, one rule and one blame.
 pub fn rows_have_one_offence()

@@ -10,6 +10,7 @@ mod range;
 mod report;
 mod side;
 mod sides;
+mod silence;
 mod table;
 
 pub use cell::{Account, Cell};
@@ -17,4 +18,5 @@ pub use follower::{Follower, ROWS_MAX};
 pub use offence::Offence;
 pub use range::Range;
 pub use report::Report;
+pub use silence::{BILL_SILENCE_MAX, CHANGER_SILENCE_MAX, MICROS_PER_SECOND, READER_SILENCE_MAX};
 pub use table::Table;

@@ -18,7 +18,7 @@ use mdb_cash::Pair;
 /// and the states that are possible now.
 #[derive(Drop)]
 pub(crate) struct Side<F: Drop, const N: usize> {
-    facts: F,
+    pub(crate) facts: F,
     table: Table<N>,
 }
 

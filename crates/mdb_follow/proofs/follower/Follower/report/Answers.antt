@@ -10,4 +10,4 @@ returns-in-None-clause-report c events on =
     (c.ranges-changer.ensures (acts_of on.pieces) on.sides.changer)
     (c.ranges-bill.ensures (acts_of on.pieces) on.sides.bill)
     (c.ranges-cashless.ensures (acts_of on.pieces) on.sides.cashless)
-    (c.ranges-cashless2.ensures (acts_of on.pieces) on.sides.cashless2) c.of.ensures
+    (c.ranges-cashless2.ensures (acts_of on.pieces) on.sides.cashless2) (c.of.ensures on.pieces on.sides on.silences)

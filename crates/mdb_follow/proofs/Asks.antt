@@ -1,0 +1,152 @@
+-- How the lists of asks go on with the pieces, and silences with them.
+use Rattle.std.proofs.Common.{refl, ap, sym, subst, ◌∙◌, ◌≡◌, inl, inr, ℕ, List, [], ◌∷◌, ◌++◌, Option, Some, None}
+use Rattle.std.specs.Prelude.{option_map}
+use Rattle.mdb_words.specs.declared.event.Event.{Event}
+use Rattle.mdb_words.specs.Event.{start_of}
+use Rattle.mdb_msgs.specs.declared.command.Device.{Device}
+use Rattle.mdb_msgs.specs.declared.command.Device.TheVariants as devices
+use Rattle.mdb_bus.specs.declared.act.Act.{Act}
+use Rattle.mdb_bus.specs.declared.act.Act.TheVariants as acts
+use Rattle.mdb_bus.specs.ActLists.{AskTail, IsTail, Piece, RepeatTail, ReplyTail, Whole, act_in, acts_of, last_of, piece_events}
+use Rattle.mdb_bus.specs.Bus.{Grown}
+use Rattle.mdb_follow.specs.declared.sides.Sides.{Sides}
+use Rattle.mdb_follow.specs.declared.silence.Silences.{Silences}
+use Rattle.mdb_follow.specs.Sides.{AreSides}
+use Rattle.mdb_follow.specs.Silences.{Asked, asks_of, last_start, limit_of, reader_limit}
+use Rattle.mdb_follow.specs.SilencesKept.{AreSilences, IsSilence, asks_behind, limit_in}
+
+-- tails ask nothing
+tail-asks : (device : Device) (tail : Piece) (pieces : List Piece) → IsTail tail
+    → asks_of device (tail ∷ pieces) ≡ asks_of device pieces
+tail-asks device (Whole act events) pieces is = absurd is
+tail-asks device (AskTail bytes events) pieces is = refl
+tail-asks device (ReplyTail command bytes events) pieces is = refl
+tail-asks device (RepeatTail command reply bytes events) pieces is = refl
+
+tail-acts : (tail : Piece) (pieces : List Piece) → IsTail tail
+    → acts_of (tail ∷ pieces) ≡ acts_of pieces
+tail-acts (Whole act events) pieces is = absurd is
+tail-acts (AskTail bytes events) pieces is = refl
+tail-acts (ReplyTail command bytes events) pieces is = refl
+tail-acts (RepeatTail command reply bytes events) pieces is = refl
+
+no-act : (piece : Piece) → act_in piece ≡ None → IsTail piece
+no-act (Whole act events) none = cc
+no-act (AskTail bytes events) none = tt
+no-act (ReplyTail command bytes events) none = tt
+no-act (RepeatTail command reply bytes events) none = tt
+
+-- the pieces before the newest have the asks and the acts of those that went on
+earlier-asks : (device : Device) (pieces : List Piece) (row : Event) (act : Option Act)
+    (longer : List Piece) (grown : Grown pieces row act longer)
+    → asks_of device grown.earlier ≡ asks_of device pieces
+earlier-asks device pieces row act longer grown =
+    elim grown.from [
+      | inl alone ↦ ap (asks_of device) (sym alone.1)
+      | inr on ↦ sym (tail-asks device on.0 grown.earlier on.1) ∙ ap (asks_of device) (sym on.3)
+    ]
+
+earlier-acts : (pieces : List Piece) (row : Event) (act : Option Act) (longer : List Piece)
+    (grown : Grown pieces row act longer) → acts_of grown.earlier ≡ acts_of pieces
+earlier-acts pieces row act longer grown =
+    elim grown.from [
+      | inl alone ↦ ap acts_of (sym alone.1)
+      | inr on ↦ sym (tail-acts on.0 grown.earlier on.1) ∙ ap acts_of (sym on.3)
+    ]
+
+-- a row that ends no act leaves the lists
+pub asks-stay : (device : Device) (pieces : List Piece) (row : Event) (longer : List Piece)
+    → Grown pieces row None longer → asks_of device longer ≡ asks_of device pieces
+asks-stay device pieces row longer grown =
+    ap (asks_of device) grown.are
+    ∙ tail-asks device grown.newest grown.earlier (no-act grown.newest grown.ends)
+    ∙ earlier-asks device pieces row None longer grown
+
+last-is : (events : List Event) (row : Event) → last_of (events ++ row ∷ []) ≡ Some row
+last-is [] row = refl
+last-is (event ∷ []) row = refl
+last-is (event ∷ next ∷ events) row = last-is (next ∷ events) row
+
+-- the lists behind a whole act
+whole-asks : (device : Device) (newest : Piece) (earlier : List Piece) (begun : List Event)
+    (row : Event) (act : Act) → piece_events newest ≡ begun ++ row ∷ []
+    → act_in newest ≡ Some act → asks_of device (newest ∷ earlier)
+    ≡ asks_behind device act
+    (record { at = start_of row; limit = limit_of device (acts_of earlier) })
+    (asks_of device earlier)
+whole-asks device (Whole one events) earlier begun row act are is =
+    let same : one ≡ act = cc is in
+    let start : last_start events ≡ start_of row =
+    ap last_start are ∙ ap (λ found. elim found [ Some event ↦ start_of event | None ↦ 0 ])
+    (last-is begun row) in
+    ap (λ at. asks_behind device one
+    (record { at = at; limit = limit_of device (acts_of earlier) }) (asks_of device earlier)) start
+    ∙ ap (λ one. asks_behind device one
+    (record { at = start_of row; limit = limit_of device (acts_of earlier) })
+    (asks_of device earlier)) same
+whole-asks device (AskTail bytes events) earlier begun row act are is = absurd (cc is)
+whole-asks device (ReplyTail command bytes events) earlier begun row act are is = absurd (cc is)
+whole-asks device (RepeatTail command reply bytes events) earlier begun row act are is =
+    absurd (cc is)
+
+-- an ask leaves the limit
+same-limit : (device : Device) (act : Act) (acts : List Act) (at : ℕ) (lists : List (List Asked))
+    → asks_behind device act (record { at = at; limit = limit_of device acts }) lists
+    ≡ asks_behind device act (record { at = at; limit = limit_of device (act ∷ acts) }) lists
+same-limit devices.Changer act acts at lists = refl
+same-limit devices.Bill act acts at lists = refl
+same-limit devices.Cashless (acts.Ask command) acts at lists = refl
+same-limit devices.Cashless2 (acts.Ask command) acts at lists = refl
+same-limit device (acts.Ack command) acts at lists = refl
+same-limit device (acts.Nak command) acts at lists = refl
+same-limit device (acts.Reply command reply) acts at lists = refl
+same-limit device (acts.VmcAck command reply) acts at lists = refl
+same-limit device (acts.VmcNak command reply) acts at lists = refl
+same-limit device (acts.VmcRet command reply) acts at lists = refl
+same-limit device (acts.Repeat command reply) acts at lists = refl
+same-limit device acts.Foreign acts at lists = refl
+same-limit device (acts.Break length) acts at lists = refl
+
+-- sides have the limits of their acts
+limit-is : (device : Device) (sides : Sides) (acts : List Act) → AreSides sides acts
+    → limit_of device acts ≡ limit_in device sides
+limit-is devices.Changer sides acts on = refl
+limit-is devices.Bill sides acts on = refl
+limit-is devices.Cashless sides acts on =
+    ap (λ facts. reader_limit (option_map (λ config. config.response) facts.config))
+    (sym on.cashless.facts)
+limit-is devices.Cashless2 sides acts on =
+    ap (λ facts. reader_limit (option_map (λ config. config.response) facts.config))
+    (sym on.cashless2.facts)
+
+-- an act, and the lists go on by it
+pub asks-go-on : (device : Device) (pieces : List Piece) (row : Event) (act : Act)
+    (longer : List Piece) (sides : Sides) → Grown pieces row (Some act) longer
+    → AreSides sides (act ∷ acts_of pieces)
+    → asks_behind device act (record { at = start_of row; limit = limit_in device sides })
+    (asks_of device pieces) ≡ asks_of device longer
+asks-go-on device pieces row act longer sides grown on =
+    let at = start_of row in
+    let behind : ℕ → List (List Asked) → List (List Asked) = λ limit lists.
+    asks_behind device act (record { at = at; limit = limit }) lists in
+    ap (λ limit. behind limit (asks_of device pieces))
+    (sym (limit-is device sides (act ∷ acts_of pieces) on))
+    ∙ sym (same-limit device act (acts_of pieces) at (asks_of device pieces))
+    ∙ ap (λ acts. behind (limit_of device acts) (asks_of device pieces))
+    (sym (earlier-acts pieces row (Some act) longer grown))
+    ∙ ap (behind (limit_of device (acts_of grown.earlier)))
+    (sym (earlier-asks device pieces row (Some act) longer grown))
+    ∙ sym (whole-asks device grown.newest grown.earlier grown.begun row act grown.events
+    grown.ends)
+    ∙ ap (asks_of device) (sym grown.are)
+
+-- silences of some lists are those of lists that are the same
+pub same-silences : (silences : Silences) (one other : Device → List (List Asked))
+    → ((device : Device) → one device ≡ other device) → AreSilences silences one
+    → AreSilences silences other
+same-silences silences one other same are = record {
+  changer = subst (IsSilence silences.changer) (same devices.Changer) are.changer;
+  bill = subst (IsSilence silences.bill) (same devices.Bill) are.bill;
+  cashless = subst (IsSilence silences.cashless) (same devices.Cashless) are.cashless;
+  cashless2 = subst (IsSilence silences.cashless2) (same devices.Cashless2) are.cashless2;
+}

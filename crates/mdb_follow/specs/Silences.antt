@@ -1,0 +1,101 @@
+-- Silences: how often a device left the controller's asks without an answer for too long (the limits
+-- are from MDB/ICP 4.3; what counts is this profile's). Pieces stand newest first, and so do lists
+-- of asks and the asks in a list.
+use Rattle.std.specs.Prelude.{ℕ, ◌+◌, ◌*◌, max, nat_lt, count_by, option_map, Bool, true, false, List, [], ◌∷◌, Option, Some, None, if◌then◌else◌}
+use Rattle.std.specs.List.{list_any}
+use Rattle.mdb_words.specs.declared.event.Event.{Event}
+use Rattle.mdb_words.specs.Event.{start_of}
+use Rattle.mdb_msgs.specs.declared.command.Device.{Device}
+use Rattle.mdb_msgs.specs.declared.command.Device.TheVariants as devices
+use Rattle.mdb_msgs.specs.declared.command.ReaderUnit.{ReaderUnit}
+use Rattle.mdb_msgs.specs.declared.command.ReaderUnit.TheVariants.{First, Second}
+use Rattle.mdb_msgs.specs.Commands.{device_of}
+use Rattle.mdb_bus.specs.declared.act.Act.{Act}
+use Rattle.mdb_bus.specs.declared.act.Act.TheVariants as acts
+use Rattle.mdb_bus.specs.ActLists.{Piece, Whole, acts_of, last_of}
+use Rattle.mdb_cashless.specs.ReaderFacts as reader_facts
+use Rattle.mdb_follow.specs.declared.silence.TheConstants.{CHANGER_SILENCE_MAX, BILL_SILENCE_MAX, READER_SILENCE_MAX, MICROS_PER_SECOND}
+
+-- how long a reader may be silent, by the response time (Z7, in seconds) that it has told
+abbrev pub reader_limit : Option ℕ → ℕ
+reader_limit None = READER_SILENCE_MAX
+reader_limit (Some seconds) = max READER_SILENCE_MAX (MICROS_PER_SECOND * seconds)
+
+-- the response time that a reader has told last in these acts
+abbrev pub response_time_of : ReaderUnit → List Act → Option ℕ
+response_time_of unit acts =
+    option_map (λ config. config.response) (reader_facts.facts_of unit acts).config
+
+-- how long a device may be silent, by what it has told in these acts
+abbrev pub limit_of : Device → List Act → ℕ
+limit_of devices.Changer acts = CHANGER_SILENCE_MAX
+limit_of devices.Bill acts = BILL_SILENCE_MAX
+limit_of devices.Cashless acts = reader_limit (response_time_of First acts)
+limit_of devices.Cashless2 acts = reader_limit (response_time_of Second acts)
+
+-- whether two devices are one
+abbrev pub is_same : Device → Device → Bool
+is_same devices.Changer devices.Changer = true
+is_same devices.Bill devices.Bill = true
+is_same devices.Cashless devices.Cashless = true
+is_same devices.Cashless2 devices.Cashless2 = true
+is_same _ _ = false
+
+-- whether an act asks a device
+abbrev pub asks : Device → Act → Bool
+asks device (acts.Ask command) = is_same device (device_of command)
+asks device _ = false
+
+-- whether an act ends a list of asks to a device: an answer of the device, by ACK, NAK or data, or a
+-- break
+abbrev pub ends_asking : Device → Act → Bool
+ends_asking device (acts.Ack command) = is_same device (device_of command)
+ends_asking device (acts.Nak command) = is_same device (device_of command)
+ends_asking device (acts.Reply command reply) = is_same device (device_of command)
+ends_asking device (acts.Break length) = true
+ends_asking device _ = false
+
+-- when the last word of an act started
+abbrev pub last_start : List Event → ℕ
+last_start events = elim (last_of events) [ Some event ↦ start_of event | None ↦ 0 ]
+
+-- An ask to a device: when its last word started, and how long the device may then be silent.
+pub record Asked : Type 0 where
+  pub at : ℕ
+  pub limit : ℕ
+
+-- lists of asks with one more in the newest of them
+abbrev pub with_ask : Asked → List (List Asked) → List (List Asked)
+with_ask ask [] = (ask ∷ []) ∷ []
+with_ask ask (list ∷ lists) = (ask ∷ list) ∷ lists
+
+-- The lists of asks to a device: its answers and breaks part them, and nothing else does. A list
+-- may be empty.
+abbrev pub asks_of : Device → List Piece → List (List Asked)
+asks_of device [] = [] ∷ []
+asks_of device (Whole act events ∷ pieces) =
+    if ends_asking device act then [] ∷ asks_of device pieces
+    else if asks device act then with_ask
+    (record { at = last_start events; limit = limit_of device (acts_of pieces) })
+    (asks_of device pieces)
+    else asks_of device pieces
+asks_of device (piece ∷ pieces) = asks_of device pieces
+
+-- the first ask of a list, which stands last
+abbrev pub first_of : List Asked → Option Asked
+first_of [] = None
+first_of (ask ∷ []) = Some ask
+first_of (ask ∷ earlier ∷ list) = first_of (earlier ∷ list)
+
+-- Whether a list of asks is a silence: some ask of it comes more than the limit after the first one.
+-- (Both times are those of the last words.) The limit is the one at the first ask.
+abbrev pub is_silence : List Asked → Bool
+is_silence list =
+    elim (first_of list) [
+      | Some first ↦ list_any (λ ask. nat_lt (first.at + first.limit) ask.at) list
+      | None ↦ false
+    ]
+
+-- how many silences of a device there are: each list counts once
+abbrev pub silences : Device → List Piece → ℕ
+silences device pieces = count_by is_silence (asks_of device pieces)
