@@ -1,7 +1,8 @@
 //! What no contract says: that a call can answer at all, the faults of readers and writers, and the
 //! program's words.
 
-use super::{Blame, Offence, Outcome, Rule, RunFault, check, run};
+use super::text::text_of;
+use super::{Account, Blame, Offence, Outcome, Range, Report, Rule, RunFault, check, run};
 use mdb_words::RowFault;
 use std::alloc::{AllocError, Global};
 use std::io;
@@ -14,13 +15,15 @@ const ROWS: &[u8] = b"1000,M,108\n2200,M,008\n4200,S,100\n24200,M,10B\n\
 
 /// The report on `ROWS`.
 const REPORT: &[u8] = b"verdict yes\nrows 8\n\
+decimals changer - bill - cashless - cashless-2 -\n\
 coins-in device 0..0 controller 0..0 difference 0..0\n\
 bills-in device 0..0 controller 0..0 difference 0..0\n\
 paid-out device 0..0 controller 0..0 difference 0..0\n\
 approved device 0..0 controller 0..0 difference 0..0\n\
 sold device 0..0 controller 0..0 difference 0..0\n\
 approved-2 device 0..0 controller 0..0 difference 0..0\n\
-sold-2 device 0..0 controller 0..0 difference 0..0\n";
+sold-2 device 0..0 controller 0..0 difference 0..0\n\
+silences changer 0 bill 0 cashless 0 cashless-2 0\n";
 
 /// `ROWS` up to a reply whose sum is wrong.
 const WRONG_SUM: &[u8] =
@@ -168,6 +171,50 @@ fn answers_yes_and_no(rt: HostRuntime) {
         Ok(Outcome::No(offence))
     );
     assert_eq!(rt; out.as_slice(), WRONG_SUM_REPORT);
+}
+
+/// An account of the ends of its ranges: the device's, the controller's and the difference's.
+fn account(ends: [i64; 6]) -> Account {
+    let range = |least: i64, greatest: i64| Range { least, greatest };
+    Account {
+        device: range(ends[0], ends[1]),
+        controller: range(ends[2], ends[3]),
+        difference: range(ends[4], ends[5]),
+    }
+}
+
+/// Each number of a report stands in its place of the text.
+#[test]
+fn a_report_has_its_text(rt: HostRuntime) -> Result<(), Fail> {
+    let report = Report {
+        rows: 100_000_000,
+        decimals: [Some(2), None, Some(0), Some(255)],
+        accounts: [
+            account([-100, -91, -99, -90, -98, -89]),
+            account([-9, 0, -8, 1, -7, 2]),
+            account([0, 9, 1, 10, 2, 11]),
+            account([10, 19, 11, 20, 12, 21]),
+            account([20, 29, 21, 30, 22, 31]),
+            account([30, 39, 31, 40, 32, 41]),
+            account([40, 49, 41, 50, 42, 51]),
+        ],
+        silences: [1, 22, 0, 4_294_967_296],
+    };
+    let text: &[u8] = b"verdict yes\nrows 100000000\n\
+decimals changer 2 bill - cashless 0 cashless-2 255\n\
+coins-in device -100..-91 controller -99..-90 difference -98..-89\n\
+bills-in device -9..0 controller -8..1 difference -7..2\n\
+paid-out device 0..9 controller 1..10 difference 2..11\n\
+approved device 10..19 controller 11..20 difference 12..21\n\
+sold device 20..29 controller 21..30 difference 22..31\n\
+approved-2 device 30..39 controller 31..40 difference 32..41\n\
+sold-2 device 40..49 controller 41..50 difference 42..51\n\
+silences changer 1 bill 22 cashless 0 cashless-2 4294967296\n";
+    assert_eq!(rt;
+        text_of(rt.alloc(), &Outcome::Yes(report))?.as_slice(),
+        text
+    );
+    Ok(())
 }
 
 /// Nothing but what the byte limit says ends a long recording early.

@@ -2,7 +2,7 @@
 
 ghost use Rattle.std.specs.Prelude.{◌≡◌, IfOk, OnOk};
 ghost use Rattle.std.specs.Io.KnownBytes.{Appends};
-ghost use Rattle.mdb_check.specs.Text.{account_line, blame_word, head_text, report_text, rule_word, side_text};
+ghost use Rattle.mdb_check.specs.Text.{account_line, blame_word, count_text, decimals_line, head_text, places_text, report_text, rule_word, side_text, silences_line};
 
 use super::outcome::Outcome;
 use mdb_bus::{Blame, Rule};
@@ -76,13 +76,15 @@ fn write_report<W: Write>(writer: &mut W, report: &Report) -> io::Result<()>
         (W.contents writer.new) (report_text (Outcome.Yes report.now))) }
 {
     write_head(writer, report.rows)?;
+    write_decimals(writer, &report.decimals)?;
     write_account(writer, "coins-in", &report.accounts[0])?;
     write_account(writer, "bills-in", &report.accounts[1])?;
     write_account(writer, "paid-out", &report.accounts[2])?;
     write_account(writer, "approved", &report.accounts[3])?;
     write_account(writer, "sold", &report.accounts[4])?;
     write_account(writer, "approved-2", &report.accounts[5])?;
-    write_account(writer, "sold-2", &report.accounts[6])
+    write_account(writer, "sold-2", &report.accounts[6])?;
+    write_silences(writer, &report.silences)
 }
 
 /// Writes the first two lines of a yes.
@@ -91,6 +93,32 @@ fn write_head<W: Write>(writer: &mut W, rows: u64) -> io::Result<()>
         (Appends (W.contents writer.old) (W.contents writer.new) (head_text rows)) }
 {
     write!(writer, "verdict yes\nrows {rows}\n")
+}
+
+/// Writes the line of the decimals.
+fn write_decimals<W: Write>(writer: &mut W, decimals: &[Option<u8>; 4]) -> io::Result<()>
+    ensures { OnOk result
+        (Appends (W.contents writer.old)
+        (W.contents writer.new) (decimals_line decimals.now)) }
+{
+    write!(writer, "decimals")?;
+    write_places(writer, "changer", decimals[0])?;
+    write_places(writer, "bill", decimals[1])?;
+    write_places(writer, "cashless", decimals[2])?;
+    write_places(writer, "cashless-2", decimals[3])?;
+    write!(writer, "\n")
+}
+
+/// Writes how many decimal places a device told of, behind its word, or that it told of none.
+fn write_places<W: Write>(writer: &mut W, word: &str, places: Option<u8>) -> io::Result<()>
+    ensures { OnOk result
+        (Appends (W.contents writer.old)
+        (W.contents writer.new) (places_text word.now places)) }
+{
+    match places {
+        Some(places) => write!(writer, " {word} {places}"),
+        None => write!(writer, " {word} -"),
+    }
 }
 
 /// Writes the line of an account.
@@ -114,6 +142,29 @@ fn write_side<W: Write>(writer: &mut W, word: &str, range: Range) -> io::Result<
 {
     let Range { least, greatest } = range;
     write!(writer, " {word} {least}..{greatest}")
+}
+
+/// Writes the line of the silences.
+fn write_silences<W: Write>(writer: &mut W, silences: &[u64; 4]) -> io::Result<()>
+    ensures { OnOk result
+        (Appends (W.contents writer.old)
+        (W.contents writer.new) (silences_line silences.now)) }
+{
+    write!(writer, "silences")?;
+    write_count(writer, "changer", silences[0])?;
+    write_count(writer, "bill", silences[1])?;
+    write_count(writer, "cashless", silences[2])?;
+    write_count(writer, "cashless-2", silences[3])?;
+    write!(writer, "\n")
+}
+
+/// Writes a count of a device behind its word.
+fn write_count<W: Write>(writer: &mut W, word: &str, count: u64) -> io::Result<()>
+    ensures { OnOk result
+        (Appends (W.contents writer.old)
+        (W.contents writer.new) (count_text word.now count)) }
+{
+    write!(writer, " {word} {count}")
 }
 
 /// Writes the four lines of a no.

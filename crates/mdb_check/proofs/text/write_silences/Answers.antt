@@ -1,0 +1,11 @@
+use Rattle.mdb_check.proofs.Texts.{appended, on_ok}
+use Rattle.mdb_check.proofs.text.write_silences.Goals as goal
+
+pub returns : goal.returns
+returns g c =
+    on_ok c.write-2.result _ _
+    (λ last. appended _ _ _ _ _ (appended _ _ _ _ _ (appended _ _ _ _ _ (appended _ _ _ _ _
+    (appended _ _ _ _ _ c.in_ok-write.ensures.bytes c.in_ok-write_count.ensures)
+    c.in_ok-write_count-2.ensures) c.in_ok-write_count-3.ensures)
+    c.in_ok-write_count-4.ensures) last)
+    c.write-2.ensures.bytes
