@@ -1,4 +1,5 @@
 pub mod Fields
+pub mod Headline
 pub mod OneAnswer
 pub mod Reading
 pub mod Status

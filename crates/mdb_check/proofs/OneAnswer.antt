@@ -24,7 +24,7 @@ pub record RunLaws : Type 0 where
   pub one_offence : (rows : List Event) (row : Event) (a b : Offence) → IsOffence rows row a → IsOffence rows row b → a ≡ b
 
 -- fields are a row of one event at most, and a row is never refused
-row_one : (fields : List (List ℕ)) (a b : Event) → IsRow fields a → IsRow fields b → a ≡ b
+pub row_one : (fields : List (List ℕ)) (a b : Event) → IsRow fields a → IsRow fields b → a ≡ b
 row_one fields a b p q = grind (arith, common_steps)
 
 row_not_refused : (fields : List (List ℕ)) (event : Event) (fault : RowFault) → IsRow fields event → IsRefusal fields fault → ⊥

@@ -39,7 +39,7 @@ pub begins : {R : Type 0} (remaining : R → Option (List ℕ)) (all : List (Lis
 begins remaining all records follower to_come stands =
     record { done = []; rest = all; before = []; split = refl; to_come = to_come; told = tt; stands = stands; number = refl }
 
-rows_push : (records : List (List (List ℕ))) (rows : List Event) (fields : List (List ℕ)) (event : Event) → AreRows records rows → IsRow fields event → AreRows (records ++ fields ∷ []) (rows ++ event ∷ [])
+pub rows_push : (records : List (List (List ℕ))) (rows : List Event) (fields : List (List ℕ)) (event : Event) → AreRows records rows → IsRow fields event → AreRows (records ++ fields ∷ []) (rows ++ event ∷ [])
 rows_push [] [] fields event told row = (row, tt)
 rows_push (r ∷ records) (e ∷ rows) fields event told row = (told.0, rows_push records rows fields event told.1 row)
 rows_push [] (e ∷ rows) fields event told row = absurd told

@@ -1,14 +1,26 @@
 //! Laws of verdicts. Each function's contract is the law, and its body calls the laws that it rests
 //! on.
 
-ghost use Rattle.std.specs.Prelude.{◌≡◌, ℕ, List, Result};
+ghost use Rattle.std.specs.Prelude.{◌≡◌, ℕ, List, Result, Ok};
 ghost use Rattle.mdb_follow.specs.declared.follower.TheConstants.{ROWS_MAX};
 ghost use Rattle.mdb_check.specs.declared.verdict.TheConstants.{BYTES_MAX};
 ghost use Rattle.mdb_check.specs.declared.outcome.Outcome.{Outcome};
 ghost use Rattle.mdb_check.specs.declared.outcome.RunFault.{RunFault};
+ghost use Rattle.mdb_check.specs.Headline.{Headline};
 ghost use Rattle.mdb_check.specs.Verdict.{IsAnswer, IsOwnAnswer};
 
 use mdb_follow::laws;
+
+/// The headline: what a verdict says, phrase by phrase.
+///
+/// It is yes exactly where all records are rows that have a run; in every such run each bound of
+/// the report is exact; a no names the first row that no run reaches.
+pub fn verdicts_say_the_headline()
+    ensures { (records : List (List (List ℕ))) (outcome : Outcome)
+        → IsAnswer records (Ok outcome) → Headline records outcome }
+{
+    laws::fronts_of_reached_rows_are_reached();
+}
 
 /// The records of a text have at most one answer of their own: a yes with its report, a no with its
 /// row, rule and blame, the first record that is no row and why, or too many rows.

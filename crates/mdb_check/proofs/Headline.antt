@@ -1,0 +1,182 @@
+-- A verdict says what the headline has of it.
+use Rattle.std.proofs.Common.{get_or, Ok, arith, refl, ap, sym, subst, ◌∙◌, ◌≡◌, ◌≤◌, ℕ, zero, suc, List, [], ◌∷◌, ◌++◌, length, take, drop, length-append, append_assoc}
+use Rattle.std.proofs.lemmas.List.{length-take-le, take-append-drop, take_all, take_at}
+use Rattle.mdb_words.specs.declared.event.Event.{Event}
+use Rattle.mdb_follow.specs.declared.cell.Account.{Account}
+use Rattle.mdb_follow.specs.declared.follower.TheConstants.{ROWS_MAX}
+use Rattle.mdb_follow.specs.declared.offence.Offence.{Offence}
+use Rattle.mdb_follow.specs.declared.report.Report.{Report}
+use Rattle.mdb_follow.specs.Ranges.{IsAccount, IsRange}
+use Rattle.mdb_follow.specs.Report.{Accounts, AreAccounts, IsReport, listed, no_account}
+use Rattle.mdb_follow.specs.Runs.{AllSums, IsReached, Run}
+use Rattle.mdb_follow.specs.Sums.{AccountSums}
+use Rattle.mdb_check.specs.declared.outcome.Outcome.{Outcome}
+use Rattle.mdb_check.specs.declared.outcome.Outcome.TheVariants.{Yes, No}
+use Rattle.mdb_check.specs.Accounts.{AccountSide, Approved, Approved2, BillsIn, CoinsIn, OfController, OfDevice, OfDifference, PaidOut, ReportedAccount, Sold, Sold2, account_of, place_of, range_of, sums_of, value_of}
+use Rattle.mdb_check.specs.Headline.{AreFirstRows, HasBounds, HaveRun, Headline, NamesFirstRow}
+use Rattle.mdb_check.specs.Verdict.{AreRows, IsAnswer, IsImpossible, IsPossible}
+use Rattle.mdb_check.proofs.OneAnswer.{row_one}
+use Rattle.mdb_check.proofs.Reading.{rows_push}
+
+-- what the law of the first rows of reached rows says
+abbrev pub FrontsAreReached : Type 0
+FrontsAreReached = (rows more : List Event) → IsReached (rows ++ more) → IsReached rows
+
+-- records are rows of one list of events at most
+one_list : (records : List (List (List ℕ))) (rows events : List Event) → AreRows records rows → AreRows records events → rows ≡ events
+one_list [] [] [] told heard = refl
+one_list (fields ∷ records) (row ∷ rows) (event ∷ events) told heard =
+    ap (λ e. e ∷ rows) (row_one fields row event told.0 heard.0) ∙ ap (λ es. event ∷ es) (one_list records rows events told.1 heard.1)
+one_list [] (row ∷ rows) events told heard = absurd told
+one_list (fields ∷ records) [] events told heard = absurd told
+one_list [] rows (event ∷ events) told heard = absurd heard
+one_list (fields ∷ records) rows [] told heard = absurd heard
+
+-- as many rows as records
+as_many : (records : List (List (List ℕ))) (rows : List Event) → AreRows records rows → length rows ≡ length records
+as_many [] [] told = refl
+as_many (fields ∷ records) (row ∷ rows) told = ap suc (as_many records rows told.1)
+as_many [] (row ∷ rows) told = absurd told
+as_many (fields ∷ records) [] told = absurd told
+
+-- the first rows are those of the first records
+fewer_rows : (count : ℕ) (records : List (List (List ℕ))) (rows : List Event) → AreRows records rows → AreRows (take count records) (take count rows)
+fewer_rows zero records rows told = tt
+fewer_rows (suc count) [] [] told = tt
+fewer_rows (suc count) (fields ∷ records) (row ∷ rows) told = (told.0, fewer_rows count records rows told.1)
+fewer_rows (suc count) [] (row ∷ rows) told = absurd told
+fewer_rows (suc count) (fields ∷ records) [] told = absurd told
+
+-- fewer of the first ones are the first ones
+take_fewer : (n m : ℕ) (l : List (List (List ℕ))) → n ≤ m → take n (take m l) ≡ take n l
+take_fewer zero m l fewer = refl
+take_fewer (suc n) zero l fewer = absurd (omega (arith, fewer))
+take_fewer (suc n) (suc m) [] fewer = refl
+take_fewer (suc n) (suc m) (fields ∷ l) fewer = ap (λ r. fields ∷ r) (take_fewer n m l (omega (arith, fewer)))
+
+-- the first ones are no more than all
+take_most : (n : ℕ) (l : List (List (List ℕ))) → length (take n l) ≤ length l
+take_most zero l = omega arith
+take_most (suc n) [] = omega arith
+take_most (suc n) (fields ∷ l) = let most : length (take n l) ≤ length l = take_most n l in omega (arith, most)
+
+-- so many rows of records are the first ones
+first_rows : (count : ℕ) (records : List (List (List ℕ))) (rows : List Event) → AreRows (take count records) rows → length rows ≡ count → IsReached rows → HaveRun records count
+first_rows count records rows told number reached = record {
+  rows = rows;
+  are = record { told = told; number = number };
+  sums = reached.0;
+  run = reached.1;
+}
+
+-- a yes: all records are rows, and they have a run
+yes_has_run : (records : List (List (List ℕ))) (report : Report) → IsPossible records report → (length records ≤ ROWS_MAX) × HaveRun records (length records)
+yes_has_run records report is =
+    let many : length is.rows ≡ length records = as_many records is.rows is.told in
+    let P : List (List (List ℕ)) → Type 0 = λ l. AreRows l is.rows in
+    let told : AreRows (take (length records) records) is.rows = subst P (sym (take_all (length records) records (omega arith))) is.told in
+    (omega (arith, many, is.few), first_rows (length records) records is.rows told many is.is.reached)
+
+-- the ranges of an account on its sides
+on_side : {Kind : AllSums → Type 0} (sums : AllSums → AccountSums) (account : Account) → IsAccount Kind sums account → (side : AccountSide)
+    → IsRange Kind (λ s. value_of side (sums s)) (range_of side account)
+on_side sums account is OfDevice = is.device
+on_side sums account is OfController = is.controller
+on_side sums account is OfDifference = is.difference
+
+-- the accounts by their places
+in_place : {Kind : AllSums → Type 0} (accounts : Accounts) → AreAccounts Kind accounts → (account : ReportedAccount)
+    → IsAccount Kind (λ s. sums_of account s) (get_or (listed accounts) (place_of account) no_account)
+in_place accounts are CoinsIn = are.coins_in
+in_place accounts are BillsIn = are.bills_in
+in_place accounts are PaidOut = are.paid_out
+in_place accounts are Approved = are.approved
+in_place accounts are Sold = are.sold
+in_place accounts are Approved2 = are.approved2
+in_place accounts are Sold2 = are.sold2
+
+-- the ranges of a report are exact
+bounds_of : (rows : List Event) (report : Report) → IsReport rows report → (account : ReportedAccount) (side : AccountSide)
+    → IsRange (Run rows) (λ s. value_of side (sums_of account s)) (range_of side (account_of account report))
+bounds_of rows report is account side =
+    let same : report.accounts ≡ listed is.accounts = ap (λ r. r.accounts) is.telling in
+    let P : List Account → Type 0 = λ accounts. IsRange (Run rows) (λ s. value_of side (sums_of account s)) (range_of side (get_or accounts (place_of account) no_account)) in
+    subst P (sym same) (on_side (λ s. sums_of account s) (get_or (listed is.accounts) (place_of account) no_account) (in_place is.accounts is.of_runs account) side)
+
+has_bounds : (records : List (List (List ℕ))) (report : Report) → IsPossible records report → HasBounds records report
+has_bounds records report is rows told account side =
+    let P : List Event → Type 0 = λ es. IsRange (Run es) (λ s. value_of side (sums_of account s)) (range_of side (account_of account report)) in
+    subst P (one_list records is.rows rows is.told told) (bounds_of is.rows report is.is account side)
+
+-- the records up to the row that is named, and these rows
+up_to : (records : List (List (List ℕ))) (offence : Offence) (is : IsImpossible records offence) → AreFirstRows records offence.row (is.rows ++ is.row ∷ [])
+up_to records offence is =
+    let done : List (List (List ℕ)) = is.stops.done in
+    let upto : List (List (List ℕ)) = done ++ is.fields ∷ [] in
+    let many : length is.rows ≡ length done = as_many done is.rows is.stops.told in
+    let long : length upto ≡ offence.row = omega (arith, length-append done (is.fields ∷ []), many, is.is.number) in
+    let split : records ≡ upto ++ is.stops.rest = is.stops.split ∙ sym (append_assoc done (is.fields ∷ []) is.stops.rest) in
+    let front : take offence.row records ≡ upto = ap (λ l. take offence.row l) split ∙ take_at upto is.stops.rest offence.row long in
+    let P : List (List (List ℕ)) → Type 0 = λ l. AreRows l (is.rows ++ is.row ∷ []) in
+    record {
+      told = subst P (sym front) (rows_push done is.rows is.fields is.row is.stops.told is.told);
+      number = omega (arith, length-append is.rows (is.row ∷ []), is.is.number);
+    }
+
+-- no run reaches the row that is named
+no_run : (records : List (List (List ℕ))) (offence : Offence) → IsImpossible records offence → HaveRun records offence.row → ⊥
+no_run records offence is has =
+    let same : has.rows ≡ is.rows ++ is.row ∷ [] = one_list (take offence.row records) has.rows (is.rows ++ is.row ∷ []) has.are.told (up_to records offence is).told in
+    let P : List Event → Type 0 = λ es. IsReached es in
+    is.is.not_reached (subst P same (has.sums, has.run))
+
+-- fewer rows than any that some run reaches are reached
+fewer_reached : FrontsAreReached → (records : List (List (List ℕ))) (more count : ℕ) → count ≤ more → HaveRun records more → HaveRun records count
+fewer_reached fronts records more count fewer has =
+    let told : AreRows (take count (take more records)) (take count has.rows) = fewer_rows count (take more records) has.rows has.are.told in
+    let P : List (List (List ℕ)) → Type 0 = λ l. AreRows l (take count has.rows) in
+    let parts : has.rows ≡ take count has.rows ++ drop count has.rows = sym (take-append-drop count has.rows) in
+    let Q : List Event → Type 0 = λ es. IsReached es in
+    first_rows count records (take count has.rows) (subst P (take_fewer count more records fewer) told)
+    (length-take-le count has.rows (omega (arith, fewer, has.are.number)))
+    (fronts (take count has.rows) (drop count has.rows) (subst Q parts (has.sums, has.run)))
+
+-- the rows before the one that is named are reached
+before_reached : (records : List (List (List ℕ))) (offence : Offence) (is : IsImpossible records offence) → HaveRun records (length is.rows)
+before_reached records offence is =
+    let done : List (List (List ℕ)) = is.stops.done in
+    let many : length is.rows ≡ length done = as_many done is.rows is.stops.told in
+    let front : take (length is.rows) records ≡ done = ap (λ l. take (length is.rows) l) is.stops.split ∙ take_at done (is.fields ∷ is.stops.rest) (length is.rows) (sym many) in
+    let P : List (List (List ℕ)) → Type 0 = λ l. AreRows l is.rows in
+    first_rows (length is.rows) records is.rows (subst P (sym front) is.stops.told) refl is.stops.possible
+
+-- a no names the first row that no run reaches
+names_first : FrontsAreReached → (records : List (List (List ℕ))) (offence : Offence) → IsImpossible records offence → NamesFirstRow records offence
+names_first fronts records offence is = record {
+  before = is.rows;
+  row = is.row;
+  there = up_to records offence is;
+  no_run = no_run records offence is;
+  fewer = λ count below. fewer_reached fronts records (length is.rows) count (omega (arith, below, is.is.number)) (before_reached records offence is);
+  why = is.is;
+}
+
+-- where a no is answered, not all the records have a run
+no_has_none : FrontsAreReached → (records : List (List (List ℕ))) (offence : Offence) → IsImpossible records offence → HaveRun records (length records) → ⊥
+no_has_none fronts records offence is has =
+    let there : AreFirstRows records offence.row (is.rows ++ is.row ∷ []) = up_to records offence is in
+    let many : length (is.rows ++ is.row ∷ []) ≡ length (take offence.row records) = as_many (take offence.row records) (is.rows ++ is.row ∷ []) there.told in
+    no_run records offence is (fewer_reached fronts records (length records) offence.row (omega (arith, many, there.number, take_most offence.row records)) has)
+
+-- what a verdict says
+pub headline_of : FrontsAreReached → (records : List (List (List ℕ))) (outcome : Outcome) → IsAnswer records (Ok outcome) → Headline records outcome
+headline_of fronts records (Yes report) is = record {
+  yes = (λ said. yes_has_run records report is, λ has. tt);
+  bounds = has_bounds records report is;
+  first_row = tt;
+}
+headline_of fronts records (No offence) is = record {
+  yes = (λ said. absurd said, λ has. absurd (no_has_none fronts records offence is has.1));
+  bounds = tt;
+  first_row = names_first fronts records offence is;
+}

@@ -1,0 +1,5 @@
+use Rattle.mdb_check.proofs.Headline.{headline_of}
+use Rattle.mdb_check.proofs.laws.verdicts_say_the_headline.Goals as goal
+
+pub returns : goal.returns
+returns c = headline_of c.fronts_of_reached_rows_are_reached.ensures

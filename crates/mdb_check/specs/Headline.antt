@@ -1,0 +1,74 @@
+-- The headline: what a verdict says, phrase by phrase.
+--
+-- `check` answers yes exactly where the machines have a run, with some words lost at their
+-- receivers, whose words and times are the transcript (`yes`); in every such run each sale follows
+-- its approval (`sales`); each bound that is printed is the value of some run, and no run's value
+-- lies outside (`bounds`); a no names the first row that no run reaches (`first_row`).
+--
+-- The machines are those of changer, validator and both readers, each with the controller; a run
+-- is `Run` of `mdb_follow`, in whose act list and loss the words, their times and the lost words
+-- stand.
+use Rattle.std.specs.Prelude.{◌≡◌, ◌↔◌, ◌<◌, ◌≤◌, ℕ, List, [], ◌∷◌, ◌++◌, length, take, ⊤}
+use Rattle.mdb_words.specs.declared.event.Event.{Event}
+use Rattle.mdb_follow.specs.declared.follower.TheConstants.{ROWS_MAX}
+use Rattle.mdb_follow.specs.declared.offence.Offence.{Offence}
+use Rattle.mdb_follow.specs.declared.report.Report.{Report}
+use Rattle.mdb_follow.specs.Offences.{IsOffence}
+use Rattle.mdb_follow.specs.Ranges.{IsRange}
+use Rattle.mdb_follow.specs.Runs.{AllSums, Run}
+use Rattle.mdb_check.specs.declared.outcome.Outcome.{Outcome}
+use Rattle.mdb_check.specs.declared.outcome.Outcome.TheVariants.{Yes, No}
+use Rattle.mdb_check.specs.Accounts.{AccountSide, ReportedAccount, account_of, range_of, sums_of, value_of}
+use Rattle.mdb_check.specs.Verdict.{AreRows}
+
+-- the first so many records of a text are rows, and these are their events
+pub record AreFirstRows (records : List (List (List ℕ))) (count : ℕ)
+    (rows : List Event) : Type 0 where
+  pub told : AreRows (take count records) rows
+  pub number : length rows ≡ count
+
+-- the first so many records are rows, and some run reaches them
+pub record HaveRun (records : List (List (List ℕ))) (count : ℕ) : Type 0 where
+  pub rows : List Event
+  pub are : AreFirstRows records count rows
+  pub sums : AllSums
+  pub run : Run rows sums
+
+-- the outcome is a yes
+abbrev pub SaysYes : Outcome → Type 0
+SaysYes (Yes report) = ⊤
+SaysYes (No offence) = ⊥
+
+-- where it is a yes, this holds of its report
+abbrev pub IfYes : Outcome → (Report → Type 0) → Type 0
+IfYes (Yes report) Holds = Holds report
+IfYes (No offence) Holds = ⊤
+
+-- where it is a no, this holds of its offence
+abbrev pub IfNo : Outcome → (Offence → Type 0) → Type 0
+IfNo (Yes report) Holds = ⊤
+IfNo (No offence) Holds = Holds offence
+
+-- Each range of the report, of each account and side: either end is the value of some run of the
+-- records, and no run's value lies outside.
+abbrev pub HasBounds : List (List (List ℕ)) → Report → Type 0
+HasBounds records report =
+    (rows : List Event) → AreRows records rows → (account : ReportedAccount) (side : AccountSide)
+    → IsRange (Run rows) (λ sums. value_of side (sums_of account sums))
+    (range_of side (account_of account report))
+
+-- The row that is named is the first one that no run reaches, and rule and blame are its own: a row
+-- with its number is there, the rows up to it have no run, and any fewer have one.
+pub record NamesFirstRow (records : List (List (List ℕ))) (offence : Offence) : Type 0 where
+  pub before : List Event
+  pub row : Event
+  pub there : AreFirstRows records offence.row (before ++ row ∷ [])
+  pub no_run : HaveRun records offence.row → ⊥
+  pub fewer : (count : ℕ) → count < offence.row → HaveRun records count
+  pub why : IsOffence before row offence
+
+-- the headline, of the records of a text and the outcome that they were answered with
+pub record Headline (records : List (List (List ℕ))) (outcome : Outcome) : Type 0 where
+  pub yes : SaysYes outcome ↔ (length records ≤ ROWS_MAX) × HaveRun records (length records)
+  pub bounds : IfYes outcome (HasBounds records)
+  pub first_row : IfNo outcome (NamesFirstRow records)
