@@ -1,5 +1,6 @@
 pub mod Fields
 pub mod Headline
+pub mod Known
 pub mod OneAnswer
 pub mod Reading
 pub mod Status

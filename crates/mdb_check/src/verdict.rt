@@ -5,12 +5,14 @@ ghost use Rattle.std.specs.Io.KnownBytes.{Appends};
 ghost use Rattle.csv.specs.Reading.{default_config, records, strip_bom};
 ghost use Rattle.csv.specs.Records.{field_at, fields_of};
 ghost use Rattle.mdb_records.specs.ToCome.{IsOverLimit, IsUncut, ToCome, fault_of};
+ghost use Rattle.mdb_check.specs.Headline.{Headline};
 ghost use Rattle.mdb_check.specs.Text.{report_text};
 ghost use Rattle.mdb_check.specs.Verdict.{IsAnswer, IsYes, HasMet, HasOutcome, IsNoYes};
 ghost use Rattle.mdb_follow.specs.Follower.{StandsFor};
 ghost use Rattle.mdb_words.specs.declared.event.Event.{Event};
 ghost use Rattle.mdb_words.specs.Row.{Tells};
 
+use super::laws::verdicts_say_the_headline;
 use super::outcome::{Outcome, RunFault};
 use super::text::text_of;
 use csv::ByteRecord;
@@ -43,6 +45,8 @@ pub fn check<R: Read + Drop, W: Write>(
 ) -> Result<Outcome, RunFault>
     ensures answer { IfSome (R.remaining reader)
         (λ text. IsAnswer (records default_config (strip_bom text)) result) }
+    ensures headline { IfSome (R.remaining reader)
+        (λ text. IfOk result (Headline (records default_config (strip_bom text)))) }
     ensures whole { IfSome (R.remaining reader) (λ text. BYTES_MAX < length text → IsNoYes result) }
     ensures written { IfOk result (λ outcome. Appends (W.contents writer.old)
         (W.contents writer.new) (report_text outcome)) }
@@ -51,6 +55,7 @@ pub fn check<R: Read + Drop, W: Write>(
     ensures had_one { IfSome (R.remaining reader) (λ text. result ≡ Err RunFault.Write
         → HasOutcome (records default_config (strip_bom text))) }
 {
+    verdicts_say_the_headline();
     let mut records = records_of(alloc, reader);
     let outcome = verdict_on(&mut records)?;
     let Ok(text) = text_of(alloc, &outcome) else {
