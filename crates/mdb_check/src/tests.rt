@@ -146,14 +146,6 @@ fn words_of(alloc: Global, words: &[&str]) -> Result<Vec<String>, AllocError> {
     Ok(list)
 }
 
-/// How many lines a text has, if it is empty or ends in a line feed.
-fn lines_of(text: &[u8]) -> Option<usize> {
-    match text.last() {
-        None | Some(b'\n') => Some(text.iter().filter(|byte| **byte == b'\n').count()),
-        Some(_) => None,
-    }
-}
-
 #[test]
 fn answers_yes_and_no(rt: HostRuntime) {
     let mut out = Vec::new(rt.alloc());
@@ -387,49 +379,88 @@ fn an_offence_ends_the_reading(rt: HostRuntime) {
 
 #[test]
 fn statuses_of_check(rt: HostRuntime) -> Result<(), Fail> {
-    let bad_row: &[u8] = b"12,M,200\n";
-    let nothing: &[u8] = b"";
-    let cases = [
-        (ROWS, 0, REPORT, 0),
-        (WRONG_SUM, 1, WRONG_SUM_REPORT, 0),
-        (bad_row, 2, nothing, 1),
-    ];
-    for (text, status, report, lines) in cases {
+    for (text, status, report) in [(ROWS, 0, REPORT), (WRONG_SUM, 1, WRONG_SUM_REPORT)] {
         let words = words_of(rt.alloc(), &["mdbcheck", "check"])?;
         let mut out = Vec::new(rt.alloc());
         let mut err = Vec::new(rt.alloc());
         assert_eq!(rt; run(rt.alloc(), words, text, &mut out, &mut err), status);
         assert_eq!(rt; out.as_slice(), report);
-        assert_eq!(rt; lines_of(err.as_slice()), Some(lines), "at status {status}");
+        assert!(rt; err.is_empty(), "at status {status}");
     }
     Ok(())
 }
 
-/// Command lines that ask for no verdict.
-const REFUSED: [&[&str]; 8] = [
-    &[],
-    &["mdbcheck"],
-    &["mdbcheck", "frobnicate"],
-    &["mdbcheck", "check", "extra"],
-    &["mdbcheck", "--help"],
-    &["mdbcheck", "help"],
-    &["mdbcheck", "--version"],
-    &["mdbcheck", "check", "--help"],
+/// A record that is no row, with its number and each of the reasons.
+#[test]
+fn bad_rows_are_told(rt: HostRuntime) -> Result<(), Fail> {
+    let cases: [(&[u8], &[u8]); 5] = [
+        (b"12,M\n", b"mdbcheck: row 1: FieldCount\n"),
+        (b"1000,M,108\nx,M,108\n", b"mdbcheck: row 2: BadTime\n"),
+        (b"12,m,108\n", b"mdbcheck: row 1: BadLine\n"),
+        (b"12,M,200\n", b"mdbcheck: row 1: BadValue\n"),
+        (
+            b"1000,M,108\n2200,M,008\n4200,B,x\n",
+            b"mdbcheck: row 3: BadValue\n",
+        ),
+    ];
+    for (number, (text, line)) in cases.iter().enumerate() {
+        let words = words_of(rt.alloc(), &["mdbcheck", "check"])?;
+        let mut out = Vec::new(rt.alloc());
+        let mut err = Vec::new(rt.alloc());
+        assert_eq!(rt;
+            run(rt.alloc(), words, *text, &mut out, &mut err),
+            2,
+            "{number}"
+        );
+        assert!(rt; out.is_empty(), "{number}");
+        assert_eq!(rt; err.as_slice(), *line, "{number}");
+    }
+    Ok(())
+}
+
+/// What is told of a command line that asks for help.
+const USAGE: &[u8] = b"usage: mdbcheck check < TRANSCRIPT\n";
+
+/// What is told of one that asks for nothing.
+const NO_COMMAND: &[u8] = b"mdbcheck: a subcommand is required but one was not provided; \
+usage: mdbcheck check < TRANSCRIPT\n";
+
+/// What is told of one that asks for what isn't known.
+const UNKNOWN: &[u8] = b"mdbcheck: unrecognized subcommand; usage: mdbcheck check < TRANSCRIPT\n";
+
+/// What is told of one with a word or a flag too many.
+const UNEXPECTED: &[u8] =
+    b"mdbcheck: unexpected argument found; usage: mdbcheck check < TRANSCRIPT\n";
+
+/// What is told of one that asks for the version.
+const VERSION: &[u8] = b"mdbcheck 0.1.0\n";
+
+/// Command lines that ask for no verdict, each with its line on standard error.
+const REFUSED: [(&[&str], &[u8]); 9] = [
+    (&[], NO_COMMAND),
+    (&["mdbcheck"], NO_COMMAND),
+    (&["mdbcheck", "frobnicate"], UNKNOWN),
+    (&["mdbcheck", "check", "extra"], UNEXPECTED),
+    (&["mdbcheck", "check", "--all"], UNEXPECTED),
+    (&["mdbcheck", "--help"], USAGE),
+    (&["mdbcheck", "help"], USAGE),
+    (&["mdbcheck", "--version"], VERSION),
+    (&["mdbcheck", "check", "--help"], USAGE),
 ];
 
 #[test]
 fn refuses_other_words(rt: HostRuntime) -> Result<(), Fail> {
-    for (number, words) in REFUSED.iter().enumerate() {
+    for (number, (words, line)) in REFUSED.iter().enumerate() {
         let mut out = Vec::new(rt.alloc());
         let mut err = Vec::new(rt.alloc());
-        let words = words_of(rt.alloc(), words)?;
+        let words = words_of(rt.alloc(), *words)?;
         assert_eq!(rt;
             run(rt.alloc(), words, ROWS, &mut out, &mut err),
             2,
             "{number}"
         );
         assert!(rt; out.is_empty(), "{number}");
-        assert_eq!(rt; lines_of(err.as_slice()), Some(1), "{number}");
+        assert_eq!(rt; err.as_slice(), *line, "{number}");
     }
     Ok(())
 }
