@@ -10,7 +10,7 @@ use std::io::Write;
 use std::{fs, io};
 
 /// The files of cases, one for each subject.
-const FILES: [&str; 12] = [
+const FILES: [&str; 15] = [
     "rows.cases",
     "times.cases",
     "commands.cases",
@@ -22,6 +22,9 @@ const FILES: [&str; 12] = [
     "changer.cases",
     "bill.cases",
     "cashless.cases",
+    "silences.cases",
+    "decimals.cases",
+    "show.cases",
     "worked.cases",
 ];
 
