@@ -9,11 +9,12 @@ use Rattle.mdb_follow.specs.declared.report.Report.{Report}
 use Rattle.mdb_follow.specs.Ranges.{IsAccount, IsRange}
 use Rattle.mdb_follow.specs.Report.{Accounts, AreAccounts, IsReport, listed, no_account}
 use Rattle.mdb_follow.specs.Runs.{AllSums, IsReached, Run}
+use Rattle.mdb_follow.specs.Sales.{SalesFollowApprovals}
 use Rattle.mdb_follow.specs.Sums.{AccountSums}
 use Rattle.mdb_check.specs.declared.outcome.Outcome.{Outcome}
 use Rattle.mdb_check.specs.declared.outcome.Outcome.TheVariants.{Yes, No}
 use Rattle.mdb_check.specs.Accounts.{AccountSide, Approved, Approved2, BillsIn, CoinsIn, OfController, OfDevice, OfDifference, PaidOut, ReportedAccount, Sold, Sold2, account_of, place_of, range_of, sums_of, value_of}
-use Rattle.mdb_check.specs.Headline.{AreFirstRows, HasBounds, HaveRun, Headline, NamesFirstRow}
+use Rattle.mdb_check.specs.Headline.{AreFirstRows, HasApprovedSales, HasBounds, HaveRun, Headline, NamesFirstRow}
 use Rattle.mdb_check.specs.Verdict.{AreRows, IsAnswer, IsImpossible, IsPossible}
 use Rattle.mdb_check.proofs.OneAnswer.{row_one}
 use Rattle.mdb_check.proofs.Reading.{rows_push}
@@ -168,15 +169,23 @@ no_has_none fronts records offence is has =
     let many : length (is.rows ++ is.row ∷ []) ≡ length (take offence.row records) = as_many (take offence.row records) (is.rows ++ is.row ∷ []) there.told in
     no_run records offence is (fewer_reached fronts records (length records) offence.row (omega (arith, many, there.number, take_most offence.row records)) has)
 
+-- the sales of its runs are approved
+approved_sales : (records : List (List (List ℕ))) (report : Report) → IsPossible records report → HasApprovedSales records
+approved_sales records report is rows told =
+    let P : List Event → Type 0 = λ es. SalesFollowApprovals es in
+    subst P (one_list records is.rows rows is.told told) is.sales
+
 -- what a verdict says
 pub headline_of : FrontsAreReached → (records : List (List (List ℕ))) (outcome : Outcome) → IsAnswer records (Ok outcome) → Headline records outcome
 headline_of fronts records (Yes report) is = record {
   yes = (λ said. yes_has_run records report is, λ has. tt);
+  sales = approved_sales records report is;
   bounds = has_bounds records report is;
   first_row = tt;
 }
 headline_of fronts records (No offence) is = record {
   yes = (λ said. absurd said, λ has. absurd (no_has_none fronts records offence is has.1));
+  sales = tt;
   bounds = tt;
   first_row = names_first fronts records offence is;
 }

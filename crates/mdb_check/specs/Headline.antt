@@ -16,6 +16,7 @@ use Rattle.mdb_follow.specs.declared.report.Report.{Report}
 use Rattle.mdb_follow.specs.Offences.{IsOffence}
 use Rattle.mdb_follow.specs.Ranges.{IsRange}
 use Rattle.mdb_follow.specs.Runs.{AllSums, Run}
+use Rattle.mdb_follow.specs.Sales.{SalesFollowApprovals}
 use Rattle.mdb_check.specs.declared.outcome.Outcome.{Outcome}
 use Rattle.mdb_check.specs.declared.outcome.Outcome.TheVariants.{Yes, No}
 use Rattle.mdb_check.specs.Accounts.{AccountSide, ReportedAccount, account_of, range_of, sums_of, value_of}
@@ -49,6 +50,11 @@ abbrev pub IfNo : Outcome → (Offence → Type 0) → Type 0
 IfNo (Yes report) Holds = ⊤
 IfNo (No offence) Holds = Holds offence
 
+-- In every run of the records, each sale at either reader follows its approval.
+abbrev pub HasApprovedSales : List (List (List ℕ)) → Type 0
+HasApprovedSales records =
+    (rows : List Event) → AreRows records rows → SalesFollowApprovals rows
+
 -- Each range of the report, of each account and side: either end is the value of some run of the
 -- records, and no run's value lies outside.
 abbrev pub HasBounds : List (List (List ℕ)) → Report → Type 0
@@ -70,5 +76,6 @@ pub record NamesFirstRow (records : List (List (List ℕ))) (offence : Offence) 
 -- the headline, of the records of a text and the outcome that they were answered with
 pub record Headline (records : List (List (List ℕ))) (outcome : Outcome) : Type 0 where
   pub yes : SaysYes outcome ↔ (length records ≤ ROWS_MAX) × HaveRun records (length records)
+  pub sales : IfYes outcome (λ report. HasApprovedSales records)
   pub bounds : IfYes outcome (HasBounds records)
   pub first_row : IfNo outcome (NamesFirstRow records)

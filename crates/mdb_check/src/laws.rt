@@ -13,8 +13,9 @@ use mdb_follow::laws;
 
 /// The headline: what a verdict says, phrase by phrase.
 ///
-/// It is yes exactly where all records are rows that have a run; in every such run each bound of
-/// the report is exact; a no names the first row that no run reaches.
+/// It is yes exactly where all records are rows that have a run; in every such run each sale
+/// follows its approval; each bound of the report is the value of some run, and no run's lies
+/// outside; a no names the first row that no run reaches.
 pub fn verdicts_say_the_headline()
     ensures { (records : List (List (List ℕ))) (outcome : Outcome)
         → IsAnswer records (Ok outcome) → Headline records outcome }
