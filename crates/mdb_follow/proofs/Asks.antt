@@ -12,7 +12,7 @@ use Rattle.mdb_bus.specs.Bus.{Grown}
 use Rattle.mdb_follow.specs.declared.sides.Sides.{Sides}
 use Rattle.mdb_follow.specs.declared.silence.Silences.{Silences}
 use Rattle.mdb_follow.specs.Sides.{AreSides}
-use Rattle.mdb_follow.specs.Silences.{Asked, asks_of, last_start, limit_of, reader_limit}
+use Rattle.mdb_follow.specs.Silences.{TimedAsk, asks_of, last_start, limit_of, reader_limit}
 use Rattle.mdb_follow.specs.SilencesKept.{AreSilences, IsSilence, asks_behind, limit_in}
 
 -- tails ask nothing
@@ -90,7 +90,7 @@ whole-asks device (RepeatTail command reply bytes events) earlier begun row act 
     absurd (cc is)
 
 -- an ask leaves the limit
-same-limit : (device : Device) (act : Act) (acts : List Act) (at : ℕ) (lists : List (List Asked))
+same-limit : (device : Device) (act : Act) (acts : List Act) (at : ℕ) (lists : List (List TimedAsk))
     → asks_behind device act (record { at = at; limit = limit_of device acts }) lists
     ≡ asks_behind device act (record { at = at; limit = limit_of device (act ∷ acts) }) lists
 same-limit devices.Changer act acts at lists = refl
@@ -127,7 +127,7 @@ pub asks-go-on : (device : Device) (pieces : List Piece) (row : Event) (act : Ac
     (asks_of device pieces) ≡ asks_of device longer
 asks-go-on device pieces row act longer sides grown on =
     let at = start_of row in
-    let behind : ℕ → List (List Asked) → List (List Asked) = λ limit lists.
+    let behind : ℕ → List (List TimedAsk) → List (List TimedAsk) = λ limit lists.
     asks_behind device act (record { at = at; limit = limit }) lists in
     ap (λ limit. behind limit (asks_of device pieces))
     (sym (limit-is device sides (act ∷ acts_of pieces) on))
@@ -141,7 +141,7 @@ asks-go-on device pieces row act longer sides grown on =
     ∙ ap (asks_of device) (sym grown.are)
 
 -- silences of some lists are those of lists that are the same
-pub same-silences : (silences : Silences) (one other : Device → List (List Asked))
+pub same-silences : (silences : Silences) (one other : Device → List (List TimedAsk))
     → ((device : Device) → one device ≡ other device) → AreSilences silences one
     → AreSilences silences other
 same-silences silences one other same are = record {

@@ -5,22 +5,22 @@ use Rattle.std.proofs.lemmas.List.Sums.{sum_by-cons}
 use Rattle.std.specs.List.{count_by, list_any}
 use Rattle.mdb_follow.specs.declared.silence.Silence.{Silence}
 use Rattle.mdb_follow.specs.declared.silence.Unanswered.TheVariants.{Until, Counted}
-use Rattle.mdb_follow.specs.Silences.{Asked, first_of, is_silence, with_ask}
-use Rattle.mdb_follow.specs.SilencesKept.{IsSilence, IsUnanswered, deadline_of, newest}
+use Rattle.mdb_follow.specs.Silences.{TimedAsk, first_of, is_silence, with_ask}
+use Rattle.mdb_follow.specs.SilencesKept.{IsSilence, IsUnanswered, deadline_of, newest_list}
 
 -- a list with an ask has a first one
-first-of : (ask : Asked) (list : List Asked)
-    → (first : Asked) × (first_of (ask ∷ list) ≡ Some first)
+first-of : (ask : TimedAsk) (list : List TimedAsk)
+    → (first : TimedAsk) × (first_of (ask ∷ list) ≡ Some first)
 first-of ask [] = (ask, refl)
 first-of ask (earlier ∷ list) = first-of earlier list
 
 -- one ask more makes a silence of a list that has asks where it comes behind the deadline
-more : (ask : Asked) (list : List Asked) → list ≢ []
+more : (ask : TimedAsk) (list : List TimedAsk) → list ≢ []
     → is_silence (ask ∷ list) ≡ (nat_lt (deadline_of list) ask.at || is_silence list)
 more ask [] some = absurd (some refl)
 more ask (earlier ∷ list) some =
     let first = first-of earlier list in
-    let Here : Option Asked → Type 0 = λ found.
+    let Here : Option TimedAsk → Type 0 = λ found.
     elim found [
       | Some first ↦ list_any (λ ask. nat_lt (first.at + first.limit) ask.at) (ask ∷ earlier ∷ list)
       | None ↦ false
@@ -32,32 +32,32 @@ more ask (earlier ∷ list) some =
     subst Here (sym first.1) refl
 
 -- and it leaves the deadline
-same-deadline : (ask : Asked) (list : List Asked) → list ≢ []
+same-deadline : (ask : TimedAsk) (list : List TimedAsk) → list ≢ []
     → deadline_of (ask ∷ list) ≡ deadline_of list
 same-deadline ask [] some = absurd (some refl)
 same-deadline ask (earlier ∷ list) some = refl
 
-newest-with : (ask : Asked) (lists : List (List Asked))
-    → newest (with_ask ask lists) ≡ ask ∷ newest lists
+newest-with : (ask : TimedAsk) (lists : List (List TimedAsk))
+    → newest_list (with_ask ask lists) ≡ ask ∷ newest_list lists
 newest-with ask [] = refl
 newest-with ask (list ∷ lists) = refl
 
 -- how many silences lists with a first list have
-count-list : (list : List Asked) (lists : List (List Asked))
+count-list : (list : List TimedAsk) (lists : List (List TimedAsk))
     → count_by is_silence (list ∷ lists)
     ≡ cond (is_silence list) 1 0 + count_by is_silence lists
 count-list list lists = sum_by-cons (λ list. cond (is_silence list) 1 0) list lists
 
-count-same : (ask : Asked) (lists : List (List Asked)) → newest lists ≢ []
-    → is_silence (ask ∷ newest lists) ≡ is_silence (newest lists)
+count-same : (ask : TimedAsk) (lists : List (List TimedAsk)) → newest_list lists ≢ []
+    → is_silence (ask ∷ newest_list lists) ≡ is_silence (newest_list lists)
     → count_by is_silence (with_ask ask lists) ≡ count_by is_silence lists
 count-same ask [] some same = absurd (some refl)
 count-same ask (list ∷ lists) some same =
     count-list (ask ∷ list) lists ∙ ap (λ b. cond b 1 0 + count_by is_silence lists) same
     ∙ sym (count-list list lists)
 
-count-more : (ask : Asked) (lists : List (List Asked)) → newest lists ≢ []
-    → is_silence (newest lists) ≡ false → is_silence (ask ∷ newest lists) ≡ true
+count-more : (ask : TimedAsk) (lists : List (List TimedAsk)) → newest_list lists ≢ []
+    → is_silence (newest_list lists) ≡ false → is_silence (ask ∷ newest_list lists) ≡ true
     → count_by is_silence (with_ask ask lists) ≡ count_by is_silence lists + 1
 count-more ask [] some fine late = absurd (some refl)
 count-more ask (list ∷ lists) some fine late =
@@ -67,21 +67,21 @@ count-more ask (list ∷ lists) some fine late =
     count-list list lists ∙ ap (λ b. cond b 1 0 + count_by is_silence lists) fine in
     omega (arith, after, before)
 
-some-ask : (ask : Asked) (list : List Asked) → (ask ∷ list) ≢ []
+some-ask : (ask : TimedAsk) (list : List TimedAsk) → (ask ∷ list) ≢ []
 some-ask ask list same = cc
 
 -- a list that has counted stays one that counts
-pub counted-more : (silence : Silence) (lists : List (List Asked)) (ask : Asked)
+pub counted-more : (silence : Silence) (lists : List (List TimedAsk)) (ask : TimedAsk)
     → silence.unanswered ≡ Counted → IsSilence silence lists
     → IsSilence silence (with_ask ask lists)
 counted-more silence lists ask is on =
-    let was = subst (λ u. IsUnanswered u (newest lists)) is on.unanswered in
-    let yes : is_silence (ask ∷ newest lists) ≡ true = more ask (newest lists) was.0
-    ∙ ap (λ b. nat_lt (deadline_of (newest lists)) ask.at || b) was.1 ∙ or-true _ in
+    let was = subst (λ u. IsUnanswered u (newest_list lists)) is on.unanswered in
+    let yes : is_silence (ask ∷ newest_list lists) ≡ true = more ask (newest_list lists) was.0
+    ∙ ap (λ b. nat_lt (deadline_of (newest_list lists)) ask.at || b) was.1 ∙ or-true _ in
     record {
-      unanswered = subst (λ u. IsUnanswered u (newest (with_ask ask lists))) (sym is)
+      unanswered = subst (λ u. IsUnanswered u (newest_list (with_ask ask lists))) (sym is)
           (subst (λ list. IsUnanswered Counted list) (sym (newest-with ask lists))
-          (some-ask ask (newest lists), yes));
+          (some-ask ask (newest_list lists), yes));
       count = on.count ∙ sym (count-same ask lists was.0 (yes ∙ sym was.1));
     }
   where
@@ -90,36 +90,36 @@ counted-more silence lists ask is on =
     or-true false = refl
 
 -- an ask that comes in time changes nothing
-pub in-time : (silence : Silence) (lists : List (List Asked)) (ask : Asked) (time : ℕ)
+pub in-time : (silence : Silence) (lists : List (List TimedAsk)) (ask : TimedAsk) (time : ℕ)
     → silence.unanswered ≡ Until time → ask.at ≤ time → IsSilence silence lists
     → IsSilence silence (with_ask ask lists)
 in-time silence lists ask time is early on =
-    let was = subst (λ u. IsUnanswered u (newest lists)) is on.unanswered in
-    let no : is_silence (ask ∷ newest lists) ≡ false = more ask (newest lists) was.0
-    ∙ ap (λ b. nat_lt (deadline_of (newest lists)) ask.at || b) was.2
+    let was = subst (λ u. IsUnanswered u (newest_list lists)) is on.unanswered in
+    let no : is_silence (ask ∷ newest_list lists) ≡ false = more ask (newest_list lists) was.0
+    ∙ ap (λ b. nat_lt (deadline_of (newest_list lists)) ask.at || b) was.2
     ∙ ap (λ t. nat_lt t ask.at || false) (sym was.1)
     ∙ ap (λ b. b || false) (le-ltb time ask.at early) in
     record {
-      unanswered = subst (λ u. IsUnanswered u (newest (with_ask ask lists))) (sym is)
+      unanswered = subst (λ u. IsUnanswered u (newest_list (with_ask ask lists))) (sym is)
           (subst (λ list. IsUnanswered (Until time) list) (sym (newest-with ask lists))
-          (some-ask ask (newest lists), was.1 ∙ sym (same-deadline ask (newest lists) was.0), no));
+          (some-ask ask (newest_list lists), was.1 ∙ sym (same-deadline ask (newest_list lists) was.0), no));
       count = on.count ∙ sym (count-same ask lists was.0 (no ∙ sym was.2));
     }
 
 -- one that comes behind the deadline makes a silence
-pub too-late : (silence new : Silence) (lists : List (List Asked)) (ask : Asked) (time : ℕ)
+pub too-late : (silence new : Silence) (lists : List (List TimedAsk)) (ask : TimedAsk) (time : ℕ)
     → silence.unanswered ≡ Until time → time < ask.at → new.unanswered ≡ Counted
     → new.count ≡ silence.count + 1 → IsSilence silence lists
     → IsSilence new (with_ask ask lists)
 too-late silence new lists ask time is late counts one on =
-    let was = subst (λ u. IsUnanswered u (newest lists)) is on.unanswered in
-    let yes : is_silence (ask ∷ newest lists) ≡ true = more ask (newest lists) was.0
-    ∙ ap (λ t. nat_lt t ask.at || is_silence (newest lists)) (sym was.1)
-    ∙ ap (λ b. b || is_silence (newest lists)) (lt-ltb time ask.at late) in
+    let was = subst (λ u. IsUnanswered u (newest_list lists)) is on.unanswered in
+    let yes : is_silence (ask ∷ newest_list lists) ≡ true = more ask (newest_list lists) was.0
+    ∙ ap (λ t. nat_lt t ask.at || is_silence (newest_list lists)) (sym was.1)
+    ∙ ap (λ b. b || is_silence (newest_list lists)) (lt-ltb time ask.at late) in
     record {
-      unanswered = subst (λ u. IsUnanswered u (newest (with_ask ask lists))) (sym counts)
+      unanswered = subst (λ u. IsUnanswered u (newest_list (with_ask ask lists))) (sym counts)
           (subst (λ list. IsUnanswered Counted list) (sym (newest-with ask lists))
-          (some-ask ask (newest lists), yes));
+          (some-ask ask (newest_list lists), yes));
       count = one ∙ ap (λ n. n + 1) on.count
           ∙ sym (count-more ask lists was.0 was.2 yes);
     }

@@ -62,16 +62,16 @@ decimals_of devices.Cashless2 acts =
     option_map (λ config. config.decimals) (reader_facts.facts_of Second acts).config
 
 -- the devices in the order of a report
-abbrev pub reported : List Device
-reported = devices.Changer ∷ devices.Bill ∷ devices.Cashless ∷ devices.Cashless2 ∷ []
+abbrev pub reported_devices : List Device
+reported_devices = devices.Changer ∷ devices.Bill ∷ devices.Cashless ∷ devices.Cashless2 ∷ []
 
 -- the report of so many rows, which are these pieces, with these accounts
 abbrev pub report_of : ℕ → List Piece → List Account → Report
 report_of rows pieces accounts = record {
   rows = rows;
-  decimals = map (λ device. decimals_of device (acts_of pieces)) reported;
+  decimals = map (λ device. decimals_of device (acts_of pieces)) reported_devices;
   accounts = accounts;
-  silences = map (λ device. silences device pieces) reported;
+  silences = map (λ device. silences device pieces) reported_devices;
 }
 
 -- The report on rows that are reached: each end of each range is the value of some run, and no

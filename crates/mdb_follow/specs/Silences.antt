@@ -34,24 +34,24 @@ limit_of devices.Cashless acts = reader_limit (response_time_of First acts)
 limit_of devices.Cashless2 acts = reader_limit (response_time_of Second acts)
 
 -- whether two devices are one
-abbrev pub is_same : Device → Device → Bool
-is_same devices.Changer devices.Changer = true
-is_same devices.Bill devices.Bill = true
-is_same devices.Cashless devices.Cashless = true
-is_same devices.Cashless2 devices.Cashless2 = true
-is_same _ _ = false
+abbrev pub same_device : Device → Device → Bool
+same_device devices.Changer devices.Changer = true
+same_device devices.Bill devices.Bill = true
+same_device devices.Cashless devices.Cashless = true
+same_device devices.Cashless2 devices.Cashless2 = true
+same_device _ _ = false
 
 -- whether an act asks a device
 abbrev pub asks : Device → Act → Bool
-asks device (acts.Ask command) = is_same device (device_of command)
+asks device (acts.Ask command) = same_device device (device_of command)
 asks device _ = false
 
 -- whether an act ends a list of asks to a device: an answer of the device, by ACK, NAK or data, or a
 -- break
 abbrev pub ends_asking : Device → Act → Bool
-ends_asking device (acts.Ack command) = is_same device (device_of command)
-ends_asking device (acts.Nak command) = is_same device (device_of command)
-ends_asking device (acts.Reply command reply) = is_same device (device_of command)
+ends_asking device (acts.Ack command) = same_device device (device_of command)
+ends_asking device (acts.Nak command) = same_device device (device_of command)
+ends_asking device (acts.Reply command reply) = same_device device (device_of command)
 ends_asking device (acts.Break length) = true
 ends_asking device _ = false
 
@@ -60,18 +60,18 @@ abbrev pub last_start : List Event → ℕ
 last_start events = elim (last_of events) [ Some event ↦ start_of event | None ↦ 0 ]
 
 -- An ask to a device: when its last word started, and how long the device may then be silent.
-pub record Asked : Type 0 where
+pub record TimedAsk : Type 0 where
   pub at : ℕ
   pub limit : ℕ
 
 -- lists of asks with one more in the newest of them
-abbrev pub with_ask : Asked → List (List Asked) → List (List Asked)
+abbrev pub with_ask : TimedAsk → List (List TimedAsk) → List (List TimedAsk)
 with_ask ask [] = (ask ∷ []) ∷ []
 with_ask ask (list ∷ lists) = (ask ∷ list) ∷ lists
 
 -- The lists of asks to a device: its answers and breaks part them, and nothing else does. A list
 -- may be empty.
-abbrev pub asks_of : Device → List Piece → List (List Asked)
+abbrev pub asks_of : Device → List Piece → List (List TimedAsk)
 asks_of device [] = [] ∷ []
 asks_of device (Whole act events ∷ pieces) =
     if ends_asking device act then [] ∷ asks_of device pieces
@@ -82,14 +82,14 @@ asks_of device (Whole act events ∷ pieces) =
 asks_of device (piece ∷ pieces) = asks_of device pieces
 
 -- the first ask of a list, which stands last
-abbrev pub first_of : List Asked → Option Asked
+abbrev pub first_of : List TimedAsk → Option TimedAsk
 first_of [] = None
 first_of (ask ∷ []) = Some ask
 first_of (ask ∷ earlier ∷ list) = first_of (earlier ∷ list)
 
 -- Whether a list of asks is a silence: some ask of it comes more than the limit after the first one.
 -- (Both times are those of the last words.) The limit is the one at the first ask.
-abbrev pub is_silence : List Asked → Bool
+abbrev pub is_silence : List TimedAsk → Bool
 is_silence list =
     elim (first_of list) [
       | Some first ↦ list_any (λ ask. nat_lt (first.at + first.limit) ask.at) list

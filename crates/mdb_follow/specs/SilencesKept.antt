@@ -11,7 +11,7 @@ use Rattle.mdb_follow.specs.declared.silence.Silences.{Silences}
 use Rattle.mdb_follow.specs.declared.silence.Unanswered.{Unanswered}
 use Rattle.mdb_follow.specs.declared.silence.Unanswered.TheVariants.{Nothing, Until, Counted}
 use Rattle.mdb_follow.specs.declared.silence.TheConstants.{CHANGER_SILENCE_MAX, BILL_SILENCE_MAX}
-use Rattle.mdb_follow.specs.Silences.{Asked, asks, ends_asking, first_of, is_silence, reader_limit, with_ask}
+use Rattle.mdb_follow.specs.Silences.{TimedAsk, asks, ends_asking, first_of, is_silence, reader_limit, with_ask}
 
 -- how long a device may be silent, by the facts that its side has
 abbrev pub limit_in : Device → Sides → ℕ
@@ -23,35 +23,35 @@ limit_in devices.Cashless2 sides = reader_limit
     (option_map (λ config. config.response) (reader_values.facts_in sides.cashless2.facts).config)
 
 -- lists of asks to a device behind one act more, which is this ask if it asks the device
-abbrev pub asks_behind : Device → Act → Asked → List (List Asked) → List (List Asked)
+abbrev pub asks_behind : Device → Act → TimedAsk → List (List TimedAsk) → List (List TimedAsk)
 asks_behind device act ask lists =
     if ends_asking device act then [] ∷ lists
     else if asks device act then with_ask ask lists
     else lists
 
 -- the newest list, or no asks
-abbrev pub newest : List (List Asked) → List Asked
-newest [] = []
-newest (list ∷ lists) = list
+abbrev pub newest_list : List (List TimedAsk) → List TimedAsk
+newest_list [] = []
+newest_list (list ∷ lists) = list
 
 -- behind which time a further ask makes a list too long; 0 where there is no ask
-abbrev pub deadline_of : List Asked → ℕ
+abbrev pub deadline_of : List TimedAsk → ℕ
 deadline_of list = elim (first_of list) [ Some first ↦ first.at + first.limit | None ↦ 0 ]
 
 -- what is kept of the newest list
-abbrev pub IsUnanswered : Unanswered → List Asked → Type 0
+abbrev pub IsUnanswered : Unanswered → List TimedAsk → Type 0
 IsUnanswered Nothing list = list ≡ []
 IsUnanswered (Until time) list =
     (list ≢ []) × (time ≡ deadline_of list) × (is_silence list ≡ false)
 IsUnanswered Counted list = (list ≢ []) × (is_silence list ≡ true)
 
 -- what is kept of all lists of a device
-pub record IsSilence (silence : Silence) (lists : List (List Asked)) : Type 0 where
-  pub unanswered : IsUnanswered silence.unanswered (newest lists)
+pub record IsSilence (silence : Silence) (lists : List (List TimedAsk)) : Type 0 where
+  pub unanswered : IsUnanswered silence.unanswered (newest_list lists)
   pub count : silence.count ≡ count_by is_silence lists
 
 -- the same of each device
-pub record AreSilences (silences : Silences) (lists : Device → List (List Asked)) : Type 0 where
+pub record AreSilences (silences : Silences) (lists : Device → List (List TimedAsk)) : Type 0 where
   pub changer : IsSilence silences.changer (lists devices.Changer)
   pub bill : IsSilence silences.bill (lists devices.Bill)
   pub cashless : IsSilence silences.cashless (lists devices.Cashless)
@@ -67,6 +67,6 @@ pub record AreFew (most : ℕ) (silences : Silences) : Type 0 where
 -- Silences have followed an act whose last word started at a time; the sides are those behind it.
 abbrev pub SilencesFollow : Silences → Act → ℕ → Sides → Silences → Type 0
 SilencesFollow old act at sides new =
-    (lists : Device → List (List Asked)) → AreSilences old lists
+    (lists : Device → List (List TimedAsk)) → AreSilences old lists
     → AreSilences new (λ device. asks_behind device act
     (record { at = at; limit = limit_in device sides }) (lists device))
