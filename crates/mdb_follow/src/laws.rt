@@ -9,6 +9,7 @@ ghost use Rattle.mdb_follow.specs.Machines.{EachArrives};
 ghost use Rattle.mdb_follow.specs.declared.follower.Follower.{Follower};
 ghost use Rattle.mdb_follow.specs.declared.offence.Offence.{Offence};
 ghost use Rattle.mdb_follow.specs.declared.report.Report.{Report};
+ghost use Rattle.mdb_follow.specs.declared.silence.TheConstants.{BILL_SILENCE_MAX, CHANGER_SILENCE_MAX, MICROS_PER_SECOND, READER_SILENCE_MAX};
 ghost use Rattle.mdb_follow.specs.Offences.{IsOffence};
 ghost use Rattle.mdb_follow.specs.Report.{IsReport};
 ghost use Rattle.mdb_follow.specs.Runs.{AllSums, HearSameAcks, IsReached, IsWay, States};
@@ -90,3 +91,12 @@ pub fn sales_follow_their_approvals()
     cashless_laws::views_tell_of_the_sale();
     cashless_laws::views_allow_approved_sales_alone();
 }
+
+/// The limits of silences are the non-response times of MDB/ICP 4.3, and response times are told in
+/// seconds.
+pub fn limits_of_silences_are_those_of_the_standard()
+    ensures changer { CHANGER_SILENCE_MAX ≡ 2000000 }
+    ensures bill { BILL_SILENCE_MAX ≡ 5000000 }
+    ensures reader { READER_SILENCE_MAX ≡ 5000000 }
+    ensures second { MICROS_PER_SECOND ≡ 1000000 }
+{}
