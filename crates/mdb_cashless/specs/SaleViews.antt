@@ -1,5 +1,5 @@
--- What the controller's view of a session tells of the sale under way. This serves the laws by which
--- each sale follows its approval. Acts stand newest first.
+-- What the controller's view of a session tells of the sale under way. This serves the laws by
+-- which each sale follows its approval. Acts stand newest first.
 use Rattle.std.specs.Prelude.{◌≡◌, ℕ, List, Some}
 use Rattle.mdb_msgs.specs.declared.command.ReaderUnit.{ReaderUnit}
 use Rattle.mdb_bus.specs.declared.act.Act.{Act}

@@ -1,5 +1,5 @@
--- Sales that were approved: what stands before a VEND SUCCESS that the controller asks (MDB/ICP 4.3,
--- cashless device, for the order of request, approval and success; what may come between, this
+-- Sales that were approved: what stands before a VEND SUCCESS that the controller asks (MDB/ICP
+-- 4.3, cashless device, for the order of request, approval and success; what may come between, this
 -- profile). Acts stand newest first.
 use Rattle.std.specs.Prelude.{◌≡◌, ◌≢◌, ◌⊎◌, ℕ, List, ◌∷◌, ◌++◌, All, Contains, Some}
 use Rattle.std.specs.Option.{ForSome}
@@ -27,7 +27,7 @@ LeavesSale unit May (acts.Break length) = ⊥
 LeavesSale unit May act = Unit {0}
 
 -- The controller has requested a sale at this reader: VEND REQUEST was asked, and since then the
--- acts have left the sale as it stands, where the same request may come again, and VEND CANCEL.
+-- acts have left the sale as it stands, where the same request may have come again, and VEND CANCEL.
 pub record IsRequested (unit : ReaderUnit) (so_far : List Act) : Type 0 where
   pub price : ℕ
   pub item : ℕ
@@ -36,7 +36,8 @@ pub record IsRequested (unit : ReaderUnit) (so_far : List Act) : Type 0 where
   pub order : so_far ≡ since ++ (acts.Ask (Reader unit (reader.VendRequest price item)) ∷ before)
   pub undecided : All (LeavesSale unit (λ t. (t ≡ Request price item) ⊎ (t ≡ Cancel))) since
 
--- The last act is a reply, or its repeat: behind the reply came nothing but RET and repeats of it.
+-- The acts end in a reply and what was sent of it again: behind it came nothing but RET for it, and
+-- its repeats.
 pub record EndsInReply (command : Command) (reply : Reply) (so_far : List Act) : Type 0 where
   pub again : List Act
   pub before : List Act
@@ -47,7 +48,7 @@ pub record EndsInReply (command : Command) (reply : Reply) (so_far : List Act) :
 -- A sale of an item at this reader is approved: the controller had requested a sale, the reader
 -- replied to some command with a message 05, and the controller acknowledged that reply or its
 -- repeat. Since then the acts have left the sale as it stands, where VEND SUCCESS of the item may
--- come, and no other transaction command.
+-- have come, and no other transaction command.
 pub record IsApproved (unit : ReaderUnit) (item : ℕ) (so_far : List Act) : Type 0 where
   pub command : ReaderCommand
   pub reply : Reply
