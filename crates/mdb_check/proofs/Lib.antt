@@ -1,6 +1,5 @@
 pub mod Fields
 pub mod Headline
-pub mod Known
 pub mod OneAnswer
 pub mod Reading
 pub mod Status

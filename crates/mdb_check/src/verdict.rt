@@ -55,9 +55,7 @@ pub fn check<R: Read + Drop, W: Write>(
     ensures had_one { IfSome (R.remaining reader) (λ text. result ≡ Err RunFault.Write
         → HasOutcome (records default_config (strip_bom text))) }
 {
-    verdicts_say_the_headline();
-    let mut records = records_of(alloc, reader);
-    let outcome = verdict_on(&mut records)?;
+    let outcome = verdict_of(alloc, reader)?;
     let Ok(text) = text_of(alloc, &outcome) else {
         return Err(RunFault::Memory);
     };
@@ -65,6 +63,20 @@ pub fn check<R: Read + Drop, W: Write>(
         Ok(()) => Ok(outcome),
         Err(_) => Err(RunFault::Write),
     }
+}
+
+/// The verdict on the text that a reader has left.
+fn verdict_of<R: Read + Drop>(alloc: Global, reader: R) -> Result<Outcome, RunFault>
+    ensures answer { IfSome (R.remaining reader)
+        (λ text. IsAnswer (records default_config (strip_bom text)) result) }
+    ensures headline { IfSome (R.remaining reader)
+        (λ text. IfOk result (Headline (records default_config (strip_bom text)))) }
+    ensures whole { IfSome (R.remaining reader) (λ text. BYTES_MAX < length text → IsNoYes result) }
+    ensures not_write { IfErr result (λ fault. fault ≢ RunFault.Write) }
+{
+    verdicts_say_the_headline();
+    let mut records = records_of(alloc, reader);
+    verdict_on(&mut records)
 }
 
 /// The records of the text that a reader has left, up to [`BYTES_MAX`] and no less.
