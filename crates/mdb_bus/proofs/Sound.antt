@@ -7,8 +7,9 @@ use Rattle.mdb_words.specs.declared.word.Line.TheVariants.{Controller, Periphera
 use Rattle.mdb_blocks.specs.Answer.{answer_word}
 use Rattle.mdb_blocks.specs.Block.{words_on}
 use Rattle.mdb_blocks.specs.declared.answer.Answer.TheVariants as answers
+use Rattle.mdb_bus.specs.declared.act.Act.{Act}
 use Rattle.mdb_bus.specs.declared.act.Act.TheVariants as acts
-use Rattle.mdb_bus.specs.Acts.{IsForeign, IsForeignWord, Say, command_words, reply_words}
+use Rattle.mdb_bus.specs.Acts.{IsForeign, IsForeignWord, NamesAReply, Say, command_words, reply_words}
 use Rattle.mdb_bus.specs.ActLists.{Piece, Whole, AskTail, ReplyTail, RepeatTail, Position, ArePieces, IsSaid, events_of, last_of, piece_events, position_of}
 use Rattle.mdb_bus.specs.Steps.{IsSound}
 use Rattle.mdb_bus.proofs.SomeRule.{HasReply}
@@ -116,3 +117,16 @@ has_reply (ReplyTail command bytes events ∷ pieces) order = tt
 has_reply (RepeatTail command reply words events ∷ pieces) order =
     let P : Position → Type 0 = λ position. HasReply position in
     subst P order.1.comes.0 (has_reply pieces order.2)
+
+-- so the reply that an act names is one
+pub names_a_reply : (act : Act) (events : List Event) (pieces : List Piece) → ArePieces (Whole act events ∷ pieces) → NamesAReply act
+names_a_reply (acts.Ask command) events pieces order = tt
+names_a_reply (acts.Ack command) events pieces order = tt
+names_a_reply (acts.Nak command) events pieces order = tt
+names_a_reply (acts.Reply command reply) events pieces order = order.0.said.0
+names_a_reply (acts.VmcAck command reply) events pieces order = subst HasReply order.1.comes.0 (has_reply pieces order.2)
+names_a_reply (acts.VmcNak command reply) events pieces order = subst HasReply order.1.comes.0 (has_reply pieces order.2)
+names_a_reply (acts.VmcRet command reply) events pieces order = subst HasReply order.1.comes.0 (has_reply pieces order.2)
+names_a_reply (acts.Repeat command reply) events pieces order = subst HasReply order.1.comes.0 (has_reply pieces order.2)
+names_a_reply acts.Foreign events pieces order = tt
+names_a_reply (acts.Break length) events pieces order = tt

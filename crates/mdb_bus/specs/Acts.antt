@@ -88,3 +88,12 @@ IsAct (acts.Repeat command reply) events = Say Peripheral (reply_words reply) ev
 IsAct acts.Foreign events = IsForeign events
 IsAct (acts.Break length) events =
     (at : ℕ) × (events ≡ Break at length ∷ []) × (BREAK_LENGTH_MIN ≤ length)
+
+-- what an act says of a reply is of one that may answer its command
+abbrev pub NamesAReply : Act → Type 0
+NamesAReply (acts.Reply command reply) = IsReply command reply
+NamesAReply (acts.VmcAck command reply) = IsReply command reply
+NamesAReply (acts.VmcNak command reply) = IsReply command reply
+NamesAReply (acts.VmcRet command reply) = IsReply command reply
+NamesAReply (acts.Repeat command reply) = IsReply command reply
+NamesAReply _ = Unit {0}

@@ -3,9 +3,11 @@
 
 ghost use Rattle.std.specs.Prelude.{◌≡◌, List, [], ◌∷◌, ◌++◌};
 ghost use Rattle.mdb_words.specs.declared.event.Event.{Event};
+ghost use Rattle.mdb_bus.specs.declared.act.Act.{Act};
 ghost use Rattle.mdb_bus.specs.declared.fault.Blame.{Blame};
 ghost use Rattle.mdb_bus.specs.declared.fault.Rule.{Rule};
-ghost use Rattle.mdb_bus.specs.ActLists.{ArePieces, GoesOnFrom, HasActList, IsActList, Piece, events_of};
+ghost use Rattle.mdb_bus.specs.Acts.{NamesAReply};
+ghost use Rattle.mdb_bus.specs.ActLists.{ArePieces, GoesOnFrom, HasActList, IsActList, Piece, Whole, events_of};
 ghost use Rattle.mdb_bus.specs.Choice.{Choice, HearsFreeAsChosen, HearsAsChosen, nothing_told};
 ghost use Rattle.mdb_bus.specs.Grammar.{Grammar};
 ghost use Rattle.mdb_bus.specs.LinkFaults.{IsFirstBroken, IsLinkFault, RowBreaks, situation_of};
@@ -52,6 +54,12 @@ pub fn act_lists_go_on_row_by_row()
 {
     grammar();
 }
+
+/// An act that repeats a reply, or answers it, is of a reply that its command may have.
+pub fn acts_name_replies_of_their_commands()
+    ensures { (act : Act) (events : List Event) (pieces : List Piece)
+        → ArePieces (Whole act events ∷ pieces) → NamesAReply act }
+{}
 
 /// Each act list has a loss that fits, whichever of its free acts are to be heard: nothing tells
 /// whether a free act was heard.

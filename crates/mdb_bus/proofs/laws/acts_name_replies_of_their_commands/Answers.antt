@@ -1,0 +1,5 @@
+use Rattle.mdb_bus.proofs.Sound.{names_a_reply}
+use Rattle.mdb_bus.proofs.laws.acts_name_replies_of_their_commands.Goals as goal
+
+pub returns : goal.returns
+returns c = names_a_reply

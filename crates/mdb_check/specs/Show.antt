@@ -1,0 +1,92 @@
+-- What `show` answers to the records of a text, and what it writes of them.
+use Rattle.std.specs.Prelude.{◌≡◌, ◌≢◌, ◌+◌, ◌<◌, ◌≤◌, ℕ, List, [], ◌∷◌, ◌++◌, length, Option, Some, None, Result, Ok, Err}
+use Rattle.std.specs.Io.KnownBytes.{Appends}
+use Rattle.mdb_words.specs.declared.event.Event.{Event}
+use Rattle.mdb_words.specs.declared.row.RowFault.{RowFault}
+use Rattle.mdb_words.specs.Row.{IsRow, IsRefusal}
+use Rattle.mdb_bus.specs.declared.fault.LinkFault.{LinkFault}
+use Rattle.mdb_bus.specs.ActLists.{Piece, ArePieces, events_of}
+use Rattle.mdb_bus.specs.LinkFaults.{IsLinkFault}
+use Rattle.mdb_follow.specs.declared.follower.TheConstants.{ROWS_MAX}
+use Rattle.mdb_check.specs.declared.outcome.RunFault.{RunFault}
+use Rattle.mdb_check.specs.declared.outcome.RunFault.TheVariants.{BadRow, TooLong, Read, Write, Memory}
+use Rattle.mdb_check.specs.ShowText.{closed_pieces, fault_line, show_text}
+use Rattle.mdb_check.specs.Verdict.{AreRows}
+
+-- The records up to the rest are rows, and these pieces are their act list.
+pub record AreShown (records : List (List (List ℕ))) (pieces : List Piece)
+    (rest : List (List (List ℕ))) : Type 0 where
+  pub done : List (List (List ℕ))
+  pub split : records ≡ done ++ rest
+  pub told : AreRows done (events_of pieces)
+  pub in_order : ArePieces pieces
+
+-- All records are rows of an act list. Its lines are the text, that of a tail at its end too.
+pub record IsShownWhole (records : List (List (List ℕ))) (text : List ℕ) : Type 0 where
+  pub pieces : List Piece
+  pub shown : AreShown records pieces []
+  pub few : length (events_of pieces) ≤ ROWS_MAX
+  pub lines : text ≡ show_text pieces
+
+-- A record is a row that breaks a rule of the link, behind rows of an act list. The text is the
+-- lines of these, without one for a tail that is still open, and the line of the fault.
+pub record IsShownToFault (records : List (List (List ℕ))) (fault : LinkFault)
+    (text : List ℕ) : Type 0 where
+  pub pieces : List Piece
+  pub fields : List (List ℕ)
+  pub rest : List (List (List ℕ))
+  pub shown : AreShown records pieces (fields ∷ rest)
+  pub few : length (events_of pieces) < ROWS_MAX
+  pub row : Event
+  pub row_told : IsRow fields row
+  pub is : IsLinkFault pieces row fault.rule fault.blame
+  pub lines : text ≡ show_text (closed_pieces pieces)
+      ++ fault_line (length (events_of pieces) + 1) fault
+
+-- A record is no row, behind rows of an act list. The text is the lines of these, without one for a
+-- tail that is still open.
+pub record IsShownToBadRow (records : List (List (List ℕ))) (row : ℕ) (fault : RowFault)
+    (text : List ℕ) : Type 0 where
+  pub pieces : List Piece
+  pub fields : List (List ℕ)
+  pub rest : List (List (List ℕ))
+  pub shown : AreShown records pieces (fields ∷ rest)
+  pub few : length (events_of pieces) < ROWS_MAX
+  pub number : row ≡ length (events_of pieces) + 1
+  pub refused : IsRefusal fields fault
+  pub lines : text ≡ show_text (closed_pieces pieces)
+
+-- There is a record behind as many rows as there may be, which are of an act list. The text is the
+-- lines of these, without one for a tail that is still open.
+pub record IsShownTooLong (records : List (List (List ℕ))) (text : List ℕ) : Type 0 where
+  pub pieces : List Piece
+  pub fields : List (List ℕ)
+  pub rest : List (List (List ℕ))
+  pub shown : AreShown records pieces (fields ∷ rest)
+  pub full : length (events_of pieces) ≡ ROWS_MAX
+  pub lines : text ≡ show_text (closed_pieces pieces)
+
+-- Some first records are rows of an act list. The text is the lines of these, without one for a
+-- tail that is still open.
+pub record IsShownInPart (records : List (List (List ℕ))) (text : List ℕ) : Type 0 where
+  pub pieces : List Piece
+  pub rest : List (List (List ℕ))
+  pub shown : AreShown records pieces rest
+  pub lines : text ≡ show_text (closed_pieces pieces)
+
+-- The answer to the records of a text, and what is written of them. A refused read or memory may
+-- come behind any row, and of a refused write nothing is said.
+abbrev pub IsShowing : List (List (List ℕ)) → Result (Option LinkFault) RunFault → List ℕ → Type 0
+IsShowing records (Ok None) text = IsShownWhole records text
+IsShowing records (Ok (Some fault)) text = IsShownToFault records fault text
+IsShowing records (Err (BadRow row fault)) text = IsShownToBadRow records row fault text
+IsShowing records (Err TooLong) text = IsShownTooLong records text
+IsShowing records (Err Read) text = IsShownInPart records text
+IsShowing records (Err Memory) text = IsShownInPart records text
+IsShowing records (Err Write) text = ⊥
+
+-- the same of the bytes that a writer held before and after, but for a refused write
+abbrev pub Shows : List (List (List ℕ)) → Option (List ℕ) → Option (List ℕ)
+    → Result (Option LinkFault) RunFault → Type 0
+Shows records before after answer =
+    answer ≢ Err Write → (text : List ℕ) × IsShowing records answer text × Appends before after text
