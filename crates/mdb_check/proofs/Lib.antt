@@ -2,5 +2,7 @@ pub mod Fields
 pub mod Headline
 pub mod OneAnswer
 pub mod Reading
+pub mod ShowSteps
+pub mod ShowTexts
 pub mod Status
 pub mod Texts

@@ -4,14 +4,18 @@
 
 pub mod laws;
 mod outcome;
+mod page;
 mod program;
+mod show_text;
+mod showing;
 #[cfg(test)]
 mod tests;
 mod text;
 mod verdict;
 
-pub use mdb_bus::{Blame, Rule};
+pub use mdb_bus::{Blame, LinkFault, Rule};
 pub use mdb_follow::{Account, Offence, ROWS_MAX, Range, Report};
 pub use outcome::{Outcome, RunFault};
 pub use program::run;
+pub use showing::show;
 pub use verdict::{BYTES_MAX, check};

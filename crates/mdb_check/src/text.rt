@@ -12,7 +12,7 @@ use std::io;
 use std::io::Write;
 
 /// The word of a rule.
-fn word_of_rule(rule: Rule) -> &'static str
+pub(crate) fn word_of_rule(rule: Rule) -> &'static str
     ensures { result.now ≡ rule_word rule }
 {
     match rule {
@@ -36,7 +36,7 @@ fn word_of_rule(rule: Rule) -> &'static str
 }
 
 /// The word of who is to blame.
-fn word_of_blame(blame: Blame) -> &'static str
+pub(crate) fn word_of_blame(blame: Blame) -> &'static str
     ensures { result.now ≡ blame_word blame }
 {
     match blame {

@@ -80,7 +80,7 @@ fn verdict_of<R: Read + Drop>(alloc: Global, reader: R) -> Result<Outcome, RunFa
 }
 
 /// The records of the text that a reader has left, up to [`BYTES_MAX`] and no less.
-fn records_of<R: Read + Drop>(alloc: Global, reader: R) -> Records<R>
+pub(crate) fn records_of<R: Read + Drop>(alloc: Global, reader: R) -> Records<R>
     ensures records { IfSome (R.remaining reader) (λ text.
         ToCome R.remaining result (records default_config (strip_bom text))) }
     ensures over { IfSome (R.remaining reader) (λ text.
@@ -138,7 +138,7 @@ fn outcome_of(follower: &Follower) -> Outcome
 }
 
 /// The event of a record.
-fn event_of(row: &ByteRecord) -> Result<Event, RowFault>
+pub(crate) fn event_of(row: &ByteRecord) -> Result<Event, RowFault>
     ensures { Tells result (fields_of row.now) }
 {
     if row.len() != 3 {

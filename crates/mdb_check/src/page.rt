@@ -1,0 +1,126 @@
+//! Lines on their way to a writer.
+
+ghost use Rattle.std.specs.Prelude.{◌≡◌, ◌<◌, ◌≤◌, [], OnOk, IfErr, IsOk};
+ghost use Rattle.std.specs.Io.KnownBytes.{Appends, Keeps};
+ghost use Rattle.mdb_bus.specs.Acts.{NamesAReply};
+ghost use Rattle.mdb_follow.specs.declared.follower.TheConstants.{ROWS_MAX};
+ghost use Rattle.mdb_check.specs.ShowText.{fault_line};
+ghost use Rattle.mdb_check.specs.ShowSteps.{IsNotTaken, cut_text, ended_text, held};
+
+use super::outcome::RunFault;
+use super::show_text::{push_cut, push_ended, push_fault};
+use mdb_bus::{Act, LinkFault};
+use std::alloc::Global;
+use std::io;
+use std::io::Write;
+
+/// How long a page may be before it is written out.
+const PAGE: usize = 8_192;
+
+/// Lines that are still to be written, all of them whole. The memory of both texts is used again
+/// and again.
+#[derive(Drop)]
+pub(crate) struct Page {
+    lines: Vec<u8>,
+    // What is added to them next, once it is whole.
+    next: Vec<u8>,
+}
+
+impl Page {
+    /// An empty page.
+    pub(crate) fn new(alloc: Global) -> Page
+        ensures { result.lines.items ≡ [] }
+    {
+        Page {
+            lines: Vec::new(alloc),
+            next: Vec::new(alloc),
+        }
+    }
+
+    /// Adds the lines of the act that the next row ends, as `push_ended` says.
+    pub(crate) fn add_ended<W: Write>(
+        &mut self,
+        writer: &mut W,
+        shown: u64,
+        rows: u64,
+        act: &Act,
+    ) -> Result<(), RunFault>
+        requires reply { NamesAReply act.now }
+        requires shown { shown ≤ rows }
+        requires rows { rows < ROWS_MAX }
+        ensures added { OnOk result (Appends (held (W.contents writer.old) self.old)
+            (held (W.contents writer.new) self.new) (ended_text shown rows act.now)) }
+        ensures refused { IfErr result (λ fault. IsNotTaken fault
+            (held (W.contents writer.old) self.old) (held (W.contents writer.new) self.new)) }
+    {
+        self.next.clear();
+        let made = push_ended(&mut self.next, shown, rows, act);
+        self.add(writer, made)
+    }
+
+    /// Adds the line of a tail, as `push_cut` says.
+    pub(crate) fn add_cut<W: Write>(
+        &mut self,
+        writer: &mut W,
+        shown: u64,
+        rows: u64,
+    ) -> Result<(), RunFault>
+        requires { rows ≤ ROWS_MAX }
+        ensures added { OnOk result (Appends (held (W.contents writer.old) self.old)
+            (held (W.contents writer.new) self.new) (cut_text shown rows)) }
+        ensures refused { IfErr result (λ fault. IsNotTaken fault
+            (held (W.contents writer.old) self.old) (held (W.contents writer.new) self.new)) }
+    {
+        self.next.clear();
+        let made = push_cut(&mut self.next, shown, rows);
+        self.add(writer, made)
+    }
+
+    /// Adds the line of a row that cannot be.
+    pub(crate) fn add_fault<W: Write>(
+        &mut self,
+        writer: &mut W,
+        row: u64,
+        fault: LinkFault,
+    ) -> Result<(), RunFault>
+        ensures added { OnOk result (Appends (held (W.contents writer.old) self.old)
+            (held (W.contents writer.new) self.new) (fault_line row fault)) }
+        ensures refused { IfErr result (λ fault. IsNotTaken fault
+            (held (W.contents writer.old) self.old) (held (W.contents writer.new) self.new)) }
+    {
+        self.next.clear();
+        let made = push_fault(&mut self.next, row, fault);
+        self.add(writer, made)
+    }
+
+    /// Adds what stands in `next`, if it could be made, and writes the page out when it is long.
+    fn add<W: Write>(&mut self, writer: &mut W, made: io::Result<()>) -> Result<(), RunFault>
+        ensures added { OnOk result (Appends (held (W.contents writer.old) self.old)
+            (held (W.contents writer.new) self.new) self.old.next.items) }
+        ensures made { OnOk result (IsOk made) }
+        ensures refused { IfErr result (λ fault. IsNotTaken fault
+            (held (W.contents writer.old) self.old) (held (W.contents writer.new) self.new)) }
+    {
+        if made.is_err() || self.lines.extend_from_slice(self.next.as_slice()).is_err() {
+            return Err(RunFault::Memory);
+        }
+        if self.lines.len() < PAGE {
+            return Ok(());
+        }
+        self.write_out(writer)
+    }
+
+    /// Writes the page out, and leaves it empty.
+    pub(crate) fn write_out<W: Write>(&mut self, writer: &mut W) -> Result<(), RunFault>
+        ensures written { OnOk result
+            (Keeps (held (W.contents writer.old) self.old) (W.contents writer.new)) }
+        ensures empty { OnOk result (self.new.lines.items ≡ []) }
+        ensures refused { IfErr result (λ fault. fault ≡ RunFault.Write) }
+    {
+        if writer.write_all(self.lines.as_slice()).is_err() {
+            return Err(RunFault::Write);
+        }
+        self.lines.clear();
+        Ok(())
+    }
+}

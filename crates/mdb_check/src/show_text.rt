@@ -1,0 +1,138 @@
+//! The lines of `show`.
+
+ghost use Rattle.std.specs.Prelude.{◌≡◌, ◌+◌, ◌<◌, ◌≤◌, ◌∷◌, [], ◌++◌, OnOk, true};
+ghost use Rattle.std.specs.Fmt.{decimal, digit_glyph};
+ghost use Rattle.mdb_bus.specs.Acts.{IsReply, NamesAReply};
+ghost use Rattle.mdb_blocks.specs.Block.{block_of};
+ghost use Rattle.mdb_follow.specs.declared.follower.TheConstants.{ROWS_MAX};
+ghost use Rattle.mdb_msgs.specs.Commands.{command_bytes};
+ghost use Rattle.mdb_msgs.specs.Replies.{reply_bytes};
+ghost use Rattle.mdb_check.specs.ShowText.{act_text, bytes_text, deed_text, fault_line, rows_line};
+ghost use Rattle.mdb_check.specs.ShowSteps.{cut_text, ended_text};
+
+use super::text::{word_of_blame, word_of_rule};
+use mdb_bus::{Act, Blame, LinkFault};
+use mdb_msgs::{Command, Reply, write_command, write_reply};
+use std::io;
+use std::io::Write;
+
+/// Appends the lines of the act that the next row ends: that of the act, and before it that of the
+/// tail that a break cuts. Of the `rows` rows before it the first `shown` have their lines.
+pub(crate) fn push_ended(text: &mut Vec<u8>, shown: u64, rows: u64, act: &Act) -> io::Result<()>
+    requires reply { NamesAReply act.now }
+    requires shown { shown ≤ rows }
+    requires rows { rows < ROWS_MAX }
+    ensures { OnOk result (text.new.items ≡ text.old.items ++ ended_text shown rows act.now) }
+{
+    match act {
+        Act::Break(_) => {
+            push_cut(text, shown, rows)?;
+            push_act_line(text, rows + 1, rows + 1, act)
+        }
+        _ => push_act_line(text, shown + 1, rows + 1, act),
+    }
+}
+
+/// Appends the line of the tail, if there is one: of so many rows the first `shown` have their
+/// lines.
+pub(crate) fn push_cut(text: &mut Vec<u8>, shown: u64, rows: u64) -> io::Result<()>
+    requires { rows ≤ ROWS_MAX }
+    ensures { OnOk result (text.new.items ≡ text.old.items ++ cut_text shown rows) }
+{
+    if shown < rows {
+        let first = shown + 1;
+        write!(text, "{first}-{rows} cut\n")?;
+    }
+    Ok(())
+}
+
+/// Appends the line of a row that cannot be.
+pub(crate) fn push_fault(text: &mut Vec<u8>, row: u64, fault: LinkFault) -> io::Result<()>
+    ensures { OnOk result (text.new.items ≡ text.old.items ++ fault_line row fault) }
+{
+    let rule = word_of_rule(fault.rule);
+    let blame = word_of_blame(fault.blame);
+    write!(text, "fault {row} {rule} {blame}\n")
+}
+
+/// Appends the line of an act.
+fn push_act_line(text: &mut Vec<u8>, first: u64, last: u64, act: &Act) -> io::Result<()>
+    requires { NamesAReply act.now }
+    ensures { OnOk result
+        (text.new.items ≡ text.old.items ++ rows_line first last (act_text act.now)) }
+{
+    write!(text, "{first}-{last} ")?;
+    push_act(text, act)?;
+    write!(text, "\n")
+}
+
+/// Appends what was done.
+fn push_act(text: &mut Vec<u8>, act: &Act) -> io::Result<()>
+    requires { NamesAReply act.now }
+    ensures { OnOk result (text.new.items ≡ text.old.items ++ act_text act.now) }
+{
+    match act {
+        Act::Ask(command) => push_ask(text, command),
+        Act::Ack(command) => push_deed(text, "ack", command),
+        Act::Nak(command) => push_deed(text, "nak", command),
+        Act::Reply(command, reply) => push_reply(text, "reply", command, reply),
+        Act::VmcAck(command, _) => push_deed(text, "vmc-ack", command),
+        Act::VmcNak(command, _) => push_deed(text, "vmc-nak", command),
+        Act::VmcRet(command, _) => push_deed(text, "vmc-ret", command),
+        Act::Repeat(command, reply) => push_reply(text, "repeat", command, reply),
+        Act::Foreign => write!(text, "foreign"),
+        Act::Break(length) => write!(text, "break {length}"),
+    }
+}
+
+/// Appends that a command was asked.
+fn push_ask(text: &mut Vec<u8>, command: &Command) -> io::Result<()>
+    ensures { OnOk result (text.new.items ≡ text.old.items ++ act_text (Act.Ask command.now)) }
+{
+    push_deed(text, "ask", command)?;
+    push_bytes(text, write_command(command).bytes())
+}
+
+/// Appends that a command was answered by a reply.
+fn push_reply(text: &mut Vec<u8>, deed: &str, command: &Command, reply: &Reply) -> io::Result<()>
+    requires { IsReply command.now reply.now }
+    ensures { OnOk result
+        (text.new.items ≡ text.old.items ++ (deed_text deed.now command.now
+        ++ bytes_text (block_of (reply_bytes reply.now)))) }
+{
+    let Ok(block) = write_reply(command, reply) else {
+        unreachable!()
+    };
+    push_deed(text, deed, command)?;
+    push_bytes(text, block.bytes())
+}
+
+/// Appends what somebody did to a command, and whose command it is.
+fn push_deed(text: &mut Vec<u8>, deed: &str, command: &Command) -> io::Result<()>
+    ensures { OnOk result (text.new.items ≡ text.old.items ++ deed_text deed.now command.now) }
+{
+    let device = word_of_blame(Blame::on(Some(command.device())));
+    write!(text, "{deed} {device}")
+}
+
+/// Appends the bytes of a block.
+fn push_bytes(text: &mut Vec<u8>, bytes: &[u8]) -> io::Result<()>
+    ensures { OnOk result (text.new.items ≡ text.old.items ++ bytes_text bytes.now) }
+{
+    for byte in bytes {
+        text.extend_from_slice(&[b' ', digit(*byte / 16), digit(*byte % 16)])?;
+    }
+    Ok(())
+}
+
+/// A digit below 16, from ten on an upper case letter.
+fn digit(digit: u8) -> u8
+    requires { digit < 16 }
+    ensures { result ≡ digit_glyph true digit }
+{
+    if digit < 10 {
+        b'0' + digit
+    } else {
+        b'A' + (digit - 10)
+    }
+}
