@@ -1,26 +1,63 @@
 -- What the program's exit status says.
-use Rattle.std.specs.Prelude.{◌≡◌, ◌⊎◌, ℕ, List, Option, Result, Ok, Err}
+use Rattle.std.specs.Prelude.{◌≡◌, ◌⊎◌, ℕ, List, [], ◌∷◌, codes, Option, Some, None, Result, Ok, Err}
 use Rattle.std.specs.Io.KnownBytes.{Appends}
+use Rattle.mdb_bus.specs.declared.fault.LinkFault.{LinkFault}
 use Rattle.mdb_follow.specs.declared.offence.Offence.{Offence}
 use Rattle.mdb_follow.specs.declared.report.Report.{Report}
+use Rattle.mdb_check.specs.Show.{IsShownToFault, IsShownWhole}
 use Rattle.mdb_check.specs.Text.{report_text}
 use Rattle.mdb_check.specs.Verdict.{HasOutcome, IsImpossible, IsPossible}
 use Rattle.mdb_check.specs.declared.outcome.Outcome.{Outcome}
 use Rattle.mdb_check.specs.declared.outcome.Outcome.TheVariants.{Yes, No}
 use Rattle.mdb_check.specs.declared.outcome.RunFault.{RunFault}
+use Rattle.mdb_check.specs.declared.program.Task.{Task}
+use Rattle.mdb_check.specs.declared.program.Task.TheVariants.{Check, Show}
 
--- the status for an answer of `check`
-abbrev pub status_of : Result Outcome RunFault → ℕ
-status_of (Ok (Yes report)) = 0
-status_of (Ok (No offence)) = 1
-status_of (Err fault) = 2
+-- the words of a command line, the program's name first, name this task
+abbrev pub Names : List (List ℕ) → List ℕ → Type 0
+Names (program ∷ word ∷ others) task = word ≡ task
+Names (program ∷ []) task = ⊥
+Names [] task = ⊥
 
--- What the statuses say of the records of a text, and of the bytes that the writer held before and
--- after. At 2 nothing was written, or the text has a verdict; then nothing is said of the bytes.
-abbrev pub Says : List (List (List ℕ)) → Option (List ℕ) → Option (List ℕ) → ℕ → Type 0
-Says records before after status =
+-- What the statuses of `check` say of the records of a text, and of the bytes that the writer held
+-- before and after. At 2 nothing was written, or the text has a verdict; then nothing is said of
+-- the bytes.
+abbrev pub SaysChecked : List (List (List ℕ)) → Option (List ℕ) → Option (List ℕ) → ℕ → Type 0
+SaysChecked records before after status =
     (status ≡ 0 → (report : Report) × IsPossible records report
     × Appends before after (report_text (Yes report)))
     × (status ≡ 1 → (offence : Offence) × IsImpossible records offence
     × Appends before after (report_text (No offence)))
     × (status ≡ 2 → (after ≡ before) ⊎ HasOutcome records)
+
+-- The same of `show`. At 2 nothing is said: the writer may have failed anywhere.
+abbrev pub SaysShown : List (List (List ℕ)) → Option (List ℕ) → Option (List ℕ) → ℕ → Type 0
+SaysShown records before after status =
+    (status ≡ 0 → (text : List ℕ) × IsShownWhole records text × Appends before after text)
+    × (status ≡ 1 → (fault : LinkFault) × (text : List ℕ) × IsShownToFault records fault text
+    × Appends before after text)
+
+-- What the status of the program says: of words that name neither task, and of others that are
+-- refused, that nothing was written.
+abbrev pub Says : List (List ℕ) → List (List (List ℕ)) → Option (List ℕ) → Option (List ℕ) → ℕ
+    → Type 0
+Says words records before after status =
+    (Names words (codes "check") × SaysChecked records before after status)
+    ⊎ (Names words (codes "show") × SaysShown records before after status)
+    ⊎ ((status ≡ 2) × (after ≡ before))
+
+-- The rest serves private functions: the status for an answer of `check`, and of `show`.
+abbrev pub status_of : Result Outcome RunFault → ℕ
+status_of (Ok (Yes report)) = 0
+status_of (Ok (No offence)) = 1
+status_of (Err fault) = 2
+
+abbrev pub show_status_of : Result (Option LinkFault) RunFault → ℕ
+show_status_of (Ok None) = 0
+show_status_of (Ok (Some fault)) = 1
+show_status_of (Err fault) = 2
+
+-- the word of a task
+abbrev pub task_word : Task → List ℕ
+task_word Check = codes "check"
+task_word Show = codes "show"

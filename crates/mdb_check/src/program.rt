@@ -1,29 +1,31 @@
 //! The program over its words.
 
-ghost use Rattle.std.specs.Prelude.{◌≡◌, ◌<◌, IfSome};
-ghost use Rattle.mdb_check.specs.Program.{Says, status_of};
+ghost use Rattle.std.specs.Prelude.{◌≡◌, ◌<◌, IfOk, IfSome, map, string_bytes};
+ghost use Rattle.mdb_check.specs.Program.{Names, Says, show_status_of, status_of, task_word};
 ghost use Rattle.csv.specs.Reading.{default_config, records, strip_bom};
 
 use super::outcome::{Outcome, RunFault};
+use super::showing::show;
 use super::verdict::check;
 use clap::Command;
 use clap::error::{Error, ErrorKind};
+use mdb_bus::LinkFault;
 use std::alloc::Global;
 use std::io::{Read, Write};
 
 /// The line that says how the program is called.
-const USAGE: &str = "usage: mdbcheck check < TRANSCRIPT";
+const USAGE: &str = "usage: mdbcheck check|show < TRANSCRIPT";
 
 /// The program's version.
 const VERSION: &str = "0.1.0";
 
-/// The status of a transcript that can have been.
+/// The status of a transcript that can have been, or has no link fault.
 const POSSIBLE: u8 = 0;
 
-/// The status of a transcript that cannot have been.
+/// The status of a transcript that cannot have been, or has a link fault.
 const IMPOSSIBLE: u8 = 1;
 
-/// The status where there is no verdict.
+/// The status where there is no verdict, and the acts aren't shown to the end.
 const NO_VERDICT: u8 = 2;
 
 /// What the words of a command line ask for.
@@ -31,15 +33,24 @@ const NO_VERDICT: u8 = 2;
 enum Task {
     /// `check`: the verdict on the transcript that the reader gives.
     Check,
+    /// `show`: its acts.
+    Show,
 }
 
 /// Runs the program over its words, the program's name first, and answers its exit status.
 ///
+/// `check`:
 /// - 0: the transcript can have been, and its report is on `out`.
 /// - 1: it cannot, and the report on `out` says why.
-/// - 2: there is no verdict, for the fault that `check` met, or because the words aren't a command
-///   of the program, which goes for those that ask for help or for the version too. One line on
-///   `err` says so; where `err` refuses the line, the status is the same.
+///
+/// `show`:
+/// - 0: each act of the transcript has a line on `out`.
+/// - 1: a row breaks a rule of the link. The last line on `out` tells of it, those before it of the
+///   acts.
+///
+/// And 2: there is no such answer, for the fault that `check` or `show` met, or because the words
+/// aren't a command of the program, which goes for those that ask for help or for the version too.
+/// One line on `err` says so; where `err` refuses the line, the status is the same.
 pub fn run<R: Read + Drop, W: Write, E: Write>(
     alloc: Global,
     words: Vec<String>,
@@ -48,53 +59,85 @@ pub fn run<R: Read + Drop, W: Write, E: Write>(
     err: &mut E,
 ) -> u8
     ensures status { result < 3 }
-    ensures says { IfSome (R.remaining reader)
-        (λ text. Says (records default_config (strip_bom text)) (W.contents out.old)
-        (W.contents out.new) result) }
+    ensures says { IfSome (R.remaining reader) (λ text. Says (map string_bytes words.items)
+        (records default_config (strip_bom text)) (W.contents out.old) (W.contents out.new)
+        result) }
     ensures silent { result < 2 → err.new ≡ err.old }
 {
     match task_of(alloc, words.as_slice()) {
-        Ok(Task::Check) => finish(check(alloc, reader, out), err),
+        Ok(Task::Check) => finish_check(check(alloc, reader, out), err),
+        Ok(Task::Show) => finish_show(show(alloc, reader, out), err),
         Err(kind) => refuse(kind, err),
     }
 }
 
 /// What the words ask for, or in which way they are no command of the program.
-fn task_of(alloc: Global, words: &[String]) -> Result<Task, ErrorKind> {
-    match parse(alloc, words) {
-        Ok(Some(task)) => Ok(task),
-        Ok(None) => Err(ErrorKind::MissingSubcommand),
+fn task_of(alloc: Global, words: &[String]) -> Result<Task, ErrorKind>
+    ensures { IfOk result (λ task. Names (map string_bytes words.now) (task_word task)) }
+{
+    match accept(alloc, words) {
+        Ok(()) => named(words),
         Err(error) => Err(error.kind()),
     }
 }
 
-/// The command line, as `clap` reads it.
-fn parse(alloc: Global, words: &[String]) -> Result<Option<Task>, Error> {
+/// Whether `clap` takes the words for a command of the program.
+fn accept(alloc: Global, words: &[String]) -> Result<(), Error> {
     let check = Command::new(alloc, "check");
+    let show = Command::new(alloc, "show");
     let mdbcheck = Command::new(alloc, "mdbcheck")
         .version(VERSION)
         .subcommand_required(true)
-        .subcommand(check)?;
-    let matches = mdbcheck.try_get_matches_from(words)?;
-    match matches.subcommand_name() {
-        Some("check") => Ok(Some(Task::Check)),
-        _ => Ok(None),
+        .subcommand(check)?
+        .subcommand(show)?;
+    mdbcheck.try_get_matches_from(words)?;
+    Ok(())
+}
+
+/// The task that the word behind the program's name is.
+fn named(words: &[String]) -> Result<Task, ErrorKind>
+    ensures { IfOk result (λ task. Names (map string_bytes words.now) (task_word task)) }
+{
+    let [_, word, ..] = words else {
+        return Err(ErrorKind::MissingSubcommand);
+    };
+    match word.as_str() {
+        "check" => Ok(Task::Check),
+        "show" => Ok(Task::Show),
+        _ => Err(ErrorKind::MissingSubcommand),
     }
 }
 
-/// The status of an answer; a fault is told.
-fn finish<E: Write>(answer: Result<Outcome, RunFault>, err: &mut E) -> u8
+/// The status of a verdict; a fault is told.
+fn finish_check<E: Write>(answer: Result<Outcome, RunFault>, err: &mut E) -> u8
     ensures status { result ≡ status_of answer }
     ensures silent { result < 2 → err.new ≡ err.old }
 {
     match answer {
         Ok(Outcome::Yes(_)) => POSSIBLE,
         Ok(Outcome::No(_)) => IMPOSSIBLE,
-        Err(fault) => {
-            let _ = writeln!(err, "mdbcheck: {fault}");
-            NO_VERDICT
-        }
+        Err(fault) => tell(fault, err),
     }
+}
+
+/// The status of what was shown; a fault is told.
+fn finish_show<E: Write>(answer: Result<Option<LinkFault>, RunFault>, err: &mut E) -> u8
+    ensures status { result ≡ show_status_of answer }
+    ensures silent { result < 2 → err.new ≡ err.old }
+{
+    match answer {
+        Ok(None) => POSSIBLE,
+        Ok(Some(_)) => IMPOSSIBLE,
+        Err(fault) => tell(fault, err),
+    }
+}
+
+/// Tells why there is no answer.
+fn tell<E: Write>(fault: RunFault, err: &mut E) -> u8
+    ensures { result ≡ NO_VERDICT }
+{
+    let _ = writeln!(err, "mdbcheck: {fault}");
+    NO_VERDICT
 }
 
 /// Tells why a command line is refused.
