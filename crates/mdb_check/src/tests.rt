@@ -419,18 +419,19 @@ fn bad_rows_are_told(rt: HostRuntime) -> Result<(), Fail> {
 }
 
 /// What is told of a command line that asks for help.
-const USAGE: &[u8] = b"usage: mdbcheck check < TRANSCRIPT\n";
+const USAGE: &[u8] = b"usage: mdbcheck check|show < TRANSCRIPT\n";
 
 /// What is told of one that asks for nothing.
 const NO_COMMAND: &[u8] = b"mdbcheck: a subcommand is required but one was not provided; \
-usage: mdbcheck check < TRANSCRIPT\n";
+usage: mdbcheck check|show < TRANSCRIPT\n";
 
 /// What is told of one that asks for what isn't known.
-const UNKNOWN: &[u8] = b"mdbcheck: unrecognized subcommand; usage: mdbcheck check < TRANSCRIPT\n";
+const UNKNOWN: &[u8] =
+    b"mdbcheck: unrecognized subcommand; usage: mdbcheck check|show < TRANSCRIPT\n";
 
 /// What is told of one with a word or a flag too many.
 const UNEXPECTED: &[u8] =
-    b"mdbcheck: unexpected argument found; usage: mdbcheck check < TRANSCRIPT\n";
+    b"mdbcheck: unexpected argument found; usage: mdbcheck check|show < TRANSCRIPT\n";
 
 /// What is told of one that asks for the version.
 const VERSION: &[u8] = b"mdbcheck 0.1.0\n";
