@@ -13,7 +13,7 @@ use Rattle.mdb_follow.specs.declared.sides.Sides.{Sides}
 use Rattle.mdb_follow.specs.declared.silence.Silences.{Silences}
 use Rattle.mdb_follow.specs.Sides.{AreSides}
 use Rattle.mdb_follow.specs.Silences.{TimedAsk, asks_of, last_start, limit_of, reader_limit}
-use Rattle.mdb_follow.specs.SilencesKept.{AreSilences, IsSilence, asks_behind, limit_in}
+use Rattle.mdb_follow.specs.SilencesKept.{AllStandForAsks, StandsForAsks, asks_behind, limit_in}
 
 -- tails ask nothing
 tail-asks : (device : Device) (tail : Piece) (pieces : List Piece) → IsTail tail
@@ -142,11 +142,11 @@ asks-go-on device pieces row act longer sides grown on =
 
 -- silences of some lists are those of lists that are the same
 pub same-silences : (silences : Silences) (one other : Device → List (List TimedAsk))
-    → ((device : Device) → one device ≡ other device) → AreSilences silences one
-    → AreSilences silences other
+    → ((device : Device) → one device ≡ other device) → AllStandForAsks silences one
+    → AllStandForAsks silences other
 same-silences silences one other same are = record {
-  changer = subst (IsSilence silences.changer) (same devices.Changer) are.changer;
-  bill = subst (IsSilence silences.bill) (same devices.Bill) are.bill;
-  cashless = subst (IsSilence silences.cashless) (same devices.Cashless) are.cashless;
-  cashless2 = subst (IsSilence silences.cashless2) (same devices.Cashless2) are.cashless2;
+  changer = subst (StandsForAsks silences.changer) (same devices.Changer) are.changer;
+  bill = subst (StandsForAsks silences.bill) (same devices.Bill) are.bill;
+  cashless = subst (StandsForAsks silences.cashless) (same devices.Cashless) are.cashless;
+  cashless2 = subst (StandsForAsks silences.cashless2) (same devices.Cashless2) are.cashless2;
 }

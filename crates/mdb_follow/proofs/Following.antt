@@ -32,7 +32,7 @@ use Rattle.mdb_follow.specs.Machines.{EachArrives, BillArrives, ChangerArrives, 
 use Rattle.mdb_follow.specs.Offences.{ByBill, ByChanger, ByReader, NoStep}
 use Rattle.mdb_follow.specs.Sides.{AreSides}
 use Rattle.mdb_follow.specs.Silences.{asks_of}
-use Rattle.mdb_follow.specs.SilencesKept.{AreSilences, SilencesFollow}
+use Rattle.mdb_follow.specs.SilencesKept.{AllStandForAsks, SilencesFollow}
 use Rattle.mdb_follow.proofs.Asks.{asks-go-on, asks-stay, same-silences}
 use Rattle.mdb_follow.proofs.Reaching.{Joins, SomeArrive, run_of}
 use Rattle.mdb_follow.proofs.Joining.{split}
@@ -159,7 +159,7 @@ stands-still old new bus events row on goes same_bus same_sides same_silences mo
   silences = same-silences new.silences (λ device. asks_of device on.pieces)
       (λ device. asks_of device goes.longer)
       (λ device. sym (asks-stay device on.pieces row goes.longer goes.grown))
-      (subst (λ silences. AreSilences silences (λ device. asks_of device on.pieces))
+      (subst (λ silences. AllStandForAsks silences (λ device. asks_of device on.pieces))
       (sym same_silences) on.silences);
 }
 
@@ -183,7 +183,7 @@ stands-on old mid new events row act on goes same_sides same_silences same_rows 
           (λ device. asks-go-on device on.pieces row act goes.longer new.sides goes.grown sides)
           (subst (λ at. SilencesFollow mid.silences act at new.sides new.silences) start has.silences
           (λ device. asks_of device on.pieces)
-          (subst (λ silences. AreSilences silences (λ device. asks_of device on.pieces))
+          (subst (λ silences. AllStandForAsks silences (λ device. asks_of device on.pieces))
           (sym same_silences) on.silences));
     }
 

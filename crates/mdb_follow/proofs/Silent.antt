@@ -6,7 +6,7 @@ use Rattle.std.specs.List.{count_by, list_any}
 use Rattle.mdb_follow.specs.declared.silence.Silence.{Silence}
 use Rattle.mdb_follow.specs.declared.silence.Unanswered.TheVariants.{Until, Counted}
 use Rattle.mdb_follow.specs.Silences.{TimedAsk, first_of, is_silence, with_ask}
-use Rattle.mdb_follow.specs.SilencesKept.{IsSilence, IsUnanswered, deadline_of, newest_list}
+use Rattle.mdb_follow.specs.SilencesKept.{StandsForAsks, IsUnanswered, deadline_of, newest_list}
 
 -- a list with an ask has a first one
 first-of : (ask : TimedAsk) (list : List TimedAsk)
@@ -72,8 +72,8 @@ some-ask ask list same = cc
 
 -- a list that has counted stays one that counts
 pub counted-more : (silence : Silence) (lists : List (List TimedAsk)) (ask : TimedAsk)
-    → silence.unanswered ≡ Counted → IsSilence silence lists
-    → IsSilence silence (with_ask ask lists)
+    → silence.unanswered ≡ Counted → StandsForAsks silence lists
+    → StandsForAsks silence (with_ask ask lists)
 counted-more silence lists ask is on =
     let was = subst (λ u. IsUnanswered u (newest_list lists)) is on.unanswered in
     let yes : is_silence (ask ∷ newest_list lists) ≡ true = more ask (newest_list lists) was.0
@@ -91,8 +91,8 @@ counted-more silence lists ask is on =
 
 -- an ask that comes in time changes nothing
 pub in-time : (silence : Silence) (lists : List (List TimedAsk)) (ask : TimedAsk) (time : ℕ)
-    → silence.unanswered ≡ Until time → ask.at ≤ time → IsSilence silence lists
-    → IsSilence silence (with_ask ask lists)
+    → silence.unanswered ≡ Until time → ask.at ≤ time → StandsForAsks silence lists
+    → StandsForAsks silence (with_ask ask lists)
 in-time silence lists ask time is early on =
     let was = subst (λ u. IsUnanswered u (newest_list lists)) is on.unanswered in
     let no : is_silence (ask ∷ newest_list lists) ≡ false = more ask (newest_list lists) was.0
@@ -109,8 +109,8 @@ in-time silence lists ask time is early on =
 -- one that comes behind the deadline makes a silence
 pub too-late : (silence new : Silence) (lists : List (List TimedAsk)) (ask : TimedAsk) (time : ℕ)
     → silence.unanswered ≡ Until time → time < ask.at → new.unanswered ≡ Counted
-    → new.count ≡ silence.count + 1 → IsSilence silence lists
-    → IsSilence new (with_ask ask lists)
+    → new.count ≡ silence.count + 1 → StandsForAsks silence lists
+    → StandsForAsks new (with_ask ask lists)
 too-late silence new lists ask time is late counts one on =
     let was = subst (λ u. IsUnanswered u (newest_list lists)) is on.unanswered in
     let yes : is_silence (ask ∷ newest_list lists) ≡ true = more ask (newest_list lists) was.0

@@ -7,7 +7,7 @@ use Rattle.mdb_follow.specs.declared.follower.Follower.{Follower}
 use Rattle.mdb_follow.specs.declared.offence.Offence.{Offence}
 use Rattle.mdb_follow.specs.Sides.{AreSides}
 use Rattle.mdb_follow.specs.Silences.{asks_of}
-use Rattle.mdb_follow.specs.SilencesKept.{AreSilences}
+use Rattle.mdb_follow.specs.SilencesKept.{AllStandForAsks}
 
 -- how many rows it has accepted, and the offence that it has met
 abbrev pub rows_of : Follower → ℕ
@@ -25,4 +25,4 @@ pub record StandsFor (follower : Follower) (events : List Event) : Type 0 where
   pub rows : follower.rows ≡ length events
   pub going : follower.offence ≡ None
   pub sides : AreSides follower.sides (acts_of pieces)
-  pub silences : AreSilences follower.silences (λ device. asks_of device pieces)
+  pub silences : AllStandForAsks follower.silences (λ device. asks_of device pieces)

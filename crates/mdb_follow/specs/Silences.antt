@@ -1,6 +1,6 @@
--- Silences: how often a device left the controller's asks without an answer for too long (the limits
--- are from MDB/ICP 4.3; what counts is this profile's). Pieces stand newest first, and so do lists
--- of asks and the asks in a list.
+-- Silences: how often a device left the controller's asks without an answer for too long (limits,
+-- MDB/ICP 4.3; what counts, this profile). Pieces stand newest first, and so do lists of asks and
+-- the asks in a list.
 use Rattle.std.specs.Prelude.{ℕ, ◌+◌, ◌*◌, max, nat_lt, count_by, option_map, Bool, true, false, List, [], ◌∷◌, Option, Some, None, if◌then◌else◌}
 use Rattle.std.specs.List.{list_any}
 use Rattle.mdb_words.specs.declared.event.Event.{Event}
@@ -46,8 +46,8 @@ abbrev pub asks : Device → Act → Bool
 asks device (acts.Ask command) = same_device device (device_of command)
 asks device _ = false
 
--- whether an act ends a list of asks to a device: an answer of the device, by ACK, NAK or data, or a
--- break
+-- whether an act ends a list of asks to a device: an answer of the device, by ACK, NAK or data,
+-- or a break; what the controller answers, a repeat and foreign traffic end none
 abbrev pub ends_asking : Device → Act → Bool
 ends_asking device (acts.Ack command) = same_device device (device_of command)
 ends_asking device (acts.Nak command) = same_device device (device_of command)
@@ -64,6 +64,11 @@ pub record TimedAsk : Type 0 where
   pub at : ℕ
   pub limit : ℕ
 
+-- an ask of these words to a device, behind pieces
+abbrev pub timed_ask : Device → List Event → List Piece → TimedAsk
+timed_ask device events pieces =
+    record { at = last_start events; limit = limit_of device (acts_of pieces) }
+
 -- lists of asks with one more in the newest of them
 abbrev pub with_ask : TimedAsk → List (List TimedAsk) → List (List TimedAsk)
 with_ask ask [] = (ask ∷ []) ∷ []
@@ -75,9 +80,7 @@ abbrev pub asks_of : Device → List Piece → List (List TimedAsk)
 asks_of device [] = [] ∷ []
 asks_of device (Whole act events ∷ pieces) =
     if ends_asking device act then [] ∷ asks_of device pieces
-    else if asks device act then with_ask
-    (record { at = last_start events; limit = limit_of device (acts_of pieces) })
-    (asks_of device pieces)
+    else if asks device act then with_ask (timed_ask device events pieces) (asks_of device pieces)
     else asks_of device pieces
 asks_of device (piece ∷ pieces) = asks_of device pieces
 
@@ -87,8 +90,8 @@ first_of [] = None
 first_of (ask ∷ []) = Some ask
 first_of (ask ∷ earlier ∷ list) = first_of (earlier ∷ list)
 
--- Whether a list of asks is a silence: some ask of it comes more than the limit after the first one.
--- (Both times are those of the last words.) The limit is the one at the first ask.
+-- Whether a list of asks is a silence: some ask of it comes more than the limit after the first,
+-- by the starts of their last words. The limit is that at the first ask.
 abbrev pub is_silence : List TimedAsk → Bool
 is_silence list =
     elim (first_of list) [

@@ -45,17 +45,19 @@ IsUnanswered (Until time) list =
     (list ≢ []) × (time ≡ deadline_of list) × (is_silence list ≡ false)
 IsUnanswered Counted list = (list ≢ []) × (is_silence list ≡ true)
 
--- what is kept of all lists of a device
-pub record IsSilence (silence : Silence) (lists : List (List TimedAsk)) : Type 0 where
+-- A device's silences stand for its lists of asks: what is kept of the newest, and how many of
+-- them all are silences.
+pub record StandsForAsks (silence : Silence) (lists : List (List TimedAsk)) : Type 0 where
   pub unanswered : IsUnanswered silence.unanswered (newest_list lists)
   pub count : silence.count ≡ count_by is_silence lists
 
--- the same of each device
-pub record AreSilences (silences : Silences) (lists : Device → List (List TimedAsk)) : Type 0 where
-  pub changer : IsSilence silences.changer (lists devices.Changer)
-  pub bill : IsSilence silences.bill (lists devices.Bill)
-  pub cashless : IsSilence silences.cashless (lists devices.Cashless)
-  pub cashless2 : IsSilence silences.cashless2 (lists devices.Cashless2)
+-- the same for each device
+pub record AllStandForAsks (silences : Silences)
+    (lists : Device → List (List TimedAsk)) : Type 0 where
+  pub changer : StandsForAsks silences.changer (lists devices.Changer)
+  pub bill : StandsForAsks silences.bill (lists devices.Bill)
+  pub cashless : StandsForAsks silences.cashless (lists devices.Cashless)
+  pub cashless2 : StandsForAsks silences.cashless2 (lists devices.Cashless2)
 
 -- no device has more than so many
 pub record AreFew (most : ℕ) (silences : Silences) : Type 0 where
@@ -67,6 +69,6 @@ pub record AreFew (most : ℕ) (silences : Silences) : Type 0 where
 -- Silences have followed an act whose last word started at a time; the sides are those behind it.
 abbrev pub SilencesFollow : Silences → Act → ℕ → Sides → Silences → Type 0
 SilencesFollow old act at sides new =
-    (lists : Device → List (List TimedAsk)) → AreSilences old lists
-    → AreSilences new (λ device. asks_behind device act
+    (lists : Device → List (List TimedAsk)) → AllStandForAsks old lists
+    → AllStandForAsks new (λ device. asks_behind device act
     (record { at = at; limit = limit_in device sides }) (lists device))

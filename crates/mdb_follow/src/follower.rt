@@ -21,8 +21,7 @@ pub const ROWS_MAX: u64 = 100_000_000;
 /// What all that may have happened behind the rows so far comes to.
 ///
 /// It keeps the bus, and of each device the facts, a table of its possible states, and what counts
-/// of its silences; no rows.
-/// Behind an offence nothing but the offence is of any matter.
+/// of its silences; no rows. Behind an offence nothing but the offence is of any matter.
 #[derive(Drop)]
 pub struct Follower {
     bus: Bus,
@@ -145,7 +144,7 @@ impl Follower {
         Ok(())
     }
 
-    /// Follows an act that a row ended, which started at a time.
+    /// Follows an act that was ended by a row that started at a time.
     fn follow(&mut self, act: &Act, at: Time) -> Result<(), Offence>
         requires room { rows_of self.old < ROWS_MAX }
         requires going { offence_of self.old ≡ None }

@@ -26,7 +26,7 @@ impl Report {
     ghost use Rattle.mdb_follow.specs.Report.{report_of};
     ghost use Rattle.mdb_follow.specs.Sides.{AreSides};
     ghost use Rattle.mdb_follow.specs.Silences.{asks_of};
-    ghost use Rattle.mdb_follow.specs.SilencesKept.{AreSilences};
+    ghost use Rattle.mdb_follow.specs.SilencesKept.{AllStandForAsks};
 
     /// The report of so many rows, with what the accounts come to.
     pub(crate) fn of(
@@ -36,7 +36,7 @@ impl Report {
         silences: &Silences,
     ) -> Report
         ensures { (pieces : List Piece) → AreSides sides.now (acts_of pieces)
-            → AreSilences silences.now (λ device. asks_of device pieces)
+            → AllStandForAsks silences.now (λ device. asks_of device pieces)
             → result ≡ report_of rows pieces accounts }
     {
         Report {

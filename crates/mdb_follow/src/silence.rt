@@ -10,7 +10,7 @@ ghost use Rattle.mdb_bus.specs.declared.act.Act.TheVariants as acts;
 ghost use Rattle.mdb_cashless.specs.ReaderValues.{facts_in};
 ghost use Rattle.mdb_follow.specs.Silences as spec;
 ghost use Rattle.mdb_follow.specs.Silences.{TimedAsk, same_device, with_ask};
-ghost use Rattle.mdb_follow.specs.SilencesKept.{AreFew, AreSilences, IsSilence, SilencesFollow};
+ghost use Rattle.mdb_follow.specs.SilencesKept.{AreFew, AllStandForAsks, StandsForAsks, SilencesFollow};
 
 use crate::sides::Sides;
 use mdb_bus::Act;
@@ -61,8 +61,8 @@ impl Silence {
         requires room { self.old.count < 2 ^ 63 }
         requires at { at < 2 ^ 62 }
         requires limit { limit < 2 ^ 62 }
-        ensures stands { (lists : List (List TimedAsk)) → IsSilence self.old lists
-            → IsSilence self.new (with_ask (record { at = at; limit = limit }) lists) }
+        ensures stands { (lists : List (List TimedAsk)) → StandsForAsks self.old lists
+            → StandsForAsks self.new (with_ask (record { at = at; limit = limit }) lists) }
         ensures few { self.new.count ≤ self.old.count + 1 }
     {
         match self.unanswered {
@@ -79,8 +79,8 @@ impl Silence {
 
     /// The device answers, or a break comes.
     fn end(&mut self)
-        ensures stands { (lists : List (List TimedAsk)) → IsSilence self.old lists
-            → IsSilence self.new ([] ∷ lists) }
+        ensures stands { (lists : List (List TimedAsk)) → StandsForAsks self.old lists
+            → StandsForAsks self.new ([] ∷ lists) }
         ensures same { self.new.count ≡ self.old.count }
     {
         self.unanswered = Unanswered::Nothing;
@@ -136,8 +136,8 @@ impl Silences {
 
     /// The device of a command answers it.
     fn answer(&mut self, command: &Command)
-        ensures stands { (lists : Device → List (List TimedAsk)) → AreSilences self.old lists
-            → AreSilences self.new (λ device. if same_device device (device_of command.now)
+        ensures stands { (lists : Device → List (List TimedAsk)) → AllStandForAsks self.old lists
+            → AllStandForAsks self.new (λ device. if same_device device (device_of command.now)
             then [] ∷ lists device else lists device) }
         ensures few { (rows : ℕ) → AreFew rows self.old → AreFew (rows + 1) self.new }
     {
@@ -151,8 +151,8 @@ impl Silences {
 
     /// A break comes.
     fn end(&mut self)
-        ensures stands { (lists : Device → List (List TimedAsk)) → AreSilences self.old lists
-            → AreSilences self.new (λ device. [] ∷ lists device) }
+        ensures stands { (lists : Device → List (List TimedAsk)) → AllStandForAsks self.old lists
+            → AllStandForAsks self.new (λ device. [] ∷ lists device) }
         ensures few { (rows : ℕ) → AreFew rows self.old → AreFew (rows + 1) self.new }
     {
         self.changer.end();
