@@ -1,9 +1,10 @@
 -- The lines of `show`, as a row adds to them.
-use Rattle.std.proofs.Common.{arith, refl, ap, sym, subst, ◌∙◌, inl, inr, ◌≡◌, ◌+◌, ◌/◌, ◌%◌, ◌<◌, ◌⊎◌, ℕ, Bool, true, false, List, [], ◌∷◌, ◌++◌, Option, Some, None, length, length-append, append_assoc, nat_lt}
+use Rattle.std.proofs.Common.{arith, refl, ap, sym, subst, ◌∙◌, inl, inr, ◌≡◌, ◌+◌, ◌/◌, ◌%◌, ◌^◌, ◌<◌, ◌≤◌, ◌⊎◌, ℕ, Bool, true, false, List, [], ◌∷◌, ◌++◌, Option, Some, None, length, length-append, append_assoc, nat_lt, Result, Ok, Err, if◌then◌else◌}
+use Rattle.std.proofs.lemmas.Fmt.{decimal_digit, decimal_step}
 use Rattle.std.proofs.lemmas.List.{append-nil, take_more}
 use Rattle.std.proofs.lemmas.Bool.{ltb-true, ltb-false}
-use Rattle.std.specs.Prelude.{codes, get_or, take}
-use Rattle.std.specs.Fmt.{digit_glyph}
+use Rattle.std.specs.Prelude.{OnOk, codes, get_or, is_ok, take}
+use Rattle.std.specs.Fmt.{decimal, digit_glyph}
 use Rattle.mdb_words.specs.declared.event.Event.{Event}
 use Rattle.mdb_bus.specs.declared.act.Act.{Act}
 use Rattle.mdb_bus.specs.declared.act.Act.TheVariants as acts
@@ -25,6 +26,37 @@ bytes_more now front bytes i below high low new so_far first second added =
     let pushed : new ≡ (front ++ bytes_text (take i bytes)) ++ 32 ∷ digit_glyph true (byte / 16) ∷ digit_glyph true (byte % 16) ∷ [] = cc in
     pushed ∙ (append_assoc front (bytes_text (take i bytes)) _
     ∙ ap (λ l. front ++ l) (sym (bytes_push (take i bytes) byte) ∙ ap bytes_text (sym (take_more bytes i 0 below))))
+
+-- numbers of one digit, of two, and of more
+pub one_digit : (n ones : ℕ) → n < 10 → ones ≡ 48 + n % 10 → decimal n ≡ ones ∷ []
+one_digit n ones small is = decimal_digit n small ∙ ap (λ d. d ∷ []) (omega (arith, small, is))
+
+pub two_digits : (n tens ones : ℕ) → 10 ≤ n → n < 100 → n < 2 ^ 64 → tens ≡ 48 + n / 10 % 10 → ones ≡ 48 + n % 10 → decimal n ≡ tens ∷ ones ∷ []
+two_digits n tens ones ten small fits first second =
+    decimal_step n ten fits
+    ∙ (ap (λ l. l ++ (48 + n % 10) ∷ []) (one_digit (n / 10) tens (omega (arith, small)) first) ∙ ap (λ d. tens ∷ d ∷ []) (sym second))
+
+pub more_digits : (n tens ones : ℕ) → 100 ≤ n → n < 2 ^ 64 → tens ≡ 48 + n / 10 % 10 → ones ≡ 48 + n % 10 → decimal n ≡ decimal (n / 100) ++ tens ∷ ones ∷ []
+more_digits n tens ones hundred fits first second =
+    let ten : 10 ≤ n = omega (arith, hundred) in
+    let high : 10 ≤ n / 10 = omega (arith, hundred) in
+    let high_fits : n / 10 < 2 ^ 64 = omega (arith, fits) in
+    let hundreds : n / 10 / 10 ≡ n / 100 = omega (arith) in
+    decimal_step n ten fits
+    ∙ (ap (λ l. l ++ (48 + n % 10) ∷ []) (decimal_step (n / 10) high high_fits ∙ (ap (λ m. decimal m ++ (48 + n / 10 % 10) ∷ []) hundreds ∙ ap (λ d. decimal (n / 100) ++ d ∷ []) (sym first)))
+    ∙ (append_assoc (decimal (n / 100)) (tens ∷ []) _ ∙ ap (λ d. decimal (n / 100) ++ tens ∷ d ∷ []) (sym second)))
+
+-- what was appended, where memory was had for it
+pub had_room : {T E : Type 0} (answer : Result T E) (new old more text : List ℕ) → new ≡ (if is_ok answer then old ++ more else old) → text ≡ more → OnOk answer (new ≡ old ++ text)
+had_room (Ok done) new old more text is same = is ∙ ap (λ l. old ++ l) (sym same)
+had_room (Err e) new old more text is same = tt
+
+-- the same behind others
+pub had_more : {T E : Type 0} (answer : Result T E) (new between old first more text : List ℕ) → new ≡ (if is_ok answer then between ++ more else between) → between ≡ old ++ first
+    → text ≡ first ++ more → OnOk answer (new ≡ old ++ text)
+had_more (Ok done) new between old first more text is before same =
+    is ∙ (ap (λ l. l ++ more) before ∙ (append_assoc old first more ∙ ap (λ l. old ++ l) (sym same)))
+had_more (Err e) new between old first more text is before same = tt
 
 -- a position inside a block
 abbrev pub IsInside : Position → Type 0

@@ -21,21 +21,21 @@ bytes_text (byte ∷ bytes) =
 
 -- what somebody did to a command: the device of the command is named
 abbrev pub deed_text : List ℕ → Command → List ℕ
-deed_text deed command = deed ++ codes " " ++ blame_word (blame_on (Some (device_of command)))
+deed_text deed command = deed ++ blame_word (blame_on (Some (device_of command)))
 
 -- what was done on the bus; blocks stand with their sums
 abbrev pub act_text : Act → List ℕ
 act_text (acts.Ask command) =
-    deed_text (codes "ask") command ++ bytes_text (block_of (command_bytes command))
-act_text (acts.Ack command) = deed_text (codes "ack") command
-act_text (acts.Nak command) = deed_text (codes "nak") command
+    deed_text (codes "ask ") command ++ bytes_text (block_of (command_bytes command))
+act_text (acts.Ack command) = deed_text (codes "ack ") command
+act_text (acts.Nak command) = deed_text (codes "nak ") command
 act_text (acts.Reply command reply) =
-    deed_text (codes "reply") command ++ bytes_text (block_of (reply_bytes reply))
-act_text (acts.VmcAck command reply) = deed_text (codes "vmc-ack") command
-act_text (acts.VmcNak command reply) = deed_text (codes "vmc-nak") command
-act_text (acts.VmcRet command reply) = deed_text (codes "vmc-ret") command
+    deed_text (codes "reply ") command ++ bytes_text (block_of (reply_bytes reply))
+act_text (acts.VmcAck command reply) = deed_text (codes "vmc-ack ") command
+act_text (acts.VmcNak command reply) = deed_text (codes "vmc-nak ") command
+act_text (acts.VmcRet command reply) = deed_text (codes "vmc-ret ") command
 act_text (acts.Repeat command reply) =
-    deed_text (codes "repeat") command ++ bytes_text (block_of (reply_bytes reply))
+    deed_text (codes "repeat ") command ++ bytes_text (block_of (reply_bytes reply))
 act_text acts.Foreign = codes "foreign"
 act_text (acts.Break length) = codes "break " ++ decimal length
 
@@ -46,10 +46,12 @@ piece_text (AskTail bytes events) = codes "cut"
 piece_text (ReplyTail command bytes events) = codes "cut"
 piece_text (RepeatTail command reply words events) = codes "cut"
 
--- a line that tells of the rows from the first to the last
+-- the rows that a line tells of, from the first to the last
+abbrev pub rows_text : ℕ → ℕ → List ℕ
+rows_text first last = decimal first ++ codes "-" ++ decimal last ++ codes " "
+
 abbrev pub rows_line : ℕ → ℕ → List ℕ → List ℕ
-rows_line first last words =
-    line (decimal first ++ codes "-" ++ decimal last ++ codes " " ++ words)
+rows_line first last words = line (rows_text first last ++ words)
 
 -- the line of a piece that has so many rows before it
 abbrev pub piece_line : ℕ → Piece → List ℕ

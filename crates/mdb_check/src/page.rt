@@ -10,8 +10,7 @@ ghost use Rattle.mdb_check.specs.ShowSteps.{IsNotTaken, cut_text, ended_text, he
 use super::outcome::RunFault;
 use super::show_text::{push_cut, push_ended, push_fault};
 use mdb_bus::{Act, LinkFault};
-use std::alloc::Global;
-use std::io;
+use std::alloc::{AllocError, Global};
 use std::io::Write;
 
 /// How long a page may be before it is written out.
@@ -94,7 +93,11 @@ impl Page {
     }
 
     /// Adds what stands in `next`, if it could be made, and writes the page out when it is long.
-    fn add<W: Write>(&mut self, writer: &mut W, made: io::Result<()>) -> Result<(), RunFault>
+    fn add<W: Write>(
+        &mut self,
+        writer: &mut W,
+        made: Result<(), AllocError>,
+    ) -> Result<(), RunFault>
         ensures added { OnOk result (Appends (held (W.contents writer.old) self.old)
             (held (W.contents writer.new) self.new) self.old.next.items) }
         ensures made { OnOk result (IsOk made) }

@@ -7,18 +7,22 @@ ghost use Rattle.mdb_blocks.specs.Block.{block_of};
 ghost use Rattle.mdb_follow.specs.declared.follower.TheConstants.{ROWS_MAX};
 ghost use Rattle.mdb_msgs.specs.Commands.{command_bytes};
 ghost use Rattle.mdb_msgs.specs.Replies.{reply_bytes};
-ghost use Rattle.mdb_check.specs.ShowText.{act_text, bytes_text, deed_text, fault_line, rows_line};
+ghost use Rattle.mdb_check.specs.ShowText.{act_text, bytes_text, deed_text, fault_line, rows_line, rows_text};
 ghost use Rattle.mdb_check.specs.ShowSteps.{cut_text, ended_text};
 
 use super::text::{word_of_blame, word_of_rule};
 use mdb_bus::{Act, Blame, LinkFault};
 use mdb_msgs::{Command, Reply, write_command, write_reply};
-use std::io;
-use std::io::Write;
+use std::alloc::AllocError;
 
 /// Appends the lines of the act that the next row ends: that of the act, and before it that of the
 /// tail that a break cuts. Of the `rows` rows before it the first `shown` have their lines.
-pub(crate) fn push_ended(text: &mut Vec<u8>, shown: u64, rows: u64, act: &Act) -> io::Result<()>
+pub(crate) fn push_ended(
+    text: &mut Vec<u8>,
+    shown: u64,
+    rows: u64,
+    act: &Act,
+) -> Result<(), AllocError>
     requires reply { NamesAReply act.now }
     requires shown { shown ≤ rows }
     requires rows { rows < ROWS_MAX }
@@ -35,66 +39,93 @@ pub(crate) fn push_ended(text: &mut Vec<u8>, shown: u64, rows: u64, act: &Act) -
 
 /// Appends the line of the tail, if there is one: of so many rows the first `shown` have their
 /// lines.
-pub(crate) fn push_cut(text: &mut Vec<u8>, shown: u64, rows: u64) -> io::Result<()>
+pub(crate) fn push_cut(text: &mut Vec<u8>, shown: u64, rows: u64) -> Result<(), AllocError>
     requires { rows ≤ ROWS_MAX }
     ensures { OnOk result (text.new.items ≡ text.old.items ++ cut_text shown rows) }
 {
     if shown < rows {
-        let first = shown + 1;
-        write!(text, "{first}-{rows} cut\n")?;
+        push_rows(text, shown + 1, rows)?;
+        text.extend_from_slice(b"cut\n")?;
     }
     Ok(())
 }
 
 /// Appends the line of a row that cannot be.
-pub(crate) fn push_fault(text: &mut Vec<u8>, row: u64, fault: LinkFault) -> io::Result<()>
+pub(crate) fn push_fault(text: &mut Vec<u8>, row: u64, fault: LinkFault) -> Result<(), AllocError>
     ensures { OnOk result (text.new.items ≡ text.old.items ++ fault_line row fault) }
 {
-    let rule = word_of_rule(fault.rule);
-    let blame = word_of_blame(fault.blame);
-    write!(text, "fault {row} {rule} {blame}\n")
+    text.extend_from_slice(b"fault ")?;
+    push_decimal(text, row)?;
+    text.extend_from_slice(b" ")?;
+    text.extend_from_slice(word_of_rule(fault.rule).as_bytes())?;
+    text.extend_from_slice(b" ")?;
+    text.extend_from_slice(word_of_blame(fault.blame).as_bytes())?;
+    text.extend_from_slice(b"\n")
 }
 
 /// Appends the line of an act.
-fn push_act_line(text: &mut Vec<u8>, first: u64, last: u64, act: &Act) -> io::Result<()>
+fn push_act_line(text: &mut Vec<u8>, first: u64, last: u64, act: &Act) -> Result<(), AllocError>
     requires { NamesAReply act.now }
     ensures { OnOk result
         (text.new.items ≡ text.old.items ++ rows_line first last (act_text act.now)) }
 {
-    write!(text, "{first}-{last} ")?;
+    push_rows(text, first, last)?;
     push_act(text, act)?;
-    write!(text, "\n")
+    text.extend_from_slice(b"\n")
+}
+
+/// Appends the rows that a line tells of.
+fn push_rows(text: &mut Vec<u8>, first: u64, last: u64) -> Result<(), AllocError>
+    ensures { OnOk result (text.new.items ≡ text.old.items ++ rows_text first last) }
+{
+    push_decimal(text, first)?;
+    text.extend_from_slice(b"-")?;
+    push_decimal(text, last)?;
+    text.extend_from_slice(b" ")
 }
 
 /// Appends what was done.
-fn push_act(text: &mut Vec<u8>, act: &Act) -> io::Result<()>
+fn push_act(text: &mut Vec<u8>, act: &Act) -> Result<(), AllocError>
     requires { NamesAReply act.now }
     ensures { OnOk result (text.new.items ≡ text.old.items ++ act_text act.now) }
 {
     match act {
         Act::Ask(command) => push_ask(text, command),
-        Act::Ack(command) => push_deed(text, "ack", command),
-        Act::Nak(command) => push_deed(text, "nak", command),
-        Act::Reply(command, reply) => push_reply(text, "reply", command, reply),
-        Act::VmcAck(command, _) => push_deed(text, "vmc-ack", command),
-        Act::VmcNak(command, _) => push_deed(text, "vmc-nak", command),
-        Act::VmcRet(command, _) => push_deed(text, "vmc-ret", command),
-        Act::Repeat(command, reply) => push_reply(text, "repeat", command, reply),
-        Act::Foreign => write!(text, "foreign"),
-        Act::Break(length) => write!(text, "break {length}"),
+        Act::Ack(command) => push_deed(text, b"ack ", command),
+        Act::Nak(command) => push_deed(text, b"nak ", command),
+        Act::Reply(command, reply) => push_reply(text, b"reply ", command, reply),
+        Act::VmcAck(command, _) => push_deed(text, b"vmc-ack ", command),
+        Act::VmcNak(command, _) => push_deed(text, b"vmc-nak ", command),
+        Act::VmcRet(command, _) => push_deed(text, b"vmc-ret ", command),
+        Act::Repeat(command, reply) => push_reply(text, b"repeat ", command, reply),
+        Act::Foreign => text.extend_from_slice(b"foreign"),
+        Act::Break(length) => push_break(text, *length),
     }
 }
 
+/// Appends that there was a break.
+fn push_break(text: &mut Vec<u8>, length: u64) -> Result<(), AllocError>
+    ensures { OnOk result (text.new.items ≡ text.old.items ++ act_text (Act.Break length)) }
+{
+    text.extend_from_slice(b"break ")?;
+    push_decimal(text, length)
+}
+
 /// Appends that a command was asked.
-fn push_ask(text: &mut Vec<u8>, command: &Command) -> io::Result<()>
+fn push_ask(text: &mut Vec<u8>, command: &Command) -> Result<(), AllocError>
     ensures { OnOk result (text.new.items ≡ text.old.items ++ act_text (Act.Ask command.now)) }
 {
-    push_deed(text, "ask", command)?;
+    push_deed(text, b"ask ", command)?;
     push_bytes(text, write_command(command).bytes())
 }
 
 /// Appends that a command was answered by a reply.
-fn push_reply(text: &mut Vec<u8>, deed: &str, command: &Command, reply: &Reply) -> io::Result<()>
+fn push_reply(
+    text: &mut Vec<u8>,
+    deed: &[u8],
+    command: &Command,
+    reply: &Reply,
+) -> Result<(), AllocError>
     requires { IsReply command.now reply.now }
     ensures { OnOk result
         (text.new.items ≡ text.old.items ++ (deed_text deed.now command.now
@@ -108,21 +139,38 @@ fn push_reply(text: &mut Vec<u8>, deed: &str, command: &Command, reply: &Reply) 
 }
 
 /// Appends what somebody did to a command, and whose command it is.
-fn push_deed(text: &mut Vec<u8>, deed: &str, command: &Command) -> io::Result<()>
+fn push_deed(text: &mut Vec<u8>, deed: &[u8], command: &Command) -> Result<(), AllocError>
     ensures { OnOk result (text.new.items ≡ text.old.items ++ deed_text deed.now command.now) }
 {
     let device = word_of_blame(Blame::on(Some(command.device())));
-    write!(text, "{deed} {device}")
+    text.extend_from_slice(deed)?;
+    text.extend_from_slice(device.as_bytes())
 }
 
 /// Appends the bytes of a block.
-fn push_bytes(text: &mut Vec<u8>, bytes: &[u8]) -> io::Result<()>
+fn push_bytes(text: &mut Vec<u8>, bytes: &[u8]) -> Result<(), AllocError>
     ensures { OnOk result (text.new.items ≡ text.old.items ++ bytes_text bytes.now) }
 {
     for byte in bytes {
         text.extend_from_slice(&[b' ', digit(*byte / 16), digit(*byte % 16)])?;
     }
     Ok(())
+}
+
+/// Appends a number in decimal, without leading zeros: two digits at a time.
+fn push_decimal(text: &mut Vec<u8>, number: u64) -> Result<(), AllocError>
+    ensures { OnOk result (text.new.items ≡ text.old.items ++ decimal number) }
+{
+    let ones = b'0' + (number % 10) as u8;
+    if number < 10 {
+        return text.extend_from_slice(&[ones]);
+    }
+    let tens = b'0' + (number / 10 % 10) as u8;
+    if number < 100 {
+        return text.extend_from_slice(&[tens, ones]);
+    }
+    push_decimal(text, number / 100)?;
+    text.extend_from_slice(&[tens, ones])
 }
 
 /// A digit below 16, from ten on an upper case letter.
