@@ -1,6 +1,8 @@
 //! What no contract says: that a call can answer at all, the faults of readers and writers, and the
 //! program's words.
 
+mod showing;
+
 use super::text::text_of;
 use super::{Account, Blame, Offence, Outcome, Range, Report, Rule, RunFault, check, run};
 use mdb_words::RowFault;
@@ -437,7 +439,7 @@ const UNEXPECTED: &[u8] =
 const VERSION: &[u8] = b"mdbcheck 0.1.0\n";
 
 /// Command lines that ask for no verdict, each with its line on standard error.
-const REFUSED: [(&[&str], &[u8]); 9] = [
+const REFUSED: [(&[&str], &[u8]); 11] = [
     (&[], NO_COMMAND),
     (&["mdbcheck"], NO_COMMAND),
     (&["mdbcheck", "frobnicate"], UNKNOWN),
@@ -447,6 +449,8 @@ const REFUSED: [(&[&str], &[u8]); 9] = [
     (&["mdbcheck", "help"], USAGE),
     (&["mdbcheck", "--version"], VERSION),
     (&["mdbcheck", "check", "--help"], USAGE),
+    (&["mdbcheck", "show", "extra"], UNEXPECTED),
+    (&["mdbcheck", "show", "--help"], USAGE),
 ];
 
 #[test]
