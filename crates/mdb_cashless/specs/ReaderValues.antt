@@ -1,4 +1,5 @@
--- How the code keeps a reader's facts. This serves private functions.
+-- How the code keeps a reader's facts. `facts_in` says what a value of facts stands for; the rest
+-- serves private functions.
 use Rattle.std.specs.Prelude.{Bool, true, false, List, Some, None, unwrap_or, if◌then◌else◌, map, Option, []}
 use Rattle.mdb_msgs.specs.declared.command.ReaderCommand.{ReaderCommand}
 use Rattle.mdb_msgs.specs.declared.command.ReaderCommand.TheVariants as reader

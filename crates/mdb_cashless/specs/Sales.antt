@@ -27,7 +27,8 @@ LeavesSale unit May (acts.Break length) = ⊥
 LeavesSale unit May act = Unit {0}
 
 -- The controller has requested a sale at this reader: VEND REQUEST was asked, and since then the
--- acts have left the sale as it stands, where the same request may have come again, and VEND CANCEL.
+-- acts have left the sale as it stands, where the same request may have come again, and VEND
+-- CANCEL.
 pub record IsRequested (unit : ReaderUnit) (so_far : List Act) : Type 0 where
   pub price : ℕ
   pub item : ℕ

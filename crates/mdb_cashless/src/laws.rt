@@ -50,8 +50,7 @@ pub fn views_tell_of_the_sale()
     transactions_with_the_same_fields_are_the_same();
 }
 
-/// The controller asks VEND SUCCESS where its view tells that the sale is approved, and nowhere
-/// else.
+/// The controller asks VEND SUCCESS only for a sale that the acts before it approve.
 pub fn views_allow_approved_sales_alone()
     ensures { (unit : ReaderUnit) (so_far : List Act) (item : ℕ) (heard : Bool)
         (reading : Reading) (before after : ReaderState) (gains : Gains)

@@ -124,7 +124,7 @@ up_to records offence is =
       number = omega (arith, length-append is.rows (is.row ∷ []), is.is.number);
     }
 
--- no run reaches the row that is named
+-- the rows up to the one that is named have no run
 no_run : (records : List (List (List ℕ))) (offence : Offence) → IsImpossible records offence → HaveRun records offence.row → ⊥
 no_run records offence is has =
     let same : has.rows ≡ is.rows ++ is.row ∷ [] = one_list (take offence.row records) has.rows (is.rows ++ is.row ∷ []) has.are.told (up_to records offence is).told in
@@ -151,7 +151,7 @@ before_reached records offence is =
     let P : List (List (List ℕ)) → Type 0 = λ l. AreRows l is.rows in
     first_rows (length is.rows) records is.rows (subst P (sym front) is.stops.told) refl is.stops.possible
 
--- a no names the first row that no run reaches
+-- the runs end before the row that a no names
 names_first : FrontsAreReached → (records : List (List (List ℕ))) (offence : Offence) → IsImpossible records offence → NamesFirstRow records offence
 names_first fronts records offence is = record {
   before = is.rows;

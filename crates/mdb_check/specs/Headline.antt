@@ -1,13 +1,13 @@
 -- The headline: what a verdict says, phrase by phrase.
 --
--- `check` answers yes exactly where the machines have a run, with some words lost at their
--- receivers, whose words and times are the transcript (`yes`); in every such run each sale follows
--- its approval (`sales`); each bound that is printed is the value of some run, and no run's value
--- lies outside (`bounds`); a no names the first row that no run reaches (`first_row`).
+-- Yes is the answer where the rows can be explained, and only there: by acts that are these words
+-- at these times, by words lost on the way, and by what devices and controller did (`yes`). However
+-- they are explained, no sale lacks its approval (`sales`). The report's bounds are as tight as
+-- they can be (`bounds`). A no says how far an explanation goes: to the row before the one named
+-- (`first_row`).
 --
--- The machines are those of changer, validator and both readers, each with the controller; a run
--- is `Run` of `mdb_follow`, in whose act list and loss the words, their times and the lost words
--- stand.
+-- An explanation is a run (`Run` of `mdb_follow`): an act list with the words and their times, a
+-- loss, and a way of changer, validator and both readers, each with the controller, through it.
 use Rattle.std.specs.Prelude.{◌≡◌, ◌↔◌, ◌<◌, ◌≤◌, ℕ, List, [], ◌∷◌, ◌++◌, length, take, ⊤}
 use Rattle.mdb_words.specs.declared.event.Event.{Event}
 use Rattle.mdb_follow.specs.declared.follower.TheConstants.{ROWS_MAX}
@@ -50,21 +50,22 @@ abbrev pub IfNo : Outcome → (Offence → Type 0) → Type 0
 IfNo (Yes report) Holds = ⊤
 IfNo (No offence) Holds = Holds offence
 
--- In every run of the records, each sale at either reader follows its approval.
+-- In each run of the records every sale at either reader has its approval before it. (By `yes` the
+-- records are rows.)
 abbrev pub HasApprovedSales : List (List (List ℕ)) → Type 0
 HasApprovedSales records =
     (rows : List Event) → AreRows records rows → SalesFollowApprovals rows
 
--- Each range of the report, of each account and side: either end is the value of some run of the
--- records, and no run's value lies outside.
+-- Each range of the report, of each account and side, is as tight as it can be: some run of the
+-- records comes to either end, and none goes beyond. (By `yes` the records are rows.)
 abbrev pub HasBounds : List (List (List ℕ)) → Report → Type 0
 HasBounds records report =
     (rows : List Event) → AreRows records rows → (account : ReportedAccount) (side : AccountSide)
     → IsRange (Run rows) (λ sums. value_of side (sums_of account sums))
     (range_of side (account_of account report))
 
--- The row that is named is the first one that no run reaches, and rule and blame are its own: a row
--- with its number is there, the rows up to it have no run, and any fewer have one.
+-- The runs end before the row that is named: a row with its number is there, the rows up to it have
+-- no run, any fewer have one, and rule and blame are those of this row.
 pub record NamesFirstRow (records : List (List (List ℕ))) (offence : Offence) : Type 0 where
   pub before : List Event
   pub row : Event

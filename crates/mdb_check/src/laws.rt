@@ -13,9 +13,10 @@ use mdb_follow::laws;
 
 /// The headline: what a verdict says, phrase by phrase.
 ///
-/// It is yes exactly where all records are rows that have a run; in every such run each sale
-/// follows its approval; each bound of the report is the value of some run, and no run's lies
-/// outside; a no names the first row that no run reaches.
+/// It is yes where all records are rows that have a run, and only there. No run of them has a sale
+/// without its approval, and the report's bounds are as tight as they can be: some run comes to
+/// each, and none goes beyond. Behind a no, the rows have a run up to the one before the row that
+/// it names, and no further.
 pub fn verdicts_say_the_headline()
     ensures { (records : List (List (List ℕ))) (outcome : Outcome)
         → IsAnswer records (Ok outcome) → Headline records outcome }

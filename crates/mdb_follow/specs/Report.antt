@@ -16,7 +16,7 @@ use Rattle.mdb_follow.specs.Ranges.{IsAccount}
 use Rattle.mdb_follow.specs.Runs.{AllSums, IsReached, Run}
 use Rattle.mdb_follow.specs.Silences.{silences}
 
--- what an account is of which nothing is told
+-- what stands for an account that a list lacks; a report lacks none
 abbrev pub no_range : Range
 no_range = record { least = pos 0; greatest = pos 0 }
 

@@ -1,6 +1,7 @@
--- Silences: how often a device left the controller's asks without an answer for too long (limits,
--- MDB/ICP 4.3; what counts, this profile). Pieces stand newest first, and so do lists of asks and
--- the asks in a list.
+-- Silences: how often a device left the controller's asks without an answer for too long, as far as
+-- a later ask shows it: a device that is asked once and never again isn't counted (limits, MDB/ICP
+-- 4.3; what counts, this profile). Pieces stand newest first, and so do lists of asks and the asks
+-- in a list.
 use Rattle.std.specs.Prelude.{ℕ, ◌+◌, ◌*◌, max, nat_lt, count_by, option_map, Bool, true, false, List, [], ◌∷◌, Option, Some, None, if◌then◌else◌}
 use Rattle.std.specs.List.{list_any}
 use Rattle.mdb_words.specs.declared.event.Event.{Event}

@@ -1,5 +1,5 @@
 -- What is kept of silences: of the asks of a device, what counts for those to come. `limit_in`,
--- `asks_behind` and `AreFew` serve private functions.
+-- `asks_behind`, `AreFew` and `SilencesFollow` serve private functions.
 use Rattle.std.specs.Prelude.{◌≡◌, ◌≢◌, ◌≤◌, ◌+◌, ℕ, count_by, option_map, true, false, List, [], ◌∷◌, Some, None, if◌then◌else◌}
 use Rattle.mdb_msgs.specs.declared.command.Device.{Device}
 use Rattle.mdb_msgs.specs.declared.command.Device.TheVariants as devices
