@@ -1,4 +1,5 @@
--- How the code keeps the validator's facts, and how it answers. This serves private functions.
+-- How the code keeps the validator's facts, and how it answers. `facts_in` says what a value of
+-- facts stands for; the rest serves private functions.
 use Rattle.std.specs.Prelude.{◌≡◌, Option, Some, None}
 use Rattle.mdb_bus.specs.declared.act.Act.{Act}
 use Rattle.mdb_cash.specs.declared.bill.facts.BillFacts.{BillFacts}

@@ -1,4 +1,5 @@
--- How the code keeps the changer's facts. This serves private functions.
+-- How the code keeps the changer's facts. `facts_in` says what a value of facts stands for; the
+-- rest serves private functions.
 use Rattle.mdb_bus.specs.declared.act.Act.{Act}
 use Rattle.mdb_cash.specs.declared.changer.facts.ChangerFacts.{ChangerFacts}
 use Rattle.mdb_cash.specs.ChangerFacts.{Facts, dispense_by, effect_of, parts_by, setup_by}
