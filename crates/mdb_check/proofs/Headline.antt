@@ -13,7 +13,7 @@ use Rattle.mdb_follow.specs.Sales.{SalesFollowApprovals}
 use Rattle.mdb_follow.specs.Sums.{AccountSums}
 use Rattle.mdb_check.specs.declared.outcome.Outcome.{Outcome}
 use Rattle.mdb_check.specs.declared.outcome.Outcome.TheVariants.{Yes, No}
-use Rattle.mdb_check.specs.Accounts.{AccountSide, Approved, Approved2, BillsIn, CoinsIn, OfController, OfDevice, OfDifference, PaidOut, ReportedAccount, Sold, Sold2, account_of, place_of, range_of, sums_of, value_of}
+use Rattle.mdb_check.specs.Accounts.{AccountSide, Approved, Approved2, BillsIn, CoinsIn, OfController, OfDevice, OfDifference, PaidOut, ReportedAccount, Sold, Sold2, account_of, account_place, range_of, sums_of, value_of}
 use Rattle.mdb_check.specs.Headline.{AreFirstRows, HasApprovedSales, HasBounds, HaveRun, Headline, NamesFirstRow}
 use Rattle.mdb_check.specs.Verdict.{AreRows, IsAnswer, IsImpossible, IsPossible}
 use Rattle.mdb_check.proofs.OneAnswer.{row_one}
@@ -87,7 +87,7 @@ on_side sums account is OfDifference = is.difference
 
 -- the accounts by their places
 in_place : {Kind : AllSums → Type 0} (accounts : Accounts) → AreAccounts Kind accounts → (account : ReportedAccount)
-    → IsAccount Kind (λ s. sums_of account s) (get_or (listed accounts) (place_of account) no_account)
+    → IsAccount Kind (λ s. sums_of account s) (get_or (listed accounts) (account_place account) no_account)
 in_place accounts are CoinsIn = are.coins_in
 in_place accounts are BillsIn = are.bills_in
 in_place accounts are PaidOut = are.paid_out
@@ -101,8 +101,8 @@ bounds_of : (rows : List Event) (report : Report) → IsReport rows report → (
     → IsRange (Run rows) (λ s. value_of side (sums_of account s)) (range_of side (account_of account report))
 bounds_of rows report is account side =
     let same : report.accounts ≡ listed is.accounts = ap (λ r. r.accounts) is.telling in
-    let P : List Account → Type 0 = λ accounts. IsRange (Run rows) (λ s. value_of side (sums_of account s)) (range_of side (get_or accounts (place_of account) no_account)) in
-    subst P (sym same) (on_side (λ s. sums_of account s) (get_or (listed is.accounts) (place_of account) no_account) (in_place is.accounts is.of_runs account) side)
+    let P : List Account → Type 0 = λ accounts. IsRange (Run rows) (λ s. value_of side (sums_of account s)) (range_of side (get_or accounts (account_place account) no_account)) in
+    subst P (sym same) (on_side (λ s. sums_of account s) (get_or (listed is.accounts) (account_place account) no_account) (in_place is.accounts is.of_runs account) side)
 
 has_bounds : (records : List (List (List ℕ))) (report : Report) → IsPossible records report → HasBounds records report
 has_bounds records report is rows told account side =

@@ -8,7 +8,7 @@ use Rattle.mdb_check.specs.declared.outcome.Outcome.{Outcome}
 use Rattle.mdb_check.specs.declared.outcome.Outcome.TheVariants.{Yes, No}
 use Rattle.mdb_check.specs.declared.outcome.RunFault.{RunFault}
 use Rattle.mdb_check.specs.declared.outcome.RunFault.TheVariants.{Write}
-use Rattle.mdb_check.specs.Program.{Names, Says, SaysChecked, SaysShown, show_status_of, status_of}
+use Rattle.mdb_check.specs.Program.{NamesTask, Says, SaysChecked, SaysShown, show_status_of, status_of}
 use Rattle.mdb_check.specs.Show.{Shows}
 use Rattle.mdb_check.specs.Text.{report_text}
 use Rattle.mdb_check.specs.Verdict.{HasOutcome, IsAnswer}
@@ -34,7 +34,7 @@ says_shown all before after (Err fault) shows = ((λ e. absurd (omega (arith, e)
 
 -- what the status of a checked text says
 pub ran : {W : Type 0} (contents : W → Option (List ℕ)) (known : Option (List ℕ)) (words : List (List ℕ)) (old new : W) (answer : Result Outcome RunFault) (status : ℕ)
-    → Names words (codes "check")
+    → NamesTask words (codes "check")
     → IfSome known (λ text. IsAnswer (records default_config (strip_bom text)) answer)
     → IfOk answer (λ outcome. Appends (contents old) (contents new) (report_text outcome))
     → IfErr answer (λ fault. fault ≢ Write → new ≡ old)
@@ -49,7 +49,7 @@ ran contents (Some text) words old new answer status names is written kept had s
 
 -- what the status of a text that was shown says
 pub shown : (known : Option (List ℕ)) (words : List (List ℕ)) (before after : Option (List ℕ)) (answer : Result (Option LinkFault) RunFault) (status : ℕ)
-    → Names words (codes "show")
+    → NamesTask words (codes "show")
     → IfSome known (λ text. Shows (records default_config (strip_bom text)) before after answer)
     → status ≡ show_status_of answer
     → IfSome known (λ text. Says words (records default_config (strip_bom text)) before after status)

@@ -29,18 +29,18 @@ account_word Approved2 = codes "approved-2"
 account_word Sold2 = codes "sold-2"
 
 -- its place in a report, from 0
-abbrev pub place_of : ReportedAccount → ℕ
-place_of CoinsIn = 0
-place_of BillsIn = 1
-place_of PaidOut = 2
-place_of Approved = 3
-place_of Sold = 4
-place_of Approved2 = 5
-place_of Sold2 = 6
+abbrev pub account_place : ReportedAccount → ℕ
+account_place CoinsIn = 0
+account_place BillsIn = 1
+account_place PaidOut = 2
+account_place Approved = 3
+account_place Sold = 4
+account_place Approved2 = 5
+account_place Sold2 = 6
 
 -- what a report has of it
 abbrev pub account_of : ReportedAccount → Report → Account
-account_of account report = get_or report.accounts (place_of account) no_account
+account_of account report = get_or report.accounts (account_place account) no_account
 
 -- what it has come to in the sums of a run
 abbrev pub sums_of : ReportedAccount → AllSums → AccountSums

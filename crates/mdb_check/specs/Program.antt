@@ -14,10 +14,10 @@ use Rattle.mdb_check.specs.declared.program.Task.{Task}
 use Rattle.mdb_check.specs.declared.program.Task.TheVariants.{Check, Show}
 
 -- the words of a command line, the program's name first, name this task
-abbrev pub Names : List (List ℕ) → List ℕ → Type 0
-Names (program ∷ word ∷ others) task = word ≡ task
-Names (program ∷ []) task = ⊥
-Names [] task = ⊥
+abbrev pub NamesTask : List (List ℕ) → List ℕ → Type 0
+NamesTask (program ∷ word ∷ others) task = word ≡ task
+NamesTask (program ∷ []) task = ⊥
+NamesTask [] task = ⊥
 
 -- What the statuses of `check` say of the records of a text, and of the bytes that the writer held
 -- before and after. At 2 nothing was written, or the text has a verdict; then nothing is said of
@@ -42,8 +42,8 @@ SaysShown records before after status =
 abbrev pub Says : List (List ℕ) → List (List (List ℕ)) → Option (List ℕ) → Option (List ℕ) → ℕ
     → Type 0
 Says words records before after status =
-    (Names words (codes "check") × SaysChecked records before after status)
-    ⊎ (Names words (codes "show") × SaysShown records before after status)
+    (NamesTask words (codes "check") × SaysChecked records before after status)
+    ⊎ (NamesTask words (codes "show") × SaysShown records before after status)
     ⊎ ((status ≡ 2) × (after ≡ before))
 
 -- The rest serves private functions: the status for an answer of `check`, and of `show`.

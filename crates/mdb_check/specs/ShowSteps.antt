@@ -21,8 +21,8 @@ ended_text shown rows (acts.Break length) =
 ended_text shown rows act = rows_line (shown + 1) (rows + 1) (act_text act)
 
 -- the bytes that a writer holds, and those that are on the page for it
-abbrev pub held : Option (List ℕ) → Page → Option (List ℕ)
-held contents page = append_known contents page.lines.items
+abbrev pub output : Option (List ℕ) → Page → Option (List ℕ)
+output contents page = append_known contents page.lines.items
 
 -- a line isn't taken: with want of memory nothing has changed, and of a refused write nothing is
 -- said

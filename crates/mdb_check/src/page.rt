@@ -5,7 +5,7 @@ ghost use Rattle.std.specs.Io.KnownBytes.{Appends, Keeps};
 ghost use Rattle.mdb_bus.specs.Acts.{NamesAReply};
 ghost use Rattle.mdb_follow.specs.declared.follower.TheConstants.{ROWS_MAX};
 ghost use Rattle.mdb_check.specs.ShowText.{fault_line};
-ghost use Rattle.mdb_check.specs.ShowSteps.{IsNotTaken, cut_text, ended_text, held};
+ghost use Rattle.mdb_check.specs.ShowSteps.{IsNotTaken, cut_text, ended_text, output};
 
 use super::outcome::RunFault;
 use super::show_text::{push_cut, push_ended, push_fault};
@@ -47,10 +47,10 @@ impl Page {
         requires reply { NamesAReply act.now }
         requires shown { shown ≤ rows }
         requires rows { rows < ROWS_MAX }
-        ensures added { OnOk result (Appends (held (W.contents writer.old) self.old)
-            (held (W.contents writer.new) self.new) (ended_text shown rows act.now)) }
+        ensures added { OnOk result (Appends (output (W.contents writer.old) self.old)
+            (output (W.contents writer.new) self.new) (ended_text shown rows act.now)) }
         ensures refused { IfErr result (λ fault. IsNotTaken fault
-            (held (W.contents writer.old) self.old) (held (W.contents writer.new) self.new)) }
+            (output (W.contents writer.old) self.old) (output (W.contents writer.new) self.new)) }
     {
         self.next.clear();
         let made = push_ended(&mut self.next, shown, rows, act);
@@ -65,10 +65,10 @@ impl Page {
         rows: u64,
     ) -> Result<(), RunFault>
         requires { rows ≤ ROWS_MAX }
-        ensures added { OnOk result (Appends (held (W.contents writer.old) self.old)
-            (held (W.contents writer.new) self.new) (cut_text shown rows)) }
+        ensures added { OnOk result (Appends (output (W.contents writer.old) self.old)
+            (output (W.contents writer.new) self.new) (cut_text shown rows)) }
         ensures refused { IfErr result (λ fault. IsNotTaken fault
-            (held (W.contents writer.old) self.old) (held (W.contents writer.new) self.new)) }
+            (output (W.contents writer.old) self.old) (output (W.contents writer.new) self.new)) }
     {
         self.next.clear();
         let made = push_cut(&mut self.next, shown, rows);
@@ -82,10 +82,10 @@ impl Page {
         row: u64,
         fault: LinkFault,
     ) -> Result<(), RunFault>
-        ensures added { OnOk result (Appends (held (W.contents writer.old) self.old)
-            (held (W.contents writer.new) self.new) (fault_line row fault)) }
+        ensures added { OnOk result (Appends (output (W.contents writer.old) self.old)
+            (output (W.contents writer.new) self.new) (fault_line row fault)) }
         ensures refused { IfErr result (λ fault. IsNotTaken fault
-            (held (W.contents writer.old) self.old) (held (W.contents writer.new) self.new)) }
+            (output (W.contents writer.old) self.old) (output (W.contents writer.new) self.new)) }
     {
         self.next.clear();
         let made = push_fault(&mut self.next, row, fault);
@@ -98,11 +98,11 @@ impl Page {
         writer: &mut W,
         made: Result<(), AllocError>,
     ) -> Result<(), RunFault>
-        ensures added { OnOk result (Appends (held (W.contents writer.old) self.old)
-            (held (W.contents writer.new) self.new) self.old.next.items) }
+        ensures added { OnOk result (Appends (output (W.contents writer.old) self.old)
+            (output (W.contents writer.new) self.new) self.old.next.items) }
         ensures made { OnOk result (IsOk made) }
         ensures refused { IfErr result (λ fault. IsNotTaken fault
-            (held (W.contents writer.old) self.old) (held (W.contents writer.new) self.new)) }
+            (output (W.contents writer.old) self.old) (output (W.contents writer.new) self.new)) }
     {
         if made.is_err() || self.lines.extend_from_slice(self.next.as_slice()).is_err() {
             return Err(RunFault::Memory);
@@ -116,7 +116,7 @@ impl Page {
     /// Writes the page out, and leaves it empty.
     pub(crate) fn write_out<W: Write>(&mut self, writer: &mut W) -> Result<(), RunFault>
         ensures written { OnOk result
-            (Keeps (held (W.contents writer.old) self.old) (W.contents writer.new)) }
+            (Keeps (output (W.contents writer.old) self.old) (W.contents writer.new)) }
         ensures empty { OnOk result (self.new.lines.items ≡ []) }
         ensures refused { IfErr result (λ fault. fault ≡ RunFault.Write) }
     {

@@ -1,7 +1,7 @@
 //! The program over its words.
 
 ghost use Rattle.std.specs.Prelude.{◌≡◌, ◌<◌, IfOk, IfSome, map, string_bytes};
-ghost use Rattle.mdb_check.specs.Program.{Names, Says, show_status_of, status_of, task_word};
+ghost use Rattle.mdb_check.specs.Program.{NamesTask, Says, show_status_of, status_of, task_word};
 ghost use Rattle.csv.specs.Reading.{default_config, records, strip_bom};
 
 use super::outcome::{Outcome, RunFault};
@@ -73,7 +73,7 @@ pub fn run<R: Read + Drop, W: Write, E: Write>(
 
 /// What the words ask for, or in which way they are no command of the program.
 fn task_of(alloc: Global, words: &[String]) -> Result<Task, ErrorKind>
-    ensures { IfOk result (λ task. Names (map string_bytes words.now) (task_word task)) }
+    ensures { IfOk result (λ task. NamesTask (map string_bytes words.now) (task_word task)) }
 {
     match accept(alloc, words) {
         Ok(()) => named(words),
@@ -96,7 +96,7 @@ fn accept(alloc: Global, words: &[String]) -> Result<(), Error> {
 
 /// The task that the word behind the program's name is.
 fn named(words: &[String]) -> Result<Task, ErrorKind>
-    ensures { IfOk result (λ task. Names (map string_bytes words.now) (task_word task)) }
+    ensures { IfOk result (λ task. NamesTask (map string_bytes words.now) (task_word task)) }
 {
     let [_, word, ..] = words else {
         return Err(ErrorKind::MissingSubcommand);

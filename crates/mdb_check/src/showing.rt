@@ -6,7 +6,7 @@ ghost use Rattle.mdb_records.specs.ToCome.{IsOverLimit, ToCome, fault_of};
 ghost use Rattle.mdb_records.specs.declared.ReadFault.{ReadFault};
 ghost use Rattle.mdb_check.specs.declared.verdict.TheConstants.{BYTES_MAX};
 ghost use Rattle.mdb_check.specs.Show.{Shows};
-ghost use Rattle.mdb_check.specs.ShowSteps.{held};
+ghost use Rattle.mdb_check.specs.ShowSteps.{output};
 
 use super::outcome::RunFault;
 use super::page::Page;
@@ -60,8 +60,8 @@ fn show_rows<R: Read + Drop, W: Write>(
     writer: &mut W,
 ) -> Result<Option<LinkFault>, RunFault>
     ensures shows { (all : List (List (List ℕ))) → ToCome R.remaining records.old all
-        → Shows all (held (W.contents writer.old) page.old)
-        (held (W.contents writer.new) page.new) result }
+        → Shows all (output (W.contents writer.old) page.old)
+        (output (W.contents writer.new) page.new) result }
     ensures whole { IsOverLimit R.remaining records.old → result ≢ Ok None }
     ensures heard { IfErr result (λ fault. fault ≡ RunFault.Read
         → fault_of records.new ≡ Some ReadFault.Read) }

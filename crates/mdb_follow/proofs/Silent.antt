@@ -5,12 +5,12 @@ use Rattle.std.proofs.lemmas.List.Sums.{sum_by-cons}
 use Rattle.std.specs.List.{count_by, list_any}
 use Rattle.mdb_follow.specs.declared.silence.Silence.{Silence}
 use Rattle.mdb_follow.specs.declared.silence.Unanswered.TheVariants.{Until, Counted}
-use Rattle.mdb_follow.specs.Silences.{TimedAsk, first_of, is_silence, with_ask}
+use Rattle.mdb_follow.specs.Silences.{TimedAsk, first_ask, is_silence, with_ask}
 use Rattle.mdb_follow.specs.SilencesKept.{StandsForAsks, IsUnanswered, deadline_of, newest_list}
 
 -- a list with an ask has a first one
 first-of : (ask : TimedAsk) (list : List TimedAsk)
-    → (first : TimedAsk) × (first_of (ask ∷ list) ≡ Some first)
+    → (first : TimedAsk) × (first_ask (ask ∷ list) ≡ Some first)
 first-of ask [] = (ask, refl)
 first-of ask (earlier ∷ list) = first-of earlier list
 

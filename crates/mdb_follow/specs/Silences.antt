@@ -86,16 +86,16 @@ asks_of device (Whole act events ∷ pieces) =
 asks_of device (piece ∷ pieces) = asks_of device pieces
 
 -- the first ask of a list, which stands last
-abbrev pub first_of : List TimedAsk → Option TimedAsk
-first_of [] = None
-first_of (ask ∷ []) = Some ask
-first_of (ask ∷ earlier ∷ list) = first_of (earlier ∷ list)
+abbrev pub first_ask : List TimedAsk → Option TimedAsk
+first_ask [] = None
+first_ask (ask ∷ []) = Some ask
+first_ask (ask ∷ earlier ∷ list) = first_ask (earlier ∷ list)
 
 -- Whether a list of asks is a silence: some ask of it comes more than the limit after the first,
 -- by the starts of their last words. The limit is that at the first ask.
 abbrev pub is_silence : List TimedAsk → Bool
 is_silence list =
-    elim (first_of list) [
+    elim (first_ask list) [
       | Some first ↦ list_any (λ ask. nat_lt (first.at + first.limit) ask.at) list
       | None ↦ false
     ]

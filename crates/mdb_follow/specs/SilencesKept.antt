@@ -11,7 +11,7 @@ use Rattle.mdb_follow.specs.declared.silence.Silences.{Silences}
 use Rattle.mdb_follow.specs.declared.silence.Unanswered.{Unanswered}
 use Rattle.mdb_follow.specs.declared.silence.Unanswered.TheVariants.{Nothing, Until, Counted}
 use Rattle.mdb_follow.specs.declared.silence.TheConstants.{CHANGER_SILENCE_MAX, BILL_SILENCE_MAX}
-use Rattle.mdb_follow.specs.Silences.{TimedAsk, asks, ends_asking, first_of, is_silence, reader_limit, with_ask}
+use Rattle.mdb_follow.specs.Silences.{TimedAsk, asks, ends_asking, first_ask, is_silence, reader_limit, with_ask}
 
 -- how long a device may be silent, by the facts that its side has
 abbrev pub limit_in : Device → Sides → ℕ
@@ -36,7 +36,7 @@ newest_list (list ∷ lists) = list
 
 -- behind which time a further ask makes a list too long; 0 where there is no ask
 abbrev pub deadline_of : List TimedAsk → ℕ
-deadline_of list = elim (first_of list) [ Some first ↦ first.at + first.limit | None ↦ 0 ]
+deadline_of list = elim (first_ask list) [ Some first ↦ first.at + first.limit | None ↦ 0 ]
 
 -- what is kept of the newest list
 abbrev pub IsUnanswered : Unanswered → List TimedAsk → Type 0

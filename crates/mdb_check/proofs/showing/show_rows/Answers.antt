@@ -2,7 +2,7 @@ use Rattle.std.proofs.Common.{arith, refl, subst, ◌≡◌, ◌+◌, ℕ, List,
 use Rattle.mdb_words.specs.Row.{IsRefusal, IsRow}
 use Rattle.std.specs.Io.KnownBytes.{Appends}
 use Rattle.mdb_follow.specs.declared.follower.TheConstants.{ROWS_MAX}
-use Rattle.mdb_check.specs.ShowSteps.{cut_text, held}
+use Rattle.mdb_check.specs.ShowSteps.{cut_text, output}
 use Rattle.mdb_check.proofs.ShowSteps as steps
 use Rattle.mdb_bus.specs.ActLists.{Piece}
 use Rattle.mdb_bus.specs.Bus.{GoesOn, StandsFor, ended_act}
@@ -77,7 +77,7 @@ returns-in_err-add_cut-2-clause-shows g c all to_come =
 pub returns-clause-shows : goal.returns-clause-shows
 returns-clause-shows g c all to_come =
     let full : ROWS_MAX ≡ c.loop-rows.rows = omega arith in
-    let P : ℕ → Type 0 = λ n. Appends (held (g.W.Write.contents c.loop-rows.writer) c.loop-rows.page) (held (g.W.Write.contents c.add_cut-2.new.writer) c.add_cut-2.new.self) (cut_text c.loop-rows.shown n) in
+    let P : ℕ → Type 0 = λ n. Appends (output (g.W.Write.contents c.loop-rows.writer) c.loop-rows.page) (output (g.W.Write.contents c.add_cut-2.new.writer) c.add_cut-2.new.self) (cut_text c.loop-rows.shown n) in
     steps.ended g.R.Read.remaining all _ _ _ _ _ _ _ _ _
     c.loop-rows.invariant.progress to_come c.in_ok-more.more c.if-more.false c.in_ok-more.ensures.next (omega arith) (subst P full c.in_ok-add_cut-2.ensures.added)
 
@@ -89,13 +89,13 @@ loop-rows-preserved g c =
     record {
       progress = elim c.if-ended.branch [
         | then-ended+in_ok-add_ended w ↦
-            steps.progress_is g.R.Read.remaining _ _ c.feed_into.new.self (held (g.W.Write.contents c.args.writer.now) c.args.page.now) _ _ _ _ (c.loop-rows.rows + 1)
+            steps.progress_is g.R.Read.remaining _ _ c.feed_into.new.self (output (g.W.Write.contents c.args.writer.now) c.args.page.now) _ _ _ _ (c.loop-rows.rows + 1)
             (cc (w.writer-is, w.page-is)) w.shown-is
             (steps.act_ended g.R.Read.remaining _ _ _ _ c.feed_into.new.self _ _ _ _ _ c.in-Ok.event c.feed_into.new.act
             c.loop-rows.invariant.progress c.in_ok-found.found c.if-not-found.false c.in_ok-found.ensures.next row
             (subst On w.if-ended.true c.in-Ok-feed_into.ensures.goes_on) w.in_ok-add_ended.ensures.added)
         | else-ended w ↦
-            steps.progress_is g.R.Read.remaining _ _ c.feed_into.new.self (held (g.W.Write.contents c.args.writer.now) c.args.page.now) _ _ _ _ (c.loop-rows.rows + 1)
+            steps.progress_is g.R.Read.remaining _ _ c.feed_into.new.self (output (g.W.Write.contents c.args.writer.now) c.args.page.now) _ _ _ _ (c.loop-rows.rows + 1)
             (cc (w.writer-is, w.page-is)) w.shown-is
             (steps.goes_on g.R.Read.remaining _ _ _ _ c.feed_into.new.self _ _ _ _ c.in-Ok.event
             c.loop-rows.invariant.progress c.in_ok-found.found c.if-not-found.false c.in_ok-found.ensures.next row
