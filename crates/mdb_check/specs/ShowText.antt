@@ -4,6 +4,7 @@ use Rattle.std.specs.Prelude.{◌+◌, ◌/◌, ◌%◌, ℕ, true, List, [], �
 use Rattle.std.specs.Fmt.{decimal, digit_glyph}
 use Rattle.mdb_blocks.specs.Block.{block_of}
 use Rattle.mdb_msgs.specs.declared.command.Command.{Command}
+use Rattle.mdb_msgs.specs.declared.command.Device.{Device}
 use Rattle.mdb_msgs.specs.Commands.{command_bytes, device_of}
 use Rattle.mdb_msgs.specs.Replies.{reply_bytes}
 use Rattle.mdb_bus.specs.declared.act.Act.{Act}
@@ -19,9 +20,13 @@ bytes_text [] = []
 bytes_text (byte ∷ bytes) =
     32 ∷ digit_glyph true (byte / 16) ∷ digit_glyph true (byte % 16) ∷ bytes_text bytes
 
--- what somebody did to a command: the device of the command is named
+-- the word of a device: that of the blame for what it says
+abbrev pub device_word : Device → List ℕ
+device_word device = blame_word (blame_on (Some device))
+
+-- the word of an act, and the device of its command
 abbrev pub deed_text : List ℕ → Command → List ℕ
-deed_text deed command = deed ++ blame_word (blame_on (Some (device_of command)))
+deed_text deed command = deed ++ device_word (device_of command)
 
 -- what was done on the bus; blocks stand with their sums
 abbrev pub act_text : Act → List ℕ
@@ -50,6 +55,7 @@ piece_text (RepeatTail command reply words events) = codes "cut"
 abbrev pub rows_text : ℕ → ℕ → List ℕ
 rows_text first last = decimal first ++ codes "-" ++ decimal last ++ codes " "
 
+-- the line that tells of them, with these words behind
 abbrev pub rows_line : ℕ → ℕ → List ℕ → List ℕ
 rows_line first last words = line (rows_text first last ++ words)
 
