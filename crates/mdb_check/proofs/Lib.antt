@@ -1,6 +1,7 @@
 pub mod Fields
 pub mod Headline
 pub mod OneAnswer
+pub mod OneShowing
 pub mod Reading
 pub mod ShowSteps
 pub mod ShowTexts

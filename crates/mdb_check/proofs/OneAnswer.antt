@@ -27,11 +27,11 @@ pub record RunLaws : Type 0 where
 pub row_one : (fields : List (List ℕ)) (a b : Event) → IsRow fields a → IsRow fields b → a ≡ b
 row_one fields a b p q = grind (arith, common_steps)
 
-row_not_refused : (fields : List (List ℕ)) (event : Event) (fault : RowFault) → IsRow fields event → IsRefusal fields fault → ⊥
+pub row_not_refused : (fields : List (List ℕ)) (event : Event) (fault : RowFault) → IsRow fields event → IsRefusal fields fault → ⊥
 row_not_refused fields event fault row refused = grind (arith, common_steps)
 
 -- a record has one refusal
-one_refusal : (fields : List (List ℕ)) (a b : RowFault) → IsRefusal fields a → IsRefusal fields b → a ≡ b
+pub one_refusal : (fields : List (List ℕ)) (a b : RowFault) → IsRefusal fields a → IsRefusal fields b → a ≡ b
 one_refusal fields a b p q = grind (arith, common_steps)
 
 -- The rows at the front of the records that are reached, where no more row goes on: there is no record behind them, it is no
@@ -45,14 +45,14 @@ record Front (records : List (List (List ℕ))) (rows : List Event) (rest : List
   ends : (fields : List (List ℕ)) (more : List (List (List ℕ))) (event : Event) → rest ≡ fields ∷ more → IsRow fields event → IsReached (rows ++ event ∷ []) → length rows < ROWS_MAX → ⊥
 
 -- of two fronts of rows the longer one goes on behind the shorter one, with a record that is a row
-record GoesOn (rows longer : List Event) (rest : List (List (List ℕ))) : Type 0 where
-  fields : List (List ℕ)
-  behind : List (List (List ℕ))
-  event : Event
-  more : List Event
-  record_is : rest ≡ fields ∷ behind
-  row : IsRow fields event
-  longer_is : longer ≡ rows ++ event ∷ more
+pub record GoesOn (rows longer : List Event) (rest : List (List (List ℕ))) : Type 0 where
+  pub fields : List (List ℕ)
+  pub behind : List (List (List ℕ))
+  pub event : Event
+  pub more : List Event
+  pub record_is : rest ≡ fields ∷ behind
+  pub row : IsRow fields event
+  pub longer_is : longer ≡ rows ++ event ∷ more
 
 -- the same with one row more in front
 one_more_in_front : (rows longer : List Event) (rest : List (List (List ℕ))) (event other : Event) → event ≡ other → GoesOn rows longer rest → GoesOn (event ∷ rows) (other ∷ longer) rest
@@ -67,7 +67,7 @@ one_more_in_front rows longer rest event other one on = record {
 }
 
 -- of two fronts of rows of the same records, either both are one, or one goes on behind the other
-compared : (done others rest left : List (List (List ℕ))) (rows events : List Event) → AreRows done rows → AreRows others events → done ++ rest ≡ others ++ left
+pub compared : (done others rest left : List (List (List ℕ))) (rows events : List Event) → AreRows done rows → AreRows others events → done ++ rest ≡ others ++ left
     → ((rows ≡ events) × (rest ≡ left)) ⊎ (GoesOn rows events rest ⊎ GoesOn events rows left)
 compared [] [] rest left [] [] told heard same = inl (refl, same)
 compared [] (fields ∷ others) rest left [] (event ∷ events) told heard same =

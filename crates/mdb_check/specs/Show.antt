@@ -1,5 +1,5 @@
 -- What `show` answers to the records of a text, and what it writes of them.
-use Rattle.std.specs.Prelude.{◌≡◌, ◌≢◌, ◌+◌, ◌<◌, ◌≤◌, ℕ, List, [], ◌∷◌, ◌++◌, length, Option, Some, None, Result, Ok, Err}
+use Rattle.std.specs.Prelude.{◌≡◌, ◌≢◌, ◌+◌, ◌<◌, ◌≤◌, ℕ, List, [], ◌∷◌, ◌++◌, length, ⊤, Option, Some, None, Result, Ok, Err}
 use Rattle.std.specs.Io.KnownBytes.{Appends}
 use Rattle.mdb_words.specs.declared.event.Event.{Event}
 use Rattle.mdb_words.specs.declared.row.RowFault.{RowFault}
@@ -90,3 +90,12 @@ abbrev pub Shows : List (List (List ℕ)) → Option (List ℕ) → Option (List
     → Result (Option LinkFault) RunFault → Type 0
 Shows records before after answer =
     answer ≢ Err Write → (text : List ℕ) × IsShowing records answer text × Appends before after text
+
+-- an answer that the records themselves have: every one but a refused read, write or memory
+abbrev pub IsOwnShowing : Result (Option LinkFault) RunFault → Type 0
+IsOwnShowing (Ok fault) = ⊤
+IsOwnShowing (Err (BadRow row fault)) = ⊤
+IsOwnShowing (Err TooLong) = ⊤
+IsOwnShowing (Err Read) = ⊥
+IsOwnShowing (Err Write) = ⊥
+IsOwnShowing (Err Memory) = ⊥

@@ -1,14 +1,17 @@
 //! Laws of verdicts. Each function's contract is the law, and its body calls the laws that it rests
 //! on.
 
-ghost use Rattle.std.specs.Prelude.{◌≡◌, ℕ, List, Result, Ok};
+ghost use Rattle.std.specs.Prelude.{◌≡◌, ℕ, List, Option, Result, Ok};
+ghost use Rattle.mdb_bus.specs.declared.fault.LinkFault.{LinkFault};
 ghost use Rattle.mdb_follow.specs.declared.follower.TheConstants.{ROWS_MAX};
 ghost use Rattle.mdb_check.specs.declared.verdict.TheConstants.{BYTES_MAX};
 ghost use Rattle.mdb_check.specs.declared.outcome.Outcome.{Outcome};
 ghost use Rattle.mdb_check.specs.declared.outcome.RunFault.{RunFault};
 ghost use Rattle.mdb_check.specs.Headline.{Headline};
+ghost use Rattle.mdb_check.specs.Show.{IsOwnShowing, IsShowing};
 ghost use Rattle.mdb_check.specs.Verdict.{IsAnswer, IsOwnAnswer};
 
+use mdb_bus::laws as links;
 use mdb_follow::laws;
 
 /// The headline: what a verdict says, phrase by phrase.
@@ -35,6 +38,19 @@ pub fn texts_have_one_answer()
     laws::fronts_of_reached_rows_are_reached();
     laws::rows_have_one_report();
     laws::rows_have_one_offence();
+}
+
+/// The records of a text are shown in at most one way of their own: what is answered, and what is
+/// written.
+pub fn texts_are_shown_in_one_way()
+    ensures { (records : List (List (List ℕ))) (a b : Result (Option LinkFault) RunFault)
+        (s t : List ℕ) → IsShowing records a s → IsShowing records b t → IsOwnShowing a
+        → IsOwnShowing b → (a ≡ b) × (s ≡ t) }
+{
+    links::fronts_of_act_lists_have_act_lists();
+    links::transcripts_have_one_act_list();
+    links::rows_have_one_fault();
+    links::rows_that_break_a_rule_end_the_act_list();
 }
 
 /// The limits of a transcript (this profile).
