@@ -129,6 +129,7 @@ impl Bus {
     }
 
     /// Goes a step by a row, and answers whether it ends an act, which it then puts into `act`.
+    #[inline(always)]
     fn go(&mut self, judged: Judged, event: Event, act: &mut Act) -> bool
         requires { HasRoom self.old.place.phase judged }
         ensures gone { EachStep judged (λ next. IsAt (position_at self.old.place) next

@@ -27,6 +27,7 @@ use mdb_words::{
 };
 
 /// What is made of a row, which comes behind `from`.
+#[inline(always)]
 pub(crate) fn judge(place: &Place, from: &Option<Event>, row: &Event) -> Result<Judged, Rule>
     ensures judged { (levels : Levels) → IsSound (position_at place.now)
         → IsJudged (record {
@@ -70,6 +71,7 @@ fn judge_break(from: &Option<Event>, at: Time, length: Span) -> Result<Judged, R
 }
 
 /// A word of the controller.
+#[inline(always)]
 fn judge_controller(
     place: &Place,
     from: &Option<Event>,
@@ -97,6 +99,7 @@ fn judge_controller(
 }
 
 /// A word of a peripheral.
+#[inline(always)]
 fn judge_peripheral(
     place: &Place,
     from: &Option<Event>,
@@ -169,6 +172,7 @@ fn begin_block(from: &Option<Event>, at: Time, word: Word, least: u64) -> Result
 }
 
 /// A word of the controller inside its block.
+#[inline(always)]
 fn go_on_asking(bytes: &Begun, from: &Option<Event>, at: Time, word: Word) -> Result<Judged, Rule>
     requires { OutOfOrder from.now (Event.Word at Line.Controller word) → ⊥ }
     ensures judged { (levels : Levels) → IsAskFront bytes.now
@@ -197,6 +201,7 @@ fn go_on_asking(bytes: &Begun, from: &Option<Event>, at: Time, word: Word) -> Re
 }
 
 /// The second byte of a block: its sum, a field, or a subcommand, which may make the block foreign.
+#[inline(always)]
 fn second_byte(bytes: &Begun, first: u8, word: Word) -> Result<Judged, Rule>
     requires is { bytes.now ≡ first ∷ [] }
     requires unmarked { word < 256 }

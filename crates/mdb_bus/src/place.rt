@@ -137,6 +137,7 @@ impl Place {
     ghost use Rattle.mdb_bus.specs.Steps.{HasAdvanced, HasRoom, IsAt, IsReadAt, IsTaken};
 
     /// Goes a step, and answers whether it ends an act, which it then puts into `act`.
+    #[inline(always)]
     pub(crate) fn advance(&mut self, judged: Judged, act: &mut Act) -> bool
         requires { HasRoom self.old.phase judged }
         ensures advanced { EachStep judged (λ next. IsAt (position_at self.old) next
@@ -196,6 +197,7 @@ impl Place {
     }
 
     /// The controller's block has ended.
+    #[inline(always)]
     fn end_ask(&mut self, act: &mut Act) -> bool
         ensures advanced { (command : Command) → IsAt (position_at self.old) (step.Ask command)
             → HasAdvanced (position_at self.old) (step.Ask command) (position_at self.new)

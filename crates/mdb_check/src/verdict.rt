@@ -138,6 +138,7 @@ fn outcome_of(follower: &Follower) -> Outcome
 }
 
 /// The event of a record.
+#[inline(always)]
 pub(crate) fn event_of(row: &ByteRecord) -> Result<Event, RowFault>
     ensures { Tells result (fields_of row.now) }
 {

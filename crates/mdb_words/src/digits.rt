@@ -25,6 +25,7 @@ pub(crate) fn read_decimal(field: &[u8], most: usize) -> Option<u64>
 
 /// The number of decimal digits; `None` where a byte is no digit. Each turn takes four of them,
 /// after the few at the front by which their count is more than a multiple of four.
+#[inline(always)]
 fn number_of(digits: &[u8]) -> Option<u64>
     requires { length digits.now ≤ 15 }
     ensures { SomeIff result (AllDigits 10 digits.now) (digits_value 10 digits.now) }

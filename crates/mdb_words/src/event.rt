@@ -39,6 +39,7 @@ impl Event {
     /// decimal digits.
     ///
     /// Of several faults the first in the order of [`RowFault`] is told.
+    #[inline(always)]
     pub fn read(fields: &[&[u8]]) -> Result<Event, RowFault>
         ensures ok { IfOk result (IsRow (map (λ f. f.now) fields.now)) }
         ensures only { (event : Event) →
@@ -53,6 +54,7 @@ impl Event {
     }
 
     /// The event that starts at a time, by the letter and the value of its row.
+    #[inline(always)]
     fn read_at(at: Time, letter: &[u8], value: &[u8]) -> Result<Event, RowFault>
         ensures { (time : List ℕ) →
             IsDecimal 15 time at → Tells result (time ∷ letter.now ∷ value.now ∷ []) }
@@ -66,6 +68,7 @@ impl Event {
     }
 
     /// The word that starts at a time on a line, by the value of its row.
+    #[inline(always)]
     fn read_word(at: Time, line: Line, value: &[u8]) -> Result<Event, RowFault>
         ensures { (time : List ℕ) → IsDecimal 15 time at →
             Tells result (time ∷ (letter_of line ∷ []) ∷ value.now ∷ []) }

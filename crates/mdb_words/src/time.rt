@@ -41,6 +41,7 @@ impl Time {
 
     /// The time that a field of exactly 1 to 15 ASCII digits tells, leading zeros allowed; else
     /// `None` (this profile).
+    #[inline(always)]
     pub fn read(field: &[u8]) -> Option<Time>
         ensures some { IfSome result (IsDecimal 15 field.now) }
         ensures none { IfNone result ((n : ℕ) → IsDecimal 15 field.now n → ⊥) }
