@@ -3,6 +3,7 @@ pub mod Headline
 pub mod OneAnswer
 pub mod OneShowing
 pub mod Reading
+pub mod SameFault
 pub mod ShowSteps
 pub mod ShowTexts
 pub mod Status

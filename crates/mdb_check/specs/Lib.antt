@@ -4,5 +4,6 @@ pub mod Program
 pub mod Show
 pub mod ShowSteps
 pub mod ShowText
+pub mod ShownFault
 pub mod Text
 pub mod Verdict

@@ -1,14 +1,16 @@
 //! Laws of verdicts. Each function's contract is the law, and its body calls the laws that it rests
 //! on.
 
-ghost use Rattle.std.specs.Prelude.{◌≡◌, ℕ, List, Option, Result, Ok};
+ghost use Rattle.std.specs.Prelude.{◌≡◌, ◌+◌, ℕ, List, Option, Result, Ok, length};
+ghost use Rattle.mdb_bus.specs.ActLists.{events_of};
 ghost use Rattle.mdb_bus.specs.declared.fault.LinkFault.{LinkFault};
 ghost use Rattle.mdb_follow.specs.declared.follower.TheConstants.{ROWS_MAX};
 ghost use Rattle.mdb_check.specs.declared.verdict.TheConstants.{BYTES_MAX};
 ghost use Rattle.mdb_check.specs.declared.outcome.Outcome.{Outcome};
 ghost use Rattle.mdb_check.specs.declared.outcome.RunFault.{RunFault};
 ghost use Rattle.mdb_check.specs.Headline.{Headline};
-ghost use Rattle.mdb_check.specs.Show.{IsOwnShowing, IsShowing};
+ghost use Rattle.mdb_check.specs.Show.{IsOwnShowing, IsShowing, IsShownToFault};
+ghost use Rattle.mdb_check.specs.ShownFault.{IsNoUpTo};
 ghost use Rattle.mdb_check.specs.Verdict.{IsAnswer, IsOwnAnswer};
 
 use mdb_bus::laws as links;
@@ -46,6 +48,21 @@ pub fn texts_are_shown_in_one_way()
     ensures { (records : List (List (List ℕ))) (a b : Result (Option LinkFault) RunFault)
         (s t : List ℕ) → IsShowing records a s → IsShowing records b t → IsOwnShowing a
         → IsOwnShowing b → (a ≡ b) × (s ≡ t) }
+{
+    links::fronts_of_act_lists_have_act_lists();
+    links::transcripts_have_one_act_list();
+    links::rows_have_one_fault();
+    links::rows_that_break_a_rule_end_the_act_list();
+}
+
+/// Where the records of a text are shown up to a fault of the link, their verdict is a no: with the
+/// row, the rule and the blame of that fault, or with an earlier row, where it is a device or the
+/// controller that did what it can't have done.
+pub fn shown_faults_are_those_of_verdicts()
+    ensures { (records : List (List (List ℕ))) (fault : LinkFault) (text : List ℕ)
+        (answer : Result Outcome RunFault) → (shown : IsShownToFault records fault text)
+        → IsAnswer records answer → IsOwnAnswer answer
+        → IsNoUpTo (length (events_of shown.pieces) + 1) fault answer }
 {
     links::fronts_of_act_lists_have_act_lists();
     links::transcripts_have_one_act_list();

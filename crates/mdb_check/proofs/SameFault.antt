@@ -1,0 +1,152 @@
+-- A fault of the link that `show` ends with is that of the verdict, unless a machine ends the verdict before.
+use Rattle.std.proofs.Common.{arith, refl, ap, sym, subst, ◌∙◌, ◌≡◌, ◌+◌, ℕ, List, [], ◌∷◌, ◌++◌, Result, Ok, Err, inl, inr, ◌⊎◌, length, length-append, append_assoc}
+use Rattle.std.proofs.lemmas.List.{append-nil}
+use Rattle.mdb_words.specs.declared.event.Event.{Event}
+use Rattle.mdb_words.specs.declared.row.RowFault.{RowFault}
+use Rattle.mdb_words.specs.Row.{IsRow, IsRefusal}
+use Rattle.mdb_bus.specs.declared.act.Act.{Act}
+use Rattle.mdb_bus.specs.declared.fault.LinkFault.{LinkFault}
+use Rattle.mdb_bus.specs.declared.fault.Rule.{Rule}
+use Rattle.mdb_bus.specs.ActLists.{Piece, Whole, ArePieces, HasActList, acts_of, events_of}
+use Rattle.mdb_bus.specs.LinkFaults.{IsLinkFault}
+use Rattle.mdb_follow.specs.declared.offence.Offence.{Offence}
+use Rattle.mdb_follow.specs.Offences.{BreaksLink, BreaksMachine, IsOffence, NoStep, ByBill, ByChanger, ByReader}
+use Rattle.mdb_follow.specs.Runs.{IsReached}
+use Rattle.mdb_check.specs.declared.outcome.Outcome.{Outcome}
+use Rattle.mdb_check.specs.declared.outcome.Outcome.TheVariants.{Yes, No}
+use Rattle.mdb_check.specs.declared.outcome.RunFault.{RunFault}
+use Rattle.mdb_check.specs.declared.outcome.RunFault.TheVariants.{BadRow, TooLong, Read, Write, Memory}
+use Rattle.mdb_check.specs.Show.{IsShownToFault}
+use Rattle.mdb_check.specs.ShownFault.{IsMachineRule, IsNoUpTo}
+use Rattle.mdb_check.specs.Verdict.{IsAnswer, IsBadRow, IsImpossible, IsOwnAnswer, IsTooLong}
+use Rattle.mdb_check.proofs.OneAnswer.{GoesOn, compared, row_not_refused, row_one}
+use Rattle.mdb_check.proofs.OneShowing.{BusLaws}
+
+-- a machine that has no step has a rule of its own
+of_machine : (broken : Rule) (act : Act) (before : List Act) → NoStep broken act before → IsMachineRule broken
+of_machine broken act before (ByChanger none) = inl refl
+of_machine broken act before (ByBill none) = inr (inl refl)
+of_machine broken act before (ByReader unit none) = inr (inr refl)
+
+-- rows and one more that have an act list have one up to that row
+up_to : BusLaws → (rows longer more : List Event) (row event : Event) → event ≡ row → longer ≡ rows ++ event ∷ more → HasActList longer → HasActList (rows ++ row ∷ [])
+up_to laws rows longer more row event same is list =
+    let split : longer ≡ (rows ++ event ∷ []) ++ more = is ∙ sym (append_assoc rows (event ∷ []) more) in
+    let P : Event → Type 0 = λ e. HasActList (rows ++ e ∷ []) in
+    subst P same (laws.fronts (rows ++ event ∷ []) more (subst HasActList split list))
+
+-- where rows have an act list with the next row, the offence of that row is a machine's
+earlier_row : BusLaws → (rows : List Event) (row : Event) (offence : Offence) → HasActList (rows ++ row ∷ []) → IsOffence rows row offence → IsMachineRule offence.rule
+earlier_row laws rows row offence list why_not = by_why why_not.why
+  where
+    by_why : BreaksLink rows row offence.rule offence.blame ⊎ BreaksMachine rows row offence.rule offence.blame → IsMachineRule offence.rule
+    by_why (inl link) =
+        let P : List Event → Type 0 = λ es. HasActList (es ++ row ∷ []) in
+        absurd (laws.stops link.pieces row offence.rule link.act_list.in_order link.fault.rule.breaks (subst P (sym link.act_list.whole) list))
+    by_why (inr machine) = of_machine offence.rule machine.act (acts_of machine.earlier) machine.no_step
+
+-- at the row of a fault, an offence has its rule and its blame
+at_the_row : BusLaws → (pieces : List Piece) (row : Event) (fault : LinkFault) (offence : Offence) → ArePieces pieces → IsLinkFault pieces row fault.rule fault.blame
+    → IsOffence (events_of pieces) row offence → (offence.rule ≡ fault.rule) × (offence.blame ≡ fault.blame)
+at_the_row laws pieces row fault offence order is why_not = by_why why_not.why
+  where
+    by_why : BreaksLink (events_of pieces) row offence.rule offence.blame ⊎ BreaksMachine (events_of pieces) row offence.rule offence.blame
+        → (offence.rule ≡ fault.rule) × (offence.blame ≡ fault.blame)
+    by_why (inl link) =
+        let one : link.pieces ≡ pieces = laws.one_list (events_of pieces) link.pieces pieces link.act_list (record { in_order = order; whole = refl }) in
+        let P : List Piece → Type 0 = λ l. IsLinkFault l row offence.rule offence.blame in
+        laws.one_fault pieces row offence.rule fault.rule offence.blame fault.blame (subst P one link.fault) is
+    by_why (inr machine) = absurd (laws.stops pieces row fault.rule order is.rule.breaks (Whole machine.act (machine.begun ++ row ∷ []) ∷ machine.earlier, machine.act_list))
+
+-- of two records at the front the fields are the same
+same_fields : (fields others : List (List ℕ)) (rest left : List (List (List ℕ))) → fields ∷ rest ≡ others ∷ left → others ≡ fields
+same_fields fields others rest left same = cc
+
+-- records that begin alike begin with one row
+same_row : (fields others : List (List ℕ)) (rest left : List (List (List ℕ))) (row event : Event) → fields ∷ rest ≡ others ∷ left → IsRow fields row → IsRow others event → event ≡ row
+same_row fields others rest left row event same told heard =
+    let P : List (List ℕ) → Type 0 = λ f. IsRow f event in
+    row_one fields event row (subst P (same_fields fields others rest left same) heard) told
+
+-- no rows with an act list go on with the row of the fault
+none_beyond : BusLaws → (records : List (List (List ℕ))) (fault : LinkFault) (text : List ℕ) (shown : IsShownToFault records fault text) (rows : List Event)
+    → GoesOn (events_of shown.pieces) rows (shown.fields ∷ shown.rest) → HasActList rows → ⊥
+none_beyond laws records fault text shown rows on list =
+    let same : on.event ≡ shown.row = same_row shown.fields on.fields shown.rest on.behind shown.row on.event on.record_is shown.row_told on.row in
+    laws.stops shown.pieces shown.row fault.rule shown.shown.in_order shown.is.rule.breaks (up_to laws (events_of shown.pieces) rows on.more shown.row on.event same on.longer_is list)
+
+nothing_there : (fields : List (List ℕ)) (rest : List (List (List ℕ))) → [] ≡ fields ∷ rest → ⊥
+nothing_there fields rest same = cc same
+
+-- the verdict is no yes
+no_yes : BusLaws → (records : List (List (List ℕ))) (fault : LinkFault) (text : List ℕ) → (shown : IsShownToFault records fault text) → (rows : List Event) → IsReached rows
+    → ((rows ≡ events_of shown.pieces) × ([] ≡ shown.fields ∷ shown.rest)) ⊎ (GoesOn rows (events_of shown.pieces) [] ⊎ GoesOn (events_of shown.pieces) rows (shown.fields ∷ shown.rest)) → ⊥
+no_yes laws records fault text shown rows reached (inl same) = nothing_there shown.fields shown.rest same.1
+no_yes laws records fault text shown rows reached (inr (inl on)) = nothing_there on.fields on.behind on.record_is
+no_yes laws records fault text shown rows reached (inr (inr on)) = none_beyond laws records fault text shown rows on (reached.1.pieces, reached.1.act_list)
+
+-- a no is that fault, or comes before it
+no_up_to : BusLaws → (records : List (List (List ℕ))) (fault : LinkFault) (text : List ℕ) → (shown : IsShownToFault records fault text) → (offence : Offence) → (is : IsImpossible records offence)
+    → ((is.rows ≡ events_of shown.pieces) × (is.fields ∷ is.stops.rest ≡ shown.fields ∷ shown.rest))
+    ⊎ (GoesOn is.rows (events_of shown.pieces) (is.fields ∷ is.stops.rest) ⊎ GoesOn (events_of shown.pieces) is.rows (shown.fields ∷ shown.rest))
+    → IsNoUpTo (length (events_of shown.pieces) + 1) fault (Ok (No offence))
+no_up_to laws records fault text shown offence is (inl same) =
+    let event : shown.row ≡ is.row = same_row is.fields shown.fields is.stops.rest shown.rest is.row shown.row same.1 is.told shown.row_told in
+    let Behind : List Event → Type 0 = λ es. IsOffence es is.row offence in
+    let OfRow : Event → Type 0 = λ e. IsOffence (events_of shown.pieces) e offence in
+    let here : IsOffence (events_of shown.pieces) shown.row offence = subst OfRow (sym event) (subst Behind same.0 is.is) in
+    let both : (offence.rule ≡ fault.rule) × (offence.blame ≡ fault.blame) = at_the_row laws shown.pieces shown.row fault offence shown.shown.in_order shown.is here in
+    inr (here.number, both.0, both.1)
+no_up_to laws records fault text shown offence is (inr (inl on)) =
+    let event : on.event ≡ is.row = same_row is.fields on.fields is.stops.rest on.behind is.row on.event on.record_is is.told on.row in
+    let list : HasActList (is.rows ++ is.row ∷ []) = up_to laws is.rows (events_of shown.pieces) on.more is.row on.event event on.longer_is (shown.pieces, record { in_order = shown.shown.in_order; whole = refl }) in
+    let long : length (events_of shown.pieces) ≡ length is.rows + length (on.event ∷ on.more) = ap length on.longer_is ∙ length-append is.rows (on.event ∷ on.more) in
+    inl (omega (arith, long, is.is.number), earlier_row laws is.rows is.row offence list is.is)
+no_up_to laws records fault text shown offence is (inr (inr on)) =
+    absurd (none_beyond laws records fault text shown is.rows on (is.stops.possible.1.pieces, is.stops.possible.1.act_list))
+
+-- records that begin alike begin with a row, or with none
+no_refusal : (fields others : List (List ℕ)) (rest left : List (List (List ℕ))) (event : Event) (fault : RowFault) → fields ∷ rest ≡ others ∷ left → IsRefusal fields fault → IsRow others event → ⊥
+no_refusal fields others rest left event fault same refused told =
+    let P : List (List ℕ) → Type 0 = λ f. IsRow f event in
+    row_not_refused fields event fault (subst P (same_fields fields others rest left same) told) refused
+
+-- no record before the row of the fault is no row
+no_bad_row : BusLaws → (records : List (List (List ℕ))) (fault : LinkFault) (text : List ℕ) → (shown : IsShownToFault records fault text) → (row : ℕ) (why : RowFault) → (is : IsBadRow records row why)
+    → ((is.rows ≡ events_of shown.pieces) × (is.fields ∷ is.stops.rest ≡ shown.fields ∷ shown.rest))
+    ⊎ (GoesOn is.rows (events_of shown.pieces) (is.fields ∷ is.stops.rest) ⊎ GoesOn (events_of shown.pieces) is.rows (shown.fields ∷ shown.rest)) → ⊥
+no_bad_row laws records fault text shown row why is (inl same) = no_refusal is.fields shown.fields is.stops.rest shown.rest shown.row why same.1 is.refused shown.row_told
+no_bad_row laws records fault text shown row why is (inr (inl on)) = no_refusal is.fields on.fields is.stops.rest on.behind on.event why on.record_is is.refused on.row
+no_bad_row laws records fault text shown row why is (inr (inr on)) =
+    none_beyond laws records fault text shown is.rows on (is.stops.possible.1.pieces, is.stops.possible.1.act_list)
+
+-- nor are there too many
+not_too_long : BusLaws → (records : List (List (List ℕ))) (fault : LinkFault) (text : List ℕ) → (shown : IsShownToFault records fault text) → (is : IsTooLong records)
+    → ((is.rows ≡ events_of shown.pieces) × (is.fields ∷ is.stops.rest ≡ shown.fields ∷ shown.rest))
+    ⊎ (GoesOn is.rows (events_of shown.pieces) (is.fields ∷ is.stops.rest) ⊎ GoesOn (events_of shown.pieces) is.rows (shown.fields ∷ shown.rest)) → ⊥
+not_too_long laws records fault text shown is (inl same) =
+    let many : length is.rows ≡ length (events_of shown.pieces) = ap length same.0 in
+    omega (arith, many, is.full, shown.few)
+not_too_long laws records fault text shown is (inr (inl on)) =
+    let long : length (events_of shown.pieces) ≡ length is.rows + length (on.event ∷ on.more) = ap length on.longer_is ∙ length-append is.rows (on.event ∷ on.more) in
+    omega (arith, long, is.full, shown.few)
+not_too_long laws records fault text shown is (inr (inr on)) =
+    none_beyond laws records fault text shown is.rows on (is.stops.possible.1.pieces, is.stops.possible.1.act_list)
+
+pub same_fault : BusLaws → (records : List (List (List ℕ))) (fault : LinkFault) (text : List ℕ) (answer : Result Outcome RunFault) → (shown : IsShownToFault records fault text) → IsAnswer records answer
+    → IsOwnAnswer answer → IsNoUpTo (length (events_of shown.pieces) + 1) fault answer
+same_fault laws records fault text (Ok (Yes report)) shown is own =
+    no_yes laws records fault text shown is.rows is.is.reached
+    (compared records shown.shown.done [] (shown.fields ∷ shown.rest) is.rows (events_of shown.pieces) is.told shown.shown.told (append-nil records ∙ shown.shown.split))
+same_fault laws records fault text (Ok (No offence)) shown is own =
+    no_up_to laws records fault text shown offence is
+    (compared is.stops.done shown.shown.done (is.fields ∷ is.stops.rest) (shown.fields ∷ shown.rest) is.rows (events_of shown.pieces) is.stops.told shown.shown.told (sym is.stops.split ∙ shown.shown.split))
+same_fault laws records fault text (Err (BadRow row why)) shown is own =
+    no_bad_row laws records fault text shown row why is
+    (compared is.stops.done shown.shown.done (is.fields ∷ is.stops.rest) (shown.fields ∷ shown.rest) is.rows (events_of shown.pieces) is.stops.told shown.shown.told (sym is.stops.split ∙ shown.shown.split))
+same_fault laws records fault text (Err TooLong) shown is own =
+    not_too_long laws records fault text shown is
+    (compared is.stops.done shown.shown.done (is.fields ∷ is.stops.rest) (shown.fields ∷ shown.rest) is.rows (events_of shown.pieces) is.stops.told shown.shown.told (sym is.stops.split ∙ shown.shown.split))
+same_fault laws records fault text (Err Read) shown is own = absurd own
+same_fault laws records fault text (Err Write) shown is own = absurd own
+same_fault laws records fault text (Err Memory) shown is own = absurd own
