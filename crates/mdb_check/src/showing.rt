@@ -1,12 +1,13 @@
 //! The acts of a transcript.
 
-ghost use Rattle.std.specs.Prelude.{◌≡◌, ◌≢◌, ◌<◌, List, ℕ, IfErr, IfSome, None, Ok, Some, length};
+ghost use Rattle.std.specs.Prelude.{◌≡◌, ◌≢◌, ◌<◌, List, ℕ, Err, IfErr, IfSome, None, Ok, Some, length};
 ghost use Rattle.csv.specs.Reading.{default_config, records, strip_bom};
 ghost use Rattle.mdb_records.specs.ToCome.{IsOverLimit, ToCome, fault_of};
 ghost use Rattle.mdb_records.specs.declared.ReadFault.{ReadFault};
 ghost use Rattle.mdb_check.specs.declared.verdict.TheConstants.{BYTES_MAX};
 ghost use Rattle.mdb_check.specs.Show.{Shows};
 ghost use Rattle.mdb_check.specs.ShowSteps.{output};
+ghost use Rattle.mdb_check.specs.Verdict.{run_fault_of};
 
 use super::outcome::RunFault;
 use super::page::Page;
@@ -65,6 +66,8 @@ fn show_rows<R: Read + Drop, W: Write>(
     ensures whole { IsOverLimit R.remaining records.old → result ≢ Ok None }
     ensures heard { IfErr result (λ fault. fault ≡ RunFault.Read
         → fault_of records.new ≡ Some ReadFault.Read) }
+    ensures met { fault_of records.old ≡ None → IfSome (fault_of records.new)
+        (λ fault. result ≡ Err (run_fault_of fault)) }
 {
     laws::acts_name_replies_of_their_commands();
     let mut bus = Bus::new();

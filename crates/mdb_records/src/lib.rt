@@ -5,7 +5,7 @@
 //! is given is one of the whole text's records, and the end is told only where the whole text ends.
 #![tactic(auto)]
 
-ghost use Rattle.std.specs.Prelude.{◌≡◌, ◌<◌, ◌≤◌, ℕ, All, List, None, length, true, IfErr, IfOk, IfSome, Some, Err, if◌then◌else◌};
+ghost use Rattle.std.specs.Prelude.{◌≡◌, ◌<◌, ◌≤◌, ℕ, All, List, None, length, true, IfErr, IfOk, OnOk, IfSome, Some, Err, if◌then◌else◌};
 ghost use Rattle.csv.specs.Reading.{default_config, error_kind, is_io, records, stops_reader, strip_bom};
 ghost use Rattle.csv.specs.Records.{fields_of};
 ghost use Rattle.mdb_records.specs.SetUp.{IsSetUp};
@@ -80,6 +80,7 @@ impl<R: Read + Drop> Records<R> {
         // A fault says nothing of the records to come, since the reader may stand inside one: each
         // call from then on answers that fault again.
         ensures failed { IfErr result (λ fault. fault_of self.new ≡ Some fault) }
+        ensures fine { OnOk result (fault_of self.new ≡ None) }
         ensures stays { IfSome (fault_of self.old) (λ fault. result ≡ Err fault) }
     {
         if let Some(fault) = self.fault {
