@@ -181,10 +181,10 @@ stands_by old new pieces row next act stands leads gone =
 pub stands_on : (old new : Bus) (pieces : List Piece) (row : Event) (found : Judged) (act : Option Act) → StandsFor old pieces
     → (found ≡ judged.Reply → ⊥)
     → (IsSound (position_at old.place) → IsJudged (situation_at old) row (Ok found))
-    → EachStep found (λ next. IsAt (position_at old.place) next → HasGone old next row new act) → GoesOn new pieces row act
+    → EachStep found row (λ next. IsAt (position_at old.place) next → HasGone old next row new act) → GoesOn new pieces row act
 stands_on old new pieces row found act stands other judged gone =
     let Right : Position → Type 0 = λ p. IsSound p in
-    let both = some_each found (Leads (situation_at old) row)
+    let both = some_each found row (Leads (situation_at old) row)
     (λ next. IsAt (position_at old.place) next → HasGone old next row new act)
     (leads_of found (situation_at old) row other (judged (subst Right stands.position (sound pieces stands.in_order)))) gone in
     stands_by old new pieces row both.0 act stands both.1 both.2

@@ -3,6 +3,8 @@
 use Rattle.std.specs.Prelude.{ℕ}
 use Rattle.mdb_msgs.specs.declared.command.Command.{Command}
 use Rattle.mdb_msgs.specs.declared.reply.Reply.{Reply as Data}
+use Rattle.mdb_words.specs.declared.event.Event.{Event}
+use Rattle.mdb_words.specs.declared.event.Event.TheVariants as events
 use Rattle.mdb_bus.specs.declared.judged.Judged.{Judged}
 use Rattle.mdb_bus.specs.declared.judged.Judged.TheVariants as judged
 
@@ -22,35 +24,37 @@ pub data Step : Type 0 where
   Repeat : Step
   Break : ℕ → Step
 
--- The step that was judged has this, whichever command it tells. The last word of a reply is no
--- step before the reply was read.
-abbrev pub EachStep : Judged → (Step → Type 0) → Type 0
-EachStep (judged.AskByte byte) Has = Has (AskByte byte)
-EachStep judged.Ask Has = (command : Command) → Has (Ask command)
-EachStep judged.Foreign Has = Has Foreign
-EachStep judged.Ack Has = Has Ack
-EachStep judged.Nak Has = Has Nak
-EachStep (judged.ReplyByte byte) Has = Has (ReplyByte byte)
-EachStep judged.Reply Has = Unit {0}
-EachStep judged.VmcAck Has = Has VmcAck
-EachStep judged.VmcNak Has = Has VmcNak
-EachStep judged.VmcRet Has = Has VmcRet
-EachStep (judged.RepeatWord word) Has = Has (RepeatWord word)
-EachStep judged.Repeat Has = Has Repeat
-EachStep (judged.Break length) Has = Has (Break length)
+-- The step that was judged of a row has this, whichever command it tells. The last word of a reply
+-- is no step before the reply was read, and a break lasts as long as its row says.
+abbrev pub EachStep : Judged → Event → (Step → Type 0) → Type 0
+EachStep (judged.AskByte byte) row Has = Has (AskByte byte)
+EachStep judged.Ask row Has = (command : Command) → Has (Ask command)
+EachStep judged.Foreign row Has = Has Foreign
+EachStep judged.Ack row Has = Has Ack
+EachStep judged.Nak row Has = Has Nak
+EachStep (judged.ReplyByte byte) row Has = Has (ReplyByte byte)
+EachStep judged.Reply row Has = Unit {0}
+EachStep judged.VmcAck row Has = Has VmcAck
+EachStep judged.VmcNak row Has = Has VmcNak
+EachStep judged.VmcRet row Has = Has VmcRet
+EachStep (judged.RepeatWord word) row Has = Has (RepeatWord word)
+EachStep judged.Repeat row Has = Has Repeat
+EachStep judged.Break (events.Break at length) Has = Has (Break length)
+EachStep judged.Break (events.Word at line word) Has = Unit {0}
 
--- the step that was judged has this, for some command that it tells
-abbrev pub SomeStep : Judged → (Step → Type 0) → Type 0
-SomeStep judged.Reply Has = ⊥
-SomeStep (judged.AskByte byte) Has = Has (AskByte byte)
-SomeStep judged.Ask Has = (command : Command) × Has (Ask command)
-SomeStep judged.Foreign Has = Has Foreign
-SomeStep judged.Ack Has = Has Ack
-SomeStep judged.Nak Has = Has Nak
-SomeStep (judged.ReplyByte byte) Has = Has (ReplyByte byte)
-SomeStep judged.VmcAck Has = Has VmcAck
-SomeStep judged.VmcNak Has = Has VmcNak
-SomeStep judged.VmcRet Has = Has VmcRet
-SomeStep (judged.RepeatWord word) Has = Has (RepeatWord word)
-SomeStep judged.Repeat Has = Has Repeat
-SomeStep (judged.Break length) Has = Has (Break length)
+-- the step that was judged of a row has this, for some command that it tells
+abbrev pub SomeStep : Judged → Event → (Step → Type 0) → Type 0
+SomeStep judged.Reply row Has = ⊥
+SomeStep (judged.AskByte byte) row Has = Has (AskByte byte)
+SomeStep judged.Ask row Has = (command : Command) × Has (Ask command)
+SomeStep judged.Foreign row Has = Has Foreign
+SomeStep judged.Ack row Has = Has Ack
+SomeStep judged.Nak row Has = Has Nak
+SomeStep (judged.ReplyByte byte) row Has = Has (ReplyByte byte)
+SomeStep judged.VmcAck row Has = Has VmcAck
+SomeStep judged.VmcNak row Has = Has VmcNak
+SomeStep judged.VmcRet row Has = Has VmcRet
+SomeStep (judged.RepeatWord word) row Has = Has (RepeatWord word)
+SomeStep judged.Repeat row Has = Has Repeat
+SomeStep judged.Break (events.Break at length) Has = Has (Break length)
+SomeStep judged.Break (events.Word at line word) Has = ⊥

@@ -166,7 +166,7 @@ IsEnded s row = (result : Result Reply Rule) → IsReadAt s.position s.levels re
 -- what is made of a row: where it leads, or the first rule that it breaks
 abbrev pub IsJudged : Situation → Event → Result Judged Rule → Type 0
 IsJudged s row (Ok judged.Reply) = IsEnded s row
-IsJudged s row (Ok found) = SomeStep found (Leads s row)
+IsJudged s row (Ok found) = SomeStep found row (Leads s row)
 IsJudged s row (Err broken) = IsFirstBroken s row broken
 
 -- the rule that a block breaks whose content can't be read

@@ -132,12 +132,12 @@ impl Bus {
     #[inline(always)]
     fn go(&mut self, judged: Judged, event: Event, act: &mut Act) -> bool
         requires { HasRoom self.old.place.phase judged }
-        ensures gone { EachStep judged (λ next. IsAt (position_at self.old.place) next
+        ensures gone { EachStep judged event (λ next. IsAt (position_at self.old.place) next
             → HasGone self.old next event self.new (ended_act result act.new)) }
         ensures none { result ≡ false → act.new ≡ act.old }
     {
         self.last = Some(event);
-        if !self.place.advance(judged, act) {
+        if !self.place.advance(judged, &event, act) {
             return false;
         }
         self.levels = levels_behind(self.levels, act);

@@ -29,6 +29,6 @@ pub enum Judged {
     RepeatWord(Word),
     /// The last word of a repeat.
     Repeat,
-    /// A break of so many microseconds.
-    Break(u64),
+    /// A break, as long as its row says.
+    Break,
 }

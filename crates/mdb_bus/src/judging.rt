@@ -67,7 +67,7 @@ fn judge_break(from: &Option<Event>, at: Time, length: Span) -> Result<Judged, R
     if length.value() < BREAK_LENGTH_MIN {
         return Err(Rule::Break);
     }
-    Ok(Judged::Break(length.value()))
+    Ok(Judged::Break)
 }
 
 /// A word of the controller.

@@ -1,6 +1,6 @@
 //! Where the bus is.
 
-ghost use Rattle.std.specs.Prelude.{◌≡◌, ◌≤◌, ◌<◌, [], ◌∷◌, ◌++◌, length, false, IfSome, IfOk, IfErr, OnErr, Ok, Err};
+ghost use Rattle.std.specs.Prelude.{◌≡◌, ◌≤◌, ◌<◌, [], ◌∷◌, ◌++◌, ℕ, length, false, IfSome, IfOk, IfErr, OnErr, Ok, Err};
 ghost use Rattle.mdb_blocks.specs.Block.{block_of};
 ghost use Rattle.mdb_msgs.specs.Replies.{reply_bytes};
 ghost use Rattle.mdb_bus.specs.Steps.{rule_of as rule_of_lem};
@@ -13,7 +13,7 @@ use super::levels::Levels;
 use arrayvec::ArrayVec;
 use mdb_blocks::{Block, seal};
 use mdb_msgs::{ChangerCommand, ChangerMsg, Command, MsgFault, Reply, command_of, reply_of};
-use mdb_words::Word;
+use mdb_words::{Event, Word};
 use std::marker::Model;
 use std::mem;
 
@@ -138,9 +138,9 @@ impl Place {
 
     /// Goes a step, and answers whether it ends an act, which it then puts into `act`.
     #[inline(always)]
-    pub(crate) fn advance(&mut self, judged: Judged, act: &mut Act) -> bool
+    pub(crate) fn advance(&mut self, judged: Judged, row: &Event, act: &mut Act) -> bool
         requires { HasRoom self.old.phase judged }
-        ensures advanced { EachStep judged (λ next. IsAt (position_at self.old) next
+        ensures advanced { EachStep judged row.now (λ next. IsAt (position_at self.old) next
             → HasAdvanced (position_at self.old) next (position_at self.new)
             (ended_act result act.new)) }
         ensures none { result ≡ false → act.new ≡ act.old }
@@ -177,11 +177,23 @@ impl Place {
                 false
             }
             Judged::Repeat => self.end_repeat(act),
-            Judged::Break(length) => {
-                self.phase = Phase::Quiet;
-                act.note(Act::Break(length))
-            }
+            Judged::Break => self.end_by_break(row, act),
         }
+    }
+
+    /// A break has ended what was open.
+    #[inline(always)]
+    fn end_by_break(&mut self, row: &Event, act: &mut Act) -> bool
+        ensures advanced { (at length : ℕ) → row.now ≡ Event.Break at length
+            → HasAdvanced (position_at self.old) (step.Break length) (position_at self.new)
+            (ended_act result act.new) }
+        ensures none { result ≡ false → act.new ≡ act.old }
+    {
+        let Event::Break { length, .. } = *row else {
+            return false;
+        };
+        self.phase = Phase::Quiet;
+        act.note(Act::Break(length.value()))
     }
 
     /// Adds a byte to the controller's block, or begins one with it.

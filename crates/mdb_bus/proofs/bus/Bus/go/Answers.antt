@@ -10,7 +10,7 @@ returns-clause-gone c =
     let old = position_at c.args.self.now.place in
     let ended : ended_act c.advance.result c.advance.new.act ≡ Some c.advance.new.act =
     ap (λ b. ended_act b c.advance.new.act) c.if-not-advance.false in
-    each c.args.judged
+    each c.args.judged c.args.event
     (λ next. IsAt old next → HasAdvanced old next (position_at c.advance.new.self) (ended_act c.advance.result c.advance.new.act))
     _
     (λ next advanced at. (
