@@ -510,11 +510,11 @@ word_behind bytes content block i same sealed past =
 -- what is made of a row at a place that is another's
 pub judged_at : (place : Place) (other : Phase) (from : Option Event) (levels : Levels) (row : Event)
     (result : Result Judged Rule) → place.phase ≡ other
-    → IsJudged (record { position = position_in other place.exchange; last = from; levels = levels }) row result
+    → IsJudged (record { position = position_in other place.bytes place.command place.answer.reply; last = from; levels = levels }) row result
     → IsJudged (record { position = position_at place; last = from; levels = levels }) row result
 judged_at place other from levels row result is judged =
     let P : Phase → Type 0 =
-    λ p. IsJudged (record { position = position_in p place.exchange; last = from; levels = levels }) row result in
+    λ p. IsJudged (record { position = position_in p place.bytes place.command place.answer.reply; last = from; levels = levels }) row result in
     subst P (sym is) judged
 
 -- what is made of a row that is another
@@ -526,7 +526,7 @@ judged_row situation row other result is judged =
 
 -- a sound place that is another's
 pub sound_at : (place : Place) (other : Phase) → place.phase ≡ other → IsSound (position_at place)
-    → IsSound (position_in other place.exchange)
+    → IsSound (position_in other place.bytes place.command place.answer.reply)
 sound_at place other is sound =
-    let P : Phase → Type 0 = λ p. IsSound (position_in p place.exchange) in
+    let P : Phase → Type 0 = λ p. IsSound (position_in p place.bytes place.command place.answer.reply) in
     subst P is sound

@@ -1,10 +1,11 @@
 -- What a bus stands for: it never stores the rows that it was fed.
-use Rattle.std.specs.Prelude.{◌≡◌, ◌⊎◌, List, [], ◌∷◌, ◌++◌, take, Bool, true, false, Option, Some, None}
+use Rattle.std.specs.Prelude.{◌≡◌, ◌⊎◌, ℕ, List, [], ◌∷◌, ◌++◌, take, Bool, true, false, Option, Some, None}
 use Rattle.mdb_words.specs.declared.event.Event.{Event}
 use Rattle.mdb_bus.specs.declared.act.Act.{Act}
 use Rattle.mdb_bus.specs.declared.bus.Bus.{Bus}
 use Rattle.mdb_bus.specs.declared.place.Place.{Place}
-use Rattle.mdb_bus.specs.declared.place.Exchange.{Exchange}
+use Rattle.mdb_msgs.specs.declared.command.Command.{Command}
+use Rattle.mdb_msgs.specs.declared.reply.Reply.{Reply}
 use Rattle.mdb_bus.specs.declared.place.Phase.{Phase}
 use Rattle.mdb_bus.specs.declared.place.Phase.TheVariants as phase
 use Rattle.mdb_bus.specs.Step.{Step}
@@ -13,21 +14,21 @@ use Rattle.mdb_bus.specs.ActLists.{Piece, Position, Quiet, InAsk, Asked, InReply
 use Rattle.mdb_bus.specs.LinkFaults.{asked_device}
 use Rattle.mdb_bus.specs.Steps.{HasAdvanced, asked_behind, levels_behind}
 
--- the position that a phase is, with the last exchange
-abbrev pub position_in : Phase → Exchange → Position
-position_in phase.Quiet exchange = Quiet
-position_in (phase.InAsk bytes) exchange = InAsk bytes
-position_in (phase.Asked command) exchange = Asked command
-position_in (phase.InReply command bytes) exchange = InReply command bytes
-position_in phase.Replied exchange = Replied exchange.command exchange.reply
-position_in phase.Returned exchange = Returned exchange.command exchange.reply
-position_in (phase.InRepeat said) exchange =
-    InRepeat exchange.command exchange.reply (take said (reply_words exchange.reply))
-position_in phase.InForeign exchange = InForeign
+-- the position that a phase is, with the last bytes, the last command and the last reply
+abbrev pub position_in : Phase → List ℕ → Command → Reply → Position
+position_in phase.Quiet bytes command reply = Quiet
+position_in phase.InAsk bytes command reply = InAsk bytes
+position_in phase.Asked bytes command reply = Asked command
+position_in phase.InReply bytes command reply = InReply command bytes
+position_in phase.Replied bytes command reply = Replied command reply
+position_in phase.Returned bytes command reply = Returned command reply
+position_in (phase.InRepeat said) bytes command reply =
+    InRepeat command reply (take said (reply_words reply))
+position_in phase.InForeign bytes command reply = InForeign
 
 -- the position that a place is
 abbrev pub position_at : Place → Position
-position_at place = position_in place.phase place.exchange
+position_at place = position_in place.phase place.bytes place.command place.answer.reply
 
 -- A bus stands for pieces: they are in order, and the bus is where they leave it.
 pub record StandsFor (bus : Bus) (pieces : List Piece) : Type 0 where

@@ -217,11 +217,11 @@ IsSound (InReply command bytes) = IsReplyFront command bytes
 IsSound _ = Unit {0}
 
 -- there is room for what a step adds
-abbrev pub HasRoom : Phase → Judged → Type 0
-HasRoom (phase.InAsk bytes) (judged.AskByte byte) = length bytes < 35
-HasRoom (phase.InReply command bytes) (judged.ReplyByte byte) = length bytes < 35
-HasRoom (phase.InRepeat said) (judged.RepeatWord word) = said < 35
-HasRoom _ _ = Unit {0}
+abbrev pub HasRoom : Phase → List ℕ → Judged → Type 0
+HasRoom phase.InAsk bytes (judged.AskByte byte) = length bytes < 35
+HasRoom phase.InReply bytes (judged.ReplyByte byte) = length bytes < 35
+HasRoom (phase.InRepeat said) bytes (judged.RepeatWord word) = said < 35
+HasRoom _ bytes _ = Unit {0}
 
 -- the word at an index of a reply's block
 abbrev pub word_at : Reply → ℕ → Option ℕ

@@ -11,8 +11,8 @@ use super::judged::Judged;
 use super::judging::judge;
 use super::laws;
 use super::levels::Levels;
-use super::place::{Exchange, Phase, Place};
-use mdb_msgs::Device;
+use super::place::{Begun, Phase, Place, Spelled};
+use mdb_msgs::{ChangerCommand, Command, Device};
 use mdb_words::{Event, Line};
 
 /// The bus behind the rows that it was fed.
@@ -40,7 +40,9 @@ impl Bus {
         Bus {
             place: Place {
                 phase: Phase::Quiet,
-                exchange: Exchange::none(),
+                bytes: Begun::with(0),
+                command: Command::Changer(ChangerCommand::Poll),
+                answer: Spelled::none(),
             },
             last: None,
             levels: Levels::NONE,
@@ -131,7 +133,7 @@ impl Bus {
     /// Goes a step by a row, and answers whether it ends an act, which it then puts into `act`.
     #[inline(always)]
     fn go(&mut self, judged: Judged, event: Event, act: &mut Act) -> bool
-        requires { HasRoom self.old.place.phase judged }
+        requires { HasRoom self.old.place.phase self.old.place.bytes judged }
         ensures gone { EachStep judged event (λ next. IsAt (position_at self.old.place) next
             → HasGone self.old next event self.new (ended_act result act.new)) }
         ensures none { result ≡ false → act.new ≡ act.old }
@@ -164,9 +166,9 @@ impl Bus {
             → result ≡ blame_of (position_at self.now.place) self.now.asked
             (Event.Word at line word) rule }
     {
-        match (line, &self.place.phase, rule) {
+        match (line, self.place.phase, rule) {
             (Line::Peripheral, _, _) => Blame::on(self.asked),
-            (_, Phase::InReply(..) | Phase::InRepeat(_), Rule::Spacing) => Blame::on(self.asked),
+            (_, Phase::InReply | Phase::InRepeat(_), Rule::Spacing) => Blame::on(self.asked),
             _ => Blame::Controller,
         }
     }

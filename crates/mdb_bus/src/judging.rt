@@ -1,6 +1,6 @@
 //! What is made of a row: one small function for each place of the bus and each side.
 
-ghost use Rattle.std.specs.Prelude.{◌≡◌, ◌+◌, ◌<◌, ◌≤◌, ◌^◌, ◌∷◌, [], ℕ, List, All, length, IfOk, IsErr};
+ghost use Rattle.std.specs.Prelude.{◌≡◌, ◌+◌, ◌<◌, ◌≤◌, ◌^◌, ◌∷◌, [], ℕ, List, All, length, take, IfOk, IsErr};
 ghost use Rattle.mdb_msgs.specs.declared.command.Command.{Command};
 ghost use Rattle.mdb_msgs.specs.declared.needs.Need.TheVariants.{Exactly};
 ghost use Rattle.mdb_msgs.specs.declared.reply.Reply.{Reply};
@@ -11,14 +11,14 @@ ghost use Rattle.mdb_bus.specs.declared.place.Phase.{Phase};
 ghost use Rattle.mdb_bus.specs.Acts.{IsForeignWord, reply_words};
 ghost use Rattle.mdb_bus.specs.ActLists as lists;
 ghost use Rattle.mdb_bus.specs.ActLists.{IsAskFront};
-ghost use Rattle.mdb_bus.specs.Bus.{position_at, position_in};
+ghost use Rattle.mdb_bus.specs.Bus.{position_at};
 ghost use Rattle.mdb_bus.specs.LinkFaults.{OutOfOrder};
 ghost use Rattle.mdb_bus.specs.Steps.{HasRoom, IsGoingOn, IsJudged, IsOpened, IsReplyEnd, IsSound, word_at};
 
 use super::fault::Rule;
 use super::gaps::{is_before, is_behind, is_out_of_order};
 use super::judged::Judged;
-use super::place::{Begun, Exchange, Phase, Place};
+use super::place::{Begun, Phase, Place, Spelled};
 use mdb_blocks::{Answer, sum_of};
 use mdb_msgs::{Command, Need, laws, need_of};
 use mdb_words::{
@@ -35,7 +35,7 @@ pub(crate) fn judge(place: &Place, from: &Option<Event>, row: &Event) -> Result<
           last = from.now;
           levels = levels;
         }) row.now result }
-    ensures room { IfOk result (HasRoom place.now.phase) }
+    ensures room { IfOk result (HasRoom place.now.phase place.now.bytes) }
 {
     if is_out_of_order(from, row) {
         return Err(Rule::Order);
@@ -58,7 +58,7 @@ fn judge_break(from: &Option<Event>, at: Time, length: Span) -> Result<Judged, R
           last = from.now;
           levels = levels;
         }) (Event.Break at length) result }
-    ensures room { (phase : Phase) → IfOk result (HasRoom phase) }
+    ensures room { (phase : Phase) (bytes : List ℕ) → IfOk result (HasRoom phase bytes) }
 {
     let row = Event::Break { at, length };
     if is_before(from, &row, rest_before_break(from)) {
@@ -82,13 +82,13 @@ fn judge_controller(
     ensures judged { (levels : Levels) → IsSound (position_at place.now)
         → IsJudged (record { position = position_at place.now; last = from.now; levels = levels })
         (Event.Word at Line.Controller word) result }
-    ensures room { IfOk result (HasRoom place.now.phase) }
+    ensures room { IfOk result (HasRoom place.now.phase place.now.bytes) }
 {
-    match &place.phase {
+    match place.phase {
         Phase::Quiet => begin_block(from, at, word, rest_before_block(from)),
-        Phase::InAsk(bytes) => go_on_asking(bytes, from, at, word),
-        Phase::Asked(_) => begin_block(from, at, word, NEW_BLOCK_GAP_MIN),
-        Phase::InReply(..) => cut_in(from, at, word),
+        Phase::InAsk => go_on_asking(&place.bytes, from, at, word),
+        Phase::Asked => begin_block(from, at, word, NEW_BLOCK_GAP_MIN),
+        Phase::InReply => cut_in(from, at, word),
         Phase::Replied if word.marked() => begin_block(from, at, word, NEW_BLOCK_GAP_MIN),
         Phase::Replied => answer_reply(from, at, word),
         Phase::Returned => begin_block(from, at, word, NEW_BLOCK_GAP_MIN),
@@ -113,14 +113,14 @@ fn judge_peripheral(
       levels = levels;
     })
         (Event.Word at Line.Peripheral word) result }
-    ensures room { IfOk result (HasRoom place.now.phase) }
+    ensures room { IfOk result (HasRoom place.now.phase place.now.bytes) }
 {
-    match &place.phase {
-        Phase::Quiet | Phase::InAsk(_) | Phase::Replied => Err(Rule::Speaker),
-        Phase::Asked(command) => answer(*command, from, at, word),
-        Phase::InReply(command, bytes) => go_on_replying(*command, bytes, from, at, word),
-        Phase::Returned => begin_repeat(&place.exchange, from, at, word),
-        Phase::InRepeat(said) => go_on_repeating(&place.exchange, *said, from, at, word),
+    match place.phase {
+        Phase::Quiet | Phase::InAsk | Phase::Replied => Err(Rule::Speaker),
+        Phase::Asked => answer(place.command, from, at, word),
+        Phase::InReply => go_on_replying(place.command, &place.bytes, from, at, word),
+        Phase::Returned => begin_repeat(&place.answer, from, at, word),
+        Phase::InRepeat(said) => go_on_repeating(&place.answer, said, from, at, word),
         Phase::InForeign => go_on_foreign(from, at, Line::Peripheral, word),
     }
 }
@@ -178,7 +178,7 @@ fn go_on_asking(bytes: &Begun, from: &Option<Event>, at: Time, word: Word) -> Re
     ensures judged { (levels : Levels) → IsAskFront bytes.now
         → IsJudged (record { position = lists.InAsk bytes.now; last = from.now; levels = levels })
         (Event.Word at Line.Controller word) result }
-    ensures room { IfOk result (HasRoom (Phase.InAsk bytes.now)) }
+    ensures room { IfOk result (HasRoom Phase.InAsk bytes.now) }
 {
     let row = Event::Word {
         at,
@@ -206,7 +206,7 @@ fn second_byte(bytes: &Begun, first: u8, word: Word) -> Result<Judged, Rule>
     requires is { bytes.now ≡ first ∷ [] }
     requires unmarked { word < 256 }
     ensures judged { IsAskFront bytes.now → IsGoingOn bytes.now word result }
-    ensures room { IfOk result (HasRoom (Phase.InAsk bytes.now)) }
+    ensures room { IfOk result (HasRoom Phase.InAsk bytes.now) }
 {
     laws::need_leaves_a_command_open();
     laws::front_of_a_command_is_open();
@@ -226,7 +226,7 @@ fn further_byte(bytes: &Begun, so_far: &[u8], word: Word) -> Result<Judged, Rule
     requires two { 2 ≤ length so_far.now }
     requires unmarked { word < 256 }
     ensures judged { IsAskFront bytes.now → IsGoingOn bytes.now word result }
-    ensures room { IfOk result (HasRoom (Phase.InAsk bytes.now)) }
+    ensures room { IfOk result (HasRoom Phase.InAsk bytes.now) }
 {
     laws::need_leaves_a_command_open();
     laws::front_of_a_command_is_open();
@@ -241,7 +241,7 @@ fn end_ask(bytes: &Begun, word: Word) -> Result<Judged, Rule>
     requires unmarked { word < 256 }
     ensures judged { IsAskFront bytes.now → needed bytes.now ≡ Exactly (length bytes.now + 1)
         → IsGoingOn bytes.now word result }
-    ensures room { IfOk result (HasRoom (Phase.InAsk bytes.now)) }
+    ensures room { IfOk result (HasRoom Phase.InAsk bytes.now) }
 {
     laws::what_it_needs_is_a_command();
     see_bytes(bytes.as_slice());
@@ -335,7 +335,7 @@ fn go_on_replying(
       levels = levels;
     })
         (Event.Word at Line.Peripheral word) result }
-    ensures room { IfOk result (HasRoom (Phase.InReply command bytes.now)) }
+    ensures room { IfOk result (HasRoom Phase.InReply bytes.now) }
 {
     let row = Event::Word {
         at,
@@ -404,13 +404,13 @@ fn answer_reply(from: &Option<Event>, at: Time, word: Word) -> Result<Judged, Ru
     }
 }
 
-/// The word at an index of the reply of an exchange, its sum included; `None` behind it.
-fn word_at(exchange: &Exchange, index: usize) -> Option<Word>
-    ensures word { result ≡ word_at exchange.now.reply index }
-    ensures count { length (reply_words exchange.now.reply) ≡ length exchange.now.bytes + 1 }
-    ensures some { 1 ≤ length exchange.now.bytes }
+/// The word at an index of a reply, its sum included; `None` behind it.
+fn word_at(answer: &Spelled, index: usize) -> Option<Word>
+    ensures word { result ≡ word_at answer.now.reply index }
+    ensures count { length (reply_words answer.now.reply) ≡ length answer.now.bytes + 1 }
+    ensures some { 1 ≤ length answer.now.bytes }
 {
-    let block = exchange.bytes.sealed();
+    let block = answer.bytes.sealed();
     if index < block.bytes().len() {
         Some(block.word(Line::Peripheral, index))
     } else {
@@ -420,15 +420,15 @@ fn word_at(exchange: &Exchange, index: usize) -> Option<Word>
 
 /// The first word of a repeat.
 fn begin_repeat(
-    exchange: &Exchange,
+    answer: &Spelled,
     from: &Option<Event>,
     at: Time,
     word: Word,
 ) -> Result<Judged, Rule>
     requires { OutOfOrder from.now (Event.Word at Line.Peripheral word) → ⊥ }
-    ensures { (levels : Levels)
+    ensures { (levels : Levels) (command : Command)
         → IsJudged (record {
-          position = position_in Phase.Returned exchange.now;
+          position = lists.Returned command answer.now.reply;
           last = from.now;
           levels = levels;
         })
@@ -445,7 +445,7 @@ fn begin_repeat(
     if is_behind(from, &row, ANSWER_GAP_MAX) {
         return Err(Rule::Late);
     }
-    if word_at(exchange, 0) == Some(word) {
+    if word_at(answer, 0) == Some(word) {
         Ok(Judged::RepeatWord(word))
     } else {
         Err(Rule::Same)
@@ -454,22 +454,23 @@ fn begin_repeat(
 
 /// A further word of a repeat, of which so many were said.
 fn go_on_repeating(
-    exchange: &Exchange,
-    said: usize,
+    answer: &Spelled,
+    said: u8,
     from: &Option<Event>,
     at: Time,
     word: Word,
 ) -> Result<Judged, Rule>
     requires { OutOfOrder from.now (Event.Word at Line.Peripheral word) → ⊥ }
-    ensures judged { (levels : Levels)
+    ensures judged { (levels : Levels) (command : Command)
         → IsJudged
         (record {
-          position = position_in (Phase.InRepeat said) exchange.now;
+          position = lists.InRepeat command answer.now.reply
+              (take said (reply_words answer.now.reply));
           last = from.now;
           levels = levels;
         })
         (Event.Word at Line.Peripheral word) result }
-    ensures room { IfOk result (HasRoom (Phase.InRepeat said)) }
+    ensures room { (bytes : List ℕ) → IfOk result (HasRoom (Phase.InRepeat said) bytes) }
 {
     let row = Event::Word {
         at,
@@ -482,10 +483,10 @@ fn go_on_repeating(
     if is_behind(from, &row, BLOCK_GAP_MAX) {
         return Err(Rule::Spacing);
     }
-    if word_at(exchange, said) != Some(word) {
+    if word_at(answer, usize::from(said)) != Some(word) {
         return Err(Rule::Same);
     }
-    if said < exchange.bytes.as_slice().len() {
+    if usize::from(said) < answer.bytes.as_slice().len() {
         Ok(Judged::RepeatWord(word))
     } else {
         Ok(Judged::Repeat)

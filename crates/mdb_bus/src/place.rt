@@ -15,7 +15,6 @@ use mdb_blocks::{Block, seal};
 use mdb_msgs::{ChangerCommand, ChangerMsg, Command, MsgFault, Reply, command_of, reply_of};
 use mdb_words::{Event, Word};
 use std::marker::Model;
-use std::mem;
 
 /// The most bytes of a block beside its last.
 const CONTENT_MAX: usize = 35;
@@ -25,17 +24,20 @@ const CONTENT_MAX: usize = 35;
 /// A clause sees them as a list.
 #[derive(Drop)]
 pub struct Begun {
-    bytes: ArrayVec<u8, CONTENT_MAX>,
+    bytes: [u8; CONTENT_MAX],
+    count: usize,
 }
 
 impl Model for Begun {
-    ghost use Rattle.std.specs.Prelude.{List, ℕ, ◌≤◌, length};
+    ghost use Rattle.std.specs.Prelude.{List, ℕ, ◌≡◌, ◌≤◌, length, take};
+    ghost use Rattle.mdb_bus.specs.declared.place.TheConstants.{CONTENT_MAX};
 
     ghost Value = { List ℕ };
 
-    ghost view = { λ b. b.bytes.items };
+    ghost view = { λ b. take b.count b.bytes };
 
-    ghost invariant = { λ b. 1 ≤ length b.bytes.items };
+    ghost invariant = { λ b. (1 ≤ b.count) × (b.count ≤ CONTENT_MAX)
+        × (length b.bytes ≡ CONTENT_MAX) };
 }
 
 impl Begun {
@@ -43,9 +45,9 @@ impl Begun {
     pub(crate) fn with(first: u8) -> Begun
         ensures { result ≡ first ∷ [] }
     {
-        let mut bytes = ArrayVec::new();
-        bytes.push(first);
-        Begun { bytes }
+        let mut bytes = [0; CONTENT_MAX];
+        bytes[0] = first;
+        Begun { bytes, count: 1 }
     }
 
     /// Adds the next byte.
@@ -53,7 +55,16 @@ impl Begun {
         requires { length self.old < CONTENT_MAX }
         ensures { self.new ≡ self.old ++ byte ∷ [] }
     {
-        self.bytes.push(byte);
+        self.bytes[self.count] = byte;
+        self.count += 1;
+    }
+
+    /// Becomes a block that begins with this byte.
+    pub(crate) fn restart(&mut self, first: u8)
+        ensures { self.new ≡ first ∷ [] }
+    {
+        self.bytes[0] = first;
+        self.count = 1;
     }
 
     /// The bytes.
@@ -62,71 +73,85 @@ impl Begun {
         ensures some { 1 ≤ length self.now }
         ensures few { length self.now ≤ CONTENT_MAX }
     {
-        self.bytes.as_slice()
+        &self.bytes[..self.count]
+    }
+
+    /// The same bytes once more.
+    pub(crate) fn copy(&self) -> Begun
+        ensures { result ≡ self.now }
+    {
+        Begun {
+            bytes: self.bytes,
+            count: self.count,
+        }
     }
 
     /// The block that ends with their sum.
     pub(crate) fn sealed(&self) -> Block
         ensures { result ≡ block_of self.now }
     {
-        seal(self.bytes.as_slice()).unwrap()
+        seal(self.as_slice()).unwrap()
     }
 }
 
-/// A command and its reply.
+/// A reply and how it is spelled.
 #[derive(Drop)]
-pub struct Exchange {
-    /// The command.
-    pub command: Command,
+pub struct Spelled {
     /// The reply.
     pub reply: Reply,
-    /// The data bytes of the reply, without their sum.
+    /// Its data bytes, without their sum.
     pub bytes: Begun,
     ghost spelled: { bytes ≡ reply_bytes reply },
 }
 
-impl Exchange {
-    /// What stands for the last exchange before the first one: no phase asks for it.
-    pub(crate) fn none() -> Exchange {
+impl Spelled {
+    /// What stands for the last reply before the first one: no phase asks for it.
+    pub(crate) fn none() -> Spelled {
         let mut messages = ArrayVec::new();
         messages.push(ChangerMsg::Status(0));
-        Exchange {
-            command: Command::Changer(ChangerCommand::Poll),
+        Spelled {
             reply: Reply::ChangerPoll(messages),
             bytes: Begun::with(0),
         }
     }
 }
 
-/// What the last act has left open, or what was said since. The exchange that a phase means stands
-/// beside it.
-#[derive(Drop)]
+/// What the last act has left open, or what was said since. The bytes, the command and the reply
+/// that a phase means stand beside it.
+#[derive(Clone, Copy, PartialEq, Eq, Debug)]
 pub enum Phase {
     /// Nothing is open.
     Quiet,
-    /// The controller has sent these bytes of a block.
-    InAsk(Begun),
-    /// A command was asked, and may be answered.
-    Asked(Command),
-    /// The peripheral has sent these bytes of a reply to the command.
-    InReply(Command, Begun),
-    /// The command of the exchange was answered by data, and the controller may answer that.
+    /// The controller has sent the bytes of a block.
+    InAsk,
+    /// The command was asked, and may be answered.
+    Asked,
+    /// The peripheral has sent the bytes of a reply to the command.
+    InReply,
+    /// The command was answered by the last reply, and the controller may answer that.
     Replied,
     /// The controller has asked for the reply again.
     Returned,
     /// The peripheral has sent so many words of the repeat.
-    InRepeat(usize),
+    InRepeat(u8),
     /// A foreign block was opened.
     InForeign,
 }
 
-/// Where the bus is. The last exchange stays where it is until the next one, since it is large.
+/// Where the bus is.
+///
+/// Bytes, command and reply stay where they are until the next ones, so that a step writes no more
+/// than what it changes.
 #[derive(Drop)]
 pub struct Place {
     /// The phase.
     pub phase: Phase,
-    /// The last exchange.
-    pub exchange: Exchange,
+    /// The bytes so far of the block that was begun last: the controller's or the peripheral's.
+    pub bytes: Begun,
+    /// The command that was asked last.
+    pub command: Command,
+    /// The last reply.
+    pub answer: Spelled,
 }
 
 impl Place {
@@ -139,7 +164,7 @@ impl Place {
     /// Goes a step, and answers whether it ends an act, which it then puts into `act`.
     #[inline(always)]
     pub(crate) fn advance(&mut self, judged: Judged, row: &Event, act: &mut Act) -> bool
-        requires { HasRoom self.old.phase judged }
+        requires { HasRoom self.old.phase self.old.bytes judged }
         ensures advanced { EachStep judged row.now (λ next. IsAt (position_at self.old) next
             → HasAdvanced (position_at self.old) next (position_at self.new)
             (ended_act result act.new)) }
@@ -155,14 +180,8 @@ impl Place {
                 self.phase = Phase::InForeign;
                 act.note(Act::Foreign)
             }
-            Judged::Ack => match self.answered() {
-                Some(command) => act.note(Act::Ack(command)),
-                None => false,
-            },
-            Judged::Nak => match self.answered() {
-                Some(command) => act.note(Act::Nak(command)),
-                None => false,
-            },
+            Judged::Ack => self.end_by_ack(act),
+            Judged::Nak => self.end_by_nak(act),
             Judged::ReplyByte(byte) => {
                 self.add_to_reply(byte);
                 false
@@ -198,13 +217,16 @@ impl Place {
 
     /// Adds a byte to the controller's block, or begins one with it.
     fn add_to_ask(&mut self, byte: u8)
-        requires { HasRoom self.old.phase (Judged.AskByte byte) }
+        requires { HasRoom self.old.phase self.old.bytes (Judged.AskByte byte) }
         ensures { HasAdvanced (position_at self.old) (step.AskByte byte)
             (position_at self.new) None }
     {
-        match &mut self.phase {
-            Phase::InAsk(bytes) => bytes.push(byte),
-            _ => self.phase = Phase::InAsk(Begun::with(byte)),
+        match self.phase {
+            Phase::InAsk => self.bytes.push(byte),
+            _ => {
+                self.phase = Phase::InAsk;
+                self.bytes.restart(byte);
+            }
         }
     }
 
@@ -216,40 +238,61 @@ impl Place {
             (ended_act result act.new) }
         ensures none { result ≡ false → act.new ≡ act.old }
     {
-        let Phase::InAsk(bytes) = &self.phase else {
+        let Phase::InAsk = self.phase else {
             return false;
         };
-        let Ok(command) = command_of(bytes.as_slice()) else {
+        let Ok(command) = command_of(self.bytes.as_slice()) else {
             return false;
         };
-        self.phase = Phase::Asked(command);
+        self.phase = Phase::Asked;
+        self.command = command;
         act.note(Act::Ask(command))
     }
 
     /// Adds a byte to the reply, or begins one with it.
     fn add_to_reply(&mut self, byte: u8)
-        requires { HasRoom self.old.phase (Judged.ReplyByte byte) }
+        requires { HasRoom self.old.phase self.old.bytes (Judged.ReplyByte byte) }
         ensures { IsAt (position_at self.old) (step.ReplyByte byte)
             → HasAdvanced (position_at self.old) (step.ReplyByte byte) (position_at self.new) None }
     {
-        match &mut self.phase {
-            Phase::InReply(_, bytes) => bytes.push(byte),
-            Phase::Asked(command) => self.phase = Phase::InReply(*command, Begun::with(byte)),
+        match self.phase {
+            Phase::InReply => self.bytes.push(byte),
+            Phase::Asked => {
+                self.phase = Phase::InReply;
+                self.bytes.restart(byte);
+            }
             _ => {}
         }
     }
 
-    /// The command whose answer is open, which is settled with it.
-    fn answered(&mut self) -> Option<Command>
-        ensures some { (command : Command) → position_at self.old ≡ lists.Asked command
-            → result ≡ Some command }
-        ensures settled { IfSome result (λ command. position_at self.new ≡ lists.Quiet) }
+    /// The peripheral acknowledges the command.
+    #[inline(always)]
+    fn end_by_ack(&mut self, act: &mut Act) -> bool
+        ensures advanced { IsAt (position_at self.old) step.Ack
+            → HasAdvanced (position_at self.old) step.Ack (position_at self.new)
+            (ended_act result act.new) }
+        ensures none { result ≡ false → act.new ≡ act.old }
     {
-        let Phase::Asked(command) = self.phase else {
-            return None;
+        let Phase::Asked = self.phase else {
+            return false;
         };
         self.phase = Phase::Quiet;
-        Some(command)
+        act.note(Act::Ack(self.command))
+    }
+
+    /// The peripheral refuses the command.
+    #[inline(always)]
+    fn end_by_nak(&mut self, act: &mut Act) -> bool
+        ensures advanced { IsAt (position_at self.old) step.Nak
+            → HasAdvanced (position_at self.old) step.Nak (position_at self.new)
+            (ended_act result act.new) }
+        ensures none { result ≡ false → act.new ≡ act.old }
+    {
+        let Phase::Asked = self.phase else {
+            return false;
+        };
+        self.phase = Phase::Quiet;
+        act.note(Act::Nak(self.command))
     }
 
     /// The reply has ended, with the right length and sum: takes it, if it can be read and fits the
@@ -263,13 +306,13 @@ impl Place {
         ensures untouched { OnErr result (act.new ≡ act.old) }
     {
         let reply = self.read_reply(levels)?;
-        match mem::replace(&mut self.phase, Phase::Replied) {
-            Phase::InReply(command, bytes) => {
-                *act = Act::Reply(command, reply.copy());
-                self.exchange = Exchange {
-                    command,
+        match self.phase {
+            Phase::InReply => {
+                self.phase = Phase::Replied;
+                *act = Act::Reply(self.command, reply.copy());
+                self.answer = Spelled {
                     reply,
-                    bytes,
+                    bytes: self.bytes.copy(),
                 };
                 Ok(())
             }
@@ -283,13 +326,13 @@ impl Place {
     fn read_reply(&self, levels: Levels) -> Result<Reply, Rule>
         ensures { IsReadAt (position_at self.now) levels result }
     {
-        let Phase::InReply(command, bytes) = &self.phase else {
+        let Phase::InReply = self.phase else {
             return Err(Rule::Answer);
         };
-        see_bytes(bytes.as_slice());
-        match reply_of(command, bytes.as_slice()) {
+        see_bytes(self.bytes.as_slice());
+        match reply_of(&self.command, self.bytes.as_slice()) {
             Err(fault) => Err(rule_of(fault)),
-            Ok(reply) if levels.fit(*command, &reply) => Ok(reply),
+            Ok(reply) if levels.fit(self.command, &reply) => Ok(reply),
             Ok(_) => Err(Rule::Profile),
         }
     }
@@ -307,7 +350,7 @@ impl Place {
             return false;
         };
         self.phase = Phase::Quiet;
-        act.note(Act::VmcAck(self.exchange.command, self.exchange.reply.copy()))
+        act.note(Act::VmcAck(self.command, self.answer.reply.copy()))
     }
 
     /// The controller didn't receive the reply well.
@@ -322,7 +365,7 @@ impl Place {
             return false;
         };
         self.phase = Phase::Quiet;
-        act.note(Act::VmcNak(self.exchange.command, self.exchange.reply.copy()))
+        act.note(Act::VmcNak(self.command, self.answer.reply.copy()))
     }
 
     /// The controller asks for the reply again.
@@ -337,12 +380,12 @@ impl Place {
             return false;
         };
         self.phase = Phase::Returned;
-        act.note(Act::VmcRet(self.exchange.command, self.exchange.reply.copy()))
+        act.note(Act::VmcRet(self.command, self.answer.reply.copy()))
     }
 
     /// A word of the repeat, which has more to come.
     fn add_to_repeat(&mut self, word: Word)
-        requires { HasRoom self.old.phase (Judged.RepeatWord word) }
+        requires { HasRoom self.old.phase self.old.bytes (Judged.RepeatWord word) }
         ensures { IsAt (position_at self.old) (step.RepeatWord word)
             → HasAdvanced (position_at self.old) (step.RepeatWord word)
             (position_at self.new) None }
@@ -366,7 +409,7 @@ impl Place {
             return false;
         };
         self.phase = Phase::Replied;
-        act.note(Act::Repeat(self.exchange.command, self.exchange.reply.copy()))
+        act.note(Act::Repeat(self.command, self.answer.reply.copy()))
     }
 }
 

@@ -5,7 +5,7 @@ use Rattle.mdb_bus.proofs.judging.begin_repeat.Goals as goal
 
 pub returns-then-eq : goal.returns-then-eq
 returns-then-eq c =
-    let here : slice_get (reply_words c.args.exchange.now.reply) 0 ≡ Some c.args.word = search rules in
-    let front = repeats c.args.exchange.now.reply 0 c.args.word (length c.args.exchange.now.bytes)
+    let here : slice_get (reply_words c.args.answer.now.reply) 0 ≡ Some c.args.word = search rules in
+    let front = repeats c.args.answer.now.reply 0 c.args.word (length c.args.answer.now.bytes)
     c.word_at.ensures.count (omega (arith, c.word_at.ensures.some)) here in
-    λ levels. (refl, front, (search rules, search rules))
+    λ levels command. (refl, front, (search rules, search rules))

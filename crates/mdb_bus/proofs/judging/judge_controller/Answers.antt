@@ -12,19 +12,19 @@ returns-in-InAsk-clause-judged c =
 pub returns-in-InReply-clause-judged : goal.returns-in-InReply-clause-judged
 returns-in-InReply-clause-judged c =
     λ levels sound. judged_at c.args.place.now _ c.args.from.now levels (Word c.args.at Controller c.args.word)
-    c.cut_in.result c.in-InReply.is (c.cut_in.ensures.reply levels c.in-InReply.field-0 c.in-InReply.field-1)
+    c.cut_in.result c.in-InReply.is (c.cut_in.ensures.reply levels c.args.place.now.command c.args.place.now.bytes)
 
 pub returns-in-InRepeat-clause-judged : goal.returns-in-InRepeat-clause-judged
 returns-in-InRepeat-clause-judged c =
     λ levels sound. judged_at c.args.place.now _ c.args.from.now levels (Word c.args.at Controller c.args.word)
     c.cut_in-in-InRepeat.result c.in-InRepeat.is
-    (c.cut_in-in-InRepeat.ensures.repeat levels c.args.place.now.exchange.command c.args.place.now.exchange.reply _)
+    (c.cut_in-in-InRepeat.ensures.repeat levels c.args.place.now.command c.args.place.now.answer.reply _)
 
 pub returns-in-Replied-2-clause-judged : goal.returns-in-Replied-2-clause-judged
 returns-in-Replied-2-clause-judged c =
     λ levels sound. judged_at c.args.place.now _ c.args.from.now levels (Word c.args.at Controller c.args.word)
     c.answer_reply.result c.in-Replied-2.is
-    (c.answer_reply.ensures levels c.args.place.now.exchange.command c.args.place.now.exchange.reply)
+    (c.answer_reply.ensures levels c.args.place.now.command c.args.place.now.answer.reply)
 
 pub returns-in-InForeign-2-clause-judged : goal.returns-in-InForeign-2-clause-judged
 returns-in-InForeign-2-clause-judged c =
