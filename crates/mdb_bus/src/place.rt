@@ -15,6 +15,7 @@ use mdb_blocks::{Block, seal};
 use mdb_msgs::{ChangerCommand, ChangerMsg, Command, MsgFault, Reply, command_of, reply_of};
 use mdb_words::{Event, Word};
 use std::marker::Model;
+use std::mem;
 
 /// The most bytes of a block beside its last.
 const CONTENT_MAX: usize = 35;
@@ -350,7 +351,7 @@ impl Place {
             return false;
         };
         self.phase = Phase::Quiet;
-        act.note(Act::VmcAck(self.command, self.answer.reply.copy()))
+        act.note(Act::VmcAck(self.command, self.settled()))
     }
 
     /// The controller didn't receive the reply well.
@@ -365,7 +366,18 @@ impl Place {
             return false;
         };
         self.phase = Phase::Quiet;
-        act.note(Act::VmcNak(self.command, self.answer.reply.copy()))
+        act.note(Act::VmcNak(self.command, self.settled()))
+    }
+
+    /// The last reply, which is moved out: no phase asks for it once it was answered.
+    #[inline(always)]
+    fn settled(&mut self) -> Reply
+        ensures reply { result ≡ self.old.answer.reply }
+        ensures phase { self.new.phase ≡ self.old.phase }
+        ensures command { self.new.command ≡ self.old.command }
+    {
+        let Spelled { reply, .. } = mem::replace(&mut self.answer, Spelled::none());
+        reply
     }
 
     /// The controller asks for the reply again.
