@@ -1,44 +1,44 @@
 -- What each step has, and some step has.
-use Rattle.std.proofs.Common.{refl, ◌≡◌, Ok}
+use Rattle.std.proofs.Common.{refl, ◌≡◌, ◌%◌, Ok}
 use Rattle.mdb_words.specs.declared.event.Event.{Event}
 use Rattle.mdb_words.specs.declared.event.Event.TheVariants.{Word, Break}
 use Rattle.mdb_bus.specs.LinkFaults.{Situation}
 use Rattle.mdb_bus.specs.Steps.{IsJudged, Leads}
 use Rattle.mdb_bus.specs.declared.judged.Judged.{Judged}
 use Rattle.mdb_bus.specs.declared.judged.Judged.TheVariants as judged
-use Rattle.mdb_bus.specs.Step.{EachStep, SomeStep, Step}
+use Rattle.mdb_bus.specs.Step.{EachStep, SomeStep, Step, word_in}
 use Rattle.mdb_bus.specs.Step as step
 
 -- what each step has by what each has
 pub each : (found : Judged) (row : Event) (One All : Step → Type 0) → ((next : Step) → One next → All next) → EachStep found row One → EachStep found row All
-each (judged.AskByte byte) row One All all one = all (step.AskByte byte) one
+each judged.AskByte row One All all one = all (step.AskByte (word_in row % 256)) one
 each judged.Ask row One All all one = λ command. all (step.Ask command) (one command)
 each judged.Foreign row One All all one = all step.Foreign one
 each judged.Ack row One All all one = all step.Ack one
 each judged.Nak row One All all one = all step.Nak one
-each (judged.ReplyByte byte) row One All all one = all (step.ReplyByte byte) one
+each judged.ReplyByte row One All all one = all (step.ReplyByte (word_in row % 256)) one
 each judged.Reply row One All all one = tt
 each judged.VmcAck row One All all one = all step.VmcAck one
 each judged.VmcNak row One All all one = all step.VmcNak one
 each judged.VmcRet row One All all one = all step.VmcRet one
-each (judged.RepeatWord word) row One All all one = all (step.RepeatWord word) one
+each judged.RepeatWord row One All all one = all (step.RepeatWord (word_in row)) one
 each judged.Repeat row One All all one = all step.Repeat one
 each judged.Break (Break at length) One All all one = all (step.Break length) one
 each judged.Break (Word at line word) One All all one = tt
 
 -- a step that has what some step has and what each step has
 pub some_each : (found : Judged) (row : Event) (One Two : Step → Type 0) → SomeStep found row One → EachStep found row Two → (next : Step) × One next × Two next
-some_each (judged.AskByte byte) row One Two one two = (step.AskByte byte, one, two)
+some_each judged.AskByte row One Two one two = (step.AskByte (word_in row % 256), one, two)
 some_each judged.Ask row One Two one two = (step.Ask one.0, one.1, two one.0)
 some_each judged.Foreign row One Two one two = (step.Foreign, one, two)
 some_each judged.Ack row One Two one two = (step.Ack, one, two)
 some_each judged.Nak row One Two one two = (step.Nak, one, two)
-some_each (judged.ReplyByte byte) row One Two one two = (step.ReplyByte byte, one, two)
+some_each judged.ReplyByte row One Two one two = (step.ReplyByte (word_in row % 256), one, two)
 some_each judged.Reply row One Two one two = absurd one
 some_each judged.VmcAck row One Two one two = (step.VmcAck, one, two)
 some_each judged.VmcNak row One Two one two = (step.VmcNak, one, two)
 some_each judged.VmcRet row One Two one two = (step.VmcRet, one, two)
-some_each (judged.RepeatWord word) row One Two one two = (step.RepeatWord word, one, two)
+some_each judged.RepeatWord row One Two one two = (step.RepeatWord (word_in row), one, two)
 some_each judged.Repeat row One Two one two = (step.Repeat, one, two)
 some_each judged.Break (Break at length) One Two one two = (step.Break length, one, two)
 some_each judged.Break (Word at line word) One Two one two = absurd one
@@ -46,16 +46,16 @@ some_each judged.Break (Word at line word) One Two one two = absurd one
 -- what is made of a row that ends no reply is where it leads
 pub leads_of : (found : Judged) (s : Situation) (row : Event) → (found ≡ judged.Reply → ⊥) → IsJudged s row (Ok found)
     → SomeStep found row (Leads s row)
-leads_of (judged.AskByte byte) s row other h = h
+leads_of judged.AskByte s row other h = h
 leads_of judged.Ask s row other h = h
 leads_of judged.Foreign s row other h = h
 leads_of judged.Ack s row other h = h
 leads_of judged.Nak s row other h = h
-leads_of (judged.ReplyByte byte) s row other h = h
+leads_of judged.ReplyByte s row other h = h
 leads_of judged.Reply s row other h = absurd (other refl)
 leads_of judged.VmcAck s row other h = h
 leads_of judged.VmcNak s row other h = h
 leads_of judged.VmcRet s row other h = h
-leads_of (judged.RepeatWord word) s row other h = h
+leads_of judged.RepeatWord s row other h = h
 leads_of judged.Repeat s row other h = h
 leads_of judged.Break s row other h = h

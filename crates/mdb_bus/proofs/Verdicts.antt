@@ -223,7 +223,7 @@ pub going_on : (bytes : List ℕ) (from : Option Event) (at word : ℕ) (levels 
     → (OutOfOrder from (Word at Controller word) → ⊥) → (IsBefore WORD_GAP_MIN from (Word at Controller word) → ⊥)
     → (IsBehind BLOCK_GAP_MAX from (Word at Controller word) → ⊥) → word < 256 → IsGoingOn bytes word result
     → IsJudged (record { position = InAsk bytes; last = from; levels = levels }) (Word at Controller word) result
-going_on bytes from at word levels (Ok (judged.AskByte byte)) order early late small h =
+going_on bytes from at word levels (Ok judged.AskByte) order early late small h =
     let soon = in_time WORD_GAP_MIN from (Word at Controller word) early in
     let near = not_late BLOCK_GAP_MAX from (Word at Controller word) late in
     (h.0, small, h.1, (soon, near))

@@ -178,8 +178,8 @@ rule_of reading.Answer = rule.Answer
 
 -- what is made of a word of the controller where a block may begin so long after the row before
 abbrev pub IsOpened : ℕ → Option Event → Event → ℕ → Result Judged Rule → Type 0
-IsOpened least from to word (Ok (judged.AskByte byte)) =
-    (word ≡ 256 + byte) × IsAskFront (byte ∷ []) × NotBefore least from to
+IsOpened least from to word (Ok judged.AskByte) =
+    (word ≡ 256 + word % 256) × IsAskFront (word % 256 ∷ []) × NotBefore least from to
 IsOpened least from to word (Ok judged.Foreign) =
     (byte : ℕ) × (word ≡ 256 + byte) × IsForeignOpening (byte ∷ []) × NotBefore least from to
 IsOpened least from to word (Ok _) = ⊥
@@ -190,7 +190,8 @@ IsOpened least from to word (Err _) = ⊥
 
 -- what is made of an unmarked word that comes in time inside a block of the controller
 abbrev pub IsGoingOn : List ℕ → ℕ → Result Judged Rule → Type 0
-IsGoingOn bytes word (Ok (judged.AskByte byte)) = (word ≡ byte) × IsAskFront (bytes ++ byte ∷ [])
+IsGoingOn bytes word (Ok judged.AskByte) =
+    (word ≡ word % 256) × IsAskFront (bytes ++ word % 256 ∷ [])
 IsGoingOn bytes word (Ok judged.Ask) = (command : Command) × Spells command (bytes ++ word ∷ [])
 IsGoingOn bytes word (Ok judged.Foreign) = IsForeignOpening (bytes ++ word ∷ [])
 IsGoingOn bytes word (Ok _) = ⊥
@@ -218,9 +219,9 @@ IsSound _ = Unit {0}
 
 -- there is room for what a step adds
 abbrev pub HasRoom : Phase → List ℕ → Judged → Type 0
-HasRoom phase.InAsk bytes (judged.AskByte byte) = length bytes < 35
-HasRoom phase.InReply bytes (judged.ReplyByte byte) = length bytes < 35
-HasRoom (phase.InRepeat said) bytes (judged.RepeatWord word) = said < 35
+HasRoom phase.InAsk bytes judged.AskByte = length bytes < 35
+HasRoom phase.InReply bytes judged.ReplyByte = length bytes < 35
+HasRoom (phase.InRepeat said) bytes judged.RepeatWord = said < 35
 HasRoom _ bytes _ = Unit {0}
 
 -- the word at an index of a reply's block

@@ -1,12 +1,10 @@
 //! What a row that breaks no rule does.
 
-use mdb_words::Word;
-
-/// What a row does that breaks no rule.
+/// What a row does that breaks no rule. Its byte, its word and its length are the row's.
 #[derive(Clone, Copy, PartialEq, Eq, Debug)]
 pub enum Judged {
     /// A byte of a command's block, which has more to come: its first, or a further one.
-    AskByte(u8),
+    AskByte,
     /// The last word of a command's block, which the bytes so far tell.
     Ask,
     /// What opens a foreign block, or a word behind it.
@@ -16,7 +14,7 @@ pub enum Judged {
     /// The peripheral's NAK.
     Nak,
     /// A byte of a reply, which has more to come: its first, or a further one.
-    ReplyByte(u8),
+    ReplyByte,
     /// The last word of a reply of the right length and sum. What it says is still to be read.
     Reply,
     /// The controller's ACK.
@@ -26,7 +24,7 @@ pub enum Judged {
     /// The controller's RET.
     VmcRet,
     /// A word of a repeat, which has more to come: its first, or a further one.
-    RepeatWord(Word),
+    RepeatWord,
     /// The last word of a repeat.
     Repeat,
     /// A break, as long as its row says.

@@ -167,7 +167,7 @@ fn begin_block(from: &Option<Event>, at: Time, word: Word, least: u64) -> Result
     match need_of(&[word.byte()]) {
         Need::Outside => Err(Rule::Profile),
         Need::Foreign => Ok(Judged::Foreign),
-        Need::More | Need::Exactly(_) => Ok(Judged::AskByte(word.byte())),
+        Need::More | Need::Exactly(_) => Ok(Judged::AskByte),
     }
 }
 
@@ -216,7 +216,7 @@ fn second_byte(bytes: &Begun, first: u8, word: Word) -> Result<Judged, Rule>
     match need_of(&[first, word.byte()]) {
         Need::Outside => Err(Rule::Profile),
         Need::Foreign => Ok(Judged::Foreign),
-        Need::More | Need::Exactly(_) => Ok(Judged::AskByte(word.byte())),
+        Need::More | Need::Exactly(_) => Ok(Judged::AskByte),
     }
 }
 
@@ -231,7 +231,7 @@ fn further_byte(bytes: &Begun, so_far: &[u8], word: Word) -> Result<Judged, Rule
     laws::need_leaves_a_command_open();
     laws::front_of_a_command_is_open();
     match need_of(so_far) {
-        Need::Exactly(length) if so_far.len() + 1 < length => Ok(Judged::AskByte(word.byte())),
+        Need::Exactly(length) if so_far.len() + 1 < length => Ok(Judged::AskByte),
         _ => end_ask(bytes, word),
     }
 }
@@ -283,7 +283,7 @@ fn answer(command: Command, from: &Option<Event>, at: Time, word: Word) -> Resul
             None => Err(Rule::Answer),
         }
     } else if command.may_have_data() {
-        Ok(Judged::ReplyByte(word.byte()))
+        Ok(Judged::ReplyByte)
     } else {
         Err(Rule::Answer)
     }
@@ -353,7 +353,7 @@ fn go_on_replying(
     if word.marked() {
         end_reply(command, bytes, word)
     } else if bytes.as_slice().len() < 35 {
-        Ok(Judged::ReplyByte(word.byte()))
+        Ok(Judged::ReplyByte)
     } else {
         Err(Rule::Length)
     }
@@ -446,7 +446,7 @@ fn begin_repeat(
         return Err(Rule::Late);
     }
     if word_at(answer, 0) == Some(word) {
-        Ok(Judged::RepeatWord(word))
+        Ok(Judged::RepeatWord)
     } else {
         Err(Rule::Same)
     }
@@ -487,7 +487,7 @@ fn go_on_repeating(
         return Err(Rule::Same);
     }
     if usize::from(said) < answer.bytes.as_slice().len() {
-        Ok(Judged::RepeatWord(word))
+        Ok(Judged::RepeatWord)
     } else {
         Ok(Judged::Repeat)
     }

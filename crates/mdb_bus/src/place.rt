@@ -1,8 +1,9 @@
 //! Where the bus is.
 
-ghost use Rattle.std.specs.Prelude.{◌≡◌, ◌≤◌, ◌<◌, [], ◌∷◌, ◌++◌, ℕ, length, false, IfSome, IfOk, IfErr, OnErr, Ok, Err};
+ghost use Rattle.std.specs.Prelude.{◌≡◌, ◌≤◌, ◌<◌, [], ◌∷◌, ◌++◌, ◌%◌, ℕ, length, false, IfSome, IfOk, IfErr, OnErr, Ok, Err};
 ghost use Rattle.mdb_blocks.specs.Block.{block_of};
 ghost use Rattle.mdb_msgs.specs.Replies.{reply_bytes};
+ghost use Rattle.mdb_bus.specs.Step.{word_in};
 ghost use Rattle.mdb_bus.specs.Steps.{rule_of as rule_of_lem};
 
 use super::act::Act;
@@ -13,7 +14,7 @@ use super::levels::Levels;
 use arrayvec::ArrayVec;
 use mdb_blocks::{Block, seal};
 use mdb_msgs::{ChangerCommand, ChangerMsg, Command, MsgFault, Reply, command_of, reply_of};
-use mdb_words::{Event, Word};
+use mdb_words::Event;
 use std::marker::Model;
 use std::mem;
 
@@ -172,8 +173,8 @@ impl Place {
         ensures none { result ≡ false → act.new ≡ act.old }
     {
         match judged {
-            Judged::AskByte(byte) => {
-                self.add_to_ask(byte);
+            Judged::AskByte => {
+                self.add_to_ask(byte_in(row));
                 false
             }
             Judged::Ask => self.end_ask(act),
@@ -183,8 +184,8 @@ impl Place {
             }
             Judged::Ack => self.end_by_ack(act),
             Judged::Nak => self.end_by_nak(act),
-            Judged::ReplyByte(byte) => {
-                self.add_to_reply(byte);
+            Judged::ReplyByte => {
+                self.add_to_reply(byte_in(row));
                 false
             }
             // `end_reply` takes it.
@@ -192,8 +193,8 @@ impl Place {
             Judged::VmcAck => self.acknowledge(act),
             Judged::VmcNak => self.refuse(act),
             Judged::VmcRet => self.return_reply(act),
-            Judged::RepeatWord(word) => {
-                self.add_to_repeat(word);
+            Judged::RepeatWord => {
+                self.add_to_repeat();
                 false
             }
             Judged::Repeat => self.end_repeat(act),
@@ -218,7 +219,7 @@ impl Place {
 
     /// Adds a byte to the controller's block, or begins one with it.
     fn add_to_ask(&mut self, byte: u8)
-        requires { HasRoom self.old.phase self.old.bytes (Judged.AskByte byte) }
+        requires { HasRoom self.old.phase self.old.bytes Judged.AskByte }
         ensures { HasAdvanced (position_at self.old) (step.AskByte byte)
             (position_at self.new) None }
     {
@@ -252,7 +253,7 @@ impl Place {
 
     /// Adds a byte to the reply, or begins one with it.
     fn add_to_reply(&mut self, byte: u8)
-        requires { HasRoom self.old.phase self.old.bytes (Judged.ReplyByte byte) }
+        requires { HasRoom self.old.phase self.old.bytes Judged.ReplyByte }
         ensures { IsAt (position_at self.old) (step.ReplyByte byte)
             → HasAdvanced (position_at self.old) (step.ReplyByte byte) (position_at self.new) None }
     {
@@ -396,9 +397,9 @@ impl Place {
     }
 
     /// A word of the repeat, which has more to come.
-    fn add_to_repeat(&mut self, word: Word)
-        requires { HasRoom self.old.phase self.old.bytes (Judged.RepeatWord word) }
-        ensures { IsAt (position_at self.old) (step.RepeatWord word)
+    fn add_to_repeat(&mut self)
+        requires { HasRoom self.old.phase self.old.bytes Judged.RepeatWord }
+        ensures { (word : ℕ) → IsAt (position_at self.old) (step.RepeatWord word)
             → HasAdvanced (position_at self.old) (step.RepeatWord word)
             (position_at self.new) None }
     {
@@ -422,6 +423,17 @@ impl Place {
         };
         self.phase = Phase::Replied;
         act.note(Act::Repeat(self.command, self.answer.reply.copy()))
+    }
+}
+
+/// The eight data bits of a row's word.
+#[inline(always)]
+fn byte_in(row: &Event) -> u8
+    ensures { result ≡ word_in row.now % 256 }
+{
+    match *row {
+        Event::Word { word, .. } => word.byte(),
+        Event::Break { .. } => 0,
     }
 }
 

@@ -1,11 +1,11 @@
-use Rattle.std.proofs.Common.{rules}
+use Rattle.std.proofs.Common.{rules, refl, ◌%◌}
 use Rattle.mdb_bus.proofs.Verdicts.{begins}
 use Rattle.mdb_bus.proofs.judging.begin_block.Goals as goal
 
 pub returns-in-More : goal.returns-in-More
 returns-in-More c = (
   search rules,
-  begins c.need_leaves_a_command_open.ensures c.args.word c.byte.result c.byte-in-More.result
-      c.need_of.result c.byte.ensures.value c.byte-in-More.ensures.value c.need_of.ensures c.in-More.is,
+  begins c.need_leaves_a_command_open.ensures c.args.word c.byte.result (c.args.word % 256)
+      c.need_of.result c.byte.ensures.value refl c.need_of.ensures c.in-More.is,
   search rules,
 )

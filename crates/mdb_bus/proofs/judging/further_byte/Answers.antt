@@ -1,4 +1,4 @@
-use Rattle.std.proofs.Common.{rules, arith, ap, ◌≡◌, ◌≤◌, ◌+◌, ◌++◌, ◌∷◌, [], length, sym, subst, ◌∙◌, List, ℕ}
+use Rattle.std.proofs.Common.{rules, arith, ◌%◌, ap, ◌≡◌, ◌≤◌, ◌+◌, ◌++◌, ◌∷◌, [], length, sym, subst, ◌∙◌, List, ℕ}
 use Rattle.mdb_msgs.specs.declared.needs.Need.TheVariants.{Exactly}
 use Rattle.mdb_msgs.specs.Needs.{needed}
 use Rattle.mdb_bus.specs.ActLists.{IsAskFront}
@@ -21,11 +21,11 @@ returns-in-Exactly-clause-room c =
 pub returns-in-Exactly-clause-judged : goal.returns-in-Exactly-clause-judged
 returns-in-Exactly-clause-judged c =
     let told : needed c.args.so_far.now ≡ Exactly c.in-Exactly.length = sym c.need_of.ensures ∙ c.in-Exactly.is in
-    let front : IsAskFront (c.args.so_far.now ++ c.byte.result ∷ []) =
-    further_front c.need_leaves_a_command_open.ensures c.args.so_far.now c.byte.result c.in-Exactly.length
-    c.requires.two (are_bytes c.args.so_far.now c.type_inv.so_far) c.byte.type_inv told c.if-so_far-length.true in
-    let P : List ℕ → Type 0 = λ bytes. IsAskFront (bytes ++ c.byte.result ∷ []) in
-    λ begun. (omega (arith, c.byte.ensures.value, c.requires.unmarked), subst P (sym c.requires.is) front)
+    let front : IsAskFront (c.args.so_far.now ++ (c.args.word % 256) ∷ []) =
+    further_front c.need_leaves_a_command_open.ensures c.args.so_far.now (c.args.word % 256) c.in-Exactly.length
+    c.requires.two (are_bytes c.args.so_far.now c.type_inv.so_far) (omega arith) told c.if-so_far-length.true in
+    let P : List ℕ → Type 0 = λ bytes. IsAskFront (bytes ++ (c.args.word % 256) ∷ []) in
+    λ begun. (omega (arith, c.requires.unmarked), subst P (sym c.requires.is) front)
 
 pub returns-in_default-clause-judged : goal.returns-in_default-clause-judged
 returns-in_default-clause-judged c =
