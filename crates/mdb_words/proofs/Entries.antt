@@ -1,18 +1,14 @@
 -- The tables of digits: each entry by its rule, and what sums of entries tell.
-use Rattle.std.proofs.Common.{◌≡◌, ℕ, zero, suc, ◌+◌, ◌*◌, ◌<◌, ◌≤◌, Bool, true, ◌&&◌, nat_eq, nat_lt, cond, [], ◌∷◌, get_or, refl, inl, inr, arith}
+use Rattle.std.proofs.Common.{◌≡◌, ℕ, zero, suc, ◌+◌, ◌-◌, ◌*◌, ◌/◌, ◌%◌, ◌^◌, ◌<◌, ◌≤◌, List, [], Bool, true, ◌&&◌, nat_eq, nat_lt, cond, get_or, refl, inl, inr, arith}
 use Rattle.std.proofs.lemmas.Bool.{cases_eq}
 use Rattle.std.proofs.lemmas.Bool.Decides.{nat_tests}
 use Rattle.std.specs.Char.{digit_value}
-use Rattle.std.specs.Str.Parse.{AllDigits, digits_value}
-use Rattle.mdb_words.specs.declared.tables.TheConstants.{HEX, ONES, TENS}
+use Rattle.mdb_words.specs.Digits.{IsCount}
+use Rattle.mdb_words.specs.declared.tables.TheConstants.{DECIMAL, HEX, POWERS}
 
 -- a digit's entry, where its value is below the base, else an entry for none
-abbrev entry_of : ℕ → ℕ → ℕ → ℕ → ℕ
+abbrev pub entry_of : ℕ → ℕ → ℕ → ℕ → ℕ
 entry_of base value entry none = cond (nat_lt value base) entry none
-
--- an entry of the table of hexadecimal digits, at a byte
-abbrev pub IsHexEntry : ℕ → ℕ → Type 0
-IsHexEntry c entry = entry ≡ entry_of 16 (digit_value c) (digit_value c) 512
 
 -- two functions agree below n
 agree_below : (ℕ → ℕ) → (ℕ → ℕ) → ℕ → Bool
@@ -29,62 +25,51 @@ agree_at f g (suc n) h b lt =
     let both = both_of (f n) (g n) (agree_below f g n) h in
     elim (cases_eq b n) [ inl same ↦ rw same both.0 | inr other ↦ agree_at f g n both.1 b (omega arith) ]
 
-pub ones_at : (i c : ℕ) → i ≡ c → c < 256 → get_or ONES i 0 ≡ entry_of 10 (digit_value c) (digit_value c) 10000
+-- the entries by their place and byte, numbered through
+
+table_at : List (List ℕ) → ℕ → ℕ
+table_at table n = get_or (get_or table (n / 256) []) (n % 256) 0
+
+rule_at : (base none n : ℕ) → ℕ
+rule_at base none n = entry_of base (digit_value (n % 256)) (digit_value (n % 256) * base ^ (n / 256)) none
+
+count_from : (base none place byte entry : ℕ) → entry ≡ entry_of base (digit_value byte) (digit_value byte * base ^ place) none → IsCount base none place byte entry
+count_from base none place byte entry is =
+    record { digit = λ h. grind (arith, nat_tests); other = λ h. grind (arith, nat_tests) }
+
+entry_at : (table : List (List ℕ)) (base none places : ℕ) → agree_below (table_at table) (rule_at base none) (places * 256) ≡ true → (place i c : ℕ) → place < places → i ≡ c → c < 256 → get_or (get_or table place []) i 0 ≡ entry_of base (digit_value c) (digit_value c * base ^ place) none
+unfolding table_at rule_at
+entry_at table base none places agree place i c few is byte =
+    let same = agree_at (table_at table) (rule_at base none) (places * 256) agree (place * 256 + c) (omega arith) in
+    let at : (place * 256 + c) / 256 ≡ place = omega arith in
+    let left : (place * 256 + c) % 256 ≡ c = omega arith in
+    cc
+
+most_at : (table : List (List ℕ)) (most places : ℕ) → agree_below (λ n. table_at table n - most) (λ n. 0) (places * 256) ≡ true → (place i c : ℕ) → place < places → i ≡ c → c < 256 → get_or (get_or table place []) i 0 ≤ most
+unfolding table_at
+most_at table most places agree place i c few is byte =
+    let none = agree_at (λ n. table_at table n - most) (λ n. 0) (places * 256) agree (place * 256 + c) (omega arith) in
+    let at : (place * 256 + c) / 256 ≡ place = omega arith in
+    let left : (place * 256 + c) % 256 ≡ i = omega arith in
+    let same : get_or (get_or table ((place * 256 + c) / 256) []) ((place * 256 + c) % 256) 0 ≡ get_or (get_or table place []) i 0 = cc in
+    omega (arith, none, same)
+
+pub decimal_at : (place i c : ℕ) → place < 8 → i ≡ c → c < 256 → IsCount 10 100000000 place c (get_or (get_or DECIMAL place []) i 0)
+unfolding agree_below table_at rule_at
+decimal_at place i c few is byte = count_from 10 100000000 place c _ (entry_at DECIMAL 10 100000000 8 refl place i c few is byte)
+
+pub decimal_most : (place i c : ℕ) → place < 8 → i ≡ c → c < 256 → get_or (get_or DECIMAL place []) i 0 ≤ 100000000
+unfolding agree_below table_at
+decimal_most place i c few is byte = most_at DECIMAL 100000000 8 refl place i c few is byte
+
+pub hex_at : (place i c : ℕ) → place < 3 → i ≡ c → c < 256 → IsCount 16 512 place c (get_or (get_or HEX place []) i 0)
+unfolding agree_below table_at rule_at
+hex_at place i c few is byte = count_from 16 512 place c _ (entry_at HEX 16 512 3 refl place i c few is byte)
+
+pub hex_most : (place i c : ℕ) → place < 3 → i ≡ c → c < 256 → get_or (get_or HEX place []) i 0 ≤ 3840
+unfolding agree_below table_at
+hex_most place i c few is byte = most_at HEX 3840 3 refl place i c few is byte
+
+pub power_at : (k : ℕ) → k < 8 → get_or POWERS k 0 ≡ 10 ^ k
 unfolding agree_below
-ones_at i c is byte = rw is (agree_at (λ k. get_or ONES k 0) (λ k. entry_of 10 (digit_value k) (digit_value k) 10000) 256 refl c byte)
-
-pub tens_at : (i c : ℕ) → i ≡ c → c < 256 → get_or TENS i 0 ≡ entry_of 10 (digit_value c) (10 * digit_value c) 10000
-unfolding agree_below
-tens_at i c is byte = rw is (agree_at (λ k. get_or TENS k 0) (λ k. entry_of 10 (digit_value k) (10 * digit_value k) 10000) 256 refl c byte)
-
-pub hex_at : (i c : ℕ) → i ≡ c → c < 256 → get_or HEX i 0 ≡ entry_of 16 (digit_value c) (digit_value c) 512
-unfolding agree_below
-hex_at i c is byte = rw is (agree_at (λ k. get_or HEX k 0) (λ k. entry_of 16 (digit_value k) (digit_value k) 512) 256 refl c byte)
-
--- what the entries of two decimal digits tell, and those of four
-
-pair_bound : (tens ones t o : ℕ) → tens ≡ entry_of 10 t (10 * t) 10000 → ones ≡ entry_of 10 o o 10000 → tens + ones ≤ 20000
-pair_bound tens ones t o t_is o_is = grind (arith, nat_tests)
-
-pair_some : (tens ones t o : ℕ) → tens ≡ entry_of 10 t (10 * t) 10000 → ones ≡ entry_of 10 o o 10000 → tens + ones < 10000 → ((t < 10) × (o < 10)) × (tens + ones ≡ t * 10 + o)
-pair_some tens ones t o t_is o_is small = grind (arith, nat_tests)
-
-pair_value : (tens ones t o : ℕ) → tens ≡ entry_of 10 t (10 * t) 10000 → ones ≡ entry_of 10 o o 10000 → t < 10 → o < 10 → tens + ones ≡ t * 10 + o
-pair_value tens ones t o t_is o_is t_digit o_digit = grind (arith, nat_tests)
-
--- the sum of the entries of two bytes is their number, where they are digits
-pub record IsPair (a b sum : ℕ) : Type 0 where
-  pub bound : sum ≤ 20000
-  pub some : sum < 10000 → ((digit_value a < 10) × (digit_value b < 10)) × (sum ≡ digit_value a * 10 + digit_value b)
-  pub value : digit_value a < 10 → digit_value b < 10 → sum ≡ digit_value a * 10 + digit_value b
-
-pub pair_at : (i j a b : ℕ) → i ≡ a → j ≡ b → a < 256 → b < 256 → IsPair a b (get_or TENS i 0 + get_or ONES j 0)
-pair_at i j a b i_is j_is a_byte b_byte =
-    let tens = tens_at i a i_is a_byte in
-    let ones = ones_at j b j_is b_byte in
-    record {
-      bound = pair_bound _ _ (digit_value a) (digit_value b) tens ones;
-      some = pair_some _ _ (digit_value a) (digit_value b) tens ones;
-      value = pair_value _ _ (digit_value a) (digit_value b) tens ones;
-    }
-
-pub four_some : (a b c d high low : ℕ) → IsPair a b high → IsPair c d low → high * 100 + low < 10000 → AllDigits 10 (a ∷ b ∷ c ∷ d ∷ []) × (high * 100 + low ≡ digits_value 10 (a ∷ b ∷ c ∷ d ∷ []))
-four_some a b c d high low h l small =
-    let p = h.some (omega arith) in
-    let q = l.some (omega arith) in
-    ((p.0.0, (p.0.1, (q.0.0, (q.0.1, tt)))), omega (arith, p.1, q.1))
-
-pub four_none : (a b c d high low : ℕ) → IsPair a b high → IsPair c d low → 10000 ≤ high * 100 + low → AllDigits 10 (a ∷ b ∷ c ∷ d ∷ []) → ⊥
-four_none a b c d high low h l large all =
-    omega (arith, h.value all.0 all.1.0, l.value all.1.1.0 all.1.1.1.0)
-
--- what the entry of a hexadecimal digit tells
-
-pub hex_bound : (entry value : ℕ) → entry ≡ entry_of 16 value value 512 → entry ≤ 512
-hex_bound entry value is = grind (arith, nat_tests)
-
-pub hex_digit : (entry value : ℕ) → entry ≡ entry_of 16 value value 512 → entry < 512 → (value < 16) × (entry ≡ value)
-hex_digit entry value is small = grind (arith, nat_tests)
-
-pub hex_entry : (entry value : ℕ) → entry ≡ entry_of 16 value value 512 → value < 16 → entry ≡ value
-hex_entry entry value is digit = grind (arith, nat_tests)
+power_at k few = agree_at (λ n. get_or POWERS n 0) (λ n. 10 ^ n) 8 refl k few

@@ -1,19 +1,21 @@
 -- Fields of digits: std's words of digits are those of `specs/Digits.antt`.
-use Rattle.std.proofs.Common.{◌≡◌, ℕ, zero, suc, ◌+◌, ◌*◌, ◌/◌, ◌%◌, ◌^◌, ◌<◌, ◌≤◌, true, Option, None, Some, List, [], ◌∷◌, ◌++◌, append_assoc, length, get_or, map, take, length-take, length-append, All, refl, sym, ap, ◌∙◌, arith}
+use Rattle.std.proofs.Common.{◌≡◌, ℕ, zero, suc, ◌+◌, ◌-◌, ◌*◌, ◌/◌, ◌%◌, ◌^◌, ◌<◌, ◌≤◌, true, Option, None, Some, List, [], ◌∷◌, ◌++◌, append_assoc, length, get_or, map, take, drop, length-drop, length-append, All, refl, sym, ap, subst, inl, inr, ◌∙◌, arith}
 use Rattle.std.proofs.Math.Nat.{pow-zero, pow-succ', pow-le-pow_right}
 use Rattle.std.proofs.Math.ListN.{length-map}
+use Rattle.std.proofs.lemmas.Bool.{cases_lt}
 use Rattle.std.proofs.lemmas.Bool.Decides.{nat_tests}
-use Rattle.std.proofs.lemmas.Int.Digits.{digits_more, digits_value-lt, digits_value_more}
+use Rattle.std.proofs.lemmas.Int.Digits.{digits_value-lt}
 use Rattle.std.proofs.lemmas.Fmt.{decimal_is_IsNumeral, decimal_digit, decimal_step, length-decimal-le}
+use Rattle.std.proofs.lemmas.List.{take-append-drop, take_all}
 use Rattle.std.proofs.lemmas.List.Elements.{All-nil, All-cons, All-head, All-tail}
 use Rattle.std.proofs.lemmas.Str.{digit_value_digit}
 use Rattle.std.proofs.lemmas.Str.Parse.{digit_from_value}
 use Rattle.std.specs.Char.{IsAsciiDigit, IsAsciiHexdigit, digit_value}
 use Rattle.std.specs.Fmt.{decimal, digit_glyph}
+use Rattle.std.specs.Prelude.{⊤}
 use Rattle.std.specs.Option.{SomeIff, IfSome, IfNone}
 use Rattle.std.specs.Str.Parse.{AllDigits, digits_value, digits_value_after}
-use Rattle.mdb_words.proofs.Entries.{IsHexEntry, hex_digit, hex_entry}
-use Rattle.mdb_words.specs.Digits.{IsDecimal, IsHexWord, hex_word, positional}
+use Rattle.mdb_words.specs.Digits.{IsCount, IsCounted, IsDecimal, IsHexWord, hex_word, positional}
 
 -- numbers of digits in a base
 
@@ -58,54 +60,118 @@ IsDecimal-decimal most n some few small =
     let is = decimal_is_IsNumeral n small in
     IsDecimal-from most (decimal n) n is.0.0 (length-decimal-le most n some few small) is.0.1 (sym is.1)
 
--- a number read so far, and four digits more
+-- what bytes count, each at its place, and all together
 
-abbrev pub IsSoFar : List ℕ → ℕ → ℕ → Type 0
-IsSoFar ds i n = AllDigits 10 (take i ds) × (n ≡ digits_value 10 (take i ds))
+is_digit : (base none value count : ℕ) → (base ≤ value → count ≡ none) → count < none → value < base
+is_digit base none value count other small =
+    elim (cases_lt value base) [ inl digit ↦ digit | inr large ↦ absurd (omega (arith, other large, small)) ]
 
-digit_more : (ds : List ℕ) (i j n : ℕ) → j ≡ i + 1 → i < length ds → IsSoFar ds i n → digit_value (get_or ds i 0) < 10 → IsSoFar ds j (n * 10 + digit_value (get_or ds i 0))
-digit_more ds i j n next in_range read digit =
-    rw next (digits_more 10 ds i in_range read.0 digit, omega (arith, digits_value_more 10 ds i in_range, read.1))
+abbrev pub AreCounts : List ℕ → List ℕ → Type 0
+AreCounts [] [] = ⊤
+AreCounts (c ∷ cs) (n ∷ ns) = IsCount 10 100000000 (length cs) c n × AreCounts cs ns
+AreCounts [] (n ∷ ns) = ⊥
+AreCounts (c ∷ cs) [] = ⊥
 
--- four digits from an index on
-abbrev four_from : List ℕ → ℕ → List ℕ
-four_from ds i = get_or ds i 0 ∷ get_or ds (i + 1) 0 ∷ get_or ds (i + 2) 0 ∷ get_or ds (i + 3) 0 ∷ []
+abbrev pub sum_of : List ℕ → ℕ
+sum_of [] = 0
+sum_of (n ∷ ns) = n + sum_of ns
 
-pub four_more : (ds : List ℕ) (i j n four : ℕ) → j ≡ i + 4 → i + 3 < length ds → IsSoFar ds i n → AllDigits 10 (four_from ds i) × (four ≡ digits_value 10 (four_from ds i)) → IsSoFar ds j (n * 10000 + four)
-four_more ds i j n four next in_range read is =
-    let a = digit_more ds i (i + 1) _ (omega arith) (omega arith) read is.0.0 in
-    let b = digit_more ds (i + 1) (i + 2) _ (omega arith) (omega arith) a is.0.1.0 in
-    let c = digit_more ds (i + 2) (i + 3) _ (omega arith) (omega arith) b is.0.1.1.0 in
-    let d = digit_more ds (i + 3) j _ (omega arith) (omega arith) c is.0.1.1.1.0 in
-    (d.0, omega (arith, d.1, is.1))
+value_front : (base c : ℕ) (cs : List ℕ) → digits_value base (c ∷ cs) ≡ digit_value c * base ^ length cs + digits_value base cs
+value_front base c cs =
+    omega (arith, positional_is base (c ∷ cs), positional_is base cs, ap (λ k. digit_value c * base ^ k) (length-map cs digit_value))
 
-pub four_bad : (ds : List ℕ) (i : ℕ) → i + 3 < length ds → (AllDigits 10 (four_from ds i) → ⊥) → AllDigits 10 ds → ⊥
-four_bad ds i in_range bad all =
-    bad (AllDigits-at 10 ds i all (omega arith), (AllDigits-at 10 ds (i + 1) all (omega arith), (AllDigits-at 10 ds (i + 2) all (omega arith), (AllDigits-at 10 ds (i + 3) all in_range, tt))))
+counted_from : (ds ns : List ℕ) → AreCounts ds ns → IsCounted ds (sum_of ns)
+counted_from [] [] counts = record { digits = λ small. tt; number = λ all. refl }
+counted_from (c ∷ cs) (n ∷ ns) counts =
+    let rest = counted_from cs ns counts.1 in
+    record {
+      digits = λ small. (is_digit 10 100000000 (digit_value c) n counts.0.other (omega (arith, small)), rest.digits (omega (arith, small)));
+      number = λ all. omega (arith, counts.0.digit all.0, rest.number all.1, value_front 10 c cs);
+    }
+counted_from [] (n ∷ ns) counts = absurd counts
+counted_from (c ∷ cs) [] counts = absurd counts
 
-pub four_room : (ds : List ℕ) (i n : ℕ) → length ds ≤ 15 → i + 3 < length ds → IsSoFar ds i n → n * 10000 + 10000 < 2 ^ 64
-four_room ds i n few in_range read =
-    let below = digits_value-lt 10 (take i ds) read.0 in
-    let short : length (take i ds) ≤ 11 = omega (arith, length-take i ds) in
-    let right : 10 ^ length (take i ds) ≤ 10 ^ 11 = pow-le-pow_right (omega arith) short in
+-- the elements of a list, from an index on
+abbrev pub elements : ℕ → ℕ → List ℕ → List ℕ
+elements i zero ds = []
+elements i (suc k) ds = get_or ds i 0 ∷ elements (suc i) k ds
+
+elements_behind : (i k c : ℕ) (ds : List ℕ) → elements (suc i) k (c ∷ ds) ≡ elements i k ds
+elements_behind i zero c ds = refl
+elements_behind i (suc k) c ds = ap (λ l. get_or ds i 0 ∷ l) (elements_behind (suc i) k c ds)
+
+all_elements : (ds : List ℕ) → elements 0 (length ds) ds ≡ ds
+all_elements [] = refl
+all_elements (c ∷ cs) = ap (λ l. c ∷ l) (elements_behind 0 (length cs) c cs ∙ all_elements cs)
+
+pub counted_at : (ds ns : List ℕ) (k count : ℕ) → length ds ≡ k → count ≡ sum_of ns → AreCounts (elements 0 k ds) ns → IsCounted ds count
+counted_at ds ns k count long is counts =
+    let whole : elements 0 k ds ≡ ds = ap (λ n. elements 0 n ds) (sym long) ∙ all_elements ds in
+    rw is (counted_from ds ns (subst (λ l. AreCounts l ns) whole counts))
+
+pub few_none : (ds : List ℕ) (count : ℕ) → IsCounted ds count → length ds ≤ 8 → 100000000 ≤ count → AllDigits 10 ds → ⊥
+few_none ds count h few large all =
+    let below = digits_value-lt 10 ds all in
+    let right : 10 ^ length ds ≤ 10 ^ 8 = pow-le-pow_right (omega arith) few in
+    omega (arith, h.number all)
+
+-- digits that go on behind others
+
+AllDigits-append : (base : ℕ) (front rest : List ℕ) → AllDigits base front → AllDigits base rest → AllDigits base (front ++ rest)
+AllDigits-append base [] rest h r = r
+AllDigits-append base (c ∷ cs) rest h r = (h.0, AllDigits-append base cs rest h.1 r)
+
+AllDigits-rest : (base : ℕ) (front rest : List ℕ) → AllDigits base (front ++ rest) → AllDigits base rest
+AllDigits-rest base [] rest h = h
+AllDigits-rest base (c ∷ cs) rest h = AllDigits-rest base cs rest h.1
+
+value_append : (base n : ℕ) (front rest : List ℕ) → digits_value_after base n (front ++ rest) ≡ digits_value_after base (digits_value_after base n front) rest
+value_append base n [] rest = refl
+value_append base n (c ∷ cs) rest = value_append base (n * base + digit_value c) cs rest
+
+-- a number was read of the front, and the rest is left
+pub record IsSoFar (ds : List ℕ) (number : ℕ) (rest : List ℕ) : Type 0 where
+  pub front : List ℕ
+  pub split : ds ≡ front ++ rest
+  pub read : AllDigits 10 front × (number ≡ digits_value 10 front)
+  pub few : length rest < 8
+
+pub none_so_far : (ds rest : List ℕ) (number : ℕ) → number ≡ 0 → rest ≡ ds → length ds < 8 → IsSoFar ds number rest
+none_so_far ds rest number none all few =
+    record { front = []; split = sym all; read = (tt, none); few = omega (arith, ap length all) }
+
+pub eight_so_far : (ds rest : List ℕ) (number : ℕ) → rest ≡ take (length ds - 8) (drop 8 ds) → AllDigits 10 (take 8 ds) × (number ≡ digits_value 10 (take 8 ds)) → length ds ≤ 15 → IsSoFar ds number rest
+eight_so_far ds rest number is read few =
+    let whole : rest ≡ drop 8 ds = is ∙ take_all (length ds - 8) (drop 8 ds) (omega (arith, length-drop 8 ds)) in
+    record {
+      front = take 8 ds;
+      split = sym (ap (λ l. take 8 ds ++ l) whole ∙ take-append-drop 8 ds);
+      read = read;
+      few = omega (arith, ap length whole, length-drop 8 ds);
+    }
+
+pub goes_on : (ds rest : List ℕ) (high low power : ℕ) → IsSoFar ds high rest → power ≡ 10 ^ length rest → AllDigits 10 rest × (low ≡ digits_value 10 rest) → AllDigits 10 ds × (high * power + low ≡ digits_value 10 ds)
+goes_on ds rest high low power so_far is read =
+    let same : digits_value 10 ds ≡ digits_value 10 (so_far.front ++ rest) = ap (λ l. digits_value 10 l) so_far.split in
+    let value = positional_after 10 high rest in
+    let scaled : high * power ≡ high * 10 ^ length rest = ap (λ p. high * p) is in
+    let behind : digits_value_after 10 high rest ≡ digits_value_after 10 (digits_value 10 so_far.front) rest = ap (λ n. digits_value_after 10 n rest) so_far.read.1 in
+    (rw so_far.split (AllDigits-append 10 so_far.front rest so_far.read.0 read.0), omega (arith, same, value, scaled, behind, value_append 10 0 so_far.front rest, positional_is 10 rest, read.1))
+
+pub no_room_needed : (ds : List ℕ) (n : ℕ) → length ds ≤ 15 → AllDigits 10 ds × (n ≡ digits_value 10 ds) → n < 10 ^ 15
+no_room_needed ds n few read =
+    let below = digits_value-lt 10 ds read.0 in
+    let right : 10 ^ length ds ≤ 10 ^ 15 = pow-le-pow_right (omega arith) few in
     omega (arith, read.1)
 
-pub four_small : (ds : List ℕ) (i four : ℕ) → AllDigits 10 (four_from ds i) × (four ≡ digits_value 10 (four_from ds i)) → four < 10000
-four_small ds i four is = omega (arith, is.1, is.0.0, is.0.1.0, is.0.1.1.0, is.0.1.1.1.0)
-
--- the first digits
+pub rest_bad : (ds rest : List ℕ) (high : ℕ) → IsSoFar ds high rest → (AllDigits 10 rest → ⊥) → AllDigits 10 ds → ⊥
+rest_bad ds rest high so_far bad all =
+    bad (AllDigits-rest 10 so_far.front rest (subst (AllDigits 10) so_far.split all))
 
 pub AllDigits-take : (base k : ℕ) (ds : List ℕ) → AllDigits base ds → AllDigits base (take k ds)
 AllDigits-take base zero ds all = tt
 AllDigits-take base (suc k) [] all = tt
 AllDigits-take base (suc k) (c ∷ cs) all = (all.0, AllDigits-take base k cs all.1)
-
-pub first_three : (ds : List ℕ) (k : ℕ) (read : Option ℕ) → k ≡ 3 → 3 ≤ length ds → SomeIff read (AllDigits 10 (48 ∷ get_or ds 0 0 ∷ get_or ds 1 0 ∷ get_or ds 2 0 ∷ [])) (digits_value 10 (48 ∷ get_or ds 0 0 ∷ get_or ds 1 0 ∷ get_or ds 2 0 ∷ [])) → SomeIff read (AllDigits 10 (take k ds)) (digits_value 10 (take k ds))
-first_three [] k read three some h = absurd (omega arith)
-first_three (a ∷ []) k read three some h = absurd (omega arith)
-first_three (a ∷ b ∷ []) k read three some h = absurd (omega arith)
-first_three (a ∷ b ∷ c ∷ ds) k None three some h = rw three (λ all. h (omega arith, all))
-first_three (a ∷ b ∷ c ∷ ds) k (Some n) three some h = rw three (h.0.1, h.1)
 
 -- what reading a field answers
 
@@ -178,30 +244,27 @@ IsHexWord-from field word three all is small =
 pub IsHexWord-digits : (field : List ℕ) (word : ℕ) → IsHexWord field word → AllDigits 16 field × (word ≡ digits_value 16 field)
 IsHexWord-digits field word h = (values_from_hex field h.digits, h.value ∙ positional_is 16 field)
 
--- what the entries of a field's three bytes tell
+-- what the counts of a field's three bytes tell
 
-pub hex_some : (field : List ℕ) (a b c : ℕ) → length field ≡ 3 → IsHexEntry (get_or field 0 0) a → IsHexEntry (get_or field 1 0) b → IsHexEntry (get_or field 2 0) c → a * 256 + b * 16 + c < 512 → IsHexWord field (a * 256 + b * 16 + c)
+pub hex_some : (field : List ℕ) (a b c : ℕ) → length field ≡ 3 → IsCount 16 512 2 (get_or field 0 0) a → IsCount 16 512 1 (get_or field 1 0) b → IsCount 16 512 0 (get_or field 2 0) c → a + b + c < 512 → IsHexWord field (a + b + c)
 hex_some [] a b c three first second third small = absurd (omega arith)
 hex_some (x ∷ []) a b c three first second third small = absurd (omega arith)
 hex_some (x ∷ y ∷ []) a b c three first second third small = absurd (omega arith)
 hex_some (x ∷ y ∷ z ∷ w ∷ rest) a b c three first second third small = absurd (omega arith)
 hex_some (x ∷ y ∷ z ∷ []) a b c three first second third small =
-    let p = hex_digit a (digit_value x) first (omega arith) in
-    let q = hex_digit b (digit_value y) second (omega arith) in
-    let r = hex_digit c (digit_value z) third (omega arith) in
-    IsHexWord-from (x ∷ y ∷ z ∷ []) _ refl (p.0, (q.0, (r.0, tt))) (omega (arith, p.1, q.1, r.1)) small
+    let p = is_digit 16 512 (digit_value x) a first.other (omega arith) in
+    let q = is_digit 16 512 (digit_value y) b second.other (omega arith) in
+    let r = is_digit 16 512 (digit_value z) c third.other (omega arith) in
+    IsHexWord-from (x ∷ y ∷ z ∷ []) _ refl (p, (q, (r, tt))) (omega (arith, first.digit p, second.digit q, third.digit r)) small
 
-pub hex_none : (field : List ℕ) (a b c : ℕ) → IsHexEntry (get_or field 0 0) a → IsHexEntry (get_or field 1 0) b → IsHexEntry (get_or field 2 0) c → 512 ≤ a * 256 + b * 16 + c → (word : ℕ) → IsHexWord field word → ⊥
+pub hex_none : (field : List ℕ) (a b c : ℕ) → IsCount 16 512 2 (get_or field 0 0) a → IsCount 16 512 1 (get_or field 1 0) b → IsCount 16 512 0 (get_or field 2 0) c → 512 ≤ a + b + c → (word : ℕ) → IsHexWord field word → ⊥
 hex_none [] a b c first second third large word hex = absurd (let three = hex.three in omega arith)
 hex_none (x ∷ []) a b c first second third large word hex = absurd (let three = hex.three in omega arith)
 hex_none (x ∷ y ∷ []) a b c first second third large word hex = absurd (let three = hex.three in omega arith)
 hex_none (x ∷ y ∷ z ∷ w ∷ rest) a b c first second third large word hex = absurd (let three = hex.three in omega arith)
 hex_none (x ∷ y ∷ z ∷ []) a b c first second third large word hex =
     let read = IsHexWord-digits (x ∷ y ∷ z ∷ []) word hex in
-    let p = hex_entry a (digit_value x) first read.0.0 in
-    let q = hex_entry b (digit_value y) second read.0.1.0 in
-    let r = hex_entry c (digit_value z) third read.0.1.1.0 in
-    omega (arith, p, q, r, read.1, hex.small)
+    omega (arith, first.digit read.0.0, second.digit read.0.1.0, third.digit read.0.1.1.0, read.1, hex.small)
 
 glyph_value : (d : ℕ) → d < 16 → digit_value (digit_glyph true d) ≡ d
 glyph_value d h = grind (arith, nat_tests)

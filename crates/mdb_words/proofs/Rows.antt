@@ -1,5 +1,5 @@
 -- What reading and writing rows answer: one event or one refusal, and the row as it is written.
-use Rattle.std.proofs.Common.{◌≡◌, ℕ, ◌/◌, ◌%◌, ◌^◌, true, All, ◌<◌, ◌≤◌, List, [], ◌∷◌, length, get_or, map, inl, inr, refl, ap, subst, arith, Option, None, Some, IfSome, IfNone, Result, Ok, Err, IfErr}
+use Rattle.std.proofs.Common.{◌≡◌, ◌≢◌, ℕ, ◌/◌, ◌%◌, ◌^◌, true, All, ◌<◌, ◌≤◌, List, [], ◌∷◌, length, get_or, map, inl, inr, refl, ap, subst, arith, Option, None, Some, IfSome, IfNone, Result, Ok, Err, IfErr}
 use Rattle.std.specs.Borrow.{Bor}
 use Rattle.std.specs.Option.{ok_or}
 use Rattle.std.proofs.lemmas.Bool.Decides.{nat_tests}
@@ -10,13 +10,13 @@ use Rattle.std.specs.Fmt.{decimal, digit_glyph}
 use Rattle.mdb_words.proofs.Numerals.{IsDecimal-decimal, IsHexWord-hex_word, decimal_digits}
 use Rattle.mdb_words.specs.Event.{start_of}
 use Rattle.mdb_words.specs.Digits.{IsDecimal, hex_word}
-use Rattle.mdb_words.specs.Row.{IsFieldByte, IsRefusal, IsRow, Tells, break_letter, letter_of, row_fields}
+use Rattle.mdb_words.specs.Row.{IsFieldByte, IsLetter, IsRefusal, IsRow, Tells, break_letter, letter_of, row_fields}
 use Rattle.mdb_words.specs.declared.event.Event.{Event}
 use Rattle.mdb_words.specs.declared.event.Event.TheVariants.{Word, Break}
 use Rattle.mdb_words.specs.declared.word.Line.{Line}
 use Rattle.mdb_words.specs.declared.word.Line.TheVariants.{Controller, Peripheral}
 use Rattle.mdb_words.specs.declared.row.RowFault.{RowFault}
-use Rattle.mdb_words.specs.declared.row.RowFault.TheVariants.{BadTime}
+use Rattle.mdb_words.specs.declared.row.RowFault.TheVariants.{BadLine, BadTime}
 
 -- one event, and no refusal
 
@@ -37,6 +37,16 @@ pub letter_is : (field : List ℕ) (c : ℕ) → 1 ≤ length field → length f
 letter_is [] c some one is = absurd (omega arith)
 letter_is (b ∷ []) c some one is = ap (λ x. x ∷ []) is
 letter_is (b ∷ d ∷ rest) c some one is = absurd (omega arith)
+
+-- a field that tells no line and no break
+no_letter : (letter : List ℕ) → ((line : Line) → letter ≢ letter_of line ∷ []) → letter ≢ break_letter ∷ [] → IsLetter letter → ⊥
+no_letter letter no_line no_break (inl is) = no_line Controller is
+no_letter letter no_line no_break (inr (inl is)) = no_line Peripheral is
+no_letter letter no_line no_break (inr (inr is)) = no_break is
+
+pub refuses_letter : (letter value : List ℕ) (at : ℕ) → ((line : Line) → letter ≢ letter_of line ∷ []) → letter ≢ break_letter ∷ [] → (time : List ℕ) → IsDecimal 15 time at → IsRefusal (time ∷ letter ∷ value ∷ []) BadLine
+refuses_letter letter value at no_line no_break time decimal =
+    (time, letter, value, refl, at, decimal, no_letter letter no_line no_break)
 
 -- the fields of a record, behind references
 

@@ -5,9 +5,9 @@ ghost use Rattle.std.specs.Fmt.{decimal, digit_glyph};
 ghost use Rattle.std.specs.Option.{SomeIff};
 ghost use Rattle.std.specs.Str.Parse.{AllDigits, digits_value};
 ghost use Rattle.arrayvec.specs.ArrayString.{array_string_len};
-ghost use Rattle.mdb_words.specs.Digits.{IsDecimal, IsHexWord, hex_word};
+ghost use Rattle.mdb_words.specs.Digits.{IsCount, IsCounted, IsDecimal, IsHexWord, hex_word};
 
-use super::tables::{HEX, ONES, TENS};
+use super::tables::{DECIMAL, HEX, POWERS};
 use arrayvec::ArrayString;
 
 /// The number of a field of 1 to `most` decimal digits, leading zeros allowed; else `None`.
@@ -23,51 +23,79 @@ pub(crate) fn read_decimal(field: &[u8], most: usize) -> Option<u64>
     number_of(field)
 }
 
-/// The number of decimal digits; `None` where a byte is no digit. Each turn takes four of them,
-/// after the few at the front by which their count is more than a multiple of four.
+/// The number of decimal digits; `None` where a byte is no digit. The first eight are read apart,
+/// where there are as many.
 #[inline(always)]
 fn number_of(digits: &[u8]) -> Option<u64>
     requires { length digits.now ≤ 15 }
     ensures { SomeIff result (AllDigits 10 digits.now) (digits_value 10 digits.now) }
 {
-    let few = digits.len() % 4;
-    let mut number = number_of_first(digits)?;
-    for turn in 0..digits.len() / 4 {
-        let at = few + 4 * turn;
-        let four = number_of_four(digits[at], digits[at + 1], digits[at + 2], digits[at + 3])?;
-        number = number * 10_000 + four;
-    }
-    Some(number)
+    let (high, rest) = if digits.len() < 8 {
+        (0, digits)
+    } else {
+        (number_of_few(&digits[..8])?, &digits[8..])
+    };
+    let low = number_of_few(rest)?;
+    Some(high * POWERS[rest.len()] + low)
 }
 
-/// The number of the few digits at the front, by which their count is more than a multiple of four.
-fn number_of_first(digits: &[u8]) -> Option<u64>
-    ensures { SomeIff result
-        (AllDigits 10 (take (length digits.now % 4) digits.now))
-        (digits_value 10 (take (length digits.now % 4) digits.now)) }
+/// The number of up to eight decimal digits; `None` where a byte is no digit.
+#[inline(always)]
+fn number_of_few(digits: &[u8]) -> Option<u64>
+    requires { length digits.now ≤ 8 }
+    ensures { SomeIff result (AllDigits 10 digits.now) (digits_value 10 digits.now) }
 {
-    match digits.len() % 4 {
-        0 => Some(0),
-        1 => number_of_four(b'0', b'0', b'0', digits[0]),
-        2 => number_of_four(b'0', b'0', digits[0], digits[1]),
-        _ => number_of_four(b'0', digits[0], digits[1], digits[2]),
+    let count = decimal_count(digits);
+    if count < 100_000_000 {
+        Some(u64::from(count))
+    } else {
+        None
     }
 }
 
-/// The number of four decimal digits; `None` where a byte is no digit.
-fn number_of_four(thousands: u8, hundreds: u8, tens: u8, ones: u8) -> Option<u64>
-    ensures { SomeIff result
-        (AllDigits 10 (thousands ∷ hundreds ∷ tens ∷ ones ∷ []))
-        (digits_value 10 (thousands ∷ hundreds ∷ tens ∷ ones ∷ [])) }
+/// What up to eight bytes count together, each as the decimal digit at its place.
+#[inline(always)]
+fn decimal_count(digits: &[u8]) -> u32
+    requires { length digits.now ≤ 8 }
+    ensures { IsCounted digits.now result }
 {
-    let high = TENS[usize::from(thousands)] + ONES[usize::from(hundreds)];
-    let low = TENS[usize::from(tens)] + ONES[usize::from(ones)];
-    // The entry of a byte that is no digit makes this 10,000 or more.
-    let number = high * 100 + low;
-    if number < 10_000 { Some(number) } else { None }
+    match *digits {
+        [] => 0,
+        [h] => decimal(0, h),
+        [g, h] => decimal(1, g) + decimal(0, h),
+        [f, g, h] => decimal(2, f) + decimal(1, g) + decimal(0, h),
+        [e, f, g, h] => decimal(3, e) + decimal(2, f) + decimal(1, g) + decimal(0, h),
+        [d, e, f, g, h] => {
+            decimal(4, d) + decimal(3, e) + decimal(2, f) + decimal(1, g) + decimal(0, h)
+        }
+        [c, d, e, f, g, h] => {
+            let high = decimal(5, c) + decimal(4, d);
+            high + decimal(3, e) + decimal(2, f) + decimal(1, g) + decimal(0, h)
+        }
+        [b, c, d, e, f, g, h] => {
+            let high = decimal(6, b) + decimal(5, c) + decimal(4, d);
+            high + decimal(3, e) + decimal(2, f) + decimal(1, g) + decimal(0, h)
+        }
+        [a, b, c, d, e, f, g, h] => {
+            let high = decimal(7, a) + decimal(6, b) + decimal(5, c) + decimal(4, d);
+            high + decimal(3, e) + decimal(2, f) + decimal(1, g) + decimal(0, h)
+        }
+        _ => unreachable!(),
+    }
+}
+
+/// What a byte counts as the decimal digit at a place, the ones at place 0.
+#[inline(always)]
+fn decimal(place: usize, byte: u8) -> u32
+    requires { place < 8 }
+    ensures count { IsCount 10 100000000 place byte result }
+    ensures bound { result ≤ 100000000 }
+{
+    DECIMAL[place][usize::from(byte)]
 }
 
 /// The number of a field of three hexadecimal digits of either case, up to 1FF; else `None`.
+#[inline(always)]
 pub(crate) fn read_hex_word(field: &[u8]) -> Option<u16>
     ensures some { IfSome result (IsHexWord field.now) }
     ensures none { IfNone result ((word : ℕ) → IsHexWord field.now word → ⊥) }
@@ -75,9 +103,19 @@ pub(crate) fn read_hex_word(field: &[u8]) -> Option<u16>
     let &[high, middle, low] = field else {
         return None;
     };
-    // The entry of a byte that is no digit makes this 512 or more.
-    let word = HEX[usize::from(high)] * 256 + HEX[usize::from(middle)] * 16 + HEX[usize::from(low)];
+    // The count of a byte that is no digit makes this 512 or more.
+    let word = hexadecimal(2, high) + hexadecimal(1, middle) + hexadecimal(0, low);
     if word < 512 { Some(word as u16) } else { None }
+}
+
+/// What a byte counts as the hexadecimal digit, of either case, at a place, the ones at place 0.
+#[inline(always)]
+fn hexadecimal(place: usize, byte: u8) -> u32
+    requires { place < 3 }
+    ensures count { IsCount 16 512 place byte result }
+    ensures bound { result ≤ 3840 }
+{
+    HEX[place][usize::from(byte)]
 }
 
 /// Appends a number in decimal, without leading zeros.

@@ -1,9 +1,10 @@
 //! What a recorder saw: a word or a break, and the row that tells it.
 
-ghost use Rattle.std.specs.Prelude.{◌≡◌, ◌<◌, ◌≤◌, ◌^◌, ◌↔◌, ◌∷◌, length, [], List, ℕ, All, map, IfSome, IfNone, IfOk, IfErr, IsTrue, Ok};
+ghost use Rattle.std.specs.Prelude.{◌≡◌, ◌≢◌, ◌<◌, ◌≤◌, ◌^◌, ◌↔◌, ◌∷◌, length, [], List, ℕ, All, map, IfSome, IfNone, IfOk, IfErr, IsTrue, Ok};
 ghost use Rattle.mdb_words.specs.Event.{AtLeast, AtMost, IsGap, start_of, end_of};
 ghost use Rattle.mdb_words.specs.Row.{IsFieldByte, IsRefusal, IsRow, Tells, break_letter, joined_by_commas, letter_of, row_fields};
 ghost use Rattle.mdb_words.specs.Digits.{IsDecimal};
+ghost use Rattle.mdb_words.specs.declared.word.Line.{Line};
 
 use super::digits::{push_decimal, push_hex_word};
 use super::row::RowFault;
@@ -59,11 +60,12 @@ impl Event {
         ensures { (time : List ℕ) →
             IsDecimal 15 time at → Tells result (time ∷ letter.now ∷ value.now ∷ []) }
     {
-        match letter {
-            [b'M'] => Event::read_word(at, Line::Controller, value),
-            [b'S'] => Event::read_word(at, Line::Peripheral, value),
-            [b'B'] => Event::read_break(at, value),
-            _ => Err(RowFault::BadLine),
+        if let Some(line) = line_of(letter) {
+            Event::read_word(at, line, value)
+        } else if is_break(letter) {
+            Event::read_break(at, value)
+        } else {
+            Err(RowFault::BadLine)
         }
     }
 
@@ -134,6 +136,27 @@ impl Event {
             Event::Break { at, length } => at.value() + length.value(),
         }
     }
+}
+
+/// The line that the letter of a row tells; `None` where it tells none.
+#[inline(always)]
+fn line_of(letter: &[u8]) -> Option<Line>
+    ensures some { IfSome result (λ line. letter.now ≡ letter_of line ∷ []) }
+    ensures none { IfNone result ((line : Line) → letter.now ≢ letter_of line ∷ []) }
+{
+    match letter {
+        [b'M'] => Some(Line::Controller),
+        [b'S'] => Some(Line::Peripheral),
+        _ => None,
+    }
+}
+
+/// Whether the letter of a row is that of a break.
+#[inline(always)]
+fn is_break(letter: &[u8]) -> bool
+    ensures { IsTrue result ↔ (letter.now ≡ break_letter ∷ []) }
+{
+    matches!(letter, [b'B'])
 }
 
 /// The microseconds from one event to a later one: from the start of a word, or the end of a break,

@@ -1,25 +1,29 @@
-use Rattle.std.proofs.Common.{◌+◌, ◌*◌, ◌%◌, length, arith}
-use Rattle.mdb_words.proofs.Numerals.{AllDigits-take, four_bad, four_more, four_room, four_small}
+use Rattle.std.proofs.Common.{◌∙◌, ap, length, arith}
+use Rattle.mdb_words.proofs.Entries.{power_at}
+use Rattle.mdb_words.proofs.Numerals.{IsSoFar, eight_so_far, goes_on, no_room_needed, none_so_far}
+use Rattle.mdb_words.proofs.digits.number_of.Goals.{then-digits-lt8, else-digits-lt8+in_ok-number_of_few}
 use Rattle.mdb_words.proofs.digits.number_of.Goals as goal
 
-pub returns-in_err-number : goal.returns-in_err-number
-returns-in_err-number c =
-    rw c.from_residual.ensures
-    (λ all. c.in_err-number.ensures (AllDigits-take 10 (length c.args.digits.now % 4) c.args.digits.now all))
+pub overflow_mul-result : goal.overflow_mul-result
+overflow_mul-result c =
+    let so_far : IsSoFar c.args.digits.now c.if-digits-lt8.high.0 c.if-digits-lt8.high.1.now = elim c.if-digits-lt8.branch [
+      | then-digits-lt8 w ↦ none_so_far c.args.digits.now c.if-digits-lt8.high.1.now c.if-digits-lt8.high.0 (ap (λ p. p.0) w.high-is) (ap (λ p. p.1.now) w.high-is) w.if-digits-lt8.true
+      | else-digits-lt8+in_ok-number_of_few w ↦ eight_so_far c.args.digits.now c.if-digits-lt8.high.1.now c.if-digits-lt8.high.0 (ap (λ p. p.1.now) w.high-is) (w.in_ok-number_of_few.ensures.0, ap (λ p. p.0) w.high-is ∙ w.in_ok-number_of_few.ensures.1) c.requires
+    ] in
+    omega (arith, no_room_needed c.args.digits.now _ c.requires (goes_on c.args.digits.now c.if-digits-lt8.high.1.now c.if-digits-lt8.high.0 c.in_ok-low.low _ so_far (power_at (length c.if-digits-lt8.high.1.now) so_far.few) c.in_ok-low.ensures))
 
-pub returns-in_err-four : goal.returns-in_err-four
-returns-in_err-four c =
-    rw c.from_residual-in_err-four.ensures
-    (four_bad c.args.digits.now (length c.args.digits.now % 4 + 4 * c.loop-turn.turn) (omega arith) c.in_err-four.ensures)
+pub overflow_add-result : goal.overflow_add-result
+overflow_add-result c =
+    let so_far : IsSoFar c.args.digits.now c.if-digits-lt8.high.0 c.if-digits-lt8.high.1.now = elim c.if-digits-lt8.branch [
+      | then-digits-lt8 w ↦ none_so_far c.args.digits.now c.if-digits-lt8.high.1.now c.if-digits-lt8.high.0 (ap (λ p. p.0) w.high-is) (ap (λ p. p.1.now) w.high-is) w.if-digits-lt8.true
+      | else-digits-lt8+in_ok-number_of_few w ↦ eight_so_far c.args.digits.now c.if-digits-lt8.high.1.now c.if-digits-lt8.high.0 (ap (λ p. p.1.now) w.high-is) (w.in_ok-number_of_few.ensures.0, ap (λ p. p.0) w.high-is ∙ w.in_ok-number_of_few.ensures.1) c.requires
+    ] in
+    omega (arith, no_room_needed c.args.digits.now _ c.requires (goes_on c.args.digits.now c.if-digits-lt8.high.1.now c.if-digits-lt8.high.0 c.in_ok-low.low _ so_far (power_at (length c.if-digits-lt8.high.1.now) so_far.few) c.in_ok-low.ensures))
 
-pub overflow_mul-number : goal.overflow_mul-number
-overflow_mul-number c =
-    omega (arith, four_room c.args.digits.now (length c.args.digits.now % 4 + 4 * c.loop-turn.turn) c.loop-turn.number c.requires (omega arith) c.loop-turn.invariant)
-
-pub overflow_add-number : goal.overflow_add-number
-overflow_add-number c =
-    omega (arith, four_small c.args.digits.now (length c.args.digits.now % 4 + 4 * c.loop-turn.turn) c.in_ok-four.four c.in_ok-four.ensures, four_room c.args.digits.now (length c.args.digits.now % 4 + 4 * c.loop-turn.turn) c.loop-turn.number c.requires (omega arith) c.loop-turn.invariant)
-
-pub loop-turn-preserved : goal.loop-turn-preserved
-loop-turn-preserved c =
-    four_more c.args.digits.now (length c.args.digits.now % 4 + 4 * c.loop-turn.turn) _ c.loop-turn.number c.in_ok-four.four (omega arith) (omega arith) c.loop-turn.invariant c.in_ok-four.ensures
+pub returns : goal.returns
+returns c =
+    let so_far : IsSoFar c.args.digits.now c.if-digits-lt8.high.0 c.if-digits-lt8.high.1.now = elim c.if-digits-lt8.branch [
+      | then-digits-lt8 w ↦ none_so_far c.args.digits.now c.if-digits-lt8.high.1.now c.if-digits-lt8.high.0 (ap (λ p. p.0) w.high-is) (ap (λ p. p.1.now) w.high-is) w.if-digits-lt8.true
+      | else-digits-lt8+in_ok-number_of_few w ↦ eight_so_far c.args.digits.now c.if-digits-lt8.high.1.now c.if-digits-lt8.high.0 (ap (λ p. p.1.now) w.high-is) (w.in_ok-number_of_few.ensures.0, ap (λ p. p.0) w.high-is ∙ w.in_ok-number_of_few.ensures.1) c.requires
+    ] in
+    goes_on c.args.digits.now c.if-digits-lt8.high.1.now c.if-digits-lt8.high.0 c.in_ok-low.low _ so_far (power_at (length c.if-digits-lt8.high.1.now) so_far.few) c.in_ok-low.ensures
