@@ -9,7 +9,7 @@ ghost use Rattle.mdb_cash.specs.Kept.{IsSummary};
 
 use crate::kept::{KeptMessage, Summary};
 use arrayvec::ArrayVec;
-use mdb_msgs::{ReaderMsg, Reply};
+use mdb_msgs::{ReaderList, ReaderMsg, Reply};
 
 /// What a command is to the device that takes it (this profile).
 #[derive(Clone, Copy, PartialEq, Eq, Debug)]
@@ -109,16 +109,21 @@ pub fn tells_out_of_sequence(reply: &Reply) -> bool
     ensures { result ≡ spec.tells_out_of_sequence reply.now }
 {
     match reply {
-        Reply::Reader(list) => tell_out_of_sequence(list.messages().as_slice()),
+        Reply::Reader(list) => tell_out_of_sequence(list),
         _ => false,
     }
 }
 
 /// Whether one of a reader's messages says so.
-pub fn tell_out_of_sequence(messages: &[ReaderMsg]) -> bool
-    ensures { result ≡ list_any spec.is_out_of_sequence messages.now }
+fn tell_out_of_sequence(list: &ReaderList) -> bool
+    ensures { result ≡ list_any spec.is_out_of_sequence list.now.messages }
 {
-    messages.iter().any(|message| is_out_of_sequence(*message))
+    for message in list.iter() {
+        if is_out_of_sequence(message) {
+            return true;
+        }
+    }
+    false
 }
 
 /// Whether a reader's message says so.

@@ -1,9 +1,16 @@
-use Rattle.std.proofs.Common.{◌≡◌, ◌∙◌, ◌+◌, ◌<◌, ◌++◌, ℕ, List, [], ◌∷◌, Option, Some, None, refl, ap, sym, take, get_or, length, take-suc, add-one}
+use Rattle.std.proofs.Common.{◌≡◌, ◌∙◌, ◌||◌, ◌++◌, Bool, true, false, List, [], ◌∷◌, Option, Some, None, refl, ap, sym, subst, map}
+use Rattle.std.specs.List.{list_any}
 use Rattle.std.specs.Option.{option_or}
+use Rattle.std.proofs.lemmas.List.{map-append}
+use Rattle.std.proofs.lemmas.List.Folds.{list_any-append}
 use Rattle.mdb_msgs.specs.declared.reply.reader.ReaderMsg.{ReaderMsg}
-use Rattle.mdb_msgs.specs.declared.reply.reader.ReaderMsg.TheVariants.{JustReset}
-use Rattle.mdb_cash.specs.Past.{or_else}
-use Rattle.mdb_cashless.specs.ReaderMessages.{last_said}
+use Rattle.mdb_cash.specs.declared.kept.Part.{Part}
+use Rattle.mdb_cash.specs.Kept.{IsSummary}
+use Rattle.mdb_cash.specs.Past.{is_out_of_sequence, or_else}
+use Rattle.mdb_cashless.specs.declared.reader.report.ReaderReport.{ReaderReport}
+use Rattle.mdb_cashless.specs.declared.reader.report.Said.{Said}
+use Rattle.mdb_cashless.specs.ReaderMessages.{amount_in, begins_session, config_in, last_said, part_of}
+use Rattle.mdb_cashless.specs.ReaderSaid.{IsSaid}
 
 -- two words for one thing
 pub or_is : {X : Type 0} (one other : Option X) → option_or one other ≡ or_else one other
@@ -23,10 +30,26 @@ last_said-more : {X : Type 0} (says : ReaderMsg → Option X) (messages : List R
 last_said-more says [] m = sym (or_none (says m))
 last_said-more says (message ∷ messages) m = ap (λ o. or_else o (says message)) (last_said-more says messages m) ∙ or_assoc (says m) (last_said says messages) (says message)
 
--- the same by steps through a list
-pub last_step : {X : Type 0} (says : ReaderMsg → Option X) (messages : List ReaderMsg) (i : ℕ) (here last new : Option X) → i < length messages
-    → here ≡ says (get_or messages i JustReset) → last ≡ last_said says (take i messages) → new ≡ option_or here last → new ≡ last_said says (take (i + 1) messages)
-last_step says messages i here last new inside here_is last_is new_is =
-    let m = get_or messages i JustReset in
-    let longer : take (i + 1) messages ≡ take i messages ++ m ∷ [] = ap (λ n. take n messages) (add-one i) ∙ take-suc messages i JustReset inside in
-    new_is ∙ (or_is here last ∙ (ap (λ o. or_else o last) here_is ∙ (ap (or_else (says m)) last_is ∙ sym (ap (last_said says) longer ∙ last_said-more says (take i messages) m))))
+or_last : (a b : Bool) → (a || (b || false)) ≡ (b || a)
+or_last true true = refl
+or_last true false = refl
+or_last false true = refl
+or_last false false = refl
+
+any_last : (f : ReaderMsg → Bool) (messages : List ReaderMsg) (m : ReaderMsg) → list_any f (messages ++ m ∷ []) ≡ (f m || list_any f messages)
+any_last f messages m = list_any-append f messages (m ∷ []) ∙ or_last (list_any f messages) (f m)
+
+-- what messages say with one message more
+pub said_more : (old new : Said) (messages : List ReaderMsg) (m : ReaderMsg) → IsSaid old messages
+    → ((parts : List (Part ReaderReport)) → IsSummary old.summary.kept.items old.summary.reset old.summary.early parts → IsSummary new.summary.kept.items new.summary.reset new.summary.early (parts ++ part_of m ∷ []))
+    → new.config ≡ or_else (config_in m) old.config → new.amount ≡ or_else (amount_in m) old.amount
+    → new.begins ≡ (begins_session m || old.begins) → new.refused ≡ (is_out_of_sequence m || old.refused)
+    → IsSaid new (messages ++ m ∷ [])
+said_more old new messages m said summary config amount begins refused =
+    record {
+      summary_is = subst (λ (parts : List (Part ReaderReport)). IsSummary new.summary.kept.items new.summary.reset new.summary.early parts) (sym (map-append part_of messages (m ∷ []))) (summary (map part_of messages) said.summary_is);
+      config_is = config ∙ (ap (or_else (config_in m)) said.config_is ∙ sym (last_said-more config_in messages m));
+      amount_is = amount ∙ (ap (or_else (amount_in m)) said.amount_is ∙ sym (last_said-more amount_in messages m));
+      begins_is = begins ∙ (ap (λ b. begins_session m || b) said.begins_is ∙ sym (any_last begins_session messages m));
+      refused_is = refused ∙ (ap (λ b. is_out_of_sequence m || b) said.refused_is ∙ sym (any_last is_out_of_sequence messages m));
+    }

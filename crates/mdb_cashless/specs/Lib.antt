@@ -3,6 +3,7 @@ pub mod ReaderCodes
 pub mod ReaderDevice
 pub mod ReaderFacts
 pub mod ReaderMessages
+pub mod ReaderSaid
 pub mod ReaderValues
 pub mod ReaderView
 pub mod ReaderWays

@@ -222,3 +222,30 @@ next_is bytes m text behind stand e is_text = by stand.list.messages refl
           stand = record { list = record { messages = ms; id = id; text = words }; id_length = stand.id_length; text_length = stand.text_length; last = later; spelled = sym parts.1 };
           shorter = front;
         }
+
+-- each message has a byte, so messages are no more than their bytes
+few_in : (fuel : ℕ) (bytes : List ℕ) → length (messages_in fuel bytes).messages ≤ fuel
+unfolding messages_in
+few_in zero bytes = omega arith
+few_in (suc fuel) [] = omega arith
+few_in (suc fuel) (first ∷ behind) =
+    let bytes = first ∷ behind in
+    let message = front_message bytes in
+    let head = head_bytes message in
+    let text = front_text message (drop (length head) bytes) in
+    let rest = few_in fuel (drop (length (head ++ text)) bytes) in
+    omega (arith, rest)
+
+pub few_messages : (bytes : List ℕ) → length (messages_of bytes).messages ≤ length bytes
+unfolding messages_of
+few_messages bytes = few_in (length bytes) bytes
+
+-- no byte is no message
+pub none_stand : StandAsMessages []
+none_stand = record {
+  list = no_messages;
+  id_length = refl;
+  text_length = omega arith;
+  last = tt;
+  spelled = refl;
+}

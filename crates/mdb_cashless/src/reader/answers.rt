@@ -1,11 +1,15 @@
 //! The steps of a reader and the controller by the reader's replies.
 
-ghost use Rattle.std.specs.Prelude.{◌≡◌, ◌≤◌, ◌<◌, ◌^◌, ◌||◌, IfSome, IfNone, length, map};
+ghost use Rattle.std.specs.Prelude.{◌≡◌, ◌≤◌, ◌<◌, ◌^◌, ◌||◌, IfSome, IfNone, List, length, map};
 ghost use Rattle.std.specs.Bool.{OnFalse};
 ghost use Rattle.mdb_cash.specs.Gains.{IsSmall};
-ghost use Rattle.mdb_cash.specs.Kept.{MayBeRead};
+ghost use Rattle.std.specs.List.{list_any};
+ghost use Rattle.mdb_cash.specs.Kept.{MayBeRead, holds_acked, kept_of};
+ghost use Rattle.mdb_cash.specs.Past.{is_out_of_sequence};
 ghost use Rattle.mdb_msgs.specs.declared.reply.Reply.{Reply};
-ghost use Rattle.mdb_cashless.specs.ReaderMessages.{messages_of, part_of};
+ghost use Rattle.mdb_msgs.specs.declared.reply.reader.ReaderMsg.{ReaderMsg};
+ghost use Rattle.mdb_msgs.specs.Reader.{is_kept};
+ghost use Rattle.mdb_cashless.specs.ReaderMessages.{messages_of, part_of, parts_of};
 ghost use Rattle.mdb_cash.specs.Pair.{IsOutcome};
 ghost use Rattle.mdb_cashless.specs.Reader as spec;
 ghost use Rattle.mdb_cashless.specs.ReaderDevice as reader_device;
@@ -14,30 +18,29 @@ ghost use Rattle.mdb_cashless.specs.ReaderView as reader_view;
 
 use super::device::DeviceState;
 use super::facts::ReaderFacts;
-use super::report::{ReaderConfig, ReaderReport, last_config, messages_of, summary_of, tell_reset};
+use super::report::{ReaderConfig, ReaderReport, Said, is_kept, messages_of, tells_of_reset};
 use super::state::ReaderState;
-use super::taking::{is_poll, sold, take, view_heard};
+use super::taking::{is_poll, sold, take};
 use super::transaction::{Transaction, transaction_of};
 use super::values::{all_approved, approved_to};
 use super::view::View;
-use mdb_cash::kept::{held, holds_acked, holds_behind};
-use mdb_cash::past::tell_out_of_sequence;
+use mdb_cash::kept::{held, holds_behind};
+use mdb_cash::past::tells_out_of_sequence;
 use mdb_cash::{Gains, Reading};
-use mdb_msgs::{ReaderCommand, ReaderMsg, Reply};
+use mdb_msgs::{ReaderCommand, ReaderMessages, Reply};
 
-/// The command that the reader takes by a reply of these messages.
-fn taken(command: ReaderCommand, messages: &[ReaderMsg]) -> Option<ReaderCommand>
-    ensures { (reply : Reply) → messages.now ≡ messages_of reply
+/// The command that the reader takes by a reply that refuses it or doesn't: that says that it came
+/// out of sequence.
+#[inline(always)]
+fn taken(command: ReaderCommand, refused: bool) -> Option<ReaderCommand>
+    ensures { (reply : Reply) → refused ≡ list_any is_out_of_sequence (messages_of reply)
         → result ≡ spec.taken command reply }
 {
-    if tell_out_of_sequence(messages) {
-        None
-    } else {
-        Some(command)
-    }
+    if refused { None } else { Some(command) }
 }
 
 /// The state of the reader once a reply is read.
+#[inline(always)]
 fn read(reading: Reading, before: ReaderState) -> ReaderState
     ensures { result ≡ spec.read reading before }
 {
@@ -52,6 +55,7 @@ fn read(reading: Reading, before: ReaderState) -> ReaderState
 }
 
 /// The state behind taking a command, if one is taken.
+#[inline(always)]
 fn take_any(facts: &ReaderFacts, command: Option<ReaderCommand>, before: ReaderState) -> ReaderState
     ensures { result ≡ spec.take_any (facts_in facts.now) command before }
 {
@@ -62,6 +66,7 @@ fn take_any(facts: &ReaderFacts, command: Option<ReaderCommand>, before: ReaderS
 }
 
 /// What that adds to the reader's sold.
+#[inline(always)]
 fn sold_any(facts: &ReaderFacts, command: Option<ReaderCommand>, before: ReaderState) -> u64
     ensures value { result ≡ spec.sold_any (facts_in facts.now) command before }
     ensures small { result ≤ 16711425 }
@@ -73,6 +78,7 @@ fn sold_any(facts: &ReaderFacts, command: Option<ReaderCommand>, before: ReaderS
 }
 
 /// Whether a reset message is owed, once a command is taken, if one is.
+#[inline(always)]
 fn owes_reset(facts: &ReaderFacts, command: Option<ReaderCommand>) -> bool
     ensures { result ≡ spec.owes_reset (facts_in facts.now) command }
 {
@@ -83,6 +89,7 @@ fn owes_reset(facts: &ReaderFacts, command: Option<ReaderCommand>) -> bool
 }
 
 /// The last transaction, once a command is taken, if one is.
+#[inline(always)]
 fn last_transaction(facts: &ReaderFacts, command: Option<ReaderCommand>) -> Option<Transaction>
     ensures { result ≡ spec.last_transaction (facts_in facts.now) command }
 {
@@ -106,13 +113,13 @@ pub(crate) fn answer(
         (spec.ReplyStep (facts_in facts.now) command reply.now reading before) result }
     ensures small { IfSome result (λ outcome. IsSmall outcome.1) }
 {
-    let list = messages_of(reply);
-    let messages = list.as_slice();
-    if !may_be_read(reading, messages) {
+    if !may_be_read(reading, reply) {
         return None;
     }
-    let summary = summary_of(messages);
-    let taken = taken(command, messages);
+    let mut said = Said::nothing();
+    said.read(messages_of(reply));
+    let summary = &said.summary;
+    let taken = taken(command, said.refused);
     let start = read(reading, before);
     let middle = take_any(facts, taken, start);
     let held = held(middle.holds, facts.past.kept.as_slice());
@@ -123,7 +130,7 @@ pub(crate) fn answer(
         view: before.view,
         holds: holds_behind(summary.kept.as_slice(), middle.holds),
     };
-    let config = last_config(messages).or(facts.config);
+    let config = said.config.or(facts.config);
     let approved = all_approved(config, new);
     Some((
         after,
@@ -131,14 +138,14 @@ pub(crate) fn answer(
     ))
 }
 
-/// Whether messages may be read so, by what is quickly seen: none without a reset message tell of a
+/// Whether a reply may be read so, by what is quickly seen: none without a reset message tells of a
 /// restart. A yes promises nothing: `Summary::told` has the last word.
-fn may_be_read(reading: Reading, messages: &[ReaderMsg]) -> bool
-    ensures { OnFalse result (MayBeRead reading (map part_of messages.now) → ⊥) }
+fn may_be_read(reading: Reading, reply: &Reply) -> bool
+    ensures { OnFalse result (MayBeRead reading (parts_of reply.now) → ⊥) }
 {
     match reading {
         Reading::Plain => true,
-        Reading::Restart => tell_reset(messages),
+        Reading::Restart => tells_of_reset(reply),
     }
 }
 
@@ -158,12 +165,12 @@ fn all_told(
 }
 
 /// The view behind hearing that a reply's command was taken, if it was.
-fn view_answered(command: Option<ReaderCommand>, view: View) -> View
-    ensures { result ≡ spec.view_answered command view }
+fn view_answered(command: ReaderCommand, reply: &Reply, view: View) -> View
+    ensures { result ≡ spec.view_answered (spec.taken command reply.now) view }
 {
-    match command {
-        None => view,
-        Some(command) => view_heard(true, command, view),
+    match transaction_of(command) {
+        Some(_) if !tells_out_of_sequence(reply) => view.taken(),
+        _ => view,
     }
 }
 
@@ -180,31 +187,56 @@ pub(crate) fn vmc_ack(
         result.0 result.1 }
     ensures small { IsSmall result.1 }
 {
-    let list = messages_of(reply);
-    let messages = list.as_slice();
-    let summary = summary_of(messages);
-    let start = view_answered(taken(command, messages), before.view);
-    let (view, approved) = hear(facts.config, start, messages);
+    let start = view_answered(command, reply, before.view);
+    let hearing = hear(facts.config, start, messages_of(reply));
     let after = ReaderState {
         device: before.device,
-        view,
-        holds: holds_acked(heard, summary.kept.as_slice(), before.holds),
+        view: hearing.view,
+        holds: holds_on(heard, hearing.keeps, before.holds),
     };
-    (after, Gains::of_controller(approved, 0))
+    (after, Gains::of_controller(hearing.approved, 0))
 }
 
-/// The view behind hearing messages, and what they add to the controller's approved.
-fn hear(config: Option<ReaderConfig>, before: View, messages: &[ReaderMsg]) -> (View, u64)
-    requires { length messages.now ≤ 35 }
-    ensures view { result.0 ≡ reader_view.all_heard messages.now before }
-    ensures approved { result.1 ≡ spec.all_approved_to config before messages.now }
-    ensures small { result.1 < 2 ^ 32 }
+/// What hearing messages makes of the controller's view and sums.
+#[derive(Clone, Copy)]
+struct Hearing {
+    /// The view behind them.
+    view: View,
+    /// What they add to the controller's approved.
+    approved: u64,
+    /// Whether the reader keeps one of them.
+    keeps: bool,
+}
+
+/// What hearing messages makes of a view.
+fn hear(config: Option<ReaderConfig>, before: View, messages: ReaderMessages<'_>) -> Hearing
+    requires { length messages ≤ 35 }
+    ensures view { result.view ≡ reader_view.all_heard messages.entry before }
+    ensures approved { result.approved ≡ spec.all_approved_to config before messages.entry }
+    ensures small { result.approved < 2 ^ 32 }
+    ensures keeps { result.keeps ≡ list_any is_kept messages.entry }
 {
     let mut view = before;
-    let mut total = 0;
+    let mut approved = 0;
+    let mut keeps = false;
     for message in messages {
-        total += approved_to(config, view, *message);
-        view = view.heard(*message);
+        approved += approved_to(config, view, message);
+        view = view.heard(message);
+        if is_kept(message) {
+            keeps = true;
+        }
     }
-    (view, total)
+    Hearing {
+        view,
+        approved,
+        keeps,
+    }
+}
+
+/// Whether the reader holds behind the controller's ACK of messages of which it keeps one, or none.
+fn holds_on(heard: bool, keeps: bool, holds: bool) -> bool
+    ensures { (messages : List ReaderMsg) → keeps ≡ list_any is_kept messages
+        → result ≡ holds_acked heard (kept_of (map part_of messages)) holds }
+{
+    holds & !(keeps & heard)
 }

@@ -3,15 +3,13 @@
 ghost use Rattle.std.specs.Prelude.{◌≡◌, List, [], ◌∷◌, Some};
 ghost use Rattle.mdb_cashless.specs.ReaderFacts.{effect_of_own};
 
-use super::report::{
-    ReaderConfig, ReaderReport, begin_session, last_amount, last_config, messages_of, summary_of,
-};
+use super::report::{ReaderConfig, ReaderReport, Said, messages_of};
 use super::transaction::{Transaction, transaction_of};
 use super::unit::own;
 use mdb_bus::Act;
 use mdb_cash::laws::what_counts_goes_on_act_by_act;
-use mdb_cash::past::{Effect, Past, tell_out_of_sequence};
-use mdb_msgs::{Command, ReaderCommand, ReaderMsg, ReaderUnit, Reply};
+use mdb_cash::past::{Effect, Past};
+use mdb_msgs::{Command, ReaderCommand, ReaderUnit, Reply};
 
 /// What counts of the acts so far for a reader (this profile): a running value, which doesn't grow
 /// with them.
@@ -30,7 +28,7 @@ pub struct ReaderFacts {
 }
 
 impl ReaderFacts {
-    ghost use Rattle.std.specs.Prelude.{◌≤◌, length, option_map};
+    ghost use Rattle.std.specs.Prelude.{option_map};
     ghost use Rattle.mdb_msgs.specs.declared.command.ReaderUnit.{ReaderUnit};
     ghost use Rattle.mdb_bus.specs.declared.act.Act.{Act};
     ghost use Rattle.mdb_bus.specs.declared.act.Act.TheVariants as acts;
@@ -38,6 +36,8 @@ impl ReaderFacts {
     ghost use Rattle.mdb_cashless.specs.ReaderFacts.{facts_of};
     ghost use Rattle.mdb_cashless.specs.ReaderMessages.{messages_of};
     ghost use Rattle.mdb_cash.specs.Past.{or_else};
+    ghost use Rattle.mdb_msgs.specs.declared.reply.reader.ReaderMsg.{ReaderMsg};
+    ghost use Rattle.mdb_cashless.specs.ReaderSaid.{IsSaid};
     ghost use Rattle.mdb_cashless.specs.ReaderValues.{facts_in, facts_with, powered, taken, told};
     ghost use Rattle.mdb_cashless.specs.Transactions.{transaction_of as transaction};
 
@@ -168,25 +168,26 @@ impl ReaderFacts {
             ≡ told (messages_of reply.now)
             (taken (answered command reply.now) (facts_in self.old)) }
     {
-        let list = messages_of(reply);
-        let messages = list.as_slice();
-        if !tell_out_of_sequence(messages) {
+        let mut said = Said::nothing();
+        said.read(messages_of(reply));
+        if !said.refused {
             self.take(command);
         }
-        self.note_messages(messages);
+        self.note_said(said);
     }
 
-    /// Notes what the messages of a reply tell.
-    fn note_messages(&mut self, messages: &[ReaderMsg])
-        requires { length messages.now ≤ 35 }
-        ensures { facts_in self.new ≡ told messages.now (facts_in self.old) }
+    /// Notes what the messages of a reply say.
+    #[inline(always)]
+    fn note_said(&mut self, said: Said)
+        ensures { (messages : List ReaderMsg) → IsSaid said messages
+            → facts_in self.new ≡ told messages (facts_in self.old) }
     {
-        self.config = last_config(messages).or(self.config);
-        self.amount = last_amount(messages).unwrap_or(self.amount);
-        if begin_session(messages) {
+        self.config = said.config.or(self.config);
+        self.amount = said.amount.unwrap_or(self.amount);
+        if said.begins {
             self.taken = None;
         }
-        self.past.keep(summary_of(messages));
+        self.past.keep(said.summary);
     }
 }
 

@@ -2,12 +2,12 @@
 
 ghost use Rattle.std.specs.Prelude.{◌≡◌, ◌≤◌, length, map};
 ghost use Rattle.std.specs.List.{list_any};
+ghost use Rattle.mdb_msgs.specs.Reader.{is_kept};
 ghost use Rattle.mdb_cash.specs.Kept.{IsSummary, is_reset};
 ghost use Rattle.mdb_cashless.specs.ReaderMessages as spec;
 
-use arrayvec::ArrayVec;
 use mdb_cash::kept::{KeptMessage, Part, Summary};
-use mdb_msgs::{ReaderMsg, Reply};
+use mdb_msgs::{ReaderMessages, ReaderMsg, Reply};
 
 /// What a kept message of a cashless reader says (MDB/ICP 4.3, cashless device; what is kept, this
 /// profile). Two such messages are the same where all their bytes are.
@@ -62,34 +62,124 @@ fn part_of(message: ReaderMsg) -> Part<ReaderReport>
 }
 
 /// The messages of a reply of a reader; none of another's.
-pub(crate) fn messages_of(reply: &Reply) -> ArrayVec<ReaderMsg, 35>
-    ensures { result.items ≡ spec.messages_of reply.now }
+#[inline(always)]
+pub(crate) fn messages_of(reply: &Reply) -> ReaderMessages<'_>
+    ensures messages { result ≡ spec.messages_of reply.now }
+    ensures few { length result ≤ 35 }
 {
     match reply {
-        Reply::Reader(list) => list.messages(),
-        _ => ArrayVec::new(),
+        Reply::Reader(list) => list.iter(),
+        _ => ReaderMessages::none(),
     }
 }
 
-/// What counts of messages for what the reader keeps.
-#[inline(always)]
-pub(crate) fn summary_of(messages: &[ReaderMsg]) -> Summary<ReaderReport, 35>
-    requires { length messages.now ≤ 35 }
-    ensures { IsSummary result.kept.items result.reset result.early
-        (map spec.part_of messages.now) }
-{
-    let mut summary = Summary::new();
-    for message in messages {
-        summary.add(part_of(*message));
-    }
-    summary
+/// What the messages of a reply say to the reader's facts and steps. It is found while they are
+/// read, so that no list is made of them.
+#[derive(Drop)]
+pub(crate) struct Said {
+    /// What counts of them for what the reader keeps.
+    pub(crate) summary: Summary<ReaderReport, 35>,
+    /// The last config message.
+    pub(crate) config: Option<ReaderConfig>,
+    /// The amount of the last approval, in units of the scale factor.
+    pub(crate) amount: Option<u16>,
+    /// Whether a session begins.
+    pub(crate) begins: bool,
+    /// Whether the command came out of sequence.
+    pub(crate) refused: bool,
 }
 
-/// Whether one of these messages tells of a reset.
-pub(crate) fn tell_reset(messages: &[ReaderMsg]) -> bool
-    ensures { result ≡ list_any (λ message. is_reset (spec.part_of message)) messages.now }
+impl Said {
+    ghost use Rattle.std.specs.Prelude.{◌+◌, ◌<◌, ◌||◌, ◌++◌, List, [], ◌∷◌};
+    ghost use Rattle.arrayvec.specs.ArrayVec.{array_vec_len};
+    ghost use Rattle.mdb_cash.specs.Past.{is_out_of_sequence, or_else};
+    ghost use Rattle.mdb_cash.specs.declared.kept.Part.{Part};
+    ghost use Rattle.mdb_cashless.specs.declared.reader.report.ReaderReport.{ReaderReport};
+    ghost use Rattle.mdb_cashless.specs.ReaderSaid.{IsSaid};
+
+    /// What no message says.
+    #[inline(always)]
+    pub(crate) fn nothing() -> Said
+        ensures said { IsSaid result [] }
+        ensures room { array_vec_len result.summary.kept ≡ 0 }
+    {
+        Said {
+            summary: Summary::new(),
+            config: None,
+            amount: None,
+            begins: false,
+            refused: false,
+        }
+    }
+
+    /// Reads messages, of which it has read none.
+    pub(crate) fn read(&mut self, messages: ReaderMessages<'_>)
+        requires said { IsSaid self.old [] }
+        requires room { array_vec_len self.old.summary.kept ≡ 0 }
+        requires few { length messages ≤ 35 }
+        ensures { IsSaid self.new messages.entry }
+    {
+        for message in messages {
+            self.add(message);
+        }
+    }
+
+    /// Reads one message more.
+    #[inline(always)]
+    fn add(&mut self, message: ReaderMsg)
+        requires room { array_vec_len self.old.summary.kept < 35 }
+        ensures summary { (parts : List (Part ReaderReport))
+            → IsSummary self.old.summary.kept.items self.old.summary.reset self.old.summary.early
+            parts
+            → IsSummary self.new.summary.kept.items self.new.summary.reset self.new.summary.early
+            (parts ++ spec.part_of message ∷ []) }
+        ensures room { array_vec_len self.new.summary.kept
+            ≤ array_vec_len self.old.summary.kept + 1 }
+        ensures config { self.new.config ≡ or_else (spec.config_in message) self.old.config }
+        ensures amount { self.new.amount ≡ or_else (spec.amount_in message) self.old.amount }
+        ensures begins { self.new.begins ≡ (spec.begins_session message || self.old.begins) }
+        ensures refused { self.new.refused ≡ (is_out_of_sequence message || self.old.refused) }
+    {
+        self.summary.add(part_of(message));
+        match message {
+            ReaderMsg::Config {
+                scale,
+                decimals,
+                response,
+                ..
+            } => {
+                self.config = Some(ReaderConfig {
+                    scale,
+                    decimals,
+                    response,
+                })
+            }
+            ReaderMsg::BeginSession { .. } => self.begins = true,
+            ReaderMsg::VendApproved { amount } => self.amount = Some(amount),
+            ReaderMsg::OutOfSequence => self.refused = true,
+            _ => {}
+        }
+    }
+}
+
+/// Whether the reader keeps a message.
+pub(crate) fn is_kept(message: ReaderMsg) -> bool
+    ensures { result ≡ is_kept message }
 {
-    messages.iter().any(|message| tells_reset(*message))
+    matches!(part_of(message), Part::Kept(_))
+}
+
+/// Whether a reply tells of a reset.
+pub(crate) fn tells_of_reset(reply: &Reply) -> bool
+    ensures { result ≡ list_any (λ message. is_reset (spec.part_of message))
+        (spec.messages_of reply.now) }
+{
+    for message in messages_of(reply) {
+        if tells_reset(message) {
+            return true;
+        }
+    }
+    false
 }
 
 /// Whether a message tells of a reset.
@@ -97,69 +187,4 @@ fn tells_reset(message: ReaderMsg) -> bool
     ensures { result ≡ is_reset (spec.part_of message) }
 {
     matches!(message, ReaderMsg::JustReset)
-}
-
-/// The last config message among these.
-pub(crate) fn last_config(messages: &[ReaderMsg]) -> Option<ReaderConfig>
-    ensures { result ≡ spec.last_said spec.config_in messages.now }
-{
-    let mut last = None;
-    for message in messages {
-        last = config_in(*message).or(last);
-    }
-    last
-}
-
-/// What a message says of how the reader is set up.
-fn config_in(message: ReaderMsg) -> Option<ReaderConfig>
-    ensures { result ≡ spec.config_in message }
-{
-    match message {
-        ReaderMsg::Config {
-            scale,
-            decimals,
-            response,
-            ..
-        } => Some(ReaderConfig {
-            scale,
-            decimals,
-            response,
-        }),
-        _ => None,
-    }
-}
-
-/// The amount of the last approval among these.
-pub(crate) fn last_amount(messages: &[ReaderMsg]) -> Option<u16>
-    ensures { result ≡ spec.last_said spec.amount_in messages.now }
-{
-    let mut last = None;
-    for message in messages {
-        last = amount_in(*message).or(last);
-    }
-    last
-}
-
-/// The amount of an approval.
-fn amount_in(message: ReaderMsg) -> Option<u16>
-    ensures { result ≡ spec.amount_in message }
-{
-    match message {
-        ReaderMsg::VendApproved { amount } => Some(amount),
-        _ => None,
-    }
-}
-
-/// Whether one of these messages begins a session.
-pub(crate) fn begin_session(messages: &[ReaderMsg]) -> bool
-    ensures { result ≡ spec.begin_session messages.now }
-{
-    messages.iter().any(|message| begins_session(*message))
-}
-
-/// Whether a message begins a session.
-fn begins_session(message: ReaderMsg) -> bool
-    ensures { result ≡ spec.begins_session message }
-{
-    matches!(message, ReaderMsg::BeginSession { .. })
 }

@@ -65,6 +65,7 @@ pub(crate) fn step(
 }
 
 /// The controller asks.
+#[inline(always)]
 fn ask(
     facts: &ReaderFacts,
     command: ReaderCommand,

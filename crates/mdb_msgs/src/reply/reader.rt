@@ -206,6 +206,17 @@ impl ReaderList {
         messages
     }
 
+    /// The messages in order, read one after the other: no list is made of them.
+    #[inline(always)]
+    pub fn iter(&self) -> ReaderMessages<'_>
+        ensures messages { result ≡ self.now.messages }
+        ensures few { length result ≤ 35 }
+    {
+        ReaderMessages {
+            rest: self.bytes.as_slice(),
+        }
+    }
+
     /// The 29 bytes of the message `PeripheralId`, all 0 where there is none.
     pub fn id(&self) -> [u8; 29]
         ensures { result ≡ self.now.id }
@@ -280,6 +291,51 @@ impl ReaderList {
         ensures fits { length result.now ≤ 35 }
     {
         self.bytes.as_slice()
+    }
+}
+
+/// The messages of a reader's answer that are still to be read.
+#[derive(Debug, Drop)]
+pub struct ReaderMessages<'a> {
+    rest: &'a [u8],
+}
+
+impl<'a> Model for ReaderMessages<'a> {
+    ghost use Rattle.std.specs.Prelude.{List};
+    ghost use Rattle.mdb_msgs.specs.declared.reply.reader.ReaderMsg.{ReaderMsg};
+    ghost use Rattle.mdb_msgs.specs.ReaderBytes.{messages_of};
+    ghost use Rattle.mdb_msgs.specs.ReaderSteps.{StandAsMessages};
+
+    ghost Value = { List ReaderMsg };
+
+    ghost view = { λ messages. (messages_of messages.rest.now).messages };
+
+    ghost invariant = { λ messages. StandAsMessages messages.rest.now };
+}
+
+impl<'a> ReaderMessages<'a> {
+    /// No message.
+    pub fn none() -> Self
+        ensures { result ≡ [] }
+    {
+        ReaderMessages { rest: &[] }
+    }
+}
+
+impl<'a> Iterator for ReaderMessages<'a> {
+    ghost use Rattle.std.specs.Iterator.{YieldsFirst, item_count};
+
+    type Item = ReaderMsg;
+
+    ghost next_gives = { YieldsFirst (λ messages. messages) };
+
+    ghost remaining = { item_count (λ messages. messages) };
+
+    #[inline(always)]
+    fn next(&mut self) -> Option<ReaderMsg> {
+        let (message, _, after) = next_message(self.rest)?;
+        self.rest = after;
+        Some(message)
     }
 }
 
@@ -363,6 +419,7 @@ fn is_display_last(messages: &[ReaderMsg]) -> bool
 }
 
 /// The number in two bytes, and the bytes behind it.
+#[inline(always)]
 fn read_number(behind: &[u8]) -> Result<(u16, &[u8]), MsgFault>
     ensures ok { IfOk result (λ x. behind.now ≡ two_bytes x.0 ++ x.1.now) }
     ensures err { IfErr result (λ fault. (fault ≡ Message) × (length behind.now < 2)) }
@@ -374,6 +431,7 @@ fn read_number(behind: &[u8]) -> Result<(u16, &[u8]), MsgFault>
 }
 
 /// The config message behind its first byte, and the bytes behind it.
+#[inline(always)]
 fn read_config(behind: &[u8]) -> Result<(ReaderMsg, &[u8]), MsgFault>
     ensures bytes { IfOk result (λ x. 1 ∷ behind.now ≡ head_bytes x.0 ++ x.1.now) }
     ensures text { IfOk result (λ x. IsTextOf x.0 [] x.1.now) }
@@ -405,6 +463,7 @@ fn read_config(behind: &[u8]) -> Result<(ReaderMsg, &[u8]), MsgFault>
 }
 
 /// The message without a text that begins with `first`, and the bytes behind it.
+#[inline(always)]
 fn read_short(first: u8, behind: &[u8]) -> Result<(ReaderMsg, &[u8]), MsgFault>
     requires no_display { first ≢ 2 }
     requires no_id { first ≢ 9 }
@@ -438,6 +497,7 @@ fn read_short(first: u8, behind: &[u8]) -> Result<(ReaderMsg, &[u8]), MsgFault>
 }
 
 /// The message that begins with `first`, its text, and the bytes behind it.
+#[inline(always)]
 fn read_message(first: u8, behind: &[u8]) -> Result<(ReaderMsg, &[u8], &[u8]), MsgFault>
     ensures bytes { IfOk result (λ x. first ∷ behind.now ≡ head_bytes x.0 ++ x.1.now ++ x.2.now) }
     ensures text { IfOk result (λ x. IsTextOf x.0 x.1.now x.2.now) }
@@ -465,6 +525,7 @@ fn read_message(first: u8, behind: &[u8]) -> Result<(ReaderMsg, &[u8], &[u8]), M
 
 /// The message at the front of bytes that are messages, its text, and the bytes behind it; `None`
 /// where none are left.
+#[inline(always)]
 fn next_message(rest: &[u8]) -> Option<(ReaderMsg, &[u8], &[u8])>
     requires { StandAsMessages rest.now }
     ensures some { IfSome result (λ x. IsNextMessage rest.now x.0 x.1.now x.2.now) }

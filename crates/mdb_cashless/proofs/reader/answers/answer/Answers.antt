@@ -1,9 +1,8 @@
-use Rattle.std.proofs.Common.{◌≡◌, ◌∙◌, List, ap, map, subst, sym}
-use Rattle.mdb_msgs.specs.declared.reply.reader.ReaderMsg.{ReaderMsg}
-use Rattle.mdb_cash.specs.Kept.{IsSummary, held, holds_behind}
+use Rattle.std.proofs.Common.{◌∙◌, ap, subst, sym}
+use Rattle.mdb_cash.specs.Kept.{held, holds_behind}
 use Rattle.mdb_cash.specs.Past.{or_else}
 use Rattle.mdb_cashless.specs.Reader.{last_transaction, owes_reset, sold_any, take_any, taken}
-use Rattle.mdb_cashless.specs.ReaderMessages.{config_in, last_said, messages_of, part_of}
+use Rattle.mdb_cashless.specs.ReaderSaid.{IsSaid}
 use Rattle.mdb_cashless.specs.ReaderValues.{facts_in}
 use Rattle.mdb_cashless.proofs.Answered.{Looked, told, untold}
 use Rattle.mdb_cashless.proofs.Said.{or_is}
@@ -11,37 +10,37 @@ use Rattle.mdb_cashless.proofs.reader.answers.answer.Goals as goal
 
 pub returns-in_err-new-clause-outcome : goal.returns-in_err-new-clause-outcome
 returns-in_err-new-clause-outcome c =
-    let messages : c.as_slice-messages.result.now ≡ messages_of c.args.reply.now = c.as_slice-messages.ensures.value ∙ c.messages_of-list.ensures in
-    let summary = c.summary_of-summary.result in
+    let said = subst (IsSaid c.read.new.self) c.messages_of.ensures.messages c.read.ensures in
+    let summary = c.read.new.self.summary in
     let looked : Looked (facts_in c.args.facts.now) c.args.command c.args.reply.now c.args.reading c.args.before c.is_poll.result c.owes_reset.result summary.reset summary.early c.take_any-middle.result c.held-held.result.now summary.kept.items =
     record {
       polls = c.is_poll.ensures;
-      owed_is = c.owes_reset.ensures ∙ ap (owes_reset (facts_in c.args.facts.now)) (c.taken-taken.ensures c.args.reply.now messages);
-      middle_is = c.take_any-middle.ensures ∙ (ap (λ t. take_any (facts_in c.args.facts.now) t c.read-start.result) (c.taken-taken.ensures c.args.reply.now messages)
+      owed_is = c.owes_reset.ensures ∙ ap (owes_reset (facts_in c.args.facts.now)) (c.taken-taken.ensures c.args.reply.now said.refused_is);
+      middle_is = c.take_any-middle.ensures ∙ (ap (λ t. take_any (facts_in c.args.facts.now) t c.read-start.result) (c.taken-taken.ensures c.args.reply.now said.refused_is)
           ∙ ap (take_any (facts_in c.args.facts.now) (taken c.args.command c.args.reply.now)) c.read-start.ensures);
       holding_is = c.held-held.ensures ∙ ap (held c.take_any-middle.result.holds) c.as_slice.ensures.value;
-      summary = subst (λ (ms : List ReaderMsg). IsSummary summary.kept.items summary.reset summary.early (map part_of ms)) messages c.summary_of-summary.ensures;
+      summary = said.summary_is;
     } in
     rw c.from_residual.ensures (untold looked c.in_err-new.ensures.none)
 
 pub returns-clause-outcome : goal.returns-clause-outcome
 returns-clause-outcome c =
-    let messages : c.as_slice-messages.result.now ≡ messages_of c.args.reply.now = c.as_slice-messages.ensures.value ∙ c.messages_of-list.ensures in
-    let summary = c.summary_of-summary.result in
+    let said = subst (IsSaid c.read.new.self) c.messages_of.ensures.messages c.read.ensures in
+    let summary = c.read.new.self.summary in
     let looked : Looked (facts_in c.args.facts.now) c.args.command c.args.reply.now c.args.reading c.args.before c.is_poll.result c.owes_reset.result summary.reset summary.early c.take_any-middle.result c.held-held.result.now summary.kept.items =
     record {
       polls = c.is_poll.ensures;
-      owed_is = c.owes_reset.ensures ∙ ap (owes_reset (facts_in c.args.facts.now)) (c.taken-taken.ensures c.args.reply.now messages);
-      middle_is = c.take_any-middle.ensures ∙ (ap (λ t. take_any (facts_in c.args.facts.now) t c.read-start.result) (c.taken-taken.ensures c.args.reply.now messages)
+      owed_is = c.owes_reset.ensures ∙ ap (owes_reset (facts_in c.args.facts.now)) (c.taken-taken.ensures c.args.reply.now said.refused_is);
+      middle_is = c.take_any-middle.ensures ∙ (ap (λ t. take_any (facts_in c.args.facts.now) t c.read-start.result) (c.taken-taken.ensures c.args.reply.now said.refused_is)
           ∙ ap (take_any (facts_in c.args.facts.now) (taken c.args.command c.args.reply.now)) c.read-start.ensures);
       holding_is = c.held-held.ensures ∙ ap (held c.take_any-middle.result.holds) c.as_slice.ensures.value;
-      summary = subst (λ (ms : List ReaderMsg). IsSummary summary.kept.items summary.reset summary.early (map part_of ms)) messages c.summary_of-summary.ensures;
+      summary = said.summary_is;
     } in
     let told_is = sym c.all_told.ensures ∙ c.in_ok-device.was in
-    let last_is = c.last_transaction.ensures ∙ ap (last_transaction (facts_in c.args.facts.now)) (c.taken-taken.ensures c.args.reply.now messages) in
+    let last_is = c.last_transaction.ensures ∙ ap (last_transaction (facts_in c.args.facts.now)) (c.taken-taken.ensures c.args.reply.now said.refused_is) in
     let behind_is = c.holds_behind.ensures ∙ ap (λ ks. holds_behind ks c.take_any-middle.result.holds) c.as_slice-2.ensures.value in
-    let config_is = c.or-config.ensures ∙ (or_is c.last_config.result c.args.facts.now.config
-    ∙ ap (λ o. or_else o c.args.facts.now.config) (c.last_config.ensures ∙ ap (last_said config_in) messages)) in
-    let sold_is = c.sold_any.ensures.value ∙ (ap (λ t. sold_any (facts_in c.args.facts.now) t c.read-start.result) (c.taken-taken.ensures c.args.reply.now messages)
+    let config_is = c.or-config.ensures ∙ (or_is c.read.new.self.config c.args.facts.now.config
+    ∙ ap (λ o. or_else o c.args.facts.now.config) said.config_is) in
+    let sold_is = c.sold_any.ensures.value ∙ (ap (λ t. sold_any (facts_in c.args.facts.now) t c.read-start.result) (c.taken-taken.ensures c.args.reply.now said.refused_is)
     ∙ ap (sold_any (facts_in c.args.facts.now) (taken c.args.command c.args.reply.now)) c.read-start.ensures) in
     told looked c.in_ok-new.ensures.found c.in_ok-new.ensures.only last_is told_is behind_is config_is c.all_approved-approved.ensures.value sold_is c.of_device.ensures

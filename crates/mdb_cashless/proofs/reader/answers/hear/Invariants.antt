@@ -1,4 +1,6 @@
-use Rattle.std.proofs.Common.{◌≡◌, ◌+◌, ◌*◌, ◌≤◌, drop}
+use Rattle.std.proofs.Common.{◌≡◌, ◌+◌, ◌*◌, ◌≤◌, ◌++◌, ◌||◌, length}
+use Rattle.std.specs.List.{list_any}
+use Rattle.mdb_msgs.specs.Reader.{is_kept}
 use Rattle.mdb_cashless.specs.Reader.{all_approved_to}
 use Rattle.mdb_cashless.specs.ReaderView.{all_heard}
 use Rattle.mdb_cashless.proofs.reader.answers.hear.Given as goal
@@ -6,7 +8,11 @@ use Rattle.mdb_cashless.proofs.reader.answers.hear.Given as goal
 abbrev pub invariant-loop-message : goal.invariant-loop-message
 invariant-loop-message l =
     record {
-      view : all_heard (drop l.message-index l.messages) l.view ≡ all_heard l.messages l.fn.before;
-      approved : l.total + all_approved_to l.config l.view (drop l.message-index l.messages) ≡ all_approved_to l.config l.fn.before l.messages;
-      small : l.total ≤ 16711425 * l.message-index;
+      next : (goal.iterator-loop-message).can_next l.message-iterator;
+      finite : (goal.iterator-loop-message).is_finite l.message-iterator;
+      all : l.fn.messages ≡ l.yielded ++ l.message-iterator;
+      view : all_heard l.message-iterator l.view ≡ all_heard l.fn.messages l.fn.before;
+      approved : l.approved + all_approved_to l.config l.view l.message-iterator ≡ all_approved_to l.config l.fn.before l.fn.messages;
+      small : l.approved ≤ 16711425 * length l.yielded;
+      keeps : list_any is_kept l.fn.messages ≡ (list_any is_kept l.message-iterator || l.keeps);
     }

@@ -1,6 +1,0 @@
-use Rattle.std.proofs.Common.{◌≡◌, take}
-use Rattle.mdb_cashless.specs.ReaderMessages.{config_in, last_said}
-use Rattle.mdb_cashless.proofs.reader.report.last_config.Given as goal
-
-abbrev pub invariant-loop-message : goal.invariant-loop-message
-invariant-loop-message l = l.last ≡ last_said config_in (take l.message-index l.messages)

@@ -1,0 +1,13 @@
+use Rattle.std.proofs.Common.{◌≡◌}
+use Rattle.std.specs.List.{list_any}
+use Rattle.mdb_cash.specs.Kept.{is_reset}
+use Rattle.mdb_cashless.specs.ReaderMessages.{messages_of, part_of}
+use Rattle.mdb_cashless.proofs.reader.report.tells_of_reset.Given as goal
+
+abbrev pub invariant-loop-message : goal.invariant-loop-message
+invariant-loop-message l =
+    record {
+      next : (goal.iterator-loop-message).can_next l.message-iterator;
+      finite : (goal.iterator-loop-message).is_finite l.message-iterator;
+      same : list_any (λ message. is_reset (part_of message)) (messages_of l.reply) ≡ list_any (λ message. is_reset (part_of message)) l.message-iterator;
+    }

@@ -1,0 +1,17 @@
+-- What the code finds in a reader's messages: it serves private functions.
+use Rattle.std.specs.Prelude.{◌≡◌, List, map}
+use Rattle.std.specs.List.{list_any}
+use Rattle.mdb_msgs.specs.declared.reply.reader.ReaderMsg.{ReaderMsg}
+use Rattle.mdb_cash.specs.Kept.{IsSummary}
+use Rattle.mdb_cash.specs.Past.{is_out_of_sequence}
+use Rattle.mdb_cashless.specs.declared.reader.report.Said.{Said}
+use Rattle.mdb_cashless.specs.ReaderMessages.{amount_in, begin_session, config_in, last_said, part_of}
+
+-- what messages say is this
+pub record IsSaid (said : Said) (messages : List ReaderMsg) : Type 0 where
+  pub summary_is : IsSummary said.summary.kept.items said.summary.reset said.summary.early
+      (map part_of messages)
+  pub config_is : said.config ≡ last_said config_in messages
+  pub amount_is : said.amount ≡ last_said amount_in messages
+  pub begins_is : said.begins ≡ begin_session messages
+  pub refused_is : said.refused ≡ list_any is_out_of_sequence messages
