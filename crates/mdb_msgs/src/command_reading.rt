@@ -26,6 +26,8 @@ pub fn read_command(block: &Block) -> Result<Command, MsgFault>
 
 /// The command whose block carries these bytes, its sum left out: `read_command` for one who has
 /// the bytes alone. The faults are those of the block that carries them.
+// Inlined, so that a POLL is known without a call.
+#[inline(always)]
 pub fn command_of(content: &[u8]) -> Result<Command, MsgFault>
     requires { 0 < length content.now }
     ensures command { IfOk result (λ command. Spells command (block_of content.now)) }
@@ -35,10 +37,27 @@ pub fn command_of(content: &[u8]) -> Result<Command, MsgFault>
     ensures refused { (fault : MsgFault) →
         IsCommandFault (block_of content.now) fault → result ≡ Err fault }
 {
-    device_command(content)
+    content_command(content)
+}
+
+/// The command whose bytes these are. Most commands are POLLs, so these are told first.
+#[inline(always)]
+fn content_command(content: &[u8]) -> Result<Command, MsgFault>
+    requires { 0 < length content.now }
+    ensures command { IfOk result (λ command. Spells command (block_of content.now)) }
+    ensures fault { IfErr result (IsCommandFault (block_of content.now)) }
+{
+    match content {
+        [0x0B] => Ok(Command::Changer(ChangerCommand::Poll)),
+        [0x12] => Ok(Command::Reader(ReaderUnit::First, ReaderCommand::Poll)),
+        [0x33] => Ok(Command::Bill(BillCommand::Poll)),
+        [0x62] => Ok(Command::Reader(ReaderUnit::Second, ReaderCommand::Poll)),
+        _ => device_command(content),
+    }
 }
 
 /// The command of a device whose bytes these are.
+#[inline(never)]
 fn device_command(content: &[u8]) -> Result<Command, MsgFault>
     requires { 0 < length content.now }
     ensures command { IfOk result (λ command. Spells command (block_of content.now)) }
