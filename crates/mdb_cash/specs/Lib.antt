@@ -16,3 +16,4 @@ pub mod Kept
 pub mod Pair
 pub mod Past
 pub mod PastValues
+pub mod PastWays

@@ -108,4 +108,6 @@ impl Pair for Bill {
     ghost readings = { λ acts. ways.readings (facts_of acts) };
 
     ghost elsewhere = { λ acts. ways.elsewhere (facts_of acts) };
+
+    ghost unmoved = { λ facts. ways.unmoved (facts_in facts) };
 }

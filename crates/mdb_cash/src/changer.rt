@@ -112,4 +112,6 @@ impl Pair for Changer {
     ghost readings = { λ acts. ways.readings (facts_of acts) };
 
     ghost elsewhere = { λ acts. ways.elsewhere (facts_of acts) };
+
+    ghost unmoved = { λ facts. ways.unmoved (facts_in facts) };
 }

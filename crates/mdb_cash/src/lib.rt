@@ -18,4 +18,4 @@ pub use bill::{Bill, BillFacts, BillReport, BillState, BillType, Escrow};
 pub use changer::{Changer, ChangerFacts, ChangerReport, ChangerState};
 pub use gains::Gains;
 pub use kept::Reading;
-pub use pair::Pair;
+pub use pair::{Pair, may_be_marked};

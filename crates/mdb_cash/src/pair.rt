@@ -127,6 +127,10 @@ pub trait Pair {
         → may_step acts act heard reading before after gains
         ↔ (after ≡ before) × (gains ≡ no_gains) };
 
+    /// An act that isn't this device's leaves the facts.
+    ghost unmoved: { (facts : Self.Facts) (acts : List Act) (act : Act)
+        → (IsActOf device act → ⊥) → stands_for facts acts → stands_for facts (act ∷ acts) };
+
     /// The step that an act is, from the state of a code, with a mark or without one: the code
     /// behind it, and what it adds to the sums. `None` where there is no such step.
     ///
@@ -173,7 +177,7 @@ pub trait Pair {
 
 /// Whether an act may have two steps from one state: an ACK, which was heard or not, or a reply,
 /// which may be read in two ways.
-fn may_be_marked(act: &Act) -> bool
+pub fn may_be_marked(act: &Act) -> bool
     ensures { IsTrue result ↔ (IsAck act.now ⊎ IsReply act.now) }
 {
     matches!(act, Act::Ack(_) | Act::Reply(..) | Act::VmcAck(..))

@@ -1,11 +1,14 @@
 -- That it matters for ACKs alone whether they were heard, for replies alone how they are read, and
--- that acts of other devices change nothing. This proves laws of the trait `Pair` for the readers.
-use Rattle.std.specs.Prelude.{◌≡◌, ◌↔◌, Bool, Option, Some, None, refl}
+-- that acts of other devices change nothing and tell nothing. This proves laws of the trait `Pair` for the readers.
+use Rattle.std.specs.Prelude.{◌≡◌, ◌↔◌, Bool, true, false, ◌||◌, List, [], ◌∷◌, map, Option, Some, None, refl, unwrap_or, if◌then◌else◌}
+use Rattle.std.proofs.Common.{ap, sym, ◌∙◌}
 use Rattle.mdb_msgs.specs.declared.command.Command.{Command}
 use Rattle.mdb_msgs.specs.declared.command.Command.TheVariants as commands
 use Rattle.mdb_msgs.specs.declared.command.ReaderCommand.{ReaderCommand}
 use Rattle.mdb_msgs.specs.declared.command.ReaderUnit.{ReaderUnit}
 use Rattle.mdb_msgs.specs.declared.command.ReaderUnit.TheVariants.{First, Second}
+use Rattle.mdb_msgs.specs.declared.reply.Reply.{Reply}
+use Rattle.mdb_msgs.specs.declared.reply.reader.ReaderMsg.{ReaderMsg}
 use Rattle.mdb_msgs.specs.Commands.{device_of}
 use Rattle.mdb_bus.specs.declared.act.Act.{Act}
 use Rattle.mdb_bus.specs.declared.act.Act.TheVariants as acts
@@ -16,7 +19,13 @@ use Rattle.mdb_cash.specs.Gains.{no_gains}
 use Rattle.mdb_cash.specs.Pair.{IsActOf, IsReply}
 use Rattle.mdb_cashless.specs.declared.reader.state.ReaderState.{ReaderState}
 use Rattle.mdb_cashless.specs.Reader.{ForOwn, ReaderStep}
-use Rattle.mdb_cashless.specs.ReaderFacts.{Facts}
+use Rattle.mdb_cash.specs.declared.past.Effect.TheVariants as effects
+use Rattle.mdb_cash.specs.Past.{PastFacts, effect_by, last_told, or_else, past_of, powers_on, resets, tells_out_of_sequence}
+use Rattle.mdb_cash.specs.PastWays as past_ways
+use Rattle.mdb_cashless.specs.declared.reader.report.ReaderReport.{ReaderReport}
+use Rattle.mdb_cashless.specs.declared.reader.transaction.Transaction.{Transaction}
+use Rattle.mdb_cashless.specs.ReaderFacts.{Facts, amount_by, asked_by, config_by, effect_of, effect_of_own, facts_of, last_taken, messages_by, own_of, own_transaction, parts_by, transaction_taken_by}
+use Rattle.mdb_cashless.specs.ReaderMessages.{amount_in, begin_session, config_in, last_said, messages_of, part_of}
 use Rattle.mdb_cashless.specs.Units.{device_of_unit, own}
 
 pub hearing : (unit : ReaderUnit) (facts : Facts) (act : Act) (one other : Bool)
@@ -95,3 +104,77 @@ elsewhere unit facts (acts.Repeat c r) heard reading before after gains other =
 elsewhere unit facts acts.Foreign heard reading before after gains other =
     (λ step. step, λ step. step)
 elsewhere unit facts (acts.Break n) heard reading before after gains other = absurd (other tt)
+
+-- the facts behind one act more, by what that act is to the reader
+abbrev known_more : ReaderUnit → List Act → List ReaderMsg → Option Transaction
+    → Option Transaction → Bool → PastFacts ReaderReport → Facts
+known_more unit before messages asked taken powers past =
+    record {
+      config = or_else (last_said config_in messages) (last_told (config_by unit) before);
+      asked = or_else asked (last_told (asked_by unit) before);
+      taken = if powers || begin_session messages then None
+          else or_else taken (last_taken unit before);
+      amount = unwrap_or (or_else (last_said amount_in messages) (last_told (amount_by unit) before)) 0;
+      past = past;
+    }
+
+-- an act that is nothing to the reader leaves them
+still_known : (unit : ReaderUnit) (act : Act) (before : List Act) → messages_by unit act ≡ []
+    → asked_by unit act ≡ None → transaction_taken_by unit act ≡ None
+    → effect_by (effect_of unit) act ≡ effects.Other → powers_on (effect_of unit) act ≡ false
+    → facts_of unit before ≡ facts_of unit (act ∷ before)
+still_known unit act before messages asked taken effect powers =
+    let behind = past_of (effect_of unit) (parts_by unit) (act ∷ before) in
+    let past : past_of (effect_of unit) (parts_by unit) before ≡ behind =
+    past_ways.still (effect_of unit) (parts_by unit) act before effect powers (ap (map part_of) messages) in
+    ap (known_more unit before [] None None false) past
+    ∙ sym (ap (λ m. known_more unit before m (asked_by unit act) (transaction_taken_by unit act)
+    (powers_on (effect_of unit) act) behind) messages
+    ∙ ap (λ a. known_more unit before [] a (transaction_taken_by unit act)
+    (powers_on (effect_of unit) act) behind) asked
+    ∙ ap (λ t. known_more unit before [] None t (powers_on (effect_of unit) act) behind) taken
+    ∙ ap (λ b. known_more unit before [] None None b behind) powers)
+
+-- a command to another device is no transaction that the reader takes, whatever the answer tells
+answered_none : (unit : ReaderUnit) (command : Command) (reply : Reply) → own unit command ≡ None
+    → transaction_taken_by unit (acts.Reply command reply) ≡ None
+answered_none unit command reply none = either (tells_out_of_sequence reply)
+  where
+    either : (refused : Bool)
+        → own_transaction (own_of unit (if refused then None else Some command)) ≡ None
+    either true = refl
+    either false = ap own_transaction none
+
+facts_still : (unit : ReaderUnit) (before : List Act) (act : Act)
+    → (IsActOf (device_of_unit unit) act → ⊥) → facts_of unit before ≡ facts_of unit (act ∷ before)
+facts_still unit before (acts.Ask c) other =
+    let none = no_own unit c other in
+    still_known unit (acts.Ask c) before refl (ap own_transaction none) refl refl refl
+facts_still unit before (acts.Ack c) other =
+    let none = no_own unit c other in
+    let effect : effect_of unit c ≡ effects.Other = ap effect_of_own none in
+    still_known unit (acts.Ack c) before refl refl (ap own_transaction none) effect (ap resets effect)
+facts_still unit before (acts.Reply c r) other =
+    let none = no_own unit c other in
+    let effect = past_ways.answered_still (effect_of unit) c r (ap effect_of_own none) in
+    still_known unit (acts.Reply c r) before
+    (ap (λ found. elim found [ Some c ↦ messages_of r | None ↦ [] ]) none) refl
+    (answered_none unit c r none) effect (ap resets effect)
+facts_still unit before (acts.Nak c) other =
+    still_known unit (acts.Nak c) before refl refl refl refl refl
+facts_still unit before (acts.VmcAck c r) other =
+    still_known unit (acts.VmcAck c r) before refl refl refl refl refl
+facts_still unit before (acts.VmcNak c r) other =
+    still_known unit (acts.VmcNak c r) before refl refl refl refl refl
+facts_still unit before (acts.VmcRet c r) other =
+    still_known unit (acts.VmcRet c r) before refl refl refl refl refl
+facts_still unit before (acts.Repeat c r) other =
+    still_known unit (acts.Repeat c r) before refl refl refl refl refl
+facts_still unit before acts.Foreign other =
+    still_known unit acts.Foreign before refl refl refl refl refl
+facts_still unit before (acts.Break n) other = absurd (other tt)
+
+pub unmoved : (unit : ReaderUnit) (known : Facts) (before : List Act) (act : Act)
+    → (IsActOf (device_of_unit unit) act → ⊥) → known ≡ facts_of unit before
+    → known ≡ facts_of unit (act ∷ before)
+unmoved unit known before act other is = is ∙ facts_still unit before act other

@@ -107,4 +107,6 @@ impl<const UNIT: usize> Pair for Reader<UNIT> {
 
     ghost elsewhere = { λ acts. ways.elsewhere (units.unit_of UNIT)
         (facts_of (units.unit_of UNIT) acts) };
+
+    ghost unmoved = { λ facts. ways.unmoved (units.unit_of UNIT) (facts_in facts) };
 }

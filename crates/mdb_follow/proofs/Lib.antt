@@ -11,6 +11,7 @@ pub mod OneAnswer
 pub mod Places
 pub mod Reaching
 pub mod Sales
+pub mod Sided
 pub mod Silent
 pub mod TwoSteps
 pub mod Ways

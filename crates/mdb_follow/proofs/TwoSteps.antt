@@ -1,9 +1,15 @@
 -- The moves that two steps are.
-use Rattle.std.proofs.Common.{◌≡◌, inl, inr, ℕ, ◌∙◌, ap, List, [], ◌++◌, Option, Some, None}
+use Rattle.std.proofs.Common.{◌≡◌, ◌⊎◌, inl, inr, ℕ, Bool, true, false, ◌∙◌, ap, subst, List, [], ◌++◌, Option, Some, None}
 use Rattle.std.specs.Prelude.{Contains, ◌↔◌}
 use Rattle.std.proofs.lemmas.List.Elements.{Contains-append_cases, Contains-append_left, Contains-append_right}
 use Rattle.std.proofs.lemmas.Option.{none-some, same_Some}
+use Rattle.mdb_bus.specs.declared.act.Act.{Act}
+use Rattle.mdb_bus.specs.declared.act.Act.TheVariants as acts
+use Rattle.mdb_bus.specs.Choice.{IsAck}
 use Rattle.mdb_cash.specs.declared.gains.Gains.{Gains}
+use Rattle.mdb_cash.specs.declared.kept.Reading.{Reading}
+use Rattle.mdb_cash.specs.Pair.{IsMarkedStep, IsMove, IsReply}
+use Rattle.mdb_cash.proofs.Ways.{Laws, both_moves, one_move}
 use Rattle.mdb_follow.specs.declared.cell.Cell.{Cell}
 use Rattle.mdb_follow.specs.Entries.{AreMoves, moves_of, with_moves}
 use Rattle.mdb_follow.proofs.Listed.{contains-cases, contains-here, contains-none}
@@ -44,3 +50,40 @@ with-two before middle after cell None other first second =
     second ∙ ap (λ b. with_moves b cell (moves_of other)) first
 with-two before middle after cell (Some move) other first second =
     second ∙ ap (λ b. with_moves b cell (moves_of other)) first
+
+-- a mark says something of an act, or it doesn't
+marked-or-not : (act : Act) → (IsAck act ⊎ IsReply act) ⊎ (IsAck act ⊎ IsReply act → ⊥)
+marked-or-not (acts.Ask command) = inr (λ either. elim either [ inl it ↦ it | inr it ↦ it ])
+marked-or-not (acts.Ack command) = inl (inl tt)
+marked-or-not (acts.Nak command) = inr (λ either. elim either [ inl it ↦ it | inr it ↦ it ])
+marked-or-not (acts.Reply command reply) = inl (inr tt)
+marked-or-not (acts.VmcAck command reply) = inl (inl tt)
+marked-or-not (acts.VmcNak command reply) =
+    inr (λ either. elim either [ inl it ↦ it | inr it ↦ it ])
+marked-or-not (acts.VmcRet command reply) =
+    inr (λ either. elim either [ inl it ↦ it | inr it ↦ it ])
+marked-or-not (acts.Repeat command reply) =
+    inr (λ either. elim either [ inl it ↦ it | inr it ↦ it ])
+marked-or-not acts.Foreign = inr (λ either. elim either [ inl it ↦ it | inr it ↦ it ])
+marked-or-not (acts.Break length) = inr (λ either. elim either [ inl it ↦ it | inr it ↦ it ])
+
+-- the moves by an act: its step without a mark, and that with a mark where a mark says something
+pub either-moves : {State : Type 0} (code_of : State → ℕ)
+    (Step : Bool → Reading → State → State → Gains → Type 0) (act : Act) (laws : Laws act Step)
+    (code : ℕ) (plain marked : Option (ℕ × Gains)) (moves : List (ℕ × Gains))
+    → ((next : ℕ) (gains : Gains) → (plain ≡ Some (next, gains))
+    ↔ IsMarkedStep code_of Step false code next gains)
+    → (IsAck act ⊎ IsReply act → (next : ℕ) (gains : Gains) → (marked ≡ Some (next, gains))
+    ↔ IsMarkedStep code_of Step true code next gains)
+    → ((IsAck act ⊎ IsReply act → ⊥) → marked ≡ None)
+    → AreMoves moves plain marked
+    → (next : ℕ) (gains : Gains) → Contains moves (next, gains)
+    ↔ IsMove code_of Step code next gains
+either-moves code_of Step act laws code plain marked moves plain_is told untold lists =
+    elim (marked-or-not act) [
+      | inl may ↦
+          both_moves code_of Step act laws code plain marked moves plain_is (told may) lists
+      | inr not ↦
+          one_move code_of Step act laws code plain moves not plain_is
+          (subst (AreMoves moves plain) (untold not) lists)
+    ]

@@ -6,6 +6,7 @@ pub mod FollowerSteps
 pub mod Limits
 pub mod Machines
 pub mod Offences
+pub mod Owners
 pub mod Ranges
 pub mod Report
 pub mod Runs

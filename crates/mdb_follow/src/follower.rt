@@ -29,6 +29,8 @@ pub struct Follower {
     silences: Silences,
     rows: u64,
     offence: Option<Offence>,
+    /// Room for the act that a row ends. Between rows what is in it is of no matter.
+    act: Act,
     ghost few: { rows ≤ 100000000 },
     ghost within: { ForNone offence (AreWithin (rows * 2 ^ 32) sides) },
     ghost few_silences: { AreFew rows silences },
@@ -56,6 +58,7 @@ impl Follower {
             silences: Silences::NONE,
             rows: 0,
             offence: None,
+            act: Act::Foreign,
         }
     }
 
@@ -97,14 +100,13 @@ impl Follower {
         if let Some(offence) = self.offence {
             return Err(offence);
         }
-        let mut act = Act::Foreign;
-        match self.bus.feed_into(event, &mut act) {
+        match self.bus.feed_into(event, &mut self.act) {
             Err(fault) => Err(stop(&mut self.offence, self.rows, fault)),
             Ok(false) => {
                 self.rows += 1;
                 Ok(())
             }
-            Ok(true) => self.follow(&act, event.start()),
+            Ok(true) => self.follow(event.start()),
         }
     }
 
@@ -144,23 +146,23 @@ impl Follower {
         Ok(())
     }
 
-    /// Follows an act that was ended by a row that started at a time.
-    fn follow(&mut self, act: &Act, at: Time) -> Result<(), Offence>
+    /// Follows the act that was ended by a row that started at a time.
+    fn follow(&mut self, at: Time) -> Result<(), Offence>
         requires room { rows_of self.old < ROWS_MAX }
         requires going { offence_of self.old ≡ None }
-        ensures followed { IfOk result (λ _. HasFollowed self.old act.now at self.new) }
-        ensures stopped { IfErr result (HasStopped self.old act.now self.new) }
+        ensures followed { IfOk result (λ _. HasFollowed self.old self.old.act at self.new) }
+        ensures stopped { IfErr result (HasStopped self.old self.old.act self.new) }
     {
-        match self.sides.lead(act) {
-            None => {
-                self.silences.follow(act, at, &self.sides);
+        match self.sides.lead(&self.act) {
+            Ok(()) => {
+                self.silences.follow(&self.act, at, &self.sides);
                 self.rows += 1;
                 Ok(())
             }
-            Some(rule) => {
+            Err(rule) => {
                 let fault = LinkFault {
                     rule,
-                    blame: sender_of(act),
+                    blame: sender_of(&self.act),
                 };
                 Err(stop(&mut self.offence, self.rows, fault))
             }

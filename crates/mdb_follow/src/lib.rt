@@ -6,6 +6,7 @@ mod entries;
 mod follower;
 pub mod laws;
 mod offence;
+mod owner;
 mod range;
 mod report;
 mod side;

@@ -1,7 +1,6 @@
 //! A device and the controller, as a follower follows them.
 
-ghost use Rattle.std.specs.Prelude.{◌≡◌, ◌+◌, ◌^◌, ℕ, List, [], ◌∷◌};
-ghost use Rattle.std.specs.Bool.{OnFalse, OnTrue};
+ghost use Rattle.std.specs.Prelude.{◌≡◌, ◌+◌, ◌^◌, ℕ, List, [], ◌∷◌, IfOk, IfErr, OnErr};
 ghost use Rattle.mdb_bus.specs.declared.act.Act.{Act};
 ghost use Rattle.mdb_follow.specs.Arrivals.{Arrives};
 ghost use Rattle.mdb_follow.specs.Limits.{IsTableWithin};
@@ -11,7 +10,7 @@ ghost use Rattle.mdb_follow.specs.Sides.{IsSide};
 ghost use Rattle.mdb_follow.specs.Tables.{ArrivesAnywhere};
 
 use crate::{Cell, Table};
-use mdb_bus::Act;
+use mdb_bus::{Act, Rule};
 use mdb_cash::Pair;
 
 /// A device and the controller, as a follower follows them: what is known behind the acts so far,
@@ -34,26 +33,35 @@ pub(crate) fn start<P: Pair, const N: usize>() -> Side<P::Facts, N>
     }
 }
 
-/// Follows a side by an act. Where no way leads over the act, nothing changes, and the answer is
-/// `false`.
-pub(crate) fn follow<P: Pair, const N: usize>(side: &mut Side<P::Facts, N>, act: &Act) -> bool
+/// Leads a side over an act.
+///
+/// # Errors
+///
+/// The rule of the device, where no way leads over the act. Then nothing changes.
+#[inline(always)]
+pub(crate) fn follow<P: Pair, const N: usize>(
+    side: &mut Side<P::Facts, N>,
+    act: &Act,
+    rule: Rule,
+) -> Result<(), Rule>
     requires size { N ≡ P.CODES }
     requires within { IsTableWithin (2 ^ 62) side.old.table }
-    ensures stands { OnTrue result ((acts : List Act)
+    ensures stands { IfOk result (λ _. (acts : List Act)
         → IsSide P.stands_for P.code_of P.may_step P.first side.old acts
         → IsSide P.stands_for P.code_of P.may_step P.first side.new (act.now ∷ acts)) }
-    ensures none { OnFalse result ((acts : List Act)
+    ensures none { OnErr result ((acts : List Act)
         → IsSide P.stands_for P.code_of P.may_step P.first side.old acts
         → HasNoStep P.may_step P.first act.now acts) }
+    ensures its { IfErr result (λ broken. broken ≡ rule) }
     ensures within { (limit : ℕ) → IsTableWithin limit side.old.table
         → IsTableWithin (limit + 2 ^ 32) side.new.table }
-    ensures same { OnFalse result (side.new ≡ side.old) }
+    ensures same { OnErr result (side.new ≡ side.old) }
 {
     if !side.table.advance::<P>(&side.facts, act) {
-        return false;
+        return Err(rule);
     }
     P::learn(&mut side.facts, act);
-    true
+    Ok(())
 }
 
 /// What the sums of a side may be, whatever the state is.

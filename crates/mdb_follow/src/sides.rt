@@ -1,13 +1,15 @@
 //! The sides of a recording: each device and the controller.
 
-ghost use Rattle.std.specs.Prelude.{◌+◌, ◌^◌, ℕ, List, [], ◌∷◌, IfNone, IfSome};
+ghost use Rattle.std.specs.Prelude.{◌+◌, ◌^◌, ℕ, List, [], ◌∷◌, IfOk, IfErr};
 ghost use Rattle.mdb_bus.specs.declared.act.Act.{Act};
 ghost use Rattle.mdb_follow.specs.Sides.{AreSides, AreWithin, SidesFollow, SidesStop};
 
+use crate::owner::{Owner, owner_of};
 use crate::side::{self, Side};
 use mdb_bus::{Act, Rule};
 use mdb_cash::{Bill, BillFacts, Changer, ChangerFacts};
 use mdb_cashless::{Reader, ReaderFacts};
+use mdb_msgs::Device;
 
 /// The reader at 10H.
 pub(crate) type Cashless = Reader<0>;
@@ -39,27 +41,52 @@ impl Sides {
         }
     }
 
-    /// Leads each side over an act. The answer is the rule of the first side that has no step by
-    /// it. The sides of other devices only look at whose the act is.
-    pub(crate) fn lead(&mut self, act: &Act) -> Option<Rule>
+    /// Leads each side over an act: those of the devices that have a part in it, as it leaves the
+    /// others.
+    ///
+    /// # Errors
+    ///
+    /// The rule of the first side that has no step by it.
+    pub(crate) fn lead(&mut self, act: &Act) -> Result<(), Rule>
         requires { AreWithin (2 ^ 62) self.old }
-        ensures followed { IfNone result (SidesFollow self.old act.now self.new) }
-        ensures stopped { IfSome result (SidesStop self.old act.now) }
-        ensures within { IfNone result ((limit : ℕ) → AreWithin limit self.old
+        ensures followed { IfOk result (λ _. SidesFollow self.old act.now self.new) }
+        ensures stopped { IfErr result (SidesStop self.old act.now) }
+        ensures within { IfOk result (λ _. (limit : ℕ) → AreWithin limit self.old
             → AreWithin (limit + 2 ^ 32) self.new) }
     {
-        if !side::follow::<Changer, _>(&mut self.changer, act) {
-            return Some(Rule::Changer);
+        match owner_of(act) {
+            Owner::One(Device::Changer) => {
+                side::follow::<Changer, _>(&mut self.changer, act, Rule::Changer)
+            }
+            Owner::One(Device::Bill) => side::follow::<Bill, _>(&mut self.bill, act, Rule::Bill),
+            Owner::One(Device::Cashless) => {
+                side::follow::<Cashless, _>(&mut self.cashless, act, Rule::Cashless)
+            }
+            Owner::One(Device::Cashless2) => {
+                side::follow::<Cashless2, _>(&mut self.cashless2, act, Rule::Cashless)
+            }
+            Owner::All => self.lead_all(act),
+            Owner::Nobody => Ok(()),
         }
-        if !side::follow::<Bill, _>(&mut self.bill, act) {
-            return Some(Rule::Bill);
-        }
-        if !side::follow::<Cashless, _>(&mut self.cashless, act) {
-            return Some(Rule::Cashless);
-        }
-        if !side::follow::<Cashless2, _>(&mut self.cashless2, act) {
-            return Some(Rule::Cashless);
-        }
-        None
+    }
+
+    /// Leads each side over an act, whosever it is.
+    ///
+    /// # Errors
+    ///
+    /// The rule of the first side that has no step by it.
+    #[inline(never)]
+    fn lead_all(&mut self, act: &Act) -> Result<(), Rule>
+        requires { AreWithin (2 ^ 62) self.old }
+        ensures followed { IfOk result (λ _. SidesFollow self.old act.now self.new) }
+        ensures stopped { IfErr result (SidesStop self.old act.now) }
+        ensures within { IfOk result (λ _. (limit : ℕ) → AreWithin limit self.old
+            → AreWithin (limit + 2 ^ 32) self.new) }
+    {
+        side::follow::<Changer, _>(&mut self.changer, act, Rule::Changer)?;
+        side::follow::<Bill, _>(&mut self.bill, act, Rule::Bill)?;
+        side::follow::<Cashless, _>(&mut self.cashless, act, Rule::Cashless)?;
+        side::follow::<Cashless2, _>(&mut self.cashless2, act, Rule::Cashless)?;
+        Ok(())
     }
 }

@@ -1,8 +1,12 @@
 //! The states that are possible now, with what the sums may be.
 
-ghost use Rattle.std.specs.Prelude.{◌≡◌, ◌<◌, ◌+◌, ◌^◌, ℕ, List, [], ◌∷◌, All};
+ghost use Rattle.std.specs.Prelude.{◌≡◌, ◌<◌, ◌+◌, ◌^◌, ◌↔◌, ◌⊎◌, ℕ, true, List, [], ◌∷◌, All, None, Some, IfSome};
 ghost use Rattle.std.specs.Bool.{OnFalse, OnTrue};
 ghost use Rattle.mdb_bus.specs.declared.act.Act.{Act};
+ghost use Rattle.mdb_bus.specs.Choice.{IsAck};
+ghost use Rattle.mdb_cash.specs.declared.gains.Gains.{Gains};
+ghost use Rattle.mdb_cash.specs.Gains.{IsSmall};
+ghost use Rattle.mdb_cash.specs.Pair.{IsMarkedStep, IsReply};
 ghost use Rattle.mdb_follow.specs.Arrivals.{Arrives};
 ghost use Rattle.mdb_follow.specs.Limits.{IsTableWithin};
 ghost use Rattle.mdb_follow.specs.Ranges.{IsCell};
@@ -14,7 +18,7 @@ use crate::Cell;
 use crate::entries::{add_steps, join_all};
 use arrayvec::ArrayVec;
 use mdb_bus::Act;
-use mdb_cash::Pair;
+use mdb_cash::{Gains, Pair, may_be_marked};
 use std::marker::Model;
 
 /// The states of a pair that are possible now, by their codes, each with what the sums may be.
@@ -63,6 +67,8 @@ impl<const N: usize> Table<N> {
 
     /// Leads the table over an act, with the facts behind the acts before it. Where no way through
     /// the acts leads over this one too, it answers `false`, and the table stays as it was.
+    // Inlined, so that an act that is no matter of the pair costs little more than the look at it.
+    #[inline(always)]
     pub fn advance<P: Pair>(&mut self, facts: &P::Facts, act: &Act) -> bool
         requires size { N ≡ P.CODES }
         requires within { IsTableWithin (2 ^ 62) self.old }
@@ -83,6 +89,25 @@ impl<const N: usize> Table<N> {
         if self.rests::<P>(act) {
             return true;
         }
+        self.replace::<P>(facts, act)
+    }
+
+    /// Replaces the entries by those behind an act, as `advance` does.
+    #[inline(never)]
+    fn replace<P: Pair>(&mut self, facts: &P::Facts, act: &Act) -> bool
+        requires size { N ≡ P.CODES }
+        requires within { IsTableWithin (2 ^ 62) self.old }
+        ensures table { OnTrue result ((acts : List Act) → P.stands_for facts.now acts
+            → IsTable P.code_of P.may_step P.first acts self.old
+            → IsTable P.code_of P.may_step P.first (act.now ∷ acts) self.new) }
+        ensures none { OnFalse result ((acts : List Act) → P.stands_for facts.now acts
+            → IsTable P.code_of P.may_step P.first acts self.old
+            → (state : P.State) (sums : Sums)
+            → Arrives P.may_step P.first (act.now ∷ acts) state sums → ⊥) }
+        ensures same { OnFalse result (self.new ≡ self.old) }
+        ensures within { (limit : ℕ) → IsTableWithin limit self.old
+            → IsTableWithin (limit + 2 ^ 32) self.new }
+    {
         if self.turned {
             fill::<P, N>(
                 facts,
@@ -171,9 +196,27 @@ fn fill<P: Pair, const N: usize>(
 {
     into.clear();
     for (code, cell) in from {
-        // The two moves of `P::moves`, without a list of them.
+        // The moves of `P::moves`, without a list of them.
         let plain = P::step(facts, act, *code, false);
-        let marked = P::step(facts, act, *code, true);
+        let marked = marked_step::<P>(facts, act, *code);
         add_steps(into, places, cell, &plain, &marked);
+    }
+}
+
+/// The step that an act with a mark is, from the state of a code. `None` where there is no such
+/// step, and where a mark says nothing.
+#[inline(always)]
+fn marked_step<P: Pair>(facts: &P::Facts, act: &Act, code: usize) -> Option<(usize, Gains)>
+    requires { code < P.CODES }
+    ensures told { IsAck act.now ⊎ IsReply act.now → (acts : List Act)
+        → P.stands_for facts.now acts → (next : ℕ) (gains : Gains) → (result ≡ Some (next, gains))
+        ↔ IsMarkedStep P.code_of (P.may_step acts act.now) true code next gains }
+    ensures untold { (IsAck act.now ⊎ IsReply act.now → ⊥) → result ≡ None }
+    ensures below { IfSome result (λ move. (move.0 < P.CODES) × IsSmall move.1) }
+{
+    if may_be_marked(act) {
+        P::step(facts, act, code, true)
+    } else {
+        None
     }
 }

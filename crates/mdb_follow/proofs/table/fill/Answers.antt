@@ -5,10 +5,11 @@ use Rattle.std.specs.Prelude.{IfSome}
 use Rattle.mdb_cash.specs.declared.gains.Gains.{Gains}
 use Rattle.mdb_cash.specs.Gains.{IsSmall}
 use Rattle.mdb_cash.specs.Pair.{IsMove}
-use Rattle.mdb_cash.proofs.Ways.{both_moves, small_moves}
+use Rattle.mdb_cash.proofs.Ways.{small_moves}
 use Rattle.mdb_follow.specs.Arrivals.{Arrives}
 use Rattle.mdb_follow.specs.Tables.{ArrivesAt, Bounds}
 use Rattle.mdb_follow.proofs.Led.{Led, led-read, moves-below, moves-small, within-read}
+use Rattle.mdb_follow.proofs.TwoSteps.{either-moves}
 use Rattle.mdb_follow.proofs.Ways.{table-led}
 use Rattle.mdb_follow.proofs.table.fill.Goals as goal
 
@@ -29,7 +30,7 @@ add_steps-requires g c = (
       (
         step-below _ _ c.step-plain.result c.requires.size c.step-plain.ensures.below,
         (
-          step-below _ _ c.step-marked.result c.requires.size c.step-marked.ensures.below,
+          step-below _ _ c.marked_step-marked.result c.requires.size c.marked_step-marked.ensures.below,
           (c.loop-code.invariant.keyed, c.loop-code.invariant.placed),
         ),
       ),
@@ -42,8 +43,8 @@ loop-code-preserved g c =
     let p = g.P.Pair in
     let moves = c.add_steps.ensures.entries in
     let kept = small_moves (λ next gains. (next < p.CODES) × IsSmall gains)
-    c.step-plain.result c.step-marked.result moves.0 c.step-plain.ensures.below
-    c.step-marked.ensures.below moves.1 in
+    c.step-plain.result c.marked_step-marked.result moves.0 c.step-plain.ensures.below
+    c.marked_step-marked.ensures.below moves.1 in
     let small = moves-small _ moves.0 moves.0 refl kept in
     let below = moves-below g.row.N _ moves.0 moves.0 c.requires.size refl kept in
     record {
@@ -54,14 +55,14 @@ loop-code-preserved g c =
           c.loop-code.into.items c.add_steps.new.entries.items c.loop-code-test.true
           (table.bounds.exact _ _ (Contains-get_or c.args.from.now c.loop-code.code-index _
           c.loop-code-test.true))
-          (both_moves p.code_of (p.may_step acts c.args.act.now) c.args.act.now
+          (either-moves p.code_of (p.may_step acts c.args.act.now) c.args.act.now
           (record {
             hearing = λ one other. g.met.P.Pair.hearing acts c.args.act.now one other;
             readings = λ heard one. g.met.P.Pair.readings acts c.args.act.now heard one;
           })
-          _ c.step-plain.result c.step-marked.result moves.0
-          (c.step-plain.ensures.steps acts stands) (c.step-marked.ensures.steps acts stands)
-          moves.1)
+          _ c.step-plain.result c.marked_step-marked.result moves.0
+          (c.step-plain.ensures.steps acts stands) (λ may. c.marked_step-marked.ensures.told may acts stands)
+          c.marked_step-marked.ensures.untold moves.1)
           refl below c.loop-code.invariant.keyed moves.2
           (c.loop-code.invariant.led acts stands table);
       within = λ limit all.

@@ -1,0 +1,48 @@
+-- That an act by which a device takes nothing, tells nothing and isn't put into its power-on state
+-- leaves what counts of the acts. This proves laws of the trait `Pair`.
+use Rattle.std.specs.Prelude.{◌≡◌, Bool, true, false, not, ◌||◌, List, [], ◌∷◌, None, Some, refl, if◌then◌else◌, unwrap_or}
+use Rattle.std.proofs.Common.{ap, sym, ◌∙◌}
+use Rattle.std.specs.List.{list_any}
+use Rattle.mdb_msgs.specs.declared.command.Command.{Command}
+use Rattle.mdb_msgs.specs.declared.reply.Reply.{Reply}
+use Rattle.mdb_bus.specs.declared.act.Act.{Act}
+use Rattle.mdb_bus.specs.declared.act.Act.TheVariants as acts
+use Rattle.mdb_cash.specs.declared.kept.Part.{Part}
+use Rattle.mdb_cash.specs.declared.past.Effect.{Effect}
+use Rattle.mdb_cash.specs.declared.past.Effect.TheVariants as effects
+use Rattle.mdb_cash.specs.Kept.{has_reset, kept_of}
+use Rattle.mdb_cash.specs.Past.{PastFacts, acts_from, effect_by, effect_taken, enables, last_told, or_else, past_of, powers_on, tells_out_of_sequence, unless_empty}
+
+-- what counts behind one act more, by what that act is to the device
+abbrev one_more : {M : Type 0} → (Command → Effect) → (Act → List (Part M)) → List Act → Effect
+    → Bool → List (Part M) → PastFacts M
+one_more effect_of parts_by acts effect powers parts =
+    record {
+      enabled = λ kind. enables kind effect
+          || list_any (λ act. enables kind (effect_by effect_of act))
+          (if powers then [] else acts_from (powers_on effect_of) acts);
+      reset_owed = not (has_reset parts || list_any (λ act. has_reset (parts_by act))
+          (if powers then [] else acts_from (powers_on effect_of) acts));
+      kept = unwrap_or (or_else (unless_empty (kept_of parts))
+          (last_told (λ act. unless_empty (kept_of (parts_by act))) acts)) [];
+    }
+
+pub still : {M : Type 0} (effect_of : Command → Effect) (parts_by : Act → List (Part M))
+    (act : Act) (acts : List Act) → effect_by effect_of act ≡ effects.Other
+    → powers_on effect_of act ≡ false → parts_by act ≡ []
+    → past_of effect_of parts_by acts ≡ past_of effect_of parts_by (act ∷ acts)
+still effect_of parts_by act acts effect powers parts =
+    sym (ap (λ e. one_more effect_of parts_by acts e (powers_on effect_of act) (parts_by act)) effect
+    ∙ ap (λ b. one_more effect_of parts_by acts effects.Other b (parts_by act)) powers
+    ∙ ap (one_more effect_of parts_by acts effects.Other false) parts)
+
+-- a command of no effect is none that its device takes, whether it says so or not
+pub answered_still : (effect_of : Command → Effect) (command : Command) (reply : Reply)
+    → effect_of command ≡ effects.Other
+    → effect_by effect_of (acts.Reply command reply) ≡ effects.Other
+answered_still effect_of command reply none = either (tells_out_of_sequence reply)
+  where
+    either : (refused : Bool)
+        → effect_taken effect_of (if refused then None else Some command) ≡ effects.Other
+    either true = refl
+    either false = none

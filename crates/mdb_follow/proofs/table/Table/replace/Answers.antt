@@ -1,0 +1,89 @@
+use Rattle.std.proofs.Common.{◌≡◌, ◌+◌, ◌^◌, ◌∷◌, subst, sym, ◌∙◌, arith}
+use Rattle.mdb_follow.specs.Limits.{IsTableWithin}
+use Rattle.mdb_follow.specs.Tables.{IsTable}
+use Rattle.mdb_follow.proofs.Limits.{table-within-weaker}
+use Rattle.mdb_follow.proofs.Listed.{nil-told, seen-again, seen-one, seen-other, seen-still, some-told}
+use Rattle.mdb_follow.proofs.Ways.{nothing-arrives, table-some}
+use Rattle.mdb_follow.proofs.table.Table.replace.Goals as goal
+
+pub returns-then-is_empty-clause-none : goal.returns-then-is_empty-clause-none
+returns-then-is_empty-clause-none g c acts stands table state sums way =
+    let p = g.P.Pair in
+    let is : c.as_slice.result.now ≡ c.args.self.now =
+    c.as_slice.ensures.value
+    ∙ seen-other c.self.inside.turned c.self.inside.one.items c.self.inside.other.items
+    c.args.self.now c.self.view_is c.if-self.true in
+    nothing-arrives p.code_of p.may_step p.first (c.args.act.now ∷ acts) c.fill.new.into.items
+    (c.fill.ensures.table acts stands
+    (subst (IsTable p.code_of p.may_step p.first acts) (sym is) table))
+    (nil-told c.fill.new.into.items c.is_empty.result c.is_empty.ensures c.if-is_empty.true)
+    state sums way
+
+pub returns-then-is_empty-clause-within : goal.returns-then-is_empty-clause-within
+returns-then-is_empty-clause-within g c limit all =
+    let same = seen-again c.self.inside.turned c.self.inside.one.items c.fill.new.into.items
+    c.self.inside.other.items c.args.self.now c.self.view_is c.if-self.true in
+    table-within-weaker limit (limit + 2 ^ 32) _ (omega arith)
+    (subst (IsTableWithin limit) (sym same) all)
+
+pub returns-then-is_empty-2-clause-none : goal.returns-then-is_empty-2-clause-none
+returns-then-is_empty-2-clause-none g c acts stands table state sums way =
+    let p = g.P.Pair in
+    let is : c.as_slice-else-self.result.now ≡ c.args.self.now =
+    c.as_slice-else-self.ensures.value
+    ∙ seen-one c.self.inside.turned c.self.inside.one.items c.self.inside.other.items
+    c.args.self.now c.self.view_is c.if-self.false in
+    nothing-arrives p.code_of p.may_step p.first (c.args.act.now ∷ acts) c.fill-else-self.new.into.items
+    (c.fill-else-self.ensures.table acts stands
+    (subst (IsTable p.code_of p.may_step p.first acts) (sym is) table))
+    (nil-told c.fill-else-self.new.into.items c.is_empty-else-self.result
+    c.is_empty-else-self.ensures c.if-is_empty-2.true)
+    state sums way
+
+pub returns-then-is_empty-2-clause-within : goal.returns-then-is_empty-2-clause-within
+returns-then-is_empty-2-clause-within g c limit all =
+    let same = seen-still c.self.inside.turned c.self.inside.one.items c.self.inside.other.items
+    c.fill-else-self.new.into.items c.args.self.now c.self.view_is c.if-self.false in
+    table-within-weaker limit (limit + 2 ^ 32) _ (omega arith)
+    (subst (IsTableWithin limit) (sym same) all)
+
+pub returns-else-is_empty-clause-within : goal.returns-else-is_empty-clause-within
+returns-else-is_empty-clause-within g c limit all =
+    let is : c.as_slice.result.now ≡ c.args.self.now =
+    c.as_slice.ensures.value
+    ∙ seen-other c.self.inside.turned c.self.inside.one.items c.self.inside.other.items
+    c.args.self.now c.self.view_is c.if-self.true in
+    c.fill.ensures.within limit (subst (IsTableWithin limit) (sym is) all)
+
+pub returns-else-is_empty-2-clause-within : goal.returns-else-is_empty-2-clause-within
+returns-else-is_empty-2-clause-within g c limit all =
+    let is : c.as_slice-else-self.result.now ≡ c.args.self.now =
+    c.as_slice-else-self.ensures.value
+    ∙ seen-one c.self.inside.turned c.self.inside.one.items c.self.inside.other.items
+    c.args.self.now c.self.view_is c.if-self.false in
+    c.fill-else-self.ensures.within limit (subst (IsTableWithin limit) (sym is) all)
+
+pub returns-else-is_empty-clause-table : goal.returns-else-is_empty-clause-table
+returns-else-is_empty-clause-table g c acts stands table =
+    let p = g.P.Pair in
+    let is : c.as_slice.result.now ≡ c.args.self.now =
+    c.as_slice.ensures.value
+    ∙ seen-other c.self.inside.turned c.self.inside.one.items c.self.inside.other.items
+    c.args.self.now c.self.view_is c.if-self.true in
+    table-some p.code_of p.may_step p.first (c.args.act.now ∷ acts) c.fill.new.into.items
+    (c.fill.ensures.table acts stands
+    (subst (IsTable p.code_of p.may_step p.first acts) (sym is) table))
+    (some-told c.fill.new.into.items c.is_empty.result c.is_empty.ensures c.if-is_empty.false)
+
+pub returns-else-is_empty-2-clause-table : goal.returns-else-is_empty-2-clause-table
+returns-else-is_empty-2-clause-table g c acts stands table =
+    let p = g.P.Pair in
+    let is : c.as_slice-else-self.result.now ≡ c.args.self.now =
+    c.as_slice-else-self.ensures.value
+    ∙ seen-one c.self.inside.turned c.self.inside.one.items c.self.inside.other.items
+    c.args.self.now c.self.view_is c.if-self.false in
+    table-some p.code_of p.may_step p.first (c.args.act.now ∷ acts) c.fill-else-self.new.into.items
+    (c.fill-else-self.ensures.table acts stands
+    (subst (IsTable p.code_of p.may_step p.first acts) (sym is) table))
+    (some-told c.fill-else-self.new.into.items c.is_empty-else-self.result
+    c.is_empty-else-self.ensures c.if-is_empty-2.false)
