@@ -1,4 +1,4 @@
--- The tables of digits: each entry by its rule, and what sums of entries tell.
+-- The tables of digits: each entry by its rule.
 use Rattle.std.proofs.Common.{◌≡◌, ℕ, zero, suc, ◌+◌, ◌-◌, ◌*◌, ◌/◌, ◌%◌, ◌^◌, ◌<◌, ◌≤◌, List, [], Bool, true, ◌&&◌, nat_eq, nat_lt, cond, get_or, refl, inl, inr, arith}
 use Rattle.std.proofs.lemmas.Bool.{cases_eq}
 use Rattle.std.proofs.lemmas.Bool.Decides.{nat_tests}
@@ -7,7 +7,7 @@ use Rattle.mdb_words.specs.Digits.{IsCount}
 use Rattle.mdb_words.specs.declared.tables.TheConstants.{DECIMAL, HEX, POWERS}
 
 -- a digit's entry, where its value is below the base, else an entry for none
-abbrev pub entry_of : ℕ → ℕ → ℕ → ℕ → ℕ
+abbrev entry_of : ℕ → ℕ → ℕ → ℕ → ℕ
 entry_of base value entry none = cond (nat_lt value base) entry none
 
 -- two functions agree below n

@@ -19,11 +19,6 @@ use Rattle.mdb_words.specs.Digits.{IsCount, IsCounted, IsDecimal, IsHexWord, hex
 
 -- numbers of digits in a base
 
-AllDigits-at : (base : ℕ) (ds : List ℕ) (i : ℕ) → AllDigits base ds → i < length ds → digit_value (get_or ds i 0) < base
-AllDigits-at base [] i all in_range = absurd (omega arith)
-AllDigits-at base (c ∷ cs) zero all in_range = all.0
-AllDigits-at base (c ∷ cs) (suc i) all in_range = AllDigits-at base cs i all.1 (omega arith)
-
 positional_after : (base n : ℕ) (ds : List ℕ) → n * base ^ length ds + positional base (map digit_value ds) ≡ digits_value_after base n ds
 positional_after base n [] = omega (arith, ap (λ x. n * x) (pow-zero base))
 positional_after base n (c ∷ cs) =
@@ -121,10 +116,6 @@ AllDigits-append : (base : ℕ) (front rest : List ℕ) → AllDigits base front
 AllDigits-append base [] rest h r = r
 AllDigits-append base (c ∷ cs) rest h r = (h.0, AllDigits-append base cs rest h.1 r)
 
-AllDigits-rest : (base : ℕ) (front rest : List ℕ) → AllDigits base (front ++ rest) → AllDigits base rest
-AllDigits-rest base [] rest h = h
-AllDigits-rest base (c ∷ cs) rest h = AllDigits-rest base cs rest h.1
-
 value_append : (base n : ℕ) (front rest : List ℕ) → digits_value_after base n (front ++ rest) ≡ digits_value_after base (digits_value_after base n front) rest
 value_append base n [] rest = refl
 value_append base n (c ∷ cs) rest = value_append base (n * base + digit_value c) cs rest
@@ -158,20 +149,11 @@ goes_on ds rest high low power so_far is read =
     let behind : digits_value_after 10 high rest ≡ digits_value_after 10 (digits_value 10 so_far.front) rest = ap (λ n. digits_value_after 10 n rest) so_far.read.1 in
     (rw so_far.split (AllDigits-append 10 so_far.front rest so_far.read.0 read.0), omega (arith, same, value, scaled, behind, value_append 10 0 so_far.front rest, positional_is 10 rest, read.1))
 
-pub no_room_needed : (ds : List ℕ) (n : ℕ) → length ds ≤ 15 → AllDigits 10 ds × (n ≡ digits_value 10 ds) → n < 10 ^ 15
-no_room_needed ds n few read =
+pub small_number : (ds : List ℕ) (n : ℕ) → length ds ≤ 15 → AllDigits 10 ds × (n ≡ digits_value 10 ds) → n < 10 ^ 15
+small_number ds n few read =
     let below = digits_value-lt 10 ds read.0 in
     let right : 10 ^ length ds ≤ 10 ^ 15 = pow-le-pow_right (omega arith) few in
     omega (arith, read.1)
-
-pub rest_bad : (ds rest : List ℕ) (high : ℕ) → IsSoFar ds high rest → (AllDigits 10 rest → ⊥) → AllDigits 10 ds → ⊥
-rest_bad ds rest high so_far bad all =
-    bad (AllDigits-rest 10 so_far.front rest (subst (AllDigits 10) so_far.split all))
-
-pub AllDigits-take : (base k : ℕ) (ds : List ℕ) → AllDigits base ds → AllDigits base (take k ds)
-AllDigits-take base zero ds all = tt
-AllDigits-take base (suc k) [] all = tt
-AllDigits-take base (suc k) (c ∷ cs) all = (all.0, AllDigits-take base k cs all.1)
 
 -- what reading a field answers
 

@@ -11,7 +11,7 @@ use super::tables::{DECIMAL, HEX, POWERS};
 use arrayvec::ArrayString;
 
 /// The number of a field of 1 to `most` decimal digits, leading zeros allowed; else `None`.
-#[inline]
+#[inline(always)]
 pub(crate) fn read_decimal(field: &[u8], most: usize) -> Option<u64>
     requires { most ≤ 15 }
     ensures some { IfSome result (IsDecimal most field.now) }
@@ -46,6 +46,7 @@ fn number_of_few(digits: &[u8]) -> Option<u64>
     ensures { SomeIff result (AllDigits 10 digits.now) (digits_value 10 digits.now) }
 {
     let count = decimal_count(digits);
+    // A byte that is no digit makes this 100,000,000 or more.
     if count < 100_000_000 {
         Some(u64::from(count))
     } else {
