@@ -9,23 +9,6 @@ use Rattle.mdb_bus.specs.declared.judged.Judged.TheVariants as judged
 use Rattle.mdb_bus.specs.Step.{EachStep, SomeStep, Step, word_in}
 use Rattle.mdb_bus.specs.Step as step
 
--- what each step has by what each has
-pub each : (found : Judged) (row : Event) (One All : Step → Type 0) → ((next : Step) → One next → All next) → EachStep found row One → EachStep found row All
-each judged.AskByte row One All all one = all (step.AskByte (word_in row % 256)) one
-each judged.Ask row One All all one = λ command. all (step.Ask command) (one command)
-each judged.Foreign row One All all one = all step.Foreign one
-each judged.Ack row One All all one = all step.Ack one
-each judged.Nak row One All all one = all step.Nak one
-each judged.ReplyByte row One All all one = all (step.ReplyByte (word_in row % 256)) one
-each judged.Reply row One All all one = tt
-each judged.VmcAck row One All all one = all step.VmcAck one
-each judged.VmcNak row One All all one = all step.VmcNak one
-each judged.VmcRet row One All all one = all step.VmcRet one
-each judged.RepeatWord row One All all one = all (step.RepeatWord (word_in row)) one
-each judged.Repeat row One All all one = all step.Repeat one
-each judged.Break (Break at length) One All all one = all (step.Break length) one
-each judged.Break (Word at line word) One All all one = tt
-
 -- a step that has what some step has and what each step has
 pub some_each : (found : Judged) (row : Event) (One Two : Step → Type 0) → SomeStep found row One → EachStep found row Two → (next : Step) × One next × Two next
 some_each judged.AskByte row One Two one two = (step.AskByte (word_in row % 256), one, two)

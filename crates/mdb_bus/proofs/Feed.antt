@@ -1,5 +1,5 @@
 -- The bus behind a row: what it stands for, and why a row is refused.
-use Rattle.std.proofs.Common.{refl, ap, sym, subst, sum, ◌∙◌, ◌≡◌, ◌%◌, ℕ, List, [], ◌∷◌, ◌++◌, Option, Result, Ok, Err, IfOk, IfErr, OnErr, inl, inr, Bool}
+use Rattle.std.proofs.Common.{refl, ap, sym, subst, sum, ◌∙◌, ◌≡◌, ◌%◌, ℕ, List, [], ◌∷◌, ◌++◌, Option, Result, Ok, Err, IfOk, IfErr, OnErr, inl, inr, Bool, true, false, Some, None, ◌⊎◌}
 use Rattle.mdb_words.specs.declared.event.Event.{Event}
 use Rattle.mdb_words.specs.declared.event.Event.TheVariants.{Word, Break}
 use Rattle.mdb_words.specs.declared.word.Line.{Line}
@@ -7,20 +7,21 @@ use Rattle.mdb_words.specs.declared.word.Line.TheVariants.{Controller, Periphera
 use Rattle.std.proofs.lemmas.List.{same_from_push}
 use Rattle.mdb_blocks.specs.Block.{block_of}
 use Rattle.mdb_msgs.specs.declared.command.Command.{Command}
-use Rattle.mdb_msgs.specs.declared.command.Device.{Device}
-use Rattle.mdb_msgs.specs.Commands.{Spells, command_bytes}
+use Rattle.mdb_msgs.specs.Commands.{Spells, command_bytes, device_of}
 use Rattle.mdb_bus.specs.declared.act.Act.{Act}
+use Rattle.mdb_bus.specs.declared.act.Act.TheVariants as acts
 use Rattle.mdb_bus.specs.declared.bus.Bus.{Bus}
 use Rattle.mdb_bus.specs.declared.fault.Blame.{Blame}
 use Rattle.mdb_bus.specs.declared.fault.LinkFault.{LinkFault}
 use Rattle.mdb_bus.specs.declared.fault.Rule.{Rule}
 use Rattle.mdb_bus.specs.declared.levels.Levels.{Levels}
+use Rattle.mdb_bus.specs.declared.place.Place.{Place}
 use Rattle.mdb_bus.specs.Step.{Step}
 use Rattle.mdb_bus.specs.Step as step
-use Rattle.mdb_bus.specs.ActLists.{ArePieces, HasActList, Piece, Position, Quiet, InAsk, Asked, InReply, Replied, Returned, InRepeat, InForeign, IsRepeatFront, acts_of, with_act, events_of, last_of, levels_of, position_of}
+use Rattle.mdb_bus.specs.ActLists.{ArePieces, HasActList, Piece, Position, Quiet, InAsk, Asked, InReply, Replied, Returned, InRepeat, InForeign, IsRepeatFront, acts_of, with_act, events_of, last_of, levels_after, levels_of, position_of}
 use Rattle.mdb_bus.specs.Bus.{GoesOn, Grown, HasGone, StandsFor, ended_act, position_at}
 use Rattle.mdb_bus.specs.LinkFaults.{IsFirstBroken, IsLinkFault, RowBreaks, Situation, asked_device, blame_of, situation_of}
-use Rattle.mdb_bus.specs.Steps.{IsAt, IsEnded, IsJudged, IsReadAt, IsSound, Leads, WordLeads, act_after, asked_behind, asked_with, levels_behind, levels_with, pieces_after, position_after}
+use Rattle.mdb_bus.specs.Steps.{HasAdvanced, IsAt, IsEnded, IsJudged, IsReadAt, IsSound, Leads, WordLeads, act_after, asked_behind, levels_behind, pieces_after, position_after}
 use Rattle.mdb_bus.specs.declared.judged.Judged.{Judged}
 use Rattle.mdb_bus.specs.declared.judged.Judged.TheVariants as judged
 use Rattle.mdb_msgs.specs.declared.reply.Reply.{Reply}
@@ -92,55 +93,6 @@ pub leads_at : (s : Situation) (row : Event) (next : Step) → Leads s row next 
 leads_at s (Word at line word) next leads = word_at s.position s.last s.levels (Word at line word) line word next leads
 leads_at s (Break at length) (step.Break lasted) leads = tt
 leads_at s (Break at length) next leads = absurd leads
-
--- what the act that a step ends tells of the levels and of the device asked is what the step tells
-pub told : (at : Position) (next : Step) (levels : Levels) (asked : Option Device) → IsAt at next
-    → (levels_with (act_after at next) levels ≡ levels_behind levels next)
-    × (asked_with (act_after at next) asked ≡ asked_behind asked next)
-told Quiet (step.AskByte byte) levels asked there = (refl, refl)
-told Quiet step.Foreign levels asked there = (refl, refl)
-told Quiet (step.Break length) levels asked there = (refl, refl)
-told Quiet next levels asked there = absurd there
-told (InAsk bytes) (step.AskByte byte) levels asked there = (refl, refl)
-told (InAsk bytes) (step.Ask command) levels asked there = (refl, refl)
-told (InAsk bytes) step.Foreign levels asked there = (refl, refl)
-told (InAsk bytes) (step.Break length) levels asked there = (refl, refl)
-told (InAsk bytes) next levels asked there = absurd there
-told (Asked command) (step.AskByte byte) levels asked there = (refl, refl)
-told (Asked command) step.Ack levels asked there = (refl, refl)
-told (Asked command) step.Nak levels asked there = (refl, refl)
-told (Asked command) (step.ReplyByte byte) levels asked there = (refl, refl)
-told (Asked command) step.Foreign levels asked there = (refl, refl)
-told (Asked command) (step.Break length) levels asked there = (refl, refl)
-told (Asked command) next levels asked there = absurd there
-told (InReply command bytes) (step.AskByte byte) levels asked there = (refl, refl)
-told (InReply command bytes) (step.ReplyByte byte) levels asked there = (refl, refl)
-told (InReply command bytes) (step.Reply reply) levels asked there = (refl, refl)
-told (InReply command bytes) step.Foreign levels asked there = (refl, refl)
-told (InReply command bytes) (step.Break length) levels asked there = (refl, refl)
-told (InReply command bytes) next levels asked there = absurd there
-told (Replied command reply) (step.AskByte byte) levels asked there = (refl, refl)
-told (Replied command reply) step.VmcAck levels asked there = (refl, refl)
-told (Replied command reply) step.VmcNak levels asked there = (refl, refl)
-told (Replied command reply) step.VmcRet levels asked there = (refl, refl)
-told (Replied command reply) step.Foreign levels asked there = (refl, refl)
-told (Replied command reply) (step.Break length) levels asked there = (refl, refl)
-told (Replied command reply) next levels asked there = absurd there
-told (Returned command reply) (step.AskByte byte) levels asked there = (refl, refl)
-told (Returned command reply) (step.RepeatWord word) levels asked there = (refl, refl)
-told (Returned command reply) step.Foreign levels asked there = (refl, refl)
-told (Returned command reply) (step.Break length) levels asked there = (refl, refl)
-told (Returned command reply) next levels asked there = absurd there
-told (InRepeat command reply words) (step.AskByte byte) levels asked there = (refl, refl)
-told (InRepeat command reply words) (step.RepeatWord word) levels asked there = (refl, refl)
-told (InRepeat command reply words) step.Repeat levels asked there = (refl, refl)
-told (InRepeat command reply words) step.Foreign levels asked there = (refl, refl)
-told (InRepeat command reply words) (step.Break length) levels asked there = (refl, refl)
-told (InRepeat command reply words) next levels asked there = absurd there
-told InForeign (step.AskByte byte) levels asked there = (refl, refl)
-told InForeign step.Foreign levels asked there = (refl, refl)
-told InForeign (step.Break length) levels asked there = (refl, refl)
-told InForeign next levels asked there = absurd there
 
 -- the bus stands for one row more
 stands_by : (old new : Bus) (pieces : List Piece) (row : Event) (next : Step) (act : Option Act) → StandsFor old pieces
@@ -260,3 +212,87 @@ pub fault_ends : ((pieces : List Piece) (row : Event) (broken : Rule) → ArePie
 fault_ends law old pieces row (Ok act) stands faulty = tt
 fault_ends law old pieces row (Err fault) stands faulty =
     λ has. law pieces row fault.rule stands.in_order faulty.rule.breaks has
+
+-- the act that an ask ends
+asks : (at : Position) (command : Command) → IsAt at (step.Ask command) → act_after at (step.Ask command) ≡ Some (acts.Ask command)
+asks Quiet command there = absurd there
+asks (InAsk bytes) command there = refl
+asks (Asked other) command there = absurd there
+asks (InReply other bytes) command there = absurd there
+asks (Replied other reply) command there = absurd there
+asks (Returned other reply) command there = absurd there
+asks (InRepeat other reply words) command there = absurd there
+asks InForeign command there = absurd there
+
+ended_is : (ended : Bool) (act told : Act) → ended_act ended act ≡ Some told → act ≡ told
+ended_is true act told is = cc
+ended_is false act told is = absurd (cc)
+
+-- a bus has gone by the ask that its place has advanced by, where it keeps what the act tells
+pub gone_ask : (old new : Bus) (place : Place) (row : Event) (found : Judged) (ended : Bool) (act : Act)
+    → found ≡ judged.Ask → new.place ≡ place
+    → new.last ≡ Some row
+    → ((command : Command) → act ≡ acts.Ask command → new.levels ≡ levels_after command old.levels)
+    → ((command : Command) → act ≡ acts.Ask command → new.asked ≡ Some (device_of command))
+    → EachStep found row (λ next. IsAt (position_at old.place) next
+    → HasAdvanced (position_at old.place) next (position_at place) (ended_act ended act))
+    → EachStep found row (λ next. IsAt (position_at old.place) next → HasGone old next row new (ended_act ended act))
+gone_ask old new place row judged.Ask ended act is there last levels asked advanced = λ command at.
+    let Led : Place → Type 0 = λ p.
+    HasAdvanced (position_at old.place) (step.Ask command) (position_at p) (ended_act ended act) in
+    let has = subst Led (sym there) (advanced command at) in
+    let told : act ≡ acts.Ask command =
+    ended_is ended act (acts.Ask command) (has.act ∙ asks (position_at old.place) command at) in
+    record {
+      advanced = has;
+      last = last;
+      levels = levels command told;
+      asked = asked command told;
+    }
+gone_ask old new place row found ended act is there last levels asked advanced = absurd (cc)
+
+-- a bus has gone by the foreign word or the break that its place has advanced by
+pub gone_off : (old new : Bus) (row : Event) (found : Judged) (act : Option Act)
+    → (found ≡ judged.Foreign) ⊎ (found ≡ judged.Break)
+    → new.last ≡ Some row → new.levels ≡ old.levels → new.asked ≡ None
+    → EachStep found row (λ next. IsAt (position_at old.place) next
+    → HasAdvanced (position_at old.place) next (position_at new.place) act)
+    → EachStep found row (λ next. IsAt (position_at old.place) next → HasGone old next row new act)
+gone_off old new row judged.Foreign act is last levels asked advanced = λ at.
+    record { advanced = advanced at; last = last; levels = levels; asked = asked }
+gone_off old new (Break start length) judged.Break act is last levels asked advanced = λ at.
+    record { advanced = advanced at; last = last; levels = levels; asked = asked }
+gone_off old new (Word at line word) judged.Break act is last levels asked advanced = tt
+gone_off old new row found act (inl is) last levels asked advanced = absurd (cc)
+gone_off old new row found act (inr is) last levels asked advanced = absurd (cc)
+
+-- a bus has gone by another step that its place has advanced by, which changes neither the levels nor
+-- the device that was asked
+pub gone_on : (old new : Bus) (row : Event) (found : Judged) (act : Option Act)
+    → (found ≡ judged.Ask → ⊥) → (found ≡ judged.Foreign → ⊥) → (found ≡ judged.Break → ⊥)
+    → new.last ≡ Some row → new.levels ≡ old.levels → new.asked ≡ old.asked
+    → EachStep found row (λ next. IsAt (position_at old.place) next
+    → HasAdvanced (position_at old.place) next (position_at new.place) act)
+    → EachStep found row (λ next. IsAt (position_at old.place) next → HasGone old next row new act)
+gone_on old new row judged.Ask act ask foreign pause last levels asked advanced = absurd (ask refl)
+gone_on old new row judged.Foreign act ask foreign pause last levels asked advanced = absurd (foreign refl)
+gone_on old new row judged.Break act ask foreign pause last levels asked advanced = absurd (pause refl)
+gone_on old new row judged.Reply act ask foreign pause last levels asked advanced = tt
+gone_on old new row judged.AskByte act ask foreign pause last levels asked advanced = λ at.
+    record { advanced = advanced at; last = last; levels = levels; asked = asked }
+gone_on old new row judged.Ack act ask foreign pause last levels asked advanced = λ at.
+    record { advanced = advanced at; last = last; levels = levels; asked = asked }
+gone_on old new row judged.Nak act ask foreign pause last levels asked advanced = λ at.
+    record { advanced = advanced at; last = last; levels = levels; asked = asked }
+gone_on old new row judged.ReplyByte act ask foreign pause last levels asked advanced = λ at.
+    record { advanced = advanced at; last = last; levels = levels; asked = asked }
+gone_on old new row judged.VmcAck act ask foreign pause last levels asked advanced = λ at.
+    record { advanced = advanced at; last = last; levels = levels; asked = asked }
+gone_on old new row judged.VmcNak act ask foreign pause last levels asked advanced = λ at.
+    record { advanced = advanced at; last = last; levels = levels; asked = asked }
+gone_on old new row judged.VmcRet act ask foreign pause last levels asked advanced = λ at.
+    record { advanced = advanced at; last = last; levels = levels; asked = asked }
+gone_on old new row judged.RepeatWord act ask foreign pause last levels asked advanced = λ at.
+    record { advanced = advanced at; last = last; levels = levels; asked = asked }
+gone_on old new row judged.Repeat act ask foreign pause last levels asked advanced = λ at.
+    record { advanced = advanced at; last = last; levels = levels; asked = asked }

@@ -280,17 +280,6 @@ asked_behind asked step.Foreign = None
 asked_behind asked (step.Break length) = None
 asked_behind asked _ = asked
 
--- the same, told from the act that the step ends
-abbrev pub levels_with : Option Act → Levels → Levels
-levels_with (Some (acts.Ask command)) levels = levels_after command levels
-levels_with _ levels = levels
-
-abbrev pub asked_with : Option Act → Option Device → Option Device
-asked_with (Some (acts.Ask command)) asked = Some (device_of command)
-asked_with (Some acts.Foreign) asked = None
-asked_with (Some (acts.Break length)) asked = None
-asked_with _ asked = asked
-
 -- a step belongs to a position
 abbrev pub IsAt : Position → Step → Type 0
 IsAt position (step.AskByte byte) = Unit {0}

@@ -3,7 +3,6 @@
 ghost use Rattle.std.specs.Prelude.{◌≡◌, [], ◌∷◌, ◌++◌, ℕ, List, Some, false, true, IfOk, IfErr, OnErr, Ok, Err};
 ghost use Rattle.mdb_msgs.specs.declared.reply.Reply.{Reply};
 ghost use Rattle.mdb_bus.specs.Step.{EachStep};
-ghost use Rattle.mdb_bus.specs.Steps.{asked_with, levels_with};
 
 use super::act::Act;
 use super::fault::{Blame, LinkFault, Rule};
@@ -27,7 +26,8 @@ pub struct Bus {
 }
 
 impl Bus {
-    ghost use Rattle.mdb_bus.specs.ActLists.{HasActList, Piece, events_of};
+    ghost use Rattle.mdb_msgs.specs.Commands.{device_of};
+    ghost use Rattle.mdb_bus.specs.ActLists.{HasActList, Piece, events_of, levels_after};
     ghost use Rattle.mdb_bus.specs.Bus.{GoesOn, HasGone, StandsFor, ended_act, position_at};
     ghost use Rattle.mdb_bus.specs.LinkFaults.{IsLinkFault, blame_of};
     ghost use Rattle.mdb_bus.specs.Step as step;
@@ -139,12 +139,29 @@ impl Bus {
         ensures none { result ≡ false → act.new ≡ act.old }
     {
         self.last = Some(event);
-        if !self.place.advance(judged, &event, act) {
-            return false;
+        let ended = self.place.advance(judged, &event, act);
+        match judged {
+            Judged::Ask => self.note_ask(act),
+            Judged::Foreign | Judged::Break => self.asked = None,
+            _ => {}
         }
-        self.levels = levels_behind(self.levels, act);
-        self.asked = asked_behind(self.asked, act);
-        true
+        ended
+    }
+
+    /// Keeps the levels and the device of an act, if it is an ask.
+    #[inline(always)]
+    fn note_ask(&mut self, act: &Act)
+        ensures levels { (command : Command) → act.now ≡ Act.Ask command
+            → self.new.levels ≡ levels_after command self.old.levels }
+        ensures asked { (command : Command) → act.now ≡ Act.Ask command
+            → self.new.asked ≡ Some (device_of command) }
+        ensures last { self.new.last ≡ self.old.last }
+        ensures place { self.new.place ≡ self.old.place }
+    {
+        if let Act::Ask(command) = act {
+            self.levels = self.levels.after(*command);
+            self.asked = Some(command.device());
+        }
     }
 
     /// The fault of a row that breaks a rule.
@@ -171,26 +188,5 @@ impl Bus {
             (_, Phase::InReply | Phase::InRepeat(_), Rule::Spacing) => Blame::on(self.asked),
             _ => Blame::Controller,
         }
-    }
-}
-
-/// The levels behind an act.
-fn levels_behind(levels: Levels, act: &Act) -> Levels
-    ensures { result ≡ levels_with (Some act.now) levels }
-{
-    match act {
-        Act::Ask(command) => levels.after(*command),
-        _ => levels,
-    }
-}
-
-/// The device that was asked last, behind an act.
-fn asked_behind(asked: Option<Device>, act: &Act) -> Option<Device>
-    ensures { result ≡ asked_with (Some act.now) asked }
-{
-    match act {
-        Act::Ask(command) => Some(command.device()),
-        Act::Foreign | Act::Break(_) => None,
-        _ => asked,
     }
 }

@@ -311,11 +311,11 @@ impl Place {
         match self.phase {
             Phase::InReply => {
                 self.phase = Phase::Replied;
-                *act = Act::Reply(self.command, reply.copy());
                 self.answer = Spelled {
                     reply,
                     bytes: self.bytes.copy(),
                 };
+                *act = Act::Reply(self.command, self.answer.reply.copy());
                 Ok(())
             }
             _ => unreachable!(),

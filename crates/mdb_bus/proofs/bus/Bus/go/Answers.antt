@@ -1,27 +1,20 @@
-use Rattle.std.proofs.Common.{refl, ap, subst, ◌∙◌, ◌≡◌, Some}
-use Rattle.mdb_bus.specs.Bus.{ended_act, position_at}
-use Rattle.mdb_bus.specs.Steps.{HasAdvanced, IsAt, asked_with, levels_with}
-use Rattle.mdb_bus.proofs.EachSteps.{each}
-use Rattle.mdb_bus.proofs.Feed.{told}
+use Rattle.std.proofs.Common.{refl}
+use Rattle.mdb_bus.specs.Bus.{ended_act}
+use Rattle.mdb_bus.proofs.Feed.{gone_ask, gone_off, gone_on}
 use Rattle.mdb_bus.proofs.bus.Bus.go.Goals as goal
 
-pub returns-clause-gone : goal.returns-clause-gone
-returns-clause-gone c =
-    let old = position_at c.args.self.now.place in
-    let ended : ended_act c.advance.result c.advance.new.act ≡ Some c.advance.new.act =
-    ap (λ b. ended_act b c.advance.new.act) c.if-not-advance.false in
-    each c.args.judged c.args.event
-    (λ next. IsAt old next → HasAdvanced old next (position_at c.advance.new.self) (ended_act c.advance.result c.advance.new.act))
-    _
-    (λ next advanced at. (
-    let has : HasAdvanced old next (position_at c.advance.new.self) (Some c.advance.new.act) =
-    subst (HasAdvanced old next (position_at c.advance.new.self)) ended (advanced at) in
-    let tells = told old next c.args.self.now.levels c.args.self.now.asked at in
-    record {
-      advanced = has;
-      last = refl;
-      levels = c.levels_behind-self.ensures ∙ (ap (λ a. levels_with a c.args.self.now.levels) has.act ∙ tells.0);
-      asked = c.asked_behind-self.ensures ∙ (ap (λ a. asked_with a c.args.self.now.asked) has.act ∙ tells.1);
-    }
-    ))
-    c.advance.ensures.advanced
+pub returns-in-Ask-clause-gone : goal.returns-in-Ask-clause-gone
+returns-in-Ask-clause-gone c =
+    gone_ask c.args.self.now c.note_ask.new.self c.advance-ended.new.self c.args.event c.args.judged c.advance-ended.result
+    c.advance-ended.new.act c.in-Ask.is c.note_ask.ensures.place c.note_ask.ensures.last c.note_ask.ensures.levels
+    c.note_ask.ensures.asked c.advance-ended.ensures.advanced
+
+pub returns-in-Foreign-clause-gone : goal.returns-in-Foreign-clause-gone
+returns-in-Foreign-clause-gone c =
+    gone_off c.args.self.now _ c.args.event c.args.judged (ended_act c.advance-ended.result c.advance-ended.new.act)
+    c.in-Foreign.is refl refl refl c.advance-ended.ensures.advanced
+
+pub returns-in_default-clause-gone : goal.returns-in_default-clause-gone
+returns-in_default-clause-gone c =
+    gone_on c.args.self.now _ c.args.event c.args.judged (ended_act c.advance-ended.result c.advance-ended.new.act)
+    c.in_default.not-Ask c.in_default.not-Foreign c.in_default.not-Break refl refl refl c.advance-ended.ensures.advanced
