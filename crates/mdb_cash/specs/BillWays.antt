@@ -1,6 +1,6 @@
 -- That it matters for ACKs alone whether they were heard, for replies alone how they are read, and
--- that acts of other devices change nothing and tell nothing. This proves laws of the trait `Pair` for the
--- validator.
+-- that acts of other devices change nothing and tell nothing. This proves laws of the trait
+-- `Pair` for the validator.
 use Rattle.std.specs.Prelude.{◌≡◌, ◌↔◌, Bool, List, ◌∷◌, refl}
 use Rattle.std.proofs.Common.{ap, ◌∙◌}
 use Rattle.mdb_msgs.specs.declared.command.Device.TheVariants as devices
@@ -122,10 +122,12 @@ facts_still before (acts.Ack (Reader u c)) other =
 facts_still before (acts.Reply (Bill c) r) other = absurd (other refl)
 facts_still before (acts.Reply (Changer c) r) other =
     let none = answered_still effect_of (Changer c) r refl in
-    same before (still effect_of parts_by (acts.Reply (Changer c) r) before none (ap resets none) refl)
+    same before (still effect_of parts_by (acts.Reply (Changer c) r) before none
+    (ap resets none) refl)
 facts_still before (acts.Reply (Reader u c) r) other =
     let none = answered_still effect_of (Reader u c) r refl in
-    same before (still effect_of parts_by (acts.Reply (Reader u c) r) before none (ap resets none) refl)
+    same before (still effect_of parts_by (acts.Reply (Reader u c) r) before none
+    (ap resets none) refl)
 facts_still before (acts.Nak c) other =
     same before (still effect_of parts_by (acts.Nak c) before refl refl refl)
 facts_still before (acts.VmcAck c r) other =

@@ -1,5 +1,6 @@
 -- That it matters for ACKs alone whether they were heard, for replies alone how they are read, and
--- that acts of other devices change nothing and tell nothing. This proves laws of the trait `Pair` for the changer.
+-- that acts of other devices change nothing and tell nothing. This proves laws of the trait
+-- `Pair` for the changer.
 use Rattle.std.specs.Prelude.{◌≡◌, ◌↔◌, Bool, List, ◌∷◌, refl}
 use Rattle.std.proofs.Common.{ap, ◌∙◌}
 use Rattle.mdb_msgs.specs.declared.command.Device.TheVariants as devices
@@ -100,7 +101,12 @@ elsewhere facts (acts.Break n) heard reading before after gains other = absurd (
 
 -- facts that differ in what counts of the acts at most
 abbrev with_past : List Act → PastFacts ChangerReport → Facts
-with_past before past = record { setup = last_told setup_by before; past = past; dispense = last_told dispense_by before }
+with_past before past =
+    record {
+      setup = last_told setup_by before;
+      past = past;
+      dispense = last_told dispense_by before;
+    }
 
 same : (before : List Act) {one other : PastFacts ChangerReport} → one ≡ other
     → with_past before one ≡ with_past before other
@@ -121,10 +127,12 @@ facts_still before (acts.Ack (Reader u c)) other =
 facts_still before (acts.Reply (Changer c) r) other = absurd (other refl)
 facts_still before (acts.Reply (Bill c) r) other =
     let none = answered_still effect_of (Bill c) r refl in
-    same before (still effect_of parts_by (acts.Reply (Bill c) r) before none (ap resets none) refl)
+    same before (still effect_of parts_by (acts.Reply (Bill c) r) before none
+    (ap resets none) refl)
 facts_still before (acts.Reply (Reader u c) r) other =
     let none = answered_still effect_of (Reader u c) r refl in
-    same before (still effect_of parts_by (acts.Reply (Reader u c) r) before none (ap resets none) refl)
+    same before (still effect_of parts_by (acts.Reply (Reader u c) r) before none
+    (ap resets none) refl)
 facts_still before (acts.Nak c) other =
     same before (still effect_of parts_by (acts.Nak c) before refl refl refl)
 facts_still before (acts.VmcAck c r) other =

@@ -32,7 +32,8 @@ pub still : {M : Type 0} (effect_of : Command → Effect) (parts_by : Act → Li
     → powers_on effect_of act ≡ false → parts_by act ≡ []
     → past_of effect_of parts_by acts ≡ past_of effect_of parts_by (act ∷ acts)
 still effect_of parts_by act acts effect powers parts =
-    sym (ap (λ e. one_more effect_of parts_by acts e (powers_on effect_of act) (parts_by act)) effect
+    sym (ap (λ e. one_more effect_of parts_by acts e (powers_on effect_of act) (parts_by act))
+    effect
     ∙ ap (λ b. one_more effect_of parts_by acts effects.Other b (parts_by act)) powers
     ∙ ap (one_more effect_of parts_by acts effects.Other false) parts)
 

@@ -1,5 +1,6 @@
 -- That it matters for ACKs alone whether they were heard, for replies alone how they are read, and
--- that acts of other devices change nothing and tell nothing. This proves laws of the trait `Pair` for the readers.
+-- that acts of other devices change nothing and tell nothing. This proves laws of the trait
+-- `Pair` for the readers.
 use Rattle.std.specs.Prelude.{◌≡◌, ◌↔◌, Bool, true, false, ◌||◌, List, [], ◌∷◌, map, Option, Some, None, refl, unwrap_or, if◌then◌else◌}
 use Rattle.std.proofs.Common.{ap, sym, ◌∙◌}
 use Rattle.mdb_msgs.specs.declared.command.Command.{Command}
@@ -114,7 +115,8 @@ known_more unit before messages asked taken powers past =
       asked = or_else asked (last_told (asked_by unit) before);
       taken = if powers || begin_session messages then None
           else or_else taken (last_taken unit before);
-      amount = unwrap_or (or_else (last_said amount_in messages) (last_told (amount_by unit) before)) 0;
+      amount =
+          unwrap_or (or_else (last_said amount_in messages) (last_told (amount_by unit) before)) 0;
       past = past;
     }
 
@@ -126,7 +128,8 @@ still_known : (unit : ReaderUnit) (act : Act) (before : List Act) → messages_b
 still_known unit act before messages asked taken effect powers =
     let behind = past_of (effect_of unit) (parts_by unit) (act ∷ before) in
     let past : past_of (effect_of unit) (parts_by unit) before ≡ behind =
-    past_ways.still (effect_of unit) (parts_by unit) act before effect powers (ap (map part_of) messages) in
+    past_ways.still (effect_of unit) (parts_by unit) act before effect powers
+    (ap (map part_of) messages) in
     ap (known_more unit before [] None None false) past
     ∙ sym (ap (λ m. known_more unit before m (asked_by unit act) (transaction_taken_by unit act)
     (powers_on (effect_of unit) act) behind) messages
@@ -153,7 +156,8 @@ facts_still unit before (acts.Ask c) other =
 facts_still unit before (acts.Ack c) other =
     let none = no_own unit c other in
     let effect : effect_of unit c ≡ effects.Other = ap effect_of_own none in
-    still_known unit (acts.Ack c) before refl refl (ap own_transaction none) effect (ap resets effect)
+    still_known unit (acts.Ack c) before refl refl (ap own_transaction none) effect
+    (ap resets effect)
 facts_still unit before (acts.Reply c r) other =
     let none = no_own unit c other in
     let effect = past_ways.answered_still (effect_of unit) c r (ap effect_of_own none) in
