@@ -115,6 +115,8 @@ pub fn tells_out_of_sequence(reply: &Reply) -> bool
 }
 
 /// Whether one of a reader's messages says so.
+// Not inlined, since few replies are asked so.
+#[inline(never)]
 fn tell_out_of_sequence(list: &ReaderList) -> bool
     ensures { result ≡ list_any spec.is_out_of_sequence list.now.messages }
 {

@@ -22,6 +22,6 @@ pub use fault::MsgFault;
 pub use needs::{Need, need_of};
 pub use reply::bill::BillMsg;
 pub use reply::changer::ChangerMsg;
-pub use reply::reader::{ReaderList, ReaderMessages, ReaderMsg};
+pub use reply::reader::{ReaderIter, ReaderList, ReaderMsg};
 pub use reply::setup::{BillSetup, ChangerSetup, Stacker, TubeStatus};
 pub use reply::{Reply, read_reply, reply_of, write_reply};

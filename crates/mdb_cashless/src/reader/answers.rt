@@ -27,7 +27,7 @@ use super::view::View;
 use mdb_cash::kept::{held, holds_behind};
 use mdb_cash::past::tells_out_of_sequence;
 use mdb_cash::{Gains, Reading};
-use mdb_msgs::{ReaderCommand, ReaderMessages, Reply};
+use mdb_msgs::{ReaderCommand, ReaderIter, Reply};
 
 /// The command that the reader takes by a reply that refuses it or doesn't: that says that it came
 /// out of sequence.
@@ -209,7 +209,7 @@ struct Hearing {
 }
 
 /// What hearing messages makes of a view.
-fn hear(config: Option<ReaderConfig>, before: View, messages: ReaderMessages<'_>) -> Hearing
+fn hear(config: Option<ReaderConfig>, before: View, messages: ReaderIter<'_>) -> Hearing
     requires { length messages ≤ 35 }
     ensures view { result.view ≡ reader_view.all_heard messages.entry before }
     ensures approved { result.approved ≡ spec.all_approved_to config before messages.entry }

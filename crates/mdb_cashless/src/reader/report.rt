@@ -7,7 +7,7 @@ ghost use Rattle.mdb_cash.specs.Kept.{IsSummary, is_reset};
 ghost use Rattle.mdb_cashless.specs.ReaderMessages as spec;
 
 use mdb_cash::kept::{KeptMessage, Part, Summary};
-use mdb_msgs::{ReaderMessages, ReaderMsg, Reply};
+use mdb_msgs::{ReaderIter, ReaderMsg, Reply};
 
 /// What a kept message of a cashless reader says (MDB/ICP 4.3, cashless device; what is kept, this
 /// profile). Two such messages are the same where all their bytes are.
@@ -63,13 +63,13 @@ fn part_of(message: ReaderMsg) -> Part<ReaderReport>
 
 /// The messages of a reply of a reader; none of another's.
 #[inline(always)]
-pub(crate) fn messages_of(reply: &Reply) -> ReaderMessages<'_>
+pub(crate) fn messages_of(reply: &Reply) -> ReaderIter<'_>
     ensures messages { result ≡ spec.messages_of reply.now }
     ensures few { length result ≤ 35 }
 {
     match reply {
         Reply::Reader(list) => list.iter(),
-        _ => ReaderMessages::none(),
+        _ => ReaderIter::none(),
     }
 }
 
@@ -113,7 +113,9 @@ impl Said {
     }
 
     /// Reads messages, of which it has read none.
-    pub(crate) fn read(&mut self, messages: ReaderMessages<'_>)
+    // Not inlined, so that the facts and the steps of both readers share it.
+    #[inline(never)]
+    pub(crate) fn read(&mut self, messages: ReaderIter<'_>)
         requires said { IsSaid self.old [] }
         requires room { array_vec_len self.old.summary.kept ≡ 0 }
         requires few { length messages ≤ 35 }
@@ -170,6 +172,8 @@ pub(crate) fn is_kept(message: ReaderMsg) -> bool
 }
 
 /// Whether a reply tells of a reset.
+// Not inlined, so that the steps of both readers share it.
+#[inline(never)]
 pub(crate) fn tells_of_reset(reply: &Reply) -> bool
     ensures { result ≡ list_any (λ message. is_reset (spec.part_of message))
         (spec.messages_of reply.now) }

@@ -208,11 +208,11 @@ impl ReaderList {
 
     /// The messages in order, read one after the other: no list is made of them.
     #[inline(always)]
-    pub fn iter(&self) -> ReaderMessages<'_>
+    pub fn iter(&self) -> ReaderIter<'_>
         ensures messages { result ≡ self.now.messages }
         ensures few { length result ≤ 35 }
     {
-        ReaderMessages {
+        ReaderIter {
             rest: self.bytes.as_slice(),
         }
     }
@@ -296,11 +296,11 @@ impl ReaderList {
 
 /// The messages of a reader's answer that are still to be read.
 #[derive(Debug, Drop)]
-pub struct ReaderMessages<'a> {
+pub struct ReaderIter<'a> {
     rest: &'a [u8],
 }
 
-impl<'a> Model for ReaderMessages<'a> {
+impl<'a> Model for ReaderIter<'a> {
     ghost use Rattle.std.specs.Prelude.{List};
     ghost use Rattle.mdb_msgs.specs.declared.reply.reader.ReaderMsg.{ReaderMsg};
     ghost use Rattle.mdb_msgs.specs.ReaderBytes.{messages_of};
@@ -313,16 +313,16 @@ impl<'a> Model for ReaderMessages<'a> {
     ghost invariant = { λ messages. StandAsMessages messages.rest.now };
 }
 
-impl<'a> ReaderMessages<'a> {
+impl<'a> ReaderIter<'a> {
     /// No message.
     pub fn none() -> Self
         ensures { result ≡ [] }
     {
-        ReaderMessages { rest: &[] }
+        ReaderIter { rest: &[] }
     }
 }
 
-impl<'a> Iterator for ReaderMessages<'a> {
+impl<'a> Iterator for ReaderIter<'a> {
     ghost use Rattle.std.specs.Iterator.{YieldsFirst, item_count};
 
     type Item = ReaderMsg;
