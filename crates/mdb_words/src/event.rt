@@ -79,8 +79,8 @@ impl Event {
         Ok(Event::Word { at, line, word })
     }
 
-    /// The break that starts at a time, by the value of its row. Breaks are rare, so this is kept out
-    /// of the way of words.
+    /// The break that starts at a time, by the value of its row. Breaks are rare, so this is kept
+    /// out of the way of words.
     #[inline(never)]
     fn read_break(at: Time, value: &[u8]) -> Result<Event, RowFault>
         ensures { (time : List ℕ) → IsDecimal 15 time at →
