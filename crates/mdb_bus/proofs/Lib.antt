@@ -12,6 +12,7 @@ pub mod Needs
 pub mod OneActList
 pub mod OneFault
 pub mod OneStep
+pub mod Polls
 pub mod Promises
 pub mod Rows
 pub mod RuleLaws

@@ -117,8 +117,8 @@ fn judge_peripheral(
 {
     match place.phase {
         Phase::Quiet | Phase::InAsk | Phase::Replied => Err(Rule::Speaker),
-        Phase::Asked => answer(place.command, from, at, word),
-        Phase::InReply => go_on_replying(place.command, &place.bytes, from, at, word),
+        Phase::Asked => answer(&place.command, from, at, word),
+        Phase::InReply => go_on_replying(&place.command, &place.bytes, from, at, word),
         Phase::Returned => begin_repeat(&place.answer, from, at, word),
         Phase::InRepeat(said) => go_on_repeating(&place.answer, said, from, at, word),
         Phase::InForeign => go_on_foreign(from, at, Line::Peripheral, word),
@@ -258,10 +258,10 @@ pub(crate) fn see_bytes(_bytes: &[u8])
 {}
 
 /// A peripheral's first word in answer to a command.
-fn answer(command: Command, from: &Option<Event>, at: Time, word: Word) -> Result<Judged, Rule>
+fn answer(command: &Command, from: &Option<Event>, at: Time, word: Word) -> Result<Judged, Rule>
     requires { OutOfOrder from.now (Event.Word at Line.Peripheral word) → ⊥ }
     ensures { (levels : Levels)
-        → IsJudged (record { position = lists.Asked command; last = from.now; levels = levels })
+        → IsJudged (record { position = lists.Asked command.now; last = from.now; levels = levels })
         (Event.Word at Line.Peripheral word) result }
 {
     let row = Event::Word {
@@ -322,7 +322,7 @@ fn cut_in(from: &Option<Event>, at: Time, word: Word) -> Result<Judged, Rule>
 
 /// A peripheral's word inside its reply.
 fn go_on_replying(
-    command: Command,
+    command: &Command,
     bytes: &Begun,
     from: &Option<Event>,
     at: Time,
@@ -330,7 +330,7 @@ fn go_on_replying(
 ) -> Result<Judged, Rule>
     requires { OutOfOrder from.now (Event.Word at Line.Peripheral word) → ⊥ }
     ensures judged { (levels : Levels) → IsJudged (record {
-      position = lists.InReply command bytes.now;
+      position = lists.InReply command.now bytes.now;
       last = from.now;
       levels = levels;
     })
@@ -360,9 +360,9 @@ fn go_on_replying(
 }
 
 /// The marked word of a reply: its length and its sum.
-fn end_reply(command: Command, bytes: &Begun, word: Word) -> Result<Judged, Rule>
+fn end_reply(command: &Command, bytes: &Begun, word: Word) -> Result<Judged, Rule>
     requires { 256 ≤ word }
-    ensures { IsReplyEnd command bytes.now word result }
+    ensures { IsReplyEnd command.now bytes.now word result }
 {
     if !command.has_data_answer(bytes.as_slice().len()) {
         return Err(Rule::Length);

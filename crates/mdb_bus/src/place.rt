@@ -1,6 +1,6 @@
 //! Where the bus is.
 
-ghost use Rattle.std.specs.Prelude.{◌≡◌, ◌≤◌, ◌<◌, [], ◌∷◌, ◌++◌, ◌%◌, ℕ, length, false, IfSome, IfOk, IfErr, OnErr, Ok, Err};
+ghost use Rattle.std.specs.Prelude.{◌≡◌, ◌≤◌, ◌<◌, [], ◌∷◌, ◌++◌, ◌%◌, ℕ, length, false, true, Some, IfSome, IfOk, IfErr, OnErr, Ok, Err};
 ghost use Rattle.mdb_blocks.specs.Block.{block_of};
 ghost use Rattle.mdb_msgs.specs.Replies.{reply_bytes};
 ghost use Rattle.mdb_bus.specs.Step.{word_in};
@@ -13,7 +13,9 @@ use super::judging::see_bytes;
 use super::levels::Levels;
 use arrayvec::ArrayVec;
 use mdb_blocks::{Block, seal};
-use mdb_msgs::{ChangerCommand, ChangerMsg, Command, MsgFault, Reply, command_of, reply_of};
+use mdb_msgs::{
+    ChangerCommand, ChangerMsg, Command, MsgFault, Reply, command_of, laws, polled, reply_of,
+};
 use mdb_words::Event;
 use std::marker::Model;
 use std::mem;
@@ -158,6 +160,7 @@ pub struct Place {
 
 impl Place {
     ghost use Rattle.mdb_bus.specs.ActLists as lists;
+    ghost use Rattle.mdb_bus.specs.declared.act.Act.TheVariants as acts;
     ghost use Rattle.mdb_bus.specs.Bus.{ended_act, position_at};
     ghost use Rattle.mdb_bus.specs.Step as step;
     ghost use Rattle.mdb_bus.specs.Step.{EachStep};
@@ -240,12 +243,27 @@ impl Place {
             (ended_act result act.new) }
         ensures none { result ≡ false → act.new ≡ act.old }
     {
+        laws::block_has_one_command();
         let Phase::InAsk = self.phase else {
             return false;
         };
-        let Ok(command) = command_of(self.bytes.as_slice()) else {
-            return false;
-        };
+        // A POLL, which most asks are, is known without a call, and not copied.
+        if let Some(device) = polled(self.bytes.as_slice()) {
+            return self.ask(device.poll(), act);
+        }
+        match command_of(self.bytes.as_slice()) {
+            Ok(command) => self.ask(command, act),
+            Err(_) => false,
+        }
+    }
+
+    /// The controller has asked a command.
+    #[inline(always)]
+    fn ask(&mut self, command: Command, act: &mut Act) -> bool
+        ensures asked { position_at self.new ≡ lists.Asked command }
+        ensures ended { ended_act result act.new ≡ Some (acts.Ask command) }
+        ensures ends { result ≡ true }
+    {
         self.phase = Phase::Asked;
         self.command = command;
         act.note(Act::Ask(command))

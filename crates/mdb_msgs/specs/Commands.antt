@@ -23,6 +23,13 @@ device_of (Bill command) = device.Bill
 device_of (Reader First command) = device.Cashless
 device_of (Reader Second command) = device.Cashless2
 
+-- the POLL of a device
+abbrev pub poll_of : Device → Command
+poll_of device.Changer = Changer changer.Poll
+poll_of device.Bill = Bill bill.Poll
+poll_of device.Cashless = Reader First reader.Poll
+poll_of device.Cashless2 = Reader Second reader.Poll
+
 -- to the coin changer, 08
 abbrev pub changer_bytes : ChangerCommand → List ℕ
 changer_bytes changer.Reset = 0x08 ∷ []

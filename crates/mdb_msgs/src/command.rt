@@ -1,7 +1,7 @@
 //! Commands of the controller, device by device.
 
 ghost use Rattle.std.specs.Prelude.{◌≡◌};
-ghost use Rattle.mdb_msgs.specs.Commands.{device_of, reader_address};
+ghost use Rattle.mdb_msgs.specs.Commands.{device_of, poll_of, reader_address};
 
 /// A peripheral that this profile follows (MDB/ICP 4.3: changer at 08H, cashless device #1 at 10H,
 /// validator at 30H, cashless device #2 at 60H).
@@ -15,6 +15,21 @@ pub enum Device {
     Cashless,
     /// The second cashless reader, 60H.
     Cashless2,
+}
+
+impl Device {
+    /// The POLL of the device.
+    #[inline(always)]
+    pub fn poll(self) -> Command
+        ensures { result ≡ poll_of self }
+    {
+        match self {
+            Device::Changer => Command::Changer(ChangerCommand::Poll),
+            Device::Bill => Command::Bill(BillCommand::Poll),
+            Device::Cashless => Command::Reader(ReaderUnit::First, ReaderCommand::Poll),
+            Device::Cashless2 => Command::Reader(ReaderUnit::Second, ReaderCommand::Poll),
+        }
+    }
 }
 
 /// A cashless reader: MDB/ICP 4.3 has two, with the same commands and the same answers.

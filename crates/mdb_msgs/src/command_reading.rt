@@ -1,14 +1,16 @@
 //! Blocks of the controller as commands.
 
-ghost use Rattle.std.specs.Prelude.{◌≡◌, ◌≢◌, ◌<◌, ◌≤◌, ◌+◌, ◌-◌, length, slice_get, slice_index, Ok, Err, IfOk, IfErr, MatchOption};
+ghost use Rattle.std.specs.Prelude.{◌≡◌, ◌≢◌, ◌<◌, ◌≤◌, ◌+◌, ◌-◌, length, slice_get, slice_index, Ok, Err, IfOk, IfErr, IfSome, MatchOption};
+ghost use Rattle.std.specs.Option.{IfNone};
 ghost use Rattle.mdb_msgs.specs.declared.command.Command.{Command};
+ghost use Rattle.mdb_msgs.specs.declared.command.Device.{Device};
 ghost use Rattle.mdb_msgs.specs.declared.fault.MsgFault.{MsgFault};
-ghost use Rattle.mdb_msgs.specs.Commands.{HasBillFields, HasChangerFields, HasReaderFields, Spells, bill_bytes, changer_bytes, reader_bytes};
+ghost use Rattle.mdb_msgs.specs.Commands.{HasBillFields, HasChangerFields, HasReaderFields, Spells, bill_bytes, changer_bytes, poll_of, reader_bytes};
 ghost use Rattle.mdb_msgs.specs.CommandFaults.{IsCommandFault, IsRefused};
 ghost use Rattle.mdb_msgs.specs.Needs.{reader_need};
 ghost use Rattle.mdb_blocks.specs.Block.{block_of};
 
-use super::command::{BillCommand, ChangerCommand, Command, ReaderCommand, ReaderUnit};
+use super::command::{BillCommand, ChangerCommand, Command, Device, ReaderCommand, ReaderUnit};
 use super::fault::MsgFault;
 use super::two_bytes::number;
 use mdb_blocks::Block;
@@ -26,8 +28,6 @@ pub fn read_command(block: &Block) -> Result<Command, MsgFault>
 
 /// The command whose block carries these bytes, its sum left out: `read_command` for one who has
 /// the bytes alone. The faults are those of the block that carries them.
-// Inlined, so that a POLL is known without a call.
-#[inline(always)]
 pub fn command_of(content: &[u8]) -> Result<Command, MsgFault>
     requires { 0 < length content.now }
     ensures command { IfOk result (λ command. Spells command (block_of content.now)) }
@@ -37,27 +37,28 @@ pub fn command_of(content: &[u8]) -> Result<Command, MsgFault>
     ensures refused { (fault : MsgFault) →
         IsCommandFault (block_of content.now) fault → result ≡ Err fault }
 {
-    content_command(content)
+    device_command(content)
 }
 
-/// The command whose bytes these are. Most commands are POLLs, so these are told first.
+/// The device whose POLL's block carries these bytes, its sum left out; `None` where they are no
+/// POLL's. This is `command_of` for the most frequent commands, without the making of one.
+// Inlined, so that a POLL is known without a call.
 #[inline(always)]
-fn content_command(content: &[u8]) -> Result<Command, MsgFault>
-    requires { 0 < length content.now }
-    ensures command { IfOk result (λ command. Spells command (block_of content.now)) }
-    ensures fault { IfErr result (IsCommandFault (block_of content.now)) }
+pub fn polled(content: &[u8]) -> Option<Device>
+    ensures some { IfSome result (λ device. Spells (poll_of device) (block_of content.now)) }
+    ensures none { IfNone result ((device : Device) →
+        Spells (poll_of device) (block_of content.now) → ⊥) }
 {
     match content {
-        [0x0B] => Ok(Command::Changer(ChangerCommand::Poll)),
-        [0x12] => Ok(Command::Reader(ReaderUnit::First, ReaderCommand::Poll)),
-        [0x33] => Ok(Command::Bill(BillCommand::Poll)),
-        [0x62] => Ok(Command::Reader(ReaderUnit::Second, ReaderCommand::Poll)),
-        _ => device_command(content),
+        [0x0B] => Some(Device::Changer),
+        [0x12] => Some(Device::Cashless),
+        [0x33] => Some(Device::Bill),
+        [0x62] => Some(Device::Cashless2),
+        _ => None,
     }
 }
 
-/// The command of a device whose bytes these are.
-#[inline(never)]
+/// The command whose bytes these are.
 fn device_command(content: &[u8]) -> Result<Command, MsgFault>
     requires { 0 < length content.now }
     ensures command { IfOk result (λ command. Spells command (block_of content.now)) }

@@ -16,7 +16,7 @@ mod two_bytes;
 
 pub use answer::AnswerForm;
 pub use command::{BillCommand, ChangerCommand, Command, Device, ReaderCommand, ReaderUnit};
-pub use command_reading::{command_of, read_command};
+pub use command_reading::{command_of, polled, read_command};
 pub use command_writing::write_command;
 pub use fault::MsgFault;
 pub use needs::{Need, need_of};
