@@ -181,10 +181,7 @@ impl Place {
                 false
             }
             Judged::Ask => self.end_ask(act),
-            Judged::Foreign => {
-                self.phase = Phase::InForeign;
-                act.note(Act::Foreign)
-            }
+            Judged::Foreign => self.open_foreign(act),
             Judged::Ack => self.end_by_ack(act),
             Judged::Nak => self.end_by_nak(act),
             Judged::ReplyByte => {
@@ -205,8 +202,20 @@ impl Place {
         }
     }
 
+    /// A foreign block is opened, or goes on.
+    // Not inlined, like its siblings below that few rows need: an act is large to make.
+    #[inline(never)]
+    fn open_foreign(&mut self, act: &mut Act) -> bool
+        ensures advanced { HasAdvanced (position_at self.old) step.Foreign (position_at self.new)
+            (ended_act result act.new) }
+        ensures none { result ≡ false → act.new ≡ act.old }
+    {
+        self.phase = Phase::InForeign;
+        act.note(Act::Foreign)
+    }
+
     /// A break has ended what was open.
-    #[inline(always)]
+    #[inline(never)]
     fn end_by_break(&mut self, row: &Event, act: &mut Act) -> bool
         ensures advanced { (at length : ℕ) → row.now ≡ Event.Break at length
             → HasAdvanced (position_at self.old) (step.Break length) (position_at self.new)
@@ -301,7 +310,7 @@ impl Place {
     }
 
     /// The peripheral refuses the command.
-    #[inline(always)]
+    #[inline(never)]
     fn end_by_nak(&mut self, act: &mut Act) -> bool
         ensures advanced { IsAt (position_at self.old) step.Nak
             → HasAdvanced (position_at self.old) step.Nak (position_at self.new)
@@ -317,6 +326,7 @@ impl Place {
 
     /// The reply has ended, with the right length and sum: takes it, if it can be read and fits the
     /// levels, and puts the act into `act`. Else both are as they were.
+    #[inline(always)]
     pub(crate) fn end_reply(&mut self, levels: Levels, act: &mut Act) -> Result<(), Rule>
         ensures taken { IfOk result (λ _.
             IsTaken (position_at self.old) levels (position_at self.new) (Ok act.new)) }
@@ -341,8 +351,7 @@ impl Place {
     }
 
     /// The reply whose bytes were sent, or the rule that it breaks.
-    // Not inlined, so that only rows that end a reply pay for it.
-    #[inline(never)]
+    #[inline(always)]
     fn read_reply(&self, levels: Levels) -> Result<Reply, Rule>
         ensures { IsReadAt (position_at self.now) levels result }
     {
@@ -358,7 +367,6 @@ impl Place {
     }
 
     /// The controller acknowledges the reply.
-    // Not inlined, like its three siblings below: what they make is large, and few rows need it.
     #[inline(never)]
     fn acknowledge(&mut self, act: &mut Act) -> bool
         ensures advanced { IsAt (position_at self.old) step.VmcAck

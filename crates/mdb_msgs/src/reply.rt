@@ -161,6 +161,7 @@ fn array_of<const N: usize>(bytes: &[u8]) -> [u8; N]
 }
 
 /// The reply of this form that these bytes are.
+#[inline(always)]
 fn read_form(form: AnswerForm, bytes: &[u8]) -> Result<Reply, MsgFault>
     requires { IsDataLength form (length bytes.now) }
     ensures form { IfOk result (λ reply. form_of_reply reply ≡ form) }
@@ -186,6 +187,8 @@ fn read_form(form: AnswerForm, bytes: &[u8]) -> Result<Reply, MsgFault>
 
 /// The reply to a command that these data bytes are, their sum left out: `read_reply` for one who
 /// has the bytes alone, with the same faults.
+// Inlined, like what it calls, so that a reply is moved less often.
+#[inline(always)]
 pub fn reply_of(command: &Command, content: &[u8]) -> Result<Reply, MsgFault>
     ensures found { IfOk result (IsReplyTo command.now) }
     ensures spelled { IfOk result (λ reply. content.now ≡ reply_bytes reply) }
@@ -199,6 +202,7 @@ pub fn reply_of(command: &Command, content: &[u8]) -> Result<Reply, MsgFault>
 }
 
 /// The reply to a command that these data bytes are.
+#[inline(always)]
 fn read_content(command: &Command, content: &[u8]) -> Result<Reply, MsgFault>
     ensures found { IfOk result (IsReplyTo command.now) }
     ensures spelled { IfOk result (λ reply. content.now ≡ reply_bytes reply) }
