@@ -1,3 +1,4 @@
+pub mod Alone
 pub mod Asks
 pub mod Choosing
 pub mod Ends

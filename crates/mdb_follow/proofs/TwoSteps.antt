@@ -1,5 +1,5 @@
 -- The moves that two steps are.
-use Rattle.std.proofs.Common.{◌≡◌, ◌⊎◌, inl, inr, ℕ, Bool, true, false, ◌∙◌, ap, subst, List, [], ◌++◌, Option, Some, None}
+use Rattle.std.proofs.Common.{◌≡◌, ◌⊎◌, inl, inr, ℕ, Bool, true, false, ◌∙◌, sym, ap, subst, List, [], ◌∷◌, ◌++◌, Option, Some, None}
 use Rattle.std.specs.Prelude.{Contains, ◌↔◌}
 use Rattle.std.proofs.lemmas.List.Elements.{Contains-append_cases, Contains-append_left, Contains-append_right}
 use Rattle.std.proofs.lemmas.Option.{none-some, same_Some}
@@ -11,7 +11,7 @@ use Rattle.mdb_cash.specs.declared.kept.Reading.{Reading}
 use Rattle.mdb_cash.specs.Pair.{IsMarkedStep, IsMove, IsReply}
 use Rattle.mdb_cash.proofs.Ways.{Laws, both_moves, one_move}
 use Rattle.mdb_follow.specs.declared.cell.Cell.{Cell}
-use Rattle.mdb_follow.specs.Entries.{AreMoves, moves_of, with_moves}
+use Rattle.mdb_follow.specs.Entries.{AreMoves, LeadTo, moves_of, with_moves}
 use Rattle.mdb_follow.proofs.Listed.{contains-cases, contains-here, contains-none}
 
 move-is : (step : Option (ℕ × Gains)) (move : ℕ × Gains)
@@ -50,6 +50,45 @@ with-two before middle after cell None other first second =
     second ∙ ap (λ b. with_moves b cell (moves_of other)) first
 with-two before middle after cell (Some move) other first second =
     second ∙ ap (λ b. with_moves b cell (moves_of other)) first
+
+-- what a cell is led to by one step, by the other or by both where they are the same, and by two
+
+pub lead-other : (cell : Cell) (one other : Option (ℕ × Gains)) (move : ℕ × Gains)
+    (after : List (ℕ × Cell)) → one ≡ None → other ≡ Some move
+    → after ≡ with_moves [] cell (move ∷ []) → LeadTo cell one other after
+lead-other cell one other move after none is made =
+    subst (λ o. LeadTo cell o other after) (sym none)
+    (subst (λ o. LeadTo cell None o after) (sym is)
+    (move ∷ [], two-moves None (Some move), made))
+
+pub lead-one : (cell : Cell) (one other : Option (ℕ × Gains)) (move : ℕ × Gains)
+    (after : List (ℕ × Cell)) → one ≡ Some move → (other ≡ None) ⊎ (other ≡ Some move)
+    → after ≡ with_moves [] cell (move ∷ []) → LeadTo cell one other after
+lead-one cell one other move after is (inl none) made =
+    subst (λ o. LeadTo cell o other after) (sym is)
+    (subst (λ o. LeadTo cell (Some move) o after) (sym none)
+    (move ∷ [], two-moves (Some move) None, made))
+lead-one cell one other move after is (inr same) made =
+    subst (λ o. LeadTo cell o other after) (sym is)
+    (subst (λ o. LeadTo cell (Some move) o after) (sym same) (
+      move ∷ [],
+      λ m. (
+        λ has. inl ((move-is (Some move) m).0 has),
+        λ either. elim either [
+          | inl so ↦ (move-is (Some move) m).1 so
+          | inr so ↦ (move-is (Some move) m).1 so
+        ],
+      ),
+      made,
+    ))
+
+pub lead-both : (cell : Cell) (one other : Option (ℕ × Gains)) (move second : ℕ × Gains)
+    (after : List (ℕ × Cell)) → one ≡ Some move → other ≡ Some second
+    → after ≡ with_moves [] cell (move ∷ second ∷ []) → LeadTo cell one other after
+lead-both cell one other move second after is so made =
+    subst (λ o. LeadTo cell o other after) (sym is)
+    (subst (λ o. LeadTo cell (Some move) o after) (sym so)
+    (move ∷ second ∷ [], two-moves (Some move) (Some second), made))
 
 -- a mark says something of an act, or it doesn't
 marked-or-not : (act : Act) → (IsAck act ⊎ IsReply act) ⊎ (IsAck act ⊎ IsReply act → ⊥)

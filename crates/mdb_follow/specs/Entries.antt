@@ -60,6 +60,11 @@ abbrev pub AreMoves : List (ℕ × Gains) → Option (ℕ × Gains) → Option (
 AreMoves moves one other =
     (move : ℕ × Gains) → Contains moves move ↔ (one ≡ Some move) ⊎ (other ≡ Some move)
 
+-- the entries that two steps from a cell lead to, which may be the same
+abbrev pub LeadTo : Cell → Option (ℕ × Gains) → Option (ℕ × Gains) → List (ℕ × Cell) → Type 0
+LeadTo cell one other entries =
+    (moves : List (ℕ × Gains)) × AreMoves moves one other × (entries ≡ with_moves [] cell moves)
+
 -- the join of a cell and those of entries
 abbrev pub joined_cells : Cell → List (ℕ × Cell) → Cell
 joined_cells cell entries = fold (λ all entry. joined_cell all entry.1) cell entries

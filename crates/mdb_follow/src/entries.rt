@@ -1,12 +1,14 @@
 //! The entries of a table: codes with their cells.
 
-ghost use Rattle.std.specs.Prelude.{◌≡◌, ◌<◌, ◌^◌, ◌∷◌, ◌↔◌, ℕ, List, IsTrue, IfSome};
+ghost use Rattle.std.specs.Prelude.{◌≡◌, ◌<◌, ◌^◌, [], ◌∷◌, ◌↔◌, ℕ, List, IsTrue, None, IfSome};
+ghost use Rattle.std.specs.Bool.{OnFalse, OnTrue};
+ghost use Rattle.arrayvec.specs.ArrayVec.{array_vec_len};
 ghost use Rattle.mdb_cash.specs.Gains.{IsSmall};
 ghost use Rattle.mdb_cash.specs.declared.gains.Gains.{Gains};
 ghost use Rattle.mdb_follow.specs.declared.cell.Cell.{Cell};
-ghost use Rattle.mdb_follow.specs.Entries.{AreMoves, HasAt, IsKeyed, IsPlaced};
+ghost use Rattle.mdb_follow.specs.Entries.{AreMoves, HasAt, IsKeyed, IsPlaced, LeadTo};
 ghost use Rattle.mdb_follow.specs.Entries.{joined_cells, moves_of, with_cell, with_moves};
-ghost use Rattle.mdb_follow.specs.Limits.{IsCellWithin};
+ghost use Rattle.mdb_follow.specs.Limits.{IsCellWithin, IsTableWithin};
 
 use crate::Cell;
 use arrayvec::ArrayVec;
@@ -89,6 +91,77 @@ pub(crate) fn add_steps<const N: usize>(
     add_step(entries, places, cell, one);
     if one != other {
         add_step(entries, places, cell, other);
+    }
+}
+
+/// Puts those that two steps from the only entry lead to in its place; the steps may be the same.
+/// Where neither is a step it answers `false`, and the entry stays.
+#[inline(always)]
+pub(crate) fn lead_only<const N: usize>(
+    entries: &mut ArrayVec<(usize, Cell), N>,
+    one: &Option<(usize, Gains)>,
+    other: &Option<(usize, Gains)>,
+) -> bool
+    requires only { array_vec_len entries.old ≡ 1 }
+    requires within { IsTableWithin (2 ^ 62) entries.old.items }
+    requires one { IfSome one.now (λ move. (move.0 < N) × IsSmall move.1) }
+    requires other { IfSome other.now (λ move. (move.0 < N) × IsSmall move.1) }
+    ensures led { OnTrue result ((entry : ℕ × Cell) → entries.old.items ≡ entry ∷ []
+        → LeadTo entry.1 one.now other.now entries.new.items) }
+    ensures some { OnTrue result (0 < array_vec_len entries.new) }
+    ensures none { OnFalse result ((one.now ≡ None) × (other.now ≡ None)) }
+    ensures same { OnFalse result (entries.new ≡ entries.old) }
+{
+    match one {
+        None => match other {
+            None => return false,
+            Some(step) => move_only(entries, step),
+        },
+        Some(step) => match other {
+            Some(second) if step != second => branch_only(entries, step, second),
+            _ => move_only(entries, step),
+        },
+    }
+    true
+}
+
+/// Moves the only entry by a step from it.
+#[inline(always)]
+fn move_only<const N: usize>(entries: &mut ArrayVec<(usize, Cell), N>, step: &(usize, Gains))
+    requires only { array_vec_len entries.old ≡ 1 }
+    requires within { IsTableWithin (2 ^ 62) entries.old.items }
+    requires small { IsSmall step.now.1 }
+    ensures moved { (entry : ℕ × Cell) → entries.old.items ≡ entry ∷ []
+        → entries.new.items ≡ with_moves [] entry.1 (step.now ∷ []) }
+    ensures only { array_vec_len entries.new ≡ 1 }
+{
+    let (code, gains) = step;
+    let moved = entries[0].1.moved(gains);
+    entries[0] = (*code, moved);
+}
+
+/// Puts the two that two steps from the only entry lead to in its place, or the one that both do.
+#[inline(never)]
+fn branch_only<const N: usize>(
+    entries: &mut ArrayVec<(usize, Cell), N>,
+    one: &(usize, Gains),
+    other: &(usize, Gains),
+)
+    requires only { array_vec_len entries.old ≡ 1 }
+    requires within { IsTableWithin (2 ^ 62) entries.old.items }
+    requires one { (one.now.0 < N) × IsSmall one.now.1 }
+    requires other { (other.now.0 < N) × IsSmall other.now.1 }
+    ensures moved { (entry : ℕ × Cell) → entries.old.items ≡ entry ∷ []
+        → entries.new.items ≡ with_moves [] entry.1 (one.now ∷ other.now ∷ []) }
+    ensures some { 0 < array_vec_len entries.new }
+{
+    let second = entries[0].1.moved(&other.1);
+    move_only(entries, one);
+    if one.0 == other.0 {
+        let joined = entries[0].1.joined(&second);
+        entries[0] = (one.0, joined);
+    } else {
+        entries.push((other.0, second));
     }
 }
 

@@ -2,6 +2,7 @@
 
 ghost use Rattle.std.specs.Prelude.{◌≡◌, ◌<◌, ◌+◌, ◌^◌, ◌↔◌, ◌⊎◌, ℕ, true, List, [], ◌∷◌, All, None, Some, IfSome};
 ghost use Rattle.std.specs.Bool.{OnFalse, OnTrue};
+ghost use Rattle.arrayvec.specs.ArrayVec.{array_vec_len};
 ghost use Rattle.mdb_bus.specs.declared.act.Act.{Act};
 ghost use Rattle.mdb_bus.specs.Choice.{IsAck};
 ghost use Rattle.mdb_cash.specs.declared.gains.Gains.{Gains};
@@ -15,7 +16,7 @@ ghost use Rattle.mdb_follow.specs.Tables.{ArrivesAnywhere, ArrivesAt, Bounds, Is
 ghost use Rattle.mdb_follow.specs.Entries.{AllRest, AreBelow};
 
 use crate::Cell;
-use crate::entries::{add_steps, join_all};
+use crate::entries::{add_steps, join_all, lead_only};
 use arrayvec::ArrayVec;
 use mdb_bus::Act;
 use mdb_cash::{Gains, Pair, may_be_marked};
@@ -109,6 +110,9 @@ impl<const N: usize> Table<N> {
             → IsTableWithin (limit + 2 ^ 32) self.new }
     {
         if self.turned {
+            if self.other.len() == 1 {
+                return lead_alone::<P, N>(facts, act, &mut self.other);
+            }
             fill::<P, N>(
                 facts,
                 act,
@@ -121,6 +125,9 @@ impl<const N: usize> Table<N> {
             }
             self.turned = false;
         } else {
+            if self.one.len() == 1 {
+                return lead_alone::<P, N>(facts, act, &mut self.one);
+            }
             fill::<P, N>(
                 facts,
                 act,
@@ -172,6 +179,35 @@ fn all_rest<P: Pair>(act: &Act, entries: &[(usize, Cell)]) -> bool
         }
     }
     true
+}
+
+/// Puts the entries behind an act in place of the only one before it. Where there is none it answers
+/// `false`, and the entry stays.
+fn lead_alone<P: Pair, const N: usize>(
+    facts: &P::Facts,
+    act: &Act,
+    entries: &mut ArrayVec<(usize, Cell), N>,
+) -> bool
+    requires size { N ≡ P.CODES }
+    requires only { array_vec_len entries.old ≡ 1 }
+    requires below { AreBelow N entries.old.items }
+    requires within { IsTableWithin (2 ^ 62) entries.old.items }
+    ensures table { OnTrue result ((acts : List Act) → P.stands_for facts.now acts
+        → IsTable P.code_of P.may_step P.first acts entries.old.items
+        → IsTable P.code_of P.may_step P.first (act.now ∷ acts) entries.new.items) }
+    ensures none { OnFalse result ((acts : List Act) → P.stands_for facts.now acts
+        → IsTable P.code_of P.may_step P.first acts entries.old.items
+        → (state : P.State) (sums : Sums)
+        → Arrives P.may_step P.first (act.now ∷ acts) state sums → ⊥) }
+    ensures same { OnFalse result (entries.new ≡ entries.old) }
+    ensures below { AreBelow N entries.new.items }
+    ensures within { (limit : ℕ) → IsTableWithin limit entries.old.items
+        → IsTableWithin (limit + 2 ^ 32) entries.new.items }
+{
+    let code = entries[0].0;
+    let plain = P::step(facts, act, code, false);
+    let marked = marked_step::<P>(facts, act, code);
+    lead_only(entries, &plain, &marked)
 }
 
 /// Makes the entries behind an act from those before it. What the places hold at first is no

@@ -1,4 +1,9 @@
-use Rattle.std.proofs.Common.{◌≡◌, ◌+◌, ◌^◌, ◌∷◌, subst, sym, ◌∙◌, arith}
+use Rattle.std.proofs.Common.{refl, ℕ, List, ◌≡◌, ◌+◌, ◌^◌, ◌∷◌, subst, sym, ◌∙◌, arith}
+use Rattle.std.specs.Bool.{OnFalse}
+use Rattle.mdb_bus.specs.declared.act.Act.{Act}
+use Rattle.mdb_follow.specs.Arrivals.{Arrives}
+use Rattle.mdb_follow.specs.Sums.{Sums}
+use Rattle.mdb_follow.specs.declared.cell.Cell.{Cell}
 use Rattle.mdb_follow.specs.Limits.{IsTableWithin}
 use Rattle.mdb_follow.specs.Tables.{IsTable}
 use Rattle.mdb_follow.proofs.Limits.{table-within-weaker}
@@ -87,3 +92,47 @@ returns-else-is_empty-2-clause-table g c acts stands table =
     (subst (IsTable p.code_of p.may_step p.first acts) (sym is) table))
     (some-told c.fill-else-self.new.into.items c.is_empty-else-self.result
     c.is_empty-else-self.ensures c.if-is_empty-2.false)
+
+pub returns-then-len-eq1-clause-none : goal.returns-then-len-eq1-clause-none
+returns-then-len-eq1-clause-none g c =
+    let p = g.P.Pair in
+    let is : c.self.inside.other.items ≡ c.args.self.now =
+    seen-other c.self.inside.turned c.self.inside.one.items c.self.inside.other.items
+    c.args.self.now c.self.view_is c.if-self.true in
+    subst (λ (entries : List (ℕ × Cell)). OnFalse c.lead_alone.result ((acts : List Act)
+    → p.stands_for c.args.facts.now acts → IsTable p.code_of p.may_step p.first acts entries
+    → (state : g.row.P-State.Denot) (sums : Sums)
+    → Arrives p.may_step p.first (c.args.act.now ∷ acts) state sums → ⊥))
+    is c.lead_alone.ensures.none
+
+pub returns-then-len-eq1-clause-within : goal.returns-then-len-eq1-clause-within
+returns-then-len-eq1-clause-within g c limit all =
+    let is : c.self.inside.other.items ≡ c.args.self.now =
+    seen-other c.self.inside.turned c.self.inside.one.items c.self.inside.other.items
+    c.args.self.now c.self.view_is c.if-self.true in
+    subst (IsTableWithin (limit + 2 ^ 32))
+    (seen-other c.self.inside.turned c.self.inside.one.items c.lead_alone.new.entries.items
+    _ refl c.if-self.true)
+    (c.lead_alone.ensures.within limit (subst (IsTableWithin limit) (sym is) all))
+
+pub returns-then-len-eq1-2-clause-none : goal.returns-then-len-eq1-2-clause-none
+returns-then-len-eq1-2-clause-none g c =
+    let p = g.P.Pair in
+    let is : c.self.inside.one.items ≡ c.args.self.now =
+    seen-one c.self.inside.turned c.self.inside.one.items c.self.inside.other.items
+    c.args.self.now c.self.view_is c.if-self.false in
+    subst (λ (entries : List (ℕ × Cell)). OnFalse c.lead_alone-then-len-eq1-2.result ((acts : List Act)
+    → p.stands_for c.args.facts.now acts → IsTable p.code_of p.may_step p.first acts entries
+    → (state : g.row.P-State.Denot) (sums : Sums)
+    → Arrives p.may_step p.first (c.args.act.now ∷ acts) state sums → ⊥))
+    is c.lead_alone-then-len-eq1-2.ensures.none
+
+pub returns-then-len-eq1-2-clause-within : goal.returns-then-len-eq1-2-clause-within
+returns-then-len-eq1-2-clause-within g c limit all =
+    let is : c.self.inside.one.items ≡ c.args.self.now =
+    seen-one c.self.inside.turned c.self.inside.one.items c.self.inside.other.items
+    c.args.self.now c.self.view_is c.if-self.false in
+    subst (IsTableWithin (limit + 2 ^ 32))
+    (seen-one c.self.inside.turned c.lead_alone-then-len-eq1-2.new.entries.items c.self.inside.other.items
+    _ refl c.if-self.false)
+    (c.lead_alone-then-len-eq1-2.ensures.within limit (subst (IsTableWithin limit) (sym is) all))

@@ -1,0 +1,116 @@
+-- A table of one entry, which is led over an act where it stands.
+use Rattle.std.proofs.Common.{◌≡◌, ◌⊎◌, ◌+◌, ◌<◌, ◌^◌, ℕ, Bool, false, true, refl, sym, subst, arith, List, [], ◌∷◌, length, Option, Some, None}
+use Rattle.std.specs.Bool.{OnFalse, OnTrue}
+use Rattle.std.specs.Prelude.{All, Contains, IfSome, ◌↔◌}
+use Rattle.std.proofs.lemmas.List.Elements.{All-nil}
+use Rattle.mdb_bus.specs.declared.act.Act.{Act}
+use Rattle.mdb_bus.specs.Choice.{IsAck}
+use Rattle.mdb_cash.specs.declared.gains.Gains.{Gains}
+use Rattle.mdb_cash.specs.declared.kept.Reading.{Reading}
+use Rattle.mdb_cash.specs.Gains.{IsSmall}
+use Rattle.mdb_cash.specs.Pair.{IsMarkedStep, IsMove, IsReply}
+use Rattle.mdb_cash.proofs.Ways.{Laws, small_moves}
+use Rattle.mdb_follow.specs.declared.cell.Cell.{Cell}
+use Rattle.mdb_follow.specs.Arrivals.{Arrives}
+use Rattle.mdb_follow.specs.Limits.{IsCellWithin, IsTableWithin}
+use Rattle.mdb_follow.specs.Tables.{ArrivesAt, Bounds, IsTable}
+use Rattle.mdb_follow.specs.Entries.{AreBelow, AreMoves, IsKeyed, LeadTo, with_moves}
+use Rattle.mdb_follow.proofs.Led.{Led, keyed-with_moves, led-more, led-none, moves-below, moves-small, within-with_moves}
+use Rattle.mdb_follow.proofs.Listed.{contains-here}
+use Rattle.mdb_follow.proofs.TwoSteps.{either-moves, two-moves}
+use Rattle.mdb_follow.proofs.Ways.{table-led}
+
+-- a list of one
+pub only-is : {X : Type 0} (xs : List X) → length xs ≡ 1 → (x : X) × (xs ≡ x ∷ [])
+only-is [] is = absurd (omega (arith, is))
+only-is (x ∷ []) is = (x, refl)
+only-is (x ∷ y ∷ xs) is = absurd (omega (arith, is))
+
+pub some-entry : {X : Type 0} (xs : List X) → 0 < length xs → xs ≡ [] → ⊥
+some-entry [] some none = omega (arith, some)
+some-entry (x ∷ xs) some none = cc
+
+keyed-none : (number : ℕ) → IsKeyed number []
+keyed-none number = record { apart = tt; below = All-nil (λ entry. entry.0 < number) }
+
+-- the moves of two steps that are below a number and small are so
+moves-kept : (number codes : ℕ) (one other : Option (ℕ × Gains)) (moves : List (ℕ × Gains))
+    → number ≡ codes → IfSome one (λ move. (move.0 < codes) × IsSmall move.1)
+    → IfSome other (λ move. (move.0 < codes) × IsSmall move.1) → AreMoves moves one other
+    → All (λ move. move.0 < number) moves × All (λ move. IsSmall move.1) moves
+moves-kept number codes one other moves size one_below other_below lists =
+    let kept = small_moves (λ next gains. (next < codes) × IsSmall gains) one other moves
+    one_below other_below lists in
+    (moves-below number codes moves moves size refl kept, moves-small codes moves moves refl kept)
+
+pub alone-below : (number codes : ℕ) (cell : Cell) (one other : Option (ℕ × Gains))
+    (after : List (ℕ × Cell)) → number ≡ codes
+    → IfSome one (λ move. (move.0 < codes) × IsSmall move.1)
+    → IfSome other (λ move. (move.0 < codes) × IsSmall move.1)
+    → LeadTo cell one other after → AreBelow number after
+alone-below number codes cell one other after size one_below other_below led =
+    let kept = moves-kept number codes one other led.0 size one_below other_below led.1 in
+    let keyed : IsKeyed number (with_moves [] cell led.0) =
+    keyed-with_moves number [] cell led.0 kept.0 (keyed-none number) in
+    subst (AreBelow number) (sym led.2) keyed.below
+
+pub alone-within : (limit number codes : ℕ) (cell : Cell) (one other : Option (ℕ × Gains))
+    (after : List (ℕ × Cell)) → number ≡ codes
+    → IfSome one (λ move. (move.0 < codes) × IsSmall move.1)
+    → IfSome other (λ move. (move.0 < codes) × IsSmall move.1) → IsCellWithin limit cell
+    → LeadTo cell one other after → IsTableWithin (limit + 2 ^ 32) after
+alone-within limit number codes cell one other after size one_below other_below is led =
+    let kept = moves-kept number codes one other led.0 size one_below other_below led.1 in
+    subst (IsTableWithin (limit + 2 ^ 32)) (sym led.2)
+    (within-with_moves limit [] cell led.0 kept.1 is
+    (All-nil (λ entry. IsCellWithin (limit + 2 ^ 32) entry.1)))
+
+-- what arrives behind one act more is what the steps from the only entry lead to
+pub alone-led : {State : Type 0} (code_of : State → ℕ)
+    (Step : List Act → Act → Bool → Reading → State → State → Gains → Type 0) (first : State)
+    (act : Act) (acts : List Act) (laws : Laws act (Step acts act)) (number codes : ℕ)
+    (entries : List (ℕ × Cell)) (entry : ℕ × Cell) (code : ℕ) (one other : Option (ℕ × Gains))
+    (after : List (ℕ × Cell)) → entries ≡ entry ∷ [] → code ≡ entry.0
+    → ((one other : State) → code_of one ≡ code_of other → one ≡ other) → number ≡ codes
+    → IfSome one (λ move. (move.0 < codes) × IsSmall move.1)
+    → IfSome other (λ move. (move.0 < codes) × IsSmall move.1)
+    → ((next : ℕ) (gains : Gains) → (one ≡ Some (next, gains))
+    ↔ IsMarkedStep code_of (Step acts act) false code next gains)
+    → (IsAck act ⊎ IsReply act → (next : ℕ) (gains : Gains) → (other ≡ Some (next, gains))
+    ↔ IsMarkedStep code_of (Step acts act) true code next gains)
+    → ((IsAck act ⊎ IsReply act → ⊥) → other ≡ None)
+    → IsTable code_of Step first acts entries
+    → LeadTo entry.1 one other after
+    → Bounds (ArrivesAt code_of (Arrives Step first (act ∷ acts))) after
+alone-led {State} code_of Step first act acts laws number codes entries entry code one other
+    after only at apart size one_below other_below one_is told untold table led =
+    let table' : IsTable code_of Step first acts (entry ∷ []) =
+    subst (IsTable code_of Step first acts) only table in
+    let kept = moves-kept number codes one other led.0 size one_below other_below led.1 in
+    let steps : (next : ℕ) (gains : Gains) → Contains led.0 (next, gains)
+    ↔ IsMove code_of (Step acts act) entry.0 next gains =
+    subst (λ c. (next : ℕ) (gains : Gains) → Contains led.0 (next, gains)
+    ↔ IsMove code_of (Step acts act) c next gains) at
+    (either-moves code_of (Step acts act) act laws code one other led.0 one_is told untold led.1) in
+    table-led code_of Step first act acts (entry ∷ []) after apart table'
+    (subst (Bounds (Led (ArrivesAt code_of (Arrives Step first acts))
+    (IsMove code_of (Step acts act)) (entry ∷ []))) (sym led.2)
+    (led-more number (ArrivesAt code_of (Arrives Step first acts))
+    (IsMove code_of (Step acts act)) [] entry led.0 []
+    (table'.bounds.exact entry.0 entry.1 (contains-here entry [] entry refl)) steps kept.0
+    (keyed-none number)
+    (led-none (ArrivesAt code_of (Arrives Step first acts)) (IsMove code_of (Step acts act)))))
+
+-- no step leads to no entry
+pub lead-none : (cell : Cell) (one other : Option (ℕ × Gains)) → one ≡ None → other ≡ None
+    → LeadTo cell one other []
+lead-none cell one other is so =
+    subst (λ o. LeadTo cell o other []) (sym is)
+    (subst (λ o. LeadTo cell None o []) (sym so) ([], two-moves None None, refl))
+
+-- what holds of the entries that it is led to, and of those that it stays with
+pub alone-either : (P : List (ℕ × Cell) → Type 0) (found : Bool)
+    (entries after : List (ℕ × Cell)) (One : Type 0) → OnTrue found One
+    → OnFalse found (after ≡ entries) → (One → P after) → P entries → P after
+alone-either P true entries after One led same goes stays = goes led
+alone-either P false entries after One led same goes stays = subst P (sym same) stays
