@@ -1,11 +1,10 @@
 -- Lists, and the entries of a table as one: what a cell more makes of them.
-use Rattle.std.proofs.Common.{◌≡◌, ◌⊎◌, inl, inr, ℕ, zero, suc, ◌≤◌, ◌<◌, refl, sym, ◌∙◌, ap, subst, arith, Bool, true, false, List, [], ◌∷◌, ◌++◌, length, get_or, take, drop, eqb}
+use Rattle.std.proofs.Common.{◌≡◌, ◌⊎◌, inl, inr, ℕ, zero, suc, ◌≤◌, ◌<◌, refl, sym, ◌∙◌, ap, subst, arith, Bool, true, false, List, [], ◌∷◌, ◌++◌, length, get_or, take, eqb}
 use Rattle.std.specs.Prelude.{Contains, All, slice_set, ◌==◌, ◌||◌, if◌then◌else◌}
-use Rattle.std.specs.List.{IsDistinct, AllByRecursion, list_any, refill}
+use Rattle.std.specs.List.{IsDistinct, AllByRecursion, list_any}
 use Rattle.std.proofs.lemmas.List.Elements.{All-cons, All-head, All-tail}
 use Rattle.std.proofs.lemmas.Bool.{eqb-true, eq-eqb, false≢true}
 use Rattle.std.proofs.lemmas.Bool.Decides.{nat_tests}
-use Rattle.std.proofs.lemmas.List.{take_all, length-set, drop_all, append-nil}
 use Rattle.std.proofs.lemmas.Map.Steps.{length-le_from_distinct_below}
 use Rattle.mdb_follow.specs.declared.cell.Cell.{Cell}
 use Rattle.mdb_follow.specs.Cells.{joined_cell}
@@ -349,27 +348,16 @@ with_cell-set (first ∷ entries) (suc i) code cell d within lacks at_code =
     split true e again = absurd (lacks.0 (eqb-true first.0 code e))
     split false e again = ap (λ rest. first ∷ rest) again
 
-pub refilled : {X : Type 0} (xs ys : List X) → length ys ≡ length xs
-    → refill (length xs) xs ys ≡ ys
-refilled xs ys is =
-    let rest : drop (length ys) xs ≡ [] = drop_all (length ys) xs (omega arith) in
-    let none : ys ++ [] ≡ ys = append-nil ys in
-    ap (take (length xs)) (ap (λ r. ys ++ r) rest ∙ none) ∙ take_all (length xs) ys (omega arith)
-
--- The entries, read twice, with one of them written.
-pub with_cell-written : (entries one other : List (ℕ × Cell)) (i code : ℕ)
-    (cell both : Cell) (d : ℕ × Cell) → one ≡ entries → other ≡ entries → HasAt entries i code
-    → Lacks (take i entries) code → both ≡ joined_cell (get_or one i d).1 cell
-    → refill (length entries) entries (slice_set other i (code, both))
-    ≡ with_cell entries code cell
-with_cell-written entries one other i code cell both d first second has lacks same =
+-- The entries, read once more, with one of them written.
+pub with_cell-written : (entries read : List (ℕ × Cell)) (i code : ℕ) (cell both : Cell)
+    (d : ℕ × Cell) → read ≡ entries → HasAt entries i code → Lacks (take i entries) code
+    → both ≡ joined_cell (get_or read i d).1 cell
+    → slice_set entries i (code, both) ≡ with_cell entries code cell
+with_cell-written entries read i code cell both d same has lacks is =
     let join : both ≡ joined_cell (get_or entries i d).1 cell =
-    subst (λ s. both ≡ joined_cell (get_or s i d).1 cell) first same in
-    subst (λ s. refill (length entries) entries (slice_set s i (code, both))
-    ≡ with_cell entries code cell) (sym second)
-    (refilled entries (slice_set entries i (code, both)) (length-set entries i (code, both))
-    ∙ ap (λ c. slice_set entries i (code, c)) join
-    ∙ sym (with_cell-set entries i code cell d has.0 lacks (has.1 d)))
+    subst (λ s. both ≡ joined_cell (get_or s i d).1 cell) same is in
+    ap (λ c. slice_set entries i (code, c)) join
+    ∙ sym (with_cell-set entries i code cell d has.0 lacks (has.1 d))
 
 -- which of two lists is seen
 pub seen-other : {X : Type 0} (turned : Bool) (one other seen : List X)

@@ -1,13 +1,11 @@
 -- The places of entries, noted under their codes.
 use Rattle.std.proofs.Common.{◌≡◌, inl, inr, ℕ, zero, suc, ◌<◌, ◌≢◌, refl, sym, ◌∙◌, ap, subst, arith, List, [], ◌∷◌, ◌++◌, length, get_or, take}
 use Rattle.std.specs.Prelude.{slice_set}
-use Rattle.std.specs.List.{refill}
 use Rattle.std.proofs.lemmas.Bool.{cases_lt}
 use Rattle.std.proofs.lemmas.List.{get_or_append_left, get_or-set_other, get_or-set_same, length-append, length-set}
 use Rattle.std.proofs.Math.Seq.{get_or-append_seam}
 use Rattle.mdb_follow.specs.declared.cell.Cell.{Cell}
 use Rattle.mdb_follow.specs.Entries.{HasAt, IsPlaced, Lacks}
-use Rattle.mdb_follow.proofs.Listed.{refilled}
 
 -- an entry that no place has
 lacks-front : (entries : List (ℕ × Cell)) (i code : ℕ)
@@ -69,22 +67,15 @@ code-set (entry ∷ entries) (suc i) code zero cell d is = refl
 code-set (entry ∷ entries) (suc i) code (suc k) cell d is =
     code-set entries i code k cell d is
 
-pub placed-written : (entries other : List (ℕ × Cell)) (places : List ℕ) (i code : ℕ)
-    (cell : Cell) → other ≡ entries → HasAt entries i code → IsPlaced entries places
-    → IsPlaced (refill (length entries) entries (slice_set other i (code, cell))) places
-placed-written entries other places i code cell same has placed =
-    let kept : IsPlaced (slice_set entries i (code, cell)) places = record {
-      at = λ k d within.
-          let e = length-set entries i (code, cell) in
-          ap (λ c. get_or places c 0) (code-set entries i code k cell d (has.1 d))
-          ∙ placed.at k d (omega arith);
-    } in
-    subst (λ s. IsPlaced (refill (length entries) entries (slice_set s i (code, cell))) places)
-    (sym same)
-    (subst (λ s. IsPlaced s places)
-    (sym (refilled entries (slice_set entries i (code, cell))
-    (length-set entries i (code, cell))))
-    kept)
+pub placed-written : (entries : List (ℕ × Cell)) (places : List ℕ) (i code : ℕ) (cell : Cell)
+    → HasAt entries i code → IsPlaced entries places
+    → IsPlaced (slice_set entries i (code, cell)) places
+placed-written entries places i code cell has placed = record {
+  at = λ k d within.
+      let e = length-set entries i (code, cell) in
+      ap (λ c. get_or places c 0) (code-set entries i code k cell d (has.1 d))
+      ∙ placed.at k d (omega arith);
+}
 
 -- an entry is added, and its place is noted
 pub placed-push : (entries after : List (ℕ × Cell)) (places : List ℕ) (code place : ℕ)

@@ -1,8 +1,7 @@
 //! The entries of a table: codes with their cells.
 
-ghost use Rattle.std.specs.Prelude.{◌≡◌, ◌<◌, ◌^◌, [], ◌∷◌, ◌↔◌, ℕ, List, IsTrue, None, IfSome};
+ghost use Rattle.std.specs.Prelude.{◌≡◌, ◌<◌, ◌^◌, [], ◌∷◌, ◌↔◌, ℕ, List, IsTrue, None, IfSome, length};
 ghost use Rattle.std.specs.Bool.{OnFalse, OnTrue};
-ghost use Rattle.arrayvec.specs.ArrayVec.{array_vec_len};
 ghost use Rattle.mdb_cash.specs.Gains.{IsSmall};
 ghost use Rattle.mdb_cash.specs.declared.gains.Gains.{Gains};
 ghost use Rattle.mdb_follow.specs.declared.cell.Cell.{Cell};
@@ -11,7 +10,7 @@ ghost use Rattle.mdb_follow.specs.Entries.{joined_cells, moves_of, with_cell, wi
 ghost use Rattle.mdb_follow.specs.Limits.{IsCellWithin, IsTableWithin};
 
 use crate::Cell;
-use arrayvec::ArrayVec;
+use crate::list::Entries;
 use mdb_cash::Gains;
 
 /// Whether the entry at a place has a code.
@@ -24,25 +23,25 @@ fn has_at(entries: &[(usize, Cell)], place: usize, code: usize) -> bool
 /// Takes in one cell more: joined to that of its code, else as an entry of its own. The places of
 /// the entries are noted under their codes; what is noted under other codes may be anything.
 fn add_cell<const N: usize>(
-    entries: &mut ArrayVec<(usize, Cell), N>,
+    entries: &mut Entries<N>,
     places: &mut [usize; N],
     code: usize,
     cell: &Cell,
 )
     requires below { code < N }
-    requires keyed { IsKeyed N entries.old.items }
-    requires placed { IsPlaced entries.old.items places.old }
-    ensures entries { entries.new.items ≡ with_cell entries.old.items code cell.now }
-    ensures keyed { IsKeyed N entries.new.items }
-    ensures placed { IsPlaced entries.new.items places.new }
+    requires keyed { IsKeyed N entries.old }
+    requires placed { IsPlaced entries.old places.old }
+    ensures entries { entries.new ≡ with_cell entries.old code cell.now }
+    ensures keyed { IsKeyed N entries.new }
+    ensures placed { IsPlaced entries.new places.new }
 {
     let place = places[code];
     if has_at(entries.as_slice(), place, code) {
-        let joined = entries[place].1.joined(cell);
-        entries[place] = (code, joined);
+        let joined = entries.as_slice()[place].1.joined(cell);
+        entries.set(place, code, joined);
     } else {
         places[code] = entries.len();
-        entries.push((code, *cell));
+        entries.push(code, *cell);
     }
 }
 
@@ -50,19 +49,19 @@ fn add_cell<const N: usize>(
 // Inlined, like the next one, so that a step isn't copied to be looked at.
 #[inline(always)]
 fn add_step<const N: usize>(
-    entries: &mut ArrayVec<(usize, Cell), N>,
+    entries: &mut Entries<N>,
     places: &mut [usize; N],
     cell: &Cell,
     step: &Option<(usize, Gains)>,
 )
     requires within { IsCellWithin (2 ^ 62) cell.now }
     requires step { IfSome step.now (λ move. (move.0 < N) × IsSmall move.1) }
-    requires keyed { IsKeyed N entries.old.items }
-    requires placed { IsPlaced entries.old.items places.old }
-    ensures entries { entries.new.items
-        ≡ with_moves entries.old.items cell.now (moves_of step.now) }
-    ensures keyed { IsKeyed N entries.new.items }
-    ensures placed { IsPlaced entries.new.items places.new }
+    requires keyed { IsKeyed N entries.old }
+    requires placed { IsPlaced entries.old places.old }
+    ensures entries { entries.new
+        ≡ with_moves entries.old cell.now (moves_of step.now) }
+    ensures keyed { IsKeyed N entries.new }
+    ensures placed { IsPlaced entries.new places.new }
 {
     if let Some((next, gains)) = step {
         add_cell(entries, places, *next, &cell.moved(gains));
@@ -72,7 +71,7 @@ fn add_step<const N: usize>(
 /// Takes in the cells that two steps from a cell lead to, which may be the same step.
 #[inline(always)]
 pub(crate) fn add_steps<const N: usize>(
-    entries: &mut ArrayVec<(usize, Cell), N>,
+    entries: &mut Entries<N>,
     places: &mut [usize; N],
     cell: &Cell,
     one: &Option<(usize, Gains)>,
@@ -81,12 +80,12 @@ pub(crate) fn add_steps<const N: usize>(
     requires within { IsCellWithin (2 ^ 62) cell.now }
     requires one { IfSome one.now (λ move. (move.0 < N) × IsSmall move.1) }
     requires other { IfSome other.now (λ move. (move.0 < N) × IsSmall move.1) }
-    requires keyed { IsKeyed N entries.old.items }
-    requires placed { IsPlaced entries.old.items places.old }
+    requires keyed { IsKeyed N entries.old }
+    requires placed { IsPlaced entries.old places.old }
     ensures entries { (moves : List (ℕ × Gains)) × AreMoves moves one.now other.now
-        × (entries.new.items ≡ with_moves entries.old.items cell.now moves) }
-    ensures keyed { IsKeyed N entries.new.items }
-    ensures placed { IsPlaced entries.new.items places.new }
+        × (entries.new ≡ with_moves entries.old cell.now moves) }
+    ensures keyed { IsKeyed N entries.new }
+    ensures placed { IsPlaced entries.new places.new }
 {
     add_step(entries, places, cell, one);
     if one != other {
@@ -98,17 +97,17 @@ pub(crate) fn add_steps<const N: usize>(
 /// Where neither is a step it answers `false`, and the entry stays.
 #[inline(always)]
 pub(crate) fn lead_only<const N: usize>(
-    entries: &mut ArrayVec<(usize, Cell), N>,
+    entries: &mut Entries<N>,
     one: &Option<(usize, Gains)>,
     other: &Option<(usize, Gains)>,
 ) -> bool
-    requires only { array_vec_len entries.old ≡ 1 }
-    requires within { IsTableWithin (2 ^ 62) entries.old.items }
+    requires only { length entries.old ≡ 1 }
+    requires within { IsTableWithin (2 ^ 62) entries.old }
     requires one { IfSome one.now (λ move. (move.0 < N) × IsSmall move.1) }
     requires other { IfSome other.now (λ move. (move.0 < N) × IsSmall move.1) }
-    ensures led { OnTrue result ((entry : ℕ × Cell) → entries.old.items ≡ entry ∷ []
-        → LeadTo entry.1 one.now other.now entries.new.items) }
-    ensures some { OnTrue result (0 < array_vec_len entries.new) }
+    ensures led { OnTrue result ((entry : ℕ × Cell) → entries.old ≡ entry ∷ []
+        → LeadTo entry.1 one.now other.now entries.new) }
+    ensures some { OnTrue result (0 < length entries.new) }
     ensures none { OnFalse result ((one.now ≡ None) × (other.now ≡ None)) }
     ensures same { OnFalse result (entries.new ≡ entries.old) }
 {
@@ -127,41 +126,41 @@ pub(crate) fn lead_only<const N: usize>(
 
 /// Moves the only entry by a step from it.
 #[inline(always)]
-fn move_only<const N: usize>(entries: &mut ArrayVec<(usize, Cell), N>, step: &(usize, Gains))
-    requires only { array_vec_len entries.old ≡ 1 }
-    requires within { IsTableWithin (2 ^ 62) entries.old.items }
+fn move_only<const N: usize>(entries: &mut Entries<N>, step: &(usize, Gains))
+    requires only { length entries.old ≡ 1 }
+    requires within { IsTableWithin (2 ^ 62) entries.old }
     requires small { IsSmall step.now.1 }
-    ensures moved { (entry : ℕ × Cell) → entries.old.items ≡ entry ∷ []
-        → entries.new.items ≡ with_moves [] entry.1 (step.now ∷ []) }
-    ensures only { array_vec_len entries.new ≡ 1 }
+    ensures moved { (entry : ℕ × Cell) → entries.old ≡ entry ∷ []
+        → entries.new ≡ with_moves [] entry.1 (step.now ∷ []) }
+    ensures only { length entries.new ≡ 1 }
 {
     let (code, gains) = step;
-    let moved = entries[0].1.moved(gains);
-    entries[0] = (*code, moved);
+    let moved = entries.as_slice()[0].1.moved(gains);
+    entries.set(0, *code, moved);
 }
 
 /// Puts the two that two steps from the only entry lead to in its place, or the one that both do.
 #[inline(never)]
 fn branch_only<const N: usize>(
-    entries: &mut ArrayVec<(usize, Cell), N>,
+    entries: &mut Entries<N>,
     one: &(usize, Gains),
     other: &(usize, Gains),
 )
-    requires only { array_vec_len entries.old ≡ 1 }
-    requires within { IsTableWithin (2 ^ 62) entries.old.items }
+    requires only { length entries.old ≡ 1 }
+    requires within { IsTableWithin (2 ^ 62) entries.old }
     requires one { (one.now.0 < N) × IsSmall one.now.1 }
     requires other { (other.now.0 < N) × IsSmall other.now.1 }
-    ensures moved { (entry : ℕ × Cell) → entries.old.items ≡ entry ∷ []
-        → entries.new.items ≡ with_moves [] entry.1 (one.now ∷ other.now ∷ []) }
-    ensures some { 0 < array_vec_len entries.new }
+    ensures moved { (entry : ℕ × Cell) → entries.old ≡ entry ∷ []
+        → entries.new ≡ with_moves [] entry.1 (one.now ∷ other.now ∷ []) }
+    ensures some { 0 < length entries.new }
 {
-    let second = entries[0].1.moved(&other.1);
+    let second = entries.as_slice()[0].1.moved(&other.1);
     move_only(entries, one);
     if one.0 == other.0 {
-        let joined = entries[0].1.joined(&second);
-        entries[0] = (one.0, joined);
+        let joined = entries.as_slice()[0].1.joined(&second);
+        entries.set(0, one.0, joined);
     } else {
-        entries.push((other.0, second));
+        entries.push(other.0, second);
     }
 }
 

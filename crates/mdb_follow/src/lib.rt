@@ -5,6 +5,7 @@ mod cell;
 mod entries;
 mod follower;
 pub mod laws;
+mod list;
 mod offence;
 mod owner;
 mod range;

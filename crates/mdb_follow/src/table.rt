@@ -1,8 +1,7 @@
 //! The states that are possible now, with what the sums may be.
 
-ghost use Rattle.std.specs.Prelude.{◌≡◌, ◌<◌, ◌+◌, ◌^◌, ◌↔◌, ◌⊎◌, ℕ, true, List, [], ◌∷◌, All, None, Some, IfSome};
+ghost use Rattle.std.specs.Prelude.{◌≡◌, ◌<◌, ◌+◌, ◌^◌, ◌↔◌, ◌⊎◌, ℕ, true, List, [], ◌∷◌, All, None, Some, IfSome, length};
 ghost use Rattle.std.specs.Bool.{OnFalse, OnTrue};
-ghost use Rattle.arrayvec.specs.ArrayVec.{array_vec_len};
 ghost use Rattle.mdb_bus.specs.declared.act.Act.{Act};
 ghost use Rattle.mdb_bus.specs.Choice.{IsAck};
 ghost use Rattle.mdb_cash.specs.declared.gains.Gains.{Gains};
@@ -17,7 +16,7 @@ ghost use Rattle.mdb_follow.specs.Entries.{AllRest, AreBelow};
 
 use crate::Cell;
 use crate::entries::{add_steps, join_all, lead_only};
-use arrayvec::ArrayVec;
+use crate::list::Entries;
 use mdb_bus::Act;
 use mdb_cash::{Gains, Pair, may_be_marked};
 use std::marker::Model;
@@ -28,9 +27,9 @@ use std::marker::Model;
 #[derive(Drop)]
 pub struct Table<const N: usize> {
     /// The entries, or room for the next ones.
-    one: ArrayVec<(usize, Cell), N>,
+    one: Entries<N>,
     /// Room for the next entries, or the entries.
-    other: ArrayVec<(usize, Cell), N>,
+    other: Entries<N>,
     /// Whether the entries are in `other`.
     turned: bool,
     /// Where the entry of each code stands, while entries are made.
@@ -44,9 +43,9 @@ impl<const N: usize> Model for Table<N> {
 
     ghost Value = { List (ℕ × Cell) };
 
-    ghost view = { λ t. if t.turned then t.other.items else t.one.items };
+    ghost view = { λ t. if t.turned then t.other else t.one };
 
-    ghost invariant = { λ t. AreBelow N (if t.turned then t.other.items else t.one.items) };
+    ghost invariant = { λ t. AreBelow N (if t.turned then t.other else t.one) };
 }
 
 impl<const N: usize> Table<N> {
@@ -56,11 +55,11 @@ impl<const N: usize> Table<N> {
         ensures table { IsTable P.code_of P.may_step P.first [] result }
         ensures within { IsTableWithin 0 result }
     {
-        let mut one = ArrayVec::new();
-        one.push((P::start(), Cell::default()));
+        let mut one = Entries::new();
+        one.push(P::start(), Cell::default());
         Table {
             one,
-            other: ArrayVec::new(),
+            other: Entries::new(),
             turned: false,
             places: [0; N],
         }
@@ -186,25 +185,25 @@ fn all_rest<P: Pair>(act: &Act, entries: &[(usize, Cell)]) -> bool
 fn lead_alone<P: Pair, const N: usize>(
     facts: &P::Facts,
     act: &Act,
-    entries: &mut ArrayVec<(usize, Cell), N>,
+    entries: &mut Entries<N>,
 ) -> bool
     requires size { N ≡ P.CODES }
-    requires only { array_vec_len entries.old ≡ 1 }
-    requires below { AreBelow N entries.old.items }
-    requires within { IsTableWithin (2 ^ 62) entries.old.items }
+    requires only { length entries.old ≡ 1 }
+    requires below { AreBelow N entries.old }
+    requires within { IsTableWithin (2 ^ 62) entries.old }
     ensures table { OnTrue result ((acts : List Act) → P.stands_for facts.now acts
-        → IsTable P.code_of P.may_step P.first acts entries.old.items
-        → IsTable P.code_of P.may_step P.first (act.now ∷ acts) entries.new.items) }
+        → IsTable P.code_of P.may_step P.first acts entries.old
+        → IsTable P.code_of P.may_step P.first (act.now ∷ acts) entries.new) }
     ensures none { OnFalse result ((acts : List Act) → P.stands_for facts.now acts
-        → IsTable P.code_of P.may_step P.first acts entries.old.items
+        → IsTable P.code_of P.may_step P.first acts entries.old
         → (state : P.State) (sums : Sums)
         → Arrives P.may_step P.first (act.now ∷ acts) state sums → ⊥) }
     ensures same { OnFalse result (entries.new ≡ entries.old) }
-    ensures below { AreBelow N entries.new.items }
-    ensures within { (limit : ℕ) → IsTableWithin limit entries.old.items
-        → IsTableWithin (limit + 2 ^ 32) entries.new.items }
+    ensures below { AreBelow N entries.new }
+    ensures within { (limit : ℕ) → IsTableWithin limit entries.old
+        → IsTableWithin (limit + 2 ^ 32) entries.new }
 {
-    let code = entries[0].0;
+    let code = entries.as_slice()[0].0;
     let plain = P::step(facts, act, code, false);
     let marked = marked_step::<P>(facts, act, code);
     lead_only(entries, &plain, &marked)
@@ -216,7 +215,7 @@ fn fill<P: Pair, const N: usize>(
     facts: &P::Facts,
     act: &Act,
     from: &[(usize, Cell)],
-    into: &mut ArrayVec<(usize, Cell), N>,
+    into: &mut Entries<N>,
     places: &mut [usize; N],
 )
     requires size { N ≡ P.CODES }
@@ -225,10 +224,10 @@ fn fill<P: Pair, const N: usize>(
     ensures table { (acts : List Act) → P.stands_for facts.now acts
         → IsTable P.code_of P.may_step P.first acts from.now
         → Bounds (ArrivesAt P.code_of (Arrives P.may_step P.first (act.now ∷ acts)))
-        into.new.items }
-    ensures below { AreBelow N into.new.items }
+        into.new }
+    ensures below { AreBelow N into.new }
     ensures within { (limit : ℕ) → IsTableWithin limit from.now
-        → IsTableWithin (limit + 2 ^ 32) into.new.items }
+        → IsTableWithin (limit + 2 ^ 32) into.new }
 {
     into.clear();
     for (code, cell) in from {

@@ -14,13 +14,14 @@ has-told entries slice place code is has = subst (λ s. HasAt s place code) is h
 
 pub returns-then-has_at-clause-entries : goal.returns-then-has_at-clause-entries
 returns-then-has_at-clause-entries g c =
-    let entries = c.args.entries.now.items in
+    let entries = c.args.entries.now in
     let places = c.args.places.now in
     let true' : IsTrue c.has_at.result = search rules in
-    with_cell-written entries c.deref.result.now c.deref_mut.result.now
+    c.set.ensures
+    ∙ with_cell-written entries c.as_slice-then-has_at.result.now
     (get_or places c.args.code 0) c.args.code c.args.cell.now c.joined-joined.result _
-    c.deref.ensures.0 c.deref_mut.ensures.value
-    (has-told entries c.as_slice.result.now _ _ c.as_slice.ensures.value
+    c.as_slice-then-has_at.ensures
+    (has-told entries c.as_slice.result.now _ _ c.as_slice.ensures
     (c.has_at.ensures.0 true'))
     (placed-front entries places c.args.code (0, c.args.cell.now) c.requires.placed)
     c.joined-joined.ensures
@@ -28,18 +29,18 @@ returns-then-has_at-clause-entries g c =
 pub returns-then-has_at-clause-keyed : goal.returns-then-has_at-clause-keyed
 returns-then-has_at-clause-keyed g c =
     subst (IsKeyed g.row.N) (sym (returns-then-has_at-clause-entries g c))
-    (keyed-with_cell g.row.N c.args.entries.now.items c.args.code c.args.cell.now
+    (keyed-with_cell g.row.N c.args.entries.now c.args.code c.args.cell.now
     c.requires.below c.requires.keyed)
 
 pub returns-then-has_at-clause-placed : goal.returns-then-has_at-clause-placed
 returns-then-has_at-clause-placed g c =
-    let entries = c.args.entries.now.items in
+    let entries = c.args.entries.now in
     let true' : IsTrue c.has_at.result = search rules in
-    placed-written entries c.deref_mut.result.now c.args.places.now _ c.args.code
-    c.joined-joined.result c.deref_mut.ensures.value
-    (has-told entries c.as_slice.result.now _ _ c.as_slice.ensures.value
+    subst (λ s. IsPlaced s c.args.places.now) (sym c.set.ensures)
+    (placed-written entries c.args.places.now _ c.args.code c.joined-joined.result
+    (has-told entries c.as_slice.result.now _ _ c.as_slice.ensures
     (c.has_at.ensures.0 true'))
-    c.requires.placed
+    c.requires.placed)
 
 -- what it tells where it fails
 lacks-told : (entries slice : List (ℕ × Cell)) (places : List ℕ) (code : ℕ) (cell : Cell)
@@ -51,10 +52,10 @@ lacks-told entries slice places code cell is placed not =
 
 pub push-requires : goal.push-requires
 push-requires g c =
-    let entries = c.args.entries.now.items in
+    let entries = c.args.entries.now in
     let lacks : Lacks entries c.args.code =
     lacks-told entries c.as_slice.result.now c.args.places.now c.args.code c.args.cell.now
-    c.as_slice.ensures.value c.requires.placed
+    c.as_slice.ensures c.requires.placed
     (λ has. false≢true (sym c.if-has_at.false ∙ c.has_at.ensures.1 has)) in (
       search rules,
       keyed-room _ entries c.args.code c.requires.keyed c.requires.below lacks c.args.cell.now,
@@ -62,26 +63,26 @@ push-requires g c =
 
 pub returns-else-has_at-clause-entries : goal.returns-else-has_at-clause-entries
 returns-else-has_at-clause-entries g c =
-    let entries = c.args.entries.now.items in
+    let entries = c.args.entries.now in
     let lacks : Lacks entries c.args.code =
     lacks-told entries c.as_slice.result.now c.args.places.now c.args.code c.args.cell.now
-    c.as_slice.ensures.value c.requires.placed
+    c.as_slice.ensures c.requires.placed
     (λ has. false≢true (sym c.if-has_at.false ∙ c.has_at.ensures.1 has)) in
-    c.push.ensures.items ∙ sym (with_cell-push entries c.args.code c.args.cell.now lacks)
+    c.push.ensures ∙ sym (with_cell-push entries c.args.code c.args.cell.now lacks)
 
 pub returns-else-has_at-clause-keyed : goal.returns-else-has_at-clause-keyed
 returns-else-has_at-clause-keyed g c =
     subst (IsKeyed g.row.N) (sym (returns-else-has_at-clause-entries g c))
-    (keyed-with_cell g.row.N c.args.entries.now.items c.args.code c.args.cell.now
+    (keyed-with_cell g.row.N c.args.entries.now c.args.code c.args.cell.now
     c.requires.below c.requires.keyed)
 
 pub returns-else-has_at-clause-placed : goal.returns-else-has_at-clause-placed
 returns-else-has_at-clause-placed g c =
-    let entries = c.args.entries.now.items in
+    let entries = c.args.entries.now in
     let lacks : Lacks entries c.args.code =
     lacks-told entries c.as_slice.result.now c.args.places.now c.args.code c.args.cell.now
-    c.as_slice.ensures.value c.requires.placed
+    c.as_slice.ensures c.requires.placed
     (λ has. false≢true (sym c.if-has_at.false ∙ c.has_at.ensures.1 has)) in
-    placed-push entries c.push.new.self.items c.args.places.now c.args.code c.len.result
-    c.args.cell.now c.requires.placed lacks (search rules) c.len.ensures.value
-    c.push.ensures.items
+    placed-push entries c.push.new.self c.args.places.now c.args.code c.len.result
+    c.args.cell.now c.requires.placed lacks (search rules) c.len.ensures
+    c.push.ensures

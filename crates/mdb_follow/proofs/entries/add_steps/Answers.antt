@@ -7,7 +7,7 @@ pub returns-then-ne-clause-entries : goal.returns-then-ne-clause-entries
 returns-then-ne-clause-entries g c = (
   moves_of c.args.one.now ++ moves_of c.args.other.now,
   two-moves c.args.one.now c.args.other.now,
-  with-two c.args.entries.now.items c.add_step.new.entries.items
-      c.add_step-then-ne.new.entries.items c.args.cell.now c.args.one.now c.args.other.now
+  with-two c.args.entries.now c.add_step.new.entries
+      c.add_step-then-ne.new.entries c.args.cell.now c.args.one.now c.args.other.now
       c.add_step.ensures.entries c.add_step-then-ne.ensures.entries,
 )

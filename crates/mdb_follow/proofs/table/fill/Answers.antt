@@ -52,7 +52,7 @@ loop-code-preserved g c =
       placed = c.add_steps.ensures.placed;
       led = λ acts stands table.
           led-read g.row.N _ _ c.args.from.now c.loop-code.code-index _ moves.0 moves.0
-          c.loop-code.into.items c.add_steps.new.entries.items c.loop-code-test.true
+          c.loop-code.into c.add_steps.new.entries c.loop-code-test.true
           (table.bounds.exact _ _ (Contains-get_or c.args.from.now c.loop-code.code-index _
           c.loop-code-test.true))
           (either-moves p.code_of (p.may_step acts c.args.act.now) c.args.act.now
@@ -66,7 +66,7 @@ loop-code-preserved g c =
           refl below c.loop-code.invariant.keyed moves.2
           (c.loop-code.invariant.led acts stands table);
       within = λ limit all.
-          within-read limit c.loop-code.into.items c.add_steps.new.entries.items _ moves.0 small
+          within-read limit c.loop-code.into c.add_steps.new.entries _ moves.0 small
           (all c.loop-code.code-index _ c.loop-code-test.true) moves.2
           (c.loop-code.invariant.within limit all);
     }
@@ -75,8 +75,8 @@ pub returns-clause-table : goal.returns-clause-table
 returns-clause-table g c acts stands table =
     let p = g.P.Pair in
     table-led p.code_of p.may_step p.first c.args.act.now acts c.args.from.now
-    c.loop-code.into.items g.met.P.Pair.apart table
+    c.loop-code.into g.met.P.Pair.apart table
     (subst (λ from. Bounds (Led (ArrivesAt p.code_of (Arrives p.may_step p.first acts))
-    (IsMove p.code_of (p.may_step acts c.args.act.now)) from) c.loop-code.into.items)
+    (IsMove p.code_of (p.may_step acts c.args.act.now)) from) c.loop-code.into)
     (take_all c.loop-code.code-index c.args.from.now c.loop-code-test.false)
     (c.loop-code.invariant.led acts stands table))

@@ -12,12 +12,12 @@ abbrev pub invariant-loop-code : goal.invariant-loop-code
 invariant-loop-code g l =
     let p = g.P.Pair in
     record {
-      keyed : IsKeyed g.row.N l.into.items;
-      placed : IsPlaced l.into.items l.places;
+      keyed : IsKeyed g.row.N l.into;
+      placed : IsPlaced l.into l.places;
       led : (acts : List Act) → p.stands_for l.facts acts
           → IsTable p.code_of p.may_step p.first acts l.from
           → Bounds (Led (ArrivesAt p.code_of (Arrives p.may_step p.first acts))
-          (IsMove p.code_of (p.may_step acts l.act)) (take l.code-index l.from)) l.into.items;
+          (IsMove p.code_of (p.may_step acts l.act)) (take l.code-index l.from)) l.into;
       within : (limit : ℕ) → IsTableWithin limit l.from
-          → IsTableWithin (limit + 2 ^ 32) l.into.items;
+          → IsTableWithin (limit + 2 ^ 32) l.into;
     }

@@ -1,7 +1,6 @@
 use Rattle.std.proofs.Common.{true, false, ◌≡◌, ◌+◌, ◌∷◌, ◌^◌, ◌∙◌, [], ap, arith, get_or, ℕ, List, refl, subst}
 use Rattle.std.proofs.lemmas.Bool.{OnFalse_at, OnFalse_from, OnTrue_at, OnTrue_from}
 use Rattle.std.proofs.lemmas.List.Elements.{All-head}
-use Rattle.arrayvec.specs.ArrayVec.{ArrayVec}
 use Rattle.mdb_follow.specs.Sums.{Sums}
 use Rattle.mdb_bus.specs.declared.act.Act.{Act}
 use Rattle.mdb_follow.specs.declared.cell.Cell.{Cell}
@@ -23,8 +22,8 @@ code-is entries entry d only = ap (λ (s : List (ℕ × Cell)). (get_or s 0 d).0
 -- what arrives behind the act
 arrives : (g : given.Over) (c : goal.After-lead_only g) (acts : List Act)
     (entry : ℕ × Cell) (after : List (ℕ × Cell)) → g.P.Pair.stands_for c.args.facts.now acts
-    → IsTable g.P.Pair.code_of g.P.Pair.may_step g.P.Pair.first acts c.args.entries.now.items
-    → c.args.entries.now.items ≡ entry ∷ []
+    → IsTable g.P.Pair.code_of g.P.Pair.may_step g.P.Pair.first acts c.args.entries.now
+    → c.args.entries.now ≡ entry ∷ []
     → LeadTo entry.1 c.step-plain.result c.marked_step-marked.result after
     → Bounds (ArrivesAt g.P.Pair.code_of
     (Arrives g.P.Pair.may_step g.P.Pair.first (c.args.act.now ∷ acts))) after
@@ -35,9 +34,9 @@ arrives g c acts entry after stands table only led =
       hearing = λ one other. g.met.P.Pair.hearing acts c.args.act.now one other;
       readings = λ heard one. g.met.P.Pair.readings acts c.args.act.now heard one;
     })
-    g.row.N p.CODES c.args.entries.now.items entry _ c.step-plain.result
+    g.row.N p.CODES c.args.entries.now entry _ c.step-plain.result
     c.marked_step-marked.result after only
-    (code-is c.deref.result.now entry _ (c.deref.ensures.0 ∙ only))
+    (code-is c.as_slice.result.now entry _ (c.as_slice.ensures ∙ only))
     g.met.P.Pair.apart c.requires.size c.step-plain.ensures.below
     c.marked_step-marked.ensures.below (c.step-plain.ensures.steps acts stands)
     (λ may. c.marked_step-marked.ensures.told may acts stands)
@@ -45,29 +44,29 @@ arrives g c acts entry after stands table only led =
 
 table-told : (g : given.Over) (c : goal.After-lead_only g) → c.lead_only.result ≡ true
     → (acts : List Act) → g.P.Pair.stands_for c.args.facts.now acts
-    → IsTable g.P.Pair.code_of g.P.Pair.may_step g.P.Pair.first acts c.args.entries.now.items
+    → IsTable g.P.Pair.code_of g.P.Pair.may_step g.P.Pair.first acts c.args.entries.now
     → IsTable g.P.Pair.code_of g.P.Pair.may_step g.P.Pair.first (c.args.act.now ∷ acts)
-    c.lead_only.new.entries.items
+    c.lead_only.new.entries
 table-told g c is acts stands table =
     let p = g.P.Pair in
-    let one = only-is c.args.entries.now.items c.requires.only in
+    let one = only-is c.args.entries.now c.requires.only in
     table-some p.code_of p.may_step p.first (c.args.act.now ∷ acts)
-    c.lead_only.new.entries.items
-    (arrives g c acts one.0 c.lead_only.new.entries.items stands table one.1
+    c.lead_only.new.entries
+    (arrives g c acts one.0 c.lead_only.new.entries stands table one.1
     (OnTrue_at is c.lead_only.ensures.led one.0 one.1))
-    (some-entry c.lead_only.new.entries.items (OnTrue_at is c.lead_only.ensures.some))
+    (some-entry c.lead_only.new.entries (OnTrue_at is c.lead_only.ensures.some))
 
 pub returns-clause-table : goal.returns-clause-table
 returns-clause-table g c = OnTrue_from _ _ (table-told g c)
 
 none-told : (g : given.Over) (c : goal.After-lead_only g) → c.lead_only.result ≡ false
     → (acts : List Act) → g.P.Pair.stands_for c.args.facts.now acts
-    → IsTable g.P.Pair.code_of g.P.Pair.may_step g.P.Pair.first acts c.args.entries.now.items
+    → IsTable g.P.Pair.code_of g.P.Pair.may_step g.P.Pair.first acts c.args.entries.now
     → (state : g.row.P-State.Denot) (sums : Sums)
     → Arrives g.P.Pair.may_step g.P.Pair.first (c.args.act.now ∷ acts) state sums → ⊥
 none-told g c is acts stands table state sums way =
     let p = g.P.Pair in
-    let one = only-is c.args.entries.now.items c.requires.only in
+    let one = only-is c.args.entries.now c.requires.only in
     let none = OnFalse_at is c.lead_only.ensures.none in
     nothing-arrives p.code_of p.may_step p.first (c.args.act.now ∷ acts) []
     (arrives g c acts one.0 [] stands table one.1
@@ -79,25 +78,25 @@ returns-clause-none g c = OnFalse_from _ _ (none-told g c)
 
 pub returns-clause-below : goal.returns-clause-below
 returns-clause-below g c =
-    let one = only-is c.args.entries.now.items c.requires.only in
-    alone-either (AreBelow g.row.N) c.lead_only.result c.args.entries.now.items
-    c.lead_only.new.entries.items _ c.lead_only.ensures.led
-    (OnFalse_from _ _ (λ is. ap (λ (v : ArrayVec (ℕ × Cell)). v.items) (OnFalse_at is c.lead_only.ensures.same)))
+    let one = only-is c.args.entries.now c.requires.only in
+    alone-either (AreBelow g.row.N) c.lead_only.result c.args.entries.now
+    c.lead_only.new.entries _ c.lead_only.ensures.led
+    c.lead_only.ensures.same
     (λ led. alone-below g.row.N g.P.Pair.CODES one.0.1 c.step-plain.result
-    c.marked_step-marked.result c.lead_only.new.entries.items c.requires.size
+    c.marked_step-marked.result c.lead_only.new.entries c.requires.size
     c.step-plain.ensures.below c.marked_step-marked.ensures.below (led one.0 one.1))
     c.requires.below
 
 pub returns-clause-within : goal.returns-clause-within
 returns-clause-within g c limit all =
-    let one = only-is c.args.entries.now.items c.requires.only in
+    let one = only-is c.args.entries.now c.requires.only in
     let within : IsCellWithin limit one.0.1 =
     All-head (λ entry. IsCellWithin limit entry.1) one.0 []
     (subst (IsTableWithin limit) one.1 all) in
-    alone-either (IsTableWithin (limit + 2 ^ 32)) c.lead_only.result c.args.entries.now.items
-    c.lead_only.new.entries.items _ c.lead_only.ensures.led
-    (OnFalse_from _ _ (λ is. ap (λ (v : ArrayVec (ℕ × Cell)). v.items) (OnFalse_at is c.lead_only.ensures.same)))
+    alone-either (IsTableWithin (limit + 2 ^ 32)) c.lead_only.result c.args.entries.now
+    c.lead_only.new.entries _ c.lead_only.ensures.led
+    c.lead_only.ensures.same
     (λ led. alone-within limit g.row.N g.P.Pair.CODES one.0.1 c.step-plain.result
-    c.marked_step-marked.result c.lead_only.new.entries.items c.requires.size
+    c.marked_step-marked.result c.lead_only.new.entries c.requires.size
     c.step-plain.ensures.below c.marked_step-marked.ensures.below within (led one.0 one.1))
-    (table-within-weaker limit (limit + 2 ^ 32) c.args.entries.now.items (omega arith) all)
+    (table-within-weaker limit (limit + 2 ^ 32) c.args.entries.now (omega arith) all)

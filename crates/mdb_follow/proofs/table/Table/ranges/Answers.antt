@@ -7,8 +7,8 @@ pub returns-then-self : goal.returns-then-self
 returns-then-self g c acts table =
     let p = g.P.Pair in
     let is : c.as_slice.result.now ≡ c.args.self.now =
-    c.as_slice.ensures.value
-    ∙ seen-other c.self.inside.turned c.self.inside.one.items c.self.inside.other.items
+    c.as_slice.ensures
+    ∙ seen-other c.self.inside.turned c.self.inside.one c.self.inside.other
     c.args.self.now c.self.view_is c.if-self.true in
     table-joined p.code_of p.may_step p.first acts c.args.self.now c.join_all.result
     (λ entry rest same. c.join_all.ensures entry rest (is ∙ same)) table
@@ -17,8 +17,8 @@ pub returns-else-self : goal.returns-else-self
 returns-else-self g c acts table =
     let p = g.P.Pair in
     let is : c.as_slice-else-self.result.now ≡ c.args.self.now =
-    c.as_slice-else-self.ensures.value
-    ∙ seen-one c.self.inside.turned c.self.inside.one.items c.self.inside.other.items
+    c.as_slice-else-self.ensures
+    ∙ seen-one c.self.inside.turned c.self.inside.one c.self.inside.other
     c.args.self.now c.self.view_is c.if-self.false in
     table-joined p.code_of p.may_step p.first acts c.args.self.now c.join_all-else-self.result
     (λ entry rest same. c.join_all-else-self.ensures entry rest (is ∙ same)) table

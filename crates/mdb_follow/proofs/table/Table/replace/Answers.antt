@@ -15,19 +15,19 @@ pub returns-then-is_empty-clause-none : goal.returns-then-is_empty-clause-none
 returns-then-is_empty-clause-none g c acts stands table state sums way =
     let p = g.P.Pair in
     let is : c.as_slice.result.now ≡ c.args.self.now =
-    c.as_slice.ensures.value
-    ∙ seen-other c.self.inside.turned c.self.inside.one.items c.self.inside.other.items
+    c.as_slice.ensures
+    ∙ seen-other c.self.inside.turned c.self.inside.one c.self.inside.other
     c.args.self.now c.self.view_is c.if-self.true in
-    nothing-arrives p.code_of p.may_step p.first (c.args.act.now ∷ acts) c.fill.new.into.items
+    nothing-arrives p.code_of p.may_step p.first (c.args.act.now ∷ acts) c.fill.new.into
     (c.fill.ensures.table acts stands
     (subst (IsTable p.code_of p.may_step p.first acts) (sym is) table))
-    (nil-told c.fill.new.into.items c.is_empty.result c.is_empty.ensures c.if-is_empty.true)
+    (nil-told c.fill.new.into c.is_empty.result c.is_empty.ensures c.if-is_empty.true)
     state sums way
 
 pub returns-then-is_empty-clause-within : goal.returns-then-is_empty-clause-within
 returns-then-is_empty-clause-within g c limit all =
-    let same = seen-again c.self.inside.turned c.self.inside.one.items c.fill.new.into.items
-    c.self.inside.other.items c.args.self.now c.self.view_is c.if-self.true in
+    let same = seen-again c.self.inside.turned c.self.inside.one c.fill.new.into
+    c.self.inside.other c.args.self.now c.self.view_is c.if-self.true in
     table-within-weaker limit (limit + 2 ^ 32) _ (omega arith)
     (subst (IsTableWithin limit) (sym same) all)
 
@@ -35,36 +35,36 @@ pub returns-then-is_empty-2-clause-none : goal.returns-then-is_empty-2-clause-no
 returns-then-is_empty-2-clause-none g c acts stands table state sums way =
     let p = g.P.Pair in
     let is : c.as_slice-else-self.result.now ≡ c.args.self.now =
-    c.as_slice-else-self.ensures.value
-    ∙ seen-one c.self.inside.turned c.self.inside.one.items c.self.inside.other.items
+    c.as_slice-else-self.ensures
+    ∙ seen-one c.self.inside.turned c.self.inside.one c.self.inside.other
     c.args.self.now c.self.view_is c.if-self.false in
-    nothing-arrives p.code_of p.may_step p.first (c.args.act.now ∷ acts) c.fill-else-self.new.into.items
+    nothing-arrives p.code_of p.may_step p.first (c.args.act.now ∷ acts) c.fill-else-self.new.into
     (c.fill-else-self.ensures.table acts stands
     (subst (IsTable p.code_of p.may_step p.first acts) (sym is) table))
-    (nil-told c.fill-else-self.new.into.items c.is_empty-else-self.result
+    (nil-told c.fill-else-self.new.into c.is_empty-else-self.result
     c.is_empty-else-self.ensures c.if-is_empty-2.true)
     state sums way
 
 pub returns-then-is_empty-2-clause-within : goal.returns-then-is_empty-2-clause-within
 returns-then-is_empty-2-clause-within g c limit all =
-    let same = seen-still c.self.inside.turned c.self.inside.one.items c.self.inside.other.items
-    c.fill-else-self.new.into.items c.args.self.now c.self.view_is c.if-self.false in
+    let same = seen-still c.self.inside.turned c.self.inside.one c.self.inside.other
+    c.fill-else-self.new.into c.args.self.now c.self.view_is c.if-self.false in
     table-within-weaker limit (limit + 2 ^ 32) _ (omega arith)
     (subst (IsTableWithin limit) (sym same) all)
 
 pub returns-else-is_empty-clause-within : goal.returns-else-is_empty-clause-within
 returns-else-is_empty-clause-within g c limit all =
     let is : c.as_slice.result.now ≡ c.args.self.now =
-    c.as_slice.ensures.value
-    ∙ seen-other c.self.inside.turned c.self.inside.one.items c.self.inside.other.items
+    c.as_slice.ensures
+    ∙ seen-other c.self.inside.turned c.self.inside.one c.self.inside.other
     c.args.self.now c.self.view_is c.if-self.true in
     c.fill.ensures.within limit (subst (IsTableWithin limit) (sym is) all)
 
 pub returns-else-is_empty-2-clause-within : goal.returns-else-is_empty-2-clause-within
 returns-else-is_empty-2-clause-within g c limit all =
     let is : c.as_slice-else-self.result.now ≡ c.args.self.now =
-    c.as_slice-else-self.ensures.value
-    ∙ seen-one c.self.inside.turned c.self.inside.one.items c.self.inside.other.items
+    c.as_slice-else-self.ensures
+    ∙ seen-one c.self.inside.turned c.self.inside.one c.self.inside.other
     c.args.self.now c.self.view_is c.if-self.false in
     c.fill-else-self.ensures.within limit (subst (IsTableWithin limit) (sym is) all)
 
@@ -72,32 +72,32 @@ pub returns-else-is_empty-clause-table : goal.returns-else-is_empty-clause-table
 returns-else-is_empty-clause-table g c acts stands table =
     let p = g.P.Pair in
     let is : c.as_slice.result.now ≡ c.args.self.now =
-    c.as_slice.ensures.value
-    ∙ seen-other c.self.inside.turned c.self.inside.one.items c.self.inside.other.items
+    c.as_slice.ensures
+    ∙ seen-other c.self.inside.turned c.self.inside.one c.self.inside.other
     c.args.self.now c.self.view_is c.if-self.true in
-    table-some p.code_of p.may_step p.first (c.args.act.now ∷ acts) c.fill.new.into.items
+    table-some p.code_of p.may_step p.first (c.args.act.now ∷ acts) c.fill.new.into
     (c.fill.ensures.table acts stands
     (subst (IsTable p.code_of p.may_step p.first acts) (sym is) table))
-    (some-told c.fill.new.into.items c.is_empty.result c.is_empty.ensures c.if-is_empty.false)
+    (some-told c.fill.new.into c.is_empty.result c.is_empty.ensures c.if-is_empty.false)
 
 pub returns-else-is_empty-2-clause-table : goal.returns-else-is_empty-2-clause-table
 returns-else-is_empty-2-clause-table g c acts stands table =
     let p = g.P.Pair in
     let is : c.as_slice-else-self.result.now ≡ c.args.self.now =
-    c.as_slice-else-self.ensures.value
-    ∙ seen-one c.self.inside.turned c.self.inside.one.items c.self.inside.other.items
+    c.as_slice-else-self.ensures
+    ∙ seen-one c.self.inside.turned c.self.inside.one c.self.inside.other
     c.args.self.now c.self.view_is c.if-self.false in
-    table-some p.code_of p.may_step p.first (c.args.act.now ∷ acts) c.fill-else-self.new.into.items
+    table-some p.code_of p.may_step p.first (c.args.act.now ∷ acts) c.fill-else-self.new.into
     (c.fill-else-self.ensures.table acts stands
     (subst (IsTable p.code_of p.may_step p.first acts) (sym is) table))
-    (some-told c.fill-else-self.new.into.items c.is_empty-else-self.result
+    (some-told c.fill-else-self.new.into c.is_empty-else-self.result
     c.is_empty-else-self.ensures c.if-is_empty-2.false)
 
 pub returns-then-len-eq1-clause-none : goal.returns-then-len-eq1-clause-none
 returns-then-len-eq1-clause-none g c =
     let p = g.P.Pair in
-    let is : c.self.inside.other.items ≡ c.args.self.now =
-    seen-other c.self.inside.turned c.self.inside.one.items c.self.inside.other.items
+    let is : c.self.inside.other ≡ c.args.self.now =
+    seen-other c.self.inside.turned c.self.inside.one c.self.inside.other
     c.args.self.now c.self.view_is c.if-self.true in
     subst (λ (entries : List (ℕ × Cell)). OnFalse c.lead_alone.result ((acts : List Act)
     → p.stands_for c.args.facts.now acts → IsTable p.code_of p.may_step p.first acts entries
@@ -107,19 +107,19 @@ returns-then-len-eq1-clause-none g c =
 
 pub returns-then-len-eq1-clause-within : goal.returns-then-len-eq1-clause-within
 returns-then-len-eq1-clause-within g c limit all =
-    let is : c.self.inside.other.items ≡ c.args.self.now =
-    seen-other c.self.inside.turned c.self.inside.one.items c.self.inside.other.items
+    let is : c.self.inside.other ≡ c.args.self.now =
+    seen-other c.self.inside.turned c.self.inside.one c.self.inside.other
     c.args.self.now c.self.view_is c.if-self.true in
     subst (IsTableWithin (limit + 2 ^ 32))
-    (seen-other c.self.inside.turned c.self.inside.one.items c.lead_alone.new.entries.items
+    (seen-other c.self.inside.turned c.self.inside.one c.lead_alone.new.entries
     _ refl c.if-self.true)
     (c.lead_alone.ensures.within limit (subst (IsTableWithin limit) (sym is) all))
 
 pub returns-then-len-eq1-2-clause-none : goal.returns-then-len-eq1-2-clause-none
 returns-then-len-eq1-2-clause-none g c =
     let p = g.P.Pair in
-    let is : c.self.inside.one.items ≡ c.args.self.now =
-    seen-one c.self.inside.turned c.self.inside.one.items c.self.inside.other.items
+    let is : c.self.inside.one ≡ c.args.self.now =
+    seen-one c.self.inside.turned c.self.inside.one c.self.inside.other
     c.args.self.now c.self.view_is c.if-self.false in
     subst (λ (entries : List (ℕ × Cell)). OnFalse c.lead_alone-then-len-eq1-2.result ((acts : List Act)
     → p.stands_for c.args.facts.now acts → IsTable p.code_of p.may_step p.first acts entries
@@ -129,10 +129,10 @@ returns-then-len-eq1-2-clause-none g c =
 
 pub returns-then-len-eq1-2-clause-within : goal.returns-then-len-eq1-2-clause-within
 returns-then-len-eq1-2-clause-within g c limit all =
-    let is : c.self.inside.one.items ≡ c.args.self.now =
-    seen-one c.self.inside.turned c.self.inside.one.items c.self.inside.other.items
+    let is : c.self.inside.one ≡ c.args.self.now =
+    seen-one c.self.inside.turned c.self.inside.one c.self.inside.other
     c.args.self.now c.self.view_is c.if-self.false in
     subst (IsTableWithin (limit + 2 ^ 32))
-    (seen-one c.self.inside.turned c.lead_alone-then-len-eq1-2.new.entries.items c.self.inside.other.items
+    (seen-one c.self.inside.turned c.lead_alone-then-len-eq1-2.new.entries c.self.inside.other
     _ refl c.if-self.false)
     (c.lead_alone-then-len-eq1-2.ensures.within limit (subst (IsTableWithin limit) (sym is) all))
