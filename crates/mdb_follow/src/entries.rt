@@ -5,6 +5,7 @@ ghost use Rattle.std.specs.Bool.{OnFalse, OnTrue};
 ghost use Rattle.mdb_cash.specs.Gains.{IsSmall};
 ghost use Rattle.mdb_cash.specs.declared.gains.Gains.{Gains};
 ghost use Rattle.mdb_follow.specs.declared.cell.Cell.{Cell};
+ghost use Rattle.mdb_follow.specs.Cells.{moved_cell};
 ghost use Rattle.mdb_follow.specs.Entries.{AreMoves, HasAt, IsKeyed, IsPlaced, LeadTo};
 ghost use Rattle.mdb_follow.specs.Entries.{joined_cells, moves_of, with_cell, with_moves};
 ghost use Rattle.mdb_follow.specs.Limits.{IsCellWithin, IsTableWithin};
@@ -20,28 +21,34 @@ fn has_at(entries: &[(usize, Cell)], place: usize, code: usize) -> bool
     place < entries.len() && entries[place].0 == code
 }
 
-/// Takes in one cell more: joined to that of its code, else as an entry of its own. The places of
-/// the entries are noted under their codes; what is noted under other codes may be anything.
+/// Takes in one cell more, which is a cell with the gains of a step: joined to that of its code, else
+/// as an entry of its own. The places of the entries are noted under their codes; what is noted
+/// under other codes may be anything.
+// The gains are added where the sums are written, and not beforehand.
 fn add_cell<const N: usize>(
     entries: &mut Entries<N>,
     places: &mut [usize; N],
     code: usize,
     cell: &Cell,
+    gains: &Gains,
 )
     requires below { code < N }
+    requires within { IsCellWithin (2 ^ 62) cell.now }
+    requires small { IsSmall gains.now }
     requires keyed { IsKeyed N entries.old }
     requires placed { IsPlaced entries.old places.old }
-    ensures entries { entries.new ≡ with_cell entries.old code cell.now }
+    ensures entries { entries.new
+        ≡ with_cell entries.old code (moved_cell cell.now gains.now) }
     ensures keyed { IsKeyed N entries.new }
     ensures placed { IsPlaced entries.new places.new }
 {
     let place = places[code];
     if has_at(entries.as_slice(), place, code) {
-        let joined = entries.as_slice()[place].1.joined(cell);
+        let joined = entries.as_slice()[place].1.joined(&cell.moved(gains));
         entries.set(place, code, joined);
     } else {
         places[code] = entries.len();
-        entries.push(code, *cell);
+        entries.push(code, cell.moved(gains));
     }
 }
 
@@ -64,7 +71,7 @@ fn add_step<const N: usize>(
     ensures placed { IsPlaced entries.new places.new }
 {
     if let Some((next, gains)) = step {
-        add_cell(entries, places, *next, &cell.moved(gains));
+        add_cell(entries, places, *next, cell, gains);
     }
 }
 
@@ -117,7 +124,7 @@ pub(crate) fn lead_only<const N: usize>(
             Some(step) => move_only(entries, step),
         },
         Some(step) => match other {
-            Some(second) if step != second => branch_only(entries, step, second),
+            Some(second) if step != second => branch_only(entries, *step, *second),
             _ => move_only(entries, step),
         },
     }
@@ -140,22 +147,19 @@ fn move_only<const N: usize>(entries: &mut Entries<N>, step: &(usize, Gains))
 }
 
 /// Puts the two that two steps from the only entry lead to in its place, or the one that both do.
+// It takes the steps by value, so that its caller needn't lay them down where it doesn't call.
 #[inline(never)]
-fn branch_only<const N: usize>(
-    entries: &mut Entries<N>,
-    one: &(usize, Gains),
-    other: &(usize, Gains),
-)
+fn branch_only<const N: usize>(entries: &mut Entries<N>, one: (usize, Gains), other: (usize, Gains))
     requires only { length entries.old ≡ 1 }
     requires within { IsTableWithin (2 ^ 62) entries.old }
-    requires one { (one.now.0 < N) × IsSmall one.now.1 }
-    requires other { (other.now.0 < N) × IsSmall other.now.1 }
+    requires one { (one.0 < N) × IsSmall one.1 }
+    requires other { (other.0 < N) × IsSmall other.1 }
     ensures moved { (entry : ℕ × Cell) → entries.old ≡ entry ∷ []
-        → entries.new ≡ with_moves [] entry.1 (one.now ∷ other.now ∷ []) }
+        → entries.new ≡ with_moves [] entry.1 (one ∷ other ∷ []) }
     ensures some { 0 < length entries.new }
 {
     let second = entries.as_slice()[0].1.moved(&other.1);
-    move_only(entries, one);
+    move_only(entries, &one);
     if one.0 == other.0 {
         let joined = entries.as_slice()[0].1.joined(&second);
         entries.set(0, one.0, joined);

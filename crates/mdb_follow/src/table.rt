@@ -240,7 +240,8 @@ fn fill<P: Pair, const N: usize>(
 
 /// The step that an act with a mark is, from the state of a code. `None` where there is no such
 /// step, and where a mark says nothing.
-#[inline(always)]
+// Not inlined, so that the step is made where it is looked at, and not moved there.
+#[inline(never)]
 fn marked_step<P: Pair>(facts: &P::Facts, act: &Act, code: usize) -> Option<(usize, Gains)>
     requires { code < P.CODES }
     ensures told { IsAck act.now ⊎ IsReply act.now → (acts : List Act)

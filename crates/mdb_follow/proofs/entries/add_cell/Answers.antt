@@ -1,8 +1,9 @@
-use Rattle.std.proofs.Common.{rules, ◌≡◌, ℕ, List, sym, ◌∙◌, subst, get_or}
+use Rattle.std.proofs.Common.{rules, ◌≡◌, ℕ, List, sym, ◌∙◌, ap, subst, get_or}
 use Rattle.std.specs.Prelude.{IsTrue}
 use Rattle.std.proofs.lemmas.Bool.{false≢true}
 use Rattle.mdb_follow.specs.declared.cell.Cell.{Cell}
-use Rattle.mdb_follow.specs.Entries.{HasAt, IsKeyed, IsPlaced, Lacks}
+use Rattle.mdb_follow.specs.Cells.{moved_cell}
+use Rattle.mdb_follow.specs.Entries.{HasAt, IsKeyed, IsPlaced, Lacks, with_cell}
 use Rattle.mdb_follow.proofs.Listed.{keyed-room, keyed-with_cell, with_cell-push, with_cell-written}
 use Rattle.mdb_follow.proofs.Places.{placed-front, placed-lacks, placed-push, placed-written}
 use Rattle.mdb_follow.proofs.entries.add_cell.Goals as goal
@@ -19,18 +20,19 @@ returns-then-has_at-clause-entries g c =
     let true' : IsTrue c.has_at.result = search rules in
     c.set.ensures
     ∙ with_cell-written entries c.as_slice-then-has_at.result.now
-    (get_or places c.args.code 0) c.args.code c.args.cell.now c.joined-joined.result _
+    (get_or places c.args.code 0) c.args.code c.moved.result c.joined-joined.result _
     c.as_slice-then-has_at.ensures
     (has-told entries c.as_slice.result.now _ _ c.as_slice.ensures
     (c.has_at.ensures.0 true'))
-    (placed-front entries places c.args.code (0, c.args.cell.now) c.requires.placed)
+    (placed-front entries places c.args.code (0, c.moved.result) c.requires.placed)
     c.joined-joined.ensures
+    ∙ ap (with_cell entries c.args.code) c.moved.ensures
 
 pub returns-then-has_at-clause-keyed : goal.returns-then-has_at-clause-keyed
 returns-then-has_at-clause-keyed g c =
     subst (IsKeyed g.row.N) (sym (returns-then-has_at-clause-entries g c))
-    (keyed-with_cell g.row.N c.args.entries.now c.args.code c.args.cell.now
-    c.requires.below c.requires.keyed)
+    (keyed-with_cell g.row.N c.args.entries.now c.args.code
+    (moved_cell c.args.cell.now c.args.gains.now) c.requires.below c.requires.keyed)
 
 pub returns-then-has_at-clause-placed : goal.returns-then-has_at-clause-placed
 returns-then-has_at-clause-placed g c =
@@ -68,13 +70,15 @@ returns-else-has_at-clause-entries g c =
     lacks-told entries c.as_slice.result.now c.args.places.now c.args.code c.args.cell.now
     c.as_slice.ensures c.requires.placed
     (λ has. false≢true (sym c.if-has_at.false ∙ c.has_at.ensures.1 has)) in
-    c.push.ensures ∙ sym (with_cell-push entries c.args.code c.args.cell.now lacks)
+    c.push.ensures
+    ∙ sym (with_cell-push entries c.args.code c.moved-else-has_at.result lacks)
+    ∙ ap (with_cell entries c.args.code) c.moved-else-has_at.ensures
 
 pub returns-else-has_at-clause-keyed : goal.returns-else-has_at-clause-keyed
 returns-else-has_at-clause-keyed g c =
     subst (IsKeyed g.row.N) (sym (returns-else-has_at-clause-entries g c))
-    (keyed-with_cell g.row.N c.args.entries.now c.args.code c.args.cell.now
-    c.requires.below c.requires.keyed)
+    (keyed-with_cell g.row.N c.args.entries.now c.args.code
+    (moved_cell c.args.cell.now c.args.gains.now) c.requires.below c.requires.keyed)
 
 pub returns-else-has_at-clause-placed : goal.returns-else-has_at-clause-placed
 returns-else-has_at-clause-placed g c =
@@ -84,5 +88,5 @@ returns-else-has_at-clause-placed g c =
     c.as_slice.ensures c.requires.placed
     (λ has. false≢true (sym c.if-has_at.false ∙ c.has_at.ensures.1 has)) in
     placed-push entries c.push.new.self c.args.places.now c.args.code c.len.result
-    c.args.cell.now c.requires.placed lacks (search rules) c.len.ensures
+    c.moved-else-has_at.result c.requires.placed lacks (search rules) c.len.ensures
     c.push.ensures
