@@ -7,7 +7,7 @@ use Rattle.mdb_cash.specs.declared.kept.Part.{Part}
 use Rattle.mdb_cash.specs.declared.kept.Part.TheVariants as part
 use Rattle.mdb_cash.specs.declared.kept.Reading.{Reading}
 use Rattle.mdb_cash.specs.declared.kept.Reading.TheVariants.{Restart}
-use Rattle.mdb_cash.specs.Kept.{IsNew, MayBeRead, IsSummary, Tells, has_reset, is_reset, keeps_early, kept_by, kept_of}
+use Rattle.mdb_cash.specs.Kept.{IsNew, MayBeRead, IsSummary, Tells, has_reset, holds_acked, is_reset, keeps_early, kept_by, kept_of}
 
 -- the kept list of a reply with one message more
 pub kept_of-more : {M : Type 0} (parts : List (Part M)) (p : Part M) → kept_of (parts ++ p ∷ []) ≡ kept_of parts ++ kept_of (p ∷ [])
@@ -60,3 +60,13 @@ tells_only {M} {poll} {polls} {owed} {reset} {early} {reading} {holding} {held} 
     subst (λ (p : Bool). TellsOnly p reading owed held parts news) poll_is
     (subst (λ (h : List M). TellsOnly poll reading owed h parts news) held_is
     (subst (λ (ps : List (Part M)). TellsOnly poll reading owed holding ps news) parts_are so))
+
+-- an ACK that a device hears while it holds nothing, or doesn't hear, leaves it so
+pub free_acked : {M : Type 0} (heard : Bool) (kept : List M) {holds : Bool} → holds ≡ false
+    → holds_acked heard kept holds ≡ false
+free_acked heard kept free = ap (holds_acked heard kept) free ∙ never heard kept
+  where
+    never : {M : Type 0} (heard : Bool) (kept : List M) → holds_acked heard kept false ≡ false
+    never heard [] = refl
+    never true (message ∷ kept) = refl
+    never false (message ∷ kept) = refl

@@ -1,5 +1,7 @@
 pub mod Answered
 pub mod BillFactsBehind
+pub mod BillMarks
+pub mod ChangerMarks
 pub mod Escrows
 pub mod FactsBehind
 pub mod FirstBytes

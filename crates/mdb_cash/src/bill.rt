@@ -16,7 +16,7 @@ mod steps;
 mod values;
 
 use crate::gains::Gains;
-use crate::kept::Reading;
+use crate::kept::{Reading, may_be_read};
 use crate::pair::Pair;
 pub use facts::BillFacts;
 use mdb_bus::Act;
@@ -77,6 +77,17 @@ impl Pair for Bill {
 
     fn rests(act: &Act, state: BillState) -> bool {
         matches!(act, Act::Ack(Command::Bill(BillCommand::Poll))) && !state.holds
+    }
+
+    #[inline(always)]
+    fn heeds_mark(act: &Act, state: BillState) -> bool {
+        match act {
+            Act::Reply(Command::Bill(_), reply) => {
+                may_be_read(Reading::Restart, messages_in(reply))
+            }
+            Act::VmcAck(Command::Bill(_), _) => state.holds,
+            _ => false,
+        }
     }
 
     fn code(state: BillState) -> usize {

@@ -16,7 +16,7 @@ mod steps;
 mod values;
 
 use crate::gains::Gains;
-use crate::kept::Reading;
+use crate::kept::{Reading, may_be_read};
 use crate::pair::Pair;
 pub use facts::ChangerFacts;
 use mdb_bus::Act;
@@ -81,6 +81,18 @@ impl Pair for Changer {
 
     fn rests(act: &Act, state: ChangerState) -> bool {
         matches!(act, Act::Ack(Command::Changer(ChangerCommand::Poll))) && !state.holds
+    }
+
+    #[inline(always)]
+    fn heeds_mark(act: &Act, state: ChangerState) -> bool {
+        match act {
+            Act::Ack(Command::Changer(ChangerCommand::Dispense(_))) => state.owed,
+            Act::Reply(Command::Changer(_), reply) => {
+                may_be_read(Reading::Restart, messages_in(reply))
+            }
+            Act::VmcAck(Command::Changer(_), _) => state.holds,
+            _ => false,
+        }
     }
 
     fn code(state: ChangerState) -> usize {

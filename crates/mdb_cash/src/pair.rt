@@ -7,6 +7,7 @@ ghost use Rattle.mdb_bus.specs.declared.act.Act.{Act};
 ghost use Rattle.mdb_bus.specs.Choice.{IsAck};
 ghost use Rattle.mdb_cash.specs.declared.gains.Gains.{Gains};
 ghost use Rattle.mdb_cash.specs.declared.kept.Reading.{Reading};
+ghost use Rattle.mdb_cash.specs.declared.kept.Reading.TheVariants.{Plain, Restart};
 ghost use Rattle.mdb_cash.specs.Gains.{IsSmall, no_gains};
 ghost use Rattle.mdb_cash.specs.Pair.{IsMarkedStep, IsMove, IsActOf, IsOutcome, IsReply};
 
@@ -77,6 +78,13 @@ pub trait Pair {
             (after : Self.State) (gains : Gains)
             → may_step acts act.now heard reading state after gains
             ↔ (after ≡ state) × (gains ≡ no_gains)) };
+
+    /// Whether a mark may lead an act from a state elsewhere than no mark does: an ACK that isn't
+    /// heard, or a reply that tells of a restart. It may say yes though a mark can't.
+    fn heeds_mark(act: &Act, state: Self::State) -> bool
+        ensures { OnFalse result ((acts : List Act) (after : Self.State) (gains : Gains)
+            → may_step acts act.now false Restart state after gains
+            → may_step acts act.now true Plain state after gains) };
 
     /// The code of a state.
     fn code(state: Self::State) -> usize
