@@ -2,6 +2,7 @@ pub mod Answered
 pub mod Behind
 pub mod FactsTold
 pub mod KeptAcked
+pub mod Marks
 pub mod Said
 pub mod Steps
 pub mod Transactions

@@ -25,7 +25,7 @@ use facts::ReaderFacts;
 use mdb_bus::Act;
 use mdb_cash::{Gains, Pair, Reading};
 use state::ReaderState;
-use steps::{concerns, rests, step};
+use steps::{concerns, heeds_mark, rests, step};
 use unit::unit_of;
 
 /// A cashless reader and the controller's dealings with it (MDB/ICP 4.3, cashless device). `UNIT`
@@ -73,6 +73,11 @@ impl<const UNIT: usize> Pair for Reader<UNIT> {
 
     fn rests(act: &Act, state: ReaderState) -> bool {
         rests(unit_of(UNIT), act, state)
+    }
+
+    #[inline(always)]
+    fn heeds_mark(act: &Act, state: ReaderState) -> bool {
+        heeds_mark(act, state)
     }
 
     fn code(state: ReaderState) -> usize {

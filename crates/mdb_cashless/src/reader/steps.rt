@@ -1,9 +1,11 @@
 //! The steps of a reader and the controller.
 
-ghost use Rattle.std.specs.Prelude.{◌≡◌, ◌≤◌, ◌↔◌, Bool, IfSome};
+ghost use Rattle.std.specs.Prelude.{◌≡◌, ◌≤◌, ◌↔◌, Bool, IfSome, false, true};
 ghost use Rattle.std.specs.Bool.{OnFalse, OnTrue};
+ghost use Rattle.mdb_msgs.specs.declared.command.ReaderUnit.{ReaderUnit};
 ghost use Rattle.mdb_cash.specs.declared.gains.Gains.{Gains};
 ghost use Rattle.mdb_cash.specs.declared.kept.Reading.{Reading};
+ghost use Rattle.mdb_cash.specs.declared.kept.Reading.TheVariants.{Plain, Restart};
 ghost use Rattle.mdb_cash.specs.Gains.{IsSmall, no_gains};
 ghost use Rattle.mdb_cash.specs.Pair.{IsActOf, IsOutcome};
 ghost use Rattle.mdb_cashless.specs.declared.reader.state.ReaderState.{ReaderState};
@@ -14,15 +16,16 @@ ghost use Rattle.mdb_cashless.specs.ReaderValues.{changes_view, facts_in};
 
 use super::answers::{answer, vmc_ack};
 use super::facts::ReaderFacts;
+use super::report::tells_of_reset;
 use super::state::ReaderState;
-use super::taking::{is_poll, sold, take, view_heard};
+use super::taking::{heeds_taking, is_poll, sold, take, view_heard};
 use super::transaction::transaction_of;
 use super::unit::own;
 use super::values::value;
 use super::view::View;
 use mdb_bus::Act;
 use mdb_cash::{Gains, Reading};
-use mdb_msgs::{ReaderCommand, ReaderUnit};
+use mdb_msgs::{Command, ReaderCommand, ReaderUnit};
 
 /// The step by an act that was heard or not, in a reading, from a state: the state behind it, and
 /// its gains. `None` where there is no such step.
@@ -167,6 +170,24 @@ pub(crate) fn rests(unit: ReaderUnit, act: &Act, state: ReaderState) -> bool
             Some(ReaderCommand::Poll) => !state.holds,
             _ => false,
         },
+        _ => false,
+    }
+}
+
+/// Whether a mark may lead an act from a state elsewhere than no mark does: an ACK that isn't heard,
+/// or a reply that tells of a restart.
+// It doesn't look at whose the act is: acts that are no matter of the pair aren't asked about.
+#[inline(always)]
+pub(crate) fn heeds_mark(act: &Act, state: ReaderState) -> bool
+    ensures { OnFalse result ((unit : ReaderUnit) (facts : Facts) (after : ReaderState)
+        (gains : Gains)
+        → spec.ReaderStep unit facts act.now false Restart state after gains
+        → spec.ReaderStep unit facts act.now true Plain state after gains) }
+{
+    match act {
+        Act::Ack(Command::Reader(_, command)) => heeds_taking(*command, state.view),
+        Act::Reply(_, reply) => tells_of_reset(reply),
+        Act::VmcAck(..) => state.holds,
         _ => false,
     }
 }

@@ -1,6 +1,7 @@
 //! What taking a command does to a reader and to the controller's view of it.
 
 ghost use Rattle.std.specs.Prelude.{◌≡◌, ◌≤◌};
+ghost use Rattle.std.specs.Bool.{OnFalse};
 ghost use Rattle.mdb_cashless.specs.Reader as spec;
 ghost use Rattle.mdb_cashless.specs.ReaderValues.{facts_in};
 
@@ -19,6 +20,14 @@ pub(crate) fn view_heard(heard: bool, command: ReaderCommand, view: View) -> Vie
         Some(_) if heard => view.taken(),
         _ => view,
     }
+}
+
+/// Whether hearing that a command was taken may change a view.
+#[inline(always)]
+pub(crate) fn heeds_taking(command: ReaderCommand, view: View) -> bool
+    ensures { OnFalse result (spec.view_taken command view ≡ view) }
+{
+    transaction_of(command).is_some() && view.taken() != view
 }
 
 /// Whether a command is the last transaction that the reader took, while it still holds what it

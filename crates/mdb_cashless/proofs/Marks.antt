@@ -1,0 +1,118 @@
+-- Where a mark leads a reader nowhere else.
+use Rattle.std.proofs.Common.{◌≡◌, ◌∙◌, Bool, true, false, List, [], ◌∷◌, Option, Some, None, refl, ap, sym, subst}
+use Rattle.std.specs.Bool.{OnFalse}
+use Rattle.std.specs.List.{list_any}
+use Rattle.mdb_msgs.specs.declared.command.Command.{Command}
+use Rattle.mdb_msgs.specs.declared.command.Command.TheVariants as commands
+use Rattle.mdb_msgs.specs.declared.command.ReaderCommand.{ReaderCommand}
+use Rattle.mdb_msgs.specs.declared.command.ReaderUnit.{ReaderUnit}
+use Rattle.mdb_msgs.specs.declared.command.ReaderUnit.TheVariants.{First, Second}
+use Rattle.mdb_msgs.specs.declared.reply.Reply.{Reply}
+use Rattle.mdb_bus.specs.declared.act.Act.{Act}
+use Rattle.mdb_bus.specs.declared.act.Act.TheVariants as acts
+use Rattle.mdb_cash.specs.declared.gains.Gains.{Gains}
+use Rattle.mdb_cash.specs.declared.kept.Reading.TheVariants.{Plain, Restart}
+use Rattle.mdb_cash.specs.Kept.{MayBeRead, holds_acked, is_reset, kept_of}
+use Rattle.mdb_cashless.specs.declared.reader.state.ReaderState.{ReaderState}
+use Rattle.mdb_cashless.specs.Reader.{AckStep, ForOwn, ReaderStep, ReplyStep, VmcAckStep, take, taken, view_answered, view_taken}
+use Rattle.mdb_cashless.specs.ReaderFacts.{Facts}
+use Rattle.mdb_cashless.specs.ReaderMessages.{messages_of, part_of, parts_of}
+use Rattle.mdb_cashless.specs.ReaderView.{all_heard}
+use Rattle.mdb_cashless.specs.Units.{own}
+use Rattle.mdb_cashless.proofs.Resets.{no_restart}
+use Rattle.mdb_cashless.proofs.Steps.{denied}
+
+-- each step with a mark, from a state, is one without a mark too
+abbrev pub IsUnheeded : Act → ReaderState → Type 0
+IsUnheeded act state = (unit : ReaderUnit) (facts : Facts) (after : ReaderState) (gains : Gains)
+    → ReaderStep unit facts act false Restart state after gains
+    → ReaderStep unit facts act true Plain state after gains
+
+-- of a command to this reader, or to another device
+own_still : (found : Option ReaderCommand)
+    (One Other : ReaderCommand → ReaderState → ReaderState → Gains → Type 0)
+    (before after : ReaderState) (gains : Gains)
+    → ((c : ReaderCommand) → found ≡ Some c → One c before after gains → Other c before after gains)
+    → ForOwn found One before after gains → ForOwn found Other before after gains
+own_still None One Other before after gains each step = step
+own_still (Some c) One Other before after gains each step = each c refl step
+
+-- an ACK whose hearing leaves the view
+ack_still : (facts : Facts) (command : ReaderCommand) (before after : ReaderState) (gains : Gains)
+    → view_taken command before.view ≡ before.view
+    → AckStep facts command false before after gains
+    → AckStep facts command true before after gains
+ack_still facts command before after gains still step =
+    record {
+      poll = step.poll;
+      to = step.to ∙ ap (λ v. record (take facts command before) { view = v }) (sym still);
+      gained = step.gained;
+    }
+
+-- the command that is meant, where it is to this reader
+the_own : (unit of : ReaderUnit) (command other : ReaderCommand)
+    → own unit (commands.Reader of command) ≡ Some other → command ≡ other
+the_own First First command other found = cc
+the_own First Second command other found = absurd cc
+the_own Second First command other found = absurd cc
+the_own Second Second command other found = cc
+
+pub untaken : (state : ReaderState) (act : Act) (of : ReaderUnit) (command : ReaderCommand)
+    (may : Bool) → act ≡ acts.Ack (commands.Reader of command)
+    → OnFalse may (view_taken command state.view ≡ state.view)
+    → OnFalse may (IsUnheeded act state)
+untaken state act of command true is still = tt
+untaken state act of command false is still =
+    subst (λ (a : Act). IsUnheeded a state) (sym is) (λ unit facts after gains.
+    own_still (own unit (commands.Reader of command)) (λ c. AckStep facts c false)
+    (λ c. AckStep facts c true) state after gains
+    (λ c found. ack_still facts c state after gains
+    (subst (λ (m : ReaderCommand). view_taken m state.view ≡ state.view)
+    (the_own unit of command c found) still)))
+
+-- a reply that tells of no restart
+pub unread : (state : ReaderState) (act : Act) (command : Command) (reply : Reply) (tells : Bool)
+    → act ≡ acts.Reply command reply
+    → tells ≡ list_any (λ m. is_reset (part_of m)) (messages_of reply)
+    → OnFalse tells (IsUnheeded act state)
+unread state act command reply true is tells = tt
+unread state act command reply false is tells =
+    let never : MayBeRead Restart (parts_of reply) → ⊥ =
+    no_restart false part_of (messages_of reply) tells in
+    subst (λ (a : Act). IsUnheeded a state) (sym is) (λ unit facts after gains.
+    own_still (own unit command) (λ c. ReplyStep facts c reply Restart)
+    (λ c. ReplyStep facts c reply Plain) state after gains
+    (λ c found step. absurd (never step.tells.read)))
+
+-- an ACK that a reader hears while it holds nothing, or doesn't hear, leaves it so
+free_acked : {M : Type 0} (heard : Bool) (kept : List M) → holds_acked heard kept false ≡ false
+free_acked heard [] = refl
+free_acked true (message ∷ kept) = refl
+free_acked false (message ∷ kept) = refl
+
+vmc_ack_still : (facts : Facts) (command : ReaderCommand) (reply : Reply)
+    (before after : ReaderState) (gains : Gains) → before.holds ≡ false
+    → VmcAckStep facts command reply false before after gains
+    → VmcAckStep facts command reply true before after gains
+vmc_ack_still facts command reply before after gains free step =
+    let kept = kept_of (parts_of reply) in
+    let holds : holds_acked false kept before.holds ≡ holds_acked true kept before.holds =
+    ap (holds_acked false kept) free ∙ free_acked false kept
+    ∙ sym (ap (holds_acked true kept) free ∙ free_acked true kept) in
+    record {
+      to = step.to ∙ ap (λ h. record {
+        device = before.device;
+        view = all_heard (messages_of reply) (view_answered (taken command reply) before.view);
+        holds = h;
+      }) holds;
+      gained = step.gained;
+    }
+
+-- the controller's ACK while nothing is held
+pub unheard : (state : ReaderState) (act : Act) (command : Command) (reply : Reply)
+    → act ≡ acts.VmcAck command reply → OnFalse state.holds (IsUnheeded act state)
+unheard state act command reply is = denied state.holds (λ free.
+    subst (λ (a : Act). IsUnheeded a state) (sym is) (λ unit facts after gains.
+    own_still (own unit command) (λ c. VmcAckStep facts c reply false)
+    (λ c. VmcAckStep facts c reply true) state after gains
+    (λ c found. vmc_ack_still facts c reply state after gains free)))
