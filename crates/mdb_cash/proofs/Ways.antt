@@ -20,7 +20,7 @@ only_way laws no_ack no_reply heard reading before after gains step =
     laws.readings true reading Plain before after gains no_reply (laws.hearing heard true reading before after gains no_ack step)
 
 -- each step is one of an act that was heard and is read as plain, or one of an act that wasn't heard and is read as a restart
-two_ways : {State : Type 0} {Step : Bool → Reading → State → State → Gains → Type 0} (act : Act) → Laws act Step
+pub two_ways : {State : Type 0} {Step : Bool → Reading → State → State → Gains → Type 0} (act : Act) → Laws act Step
     → (heard : Bool) (reading : Reading) (before after : State) (gains : Gains) → Step heard reading before after gains
     → Step true Plain before after gains ⊎ Step false Restart before after gains
 two_ways (acts.Ack command) laws true reading before after gains step = inl (laws.readings true reading Plain before after gains (λ no. no) step)

@@ -4,11 +4,10 @@ use Rattle.std.specs.Bool.{OnFalse, OnTrue}
 use Rattle.std.specs.Prelude.{All, Contains, IfSome, ◌↔◌}
 use Rattle.std.proofs.lemmas.List.Elements.{All-nil}
 use Rattle.mdb_bus.specs.declared.act.Act.{Act}
-use Rattle.mdb_bus.specs.Choice.{IsAck}
 use Rattle.mdb_cash.specs.declared.gains.Gains.{Gains}
 use Rattle.mdb_cash.specs.declared.kept.Reading.{Reading}
 use Rattle.mdb_cash.specs.Gains.{IsSmall}
-use Rattle.mdb_cash.specs.Pair.{IsMarkedStep, IsMove, IsReply}
+use Rattle.mdb_cash.specs.Pair.{IsMarkedStep, IsMove}
 use Rattle.mdb_cash.proofs.Ways.{Laws, small_moves}
 use Rattle.mdb_follow.specs.declared.cell.Cell.{Cell}
 use Rattle.mdb_follow.specs.Arrivals.{Arrives}
@@ -76,14 +75,15 @@ pub alone-led : {State : Type 0} (code_of : State → ℕ)
     → IfSome other (λ move. (move.0 < codes) × IsSmall move.1)
     → ((next : ℕ) (gains : Gains) → (one ≡ Some (next, gains))
     ↔ IsMarkedStep code_of (Step acts act) false code next gains)
-    → (IsAck act ⊎ IsReply act → (next : ℕ) (gains : Gains) → (other ≡ Some (next, gains))
-    ↔ IsMarkedStep code_of (Step acts act) true code next gains)
-    → ((IsAck act ⊎ IsReply act → ⊥) → other ≡ None)
+    → ((next : ℕ) (gains : Gains) → other ≡ Some (next, gains)
+    → IsMarkedStep code_of (Step acts act) true code next gains)
+    → ((next : ℕ) (gains : Gains) → IsMarkedStep code_of (Step acts act) true code next gains
+    → (other ≡ Some (next, gains)) ⊎ IsMarkedStep code_of (Step acts act) false code next gains)
     → IsTable code_of Step first acts entries
     → LeadTo entry.1 one other after
     → Bounds (ArrivesAt code_of (Arrives Step first (act ∷ acts))) after
 alone-led {State} code_of Step first act acts laws number codes entries entry code one other
-    after only at apart size one_below other_below one_is told untold table led =
+    after only at apart size one_below other_below one_is sound whole table led =
     let table' : IsTable code_of Step first acts (entry ∷ []) =
     subst (IsTable code_of Step first acts) only table in
     let kept = moves-kept number codes one other led.0 size one_below other_below led.1 in
@@ -91,7 +91,7 @@ alone-led {State} code_of Step first act acts laws number codes entries entry co
     ↔ IsMove code_of (Step acts act) entry.0 next gains =
     subst (λ c. (next : ℕ) (gains : Gains) → Contains led.0 (next, gains)
     ↔ IsMove code_of (Step acts act) c next gains) at
-    (either-moves code_of (Step acts act) act laws code one other led.0 one_is told untold led.1) in
+    (either-moves code_of (Step acts act) act laws code one other led.0 one_is sound whole led.1) in
     table-led code_of Step first act acts (entry ∷ []) after apart table'
     (subst (Bounds (Led (ArrivesAt code_of (Arrives Step first acts))
     (IsMove code_of (Step acts act)) (entry ∷ []))) (sym led.2)

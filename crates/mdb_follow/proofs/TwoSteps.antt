@@ -4,12 +4,11 @@ use Rattle.std.specs.Prelude.{Contains, ◌↔◌}
 use Rattle.std.proofs.lemmas.List.Elements.{Contains-append_cases, Contains-append_left, Contains-append_right}
 use Rattle.std.proofs.lemmas.Option.{none-some, same_Some}
 use Rattle.mdb_bus.specs.declared.act.Act.{Act}
-use Rattle.mdb_bus.specs.declared.act.Act.TheVariants as acts
-use Rattle.mdb_bus.specs.Choice.{IsAck}
 use Rattle.mdb_cash.specs.declared.gains.Gains.{Gains}
 use Rattle.mdb_cash.specs.declared.kept.Reading.{Reading}
-use Rattle.mdb_cash.specs.Pair.{IsMarkedStep, IsMove, IsReply}
-use Rattle.mdb_cash.proofs.Ways.{Laws, both_moves, one_move}
+use Rattle.mdb_cash.specs.declared.kept.Reading.TheVariants.{Plain, Restart}
+use Rattle.mdb_cash.specs.Pair.{IsMarkedStep, IsMove}
+use Rattle.mdb_cash.proofs.Ways.{Laws, two_ways}
 use Rattle.mdb_follow.specs.declared.cell.Cell.{Cell}
 use Rattle.mdb_follow.specs.Entries.{AreMoves, LeadTo, moves_of, with_moves}
 use Rattle.mdb_follow.proofs.Listed.{contains-cases, contains-here, contains-none}
@@ -90,39 +89,65 @@ lead-both cell one other move second after is so made =
     (subst (λ o. LeadTo cell (Some move) o after) (sym so)
     (move ∷ second ∷ [], two-moves (Some move) (Some second), made))
 
--- a mark says something of an act, or it doesn't
-marked-or-not : (act : Act) → (IsAck act ⊎ IsReply act) ⊎ (IsAck act ⊎ IsReply act → ⊥)
-marked-or-not (acts.Ask command) = inr (λ either. elim either [ inl it ↦ it | inr it ↦ it ])
-marked-or-not (acts.Ack command) = inl (inl tt)
-marked-or-not (acts.Nak command) = inr (λ either. elim either [ inl it ↦ it | inr it ↦ it ])
-marked-or-not (acts.Reply command reply) = inl (inr tt)
-marked-or-not (acts.VmcAck command reply) = inl (inl tt)
-marked-or-not (acts.VmcNak command reply) =
-    inr (λ either. elim either [ inl it ↦ it | inr it ↦ it ])
-marked-or-not (acts.VmcRet command reply) =
-    inr (λ either. elim either [ inl it ↦ it | inr it ↦ it ])
-marked-or-not (acts.Repeat command reply) =
-    inr (λ either. elim either [ inl it ↦ it | inr it ↦ it ])
-marked-or-not acts.Foreign = inr (λ either. elim either [ inl it ↦ it | inr it ↦ it ])
-marked-or-not (acts.Break length) = inr (λ either. elim either [ inl it ↦ it | inr it ↦ it ])
-
--- the moves by an act: its step without a mark, and that with a mark where a mark says something
+-- the moves by an act: its step without a mark, and that with a mark where that isn't one without
+-- a mark too
 pub either-moves : {State : Type 0} (code_of : State → ℕ)
     (Step : Bool → Reading → State → State → Gains → Type 0) (act : Act) (laws : Laws act Step)
     (code : ℕ) (plain marked : Option (ℕ × Gains)) (moves : List (ℕ × Gains))
     → ((next : ℕ) (gains : Gains) → (plain ≡ Some (next, gains))
     ↔ IsMarkedStep code_of Step false code next gains)
-    → (IsAck act ⊎ IsReply act → (next : ℕ) (gains : Gains) → (marked ≡ Some (next, gains))
-    ↔ IsMarkedStep code_of Step true code next gains)
-    → ((IsAck act ⊎ IsReply act → ⊥) → marked ≡ None)
+    → ((next : ℕ) (gains : Gains) → marked ≡ Some (next, gains)
+    → IsMarkedStep code_of Step true code next gains)
+    → ((next : ℕ) (gains : Gains) → IsMarkedStep code_of Step true code next gains
+    → (marked ≡ Some (next, gains)) ⊎ IsMarkedStep code_of Step false code next gains)
     → AreMoves moves plain marked
     → (next : ℕ) (gains : Gains) → Contains moves (next, gains)
     ↔ IsMove code_of Step code next gains
-either-moves code_of Step act laws code plain marked moves plain_is told untold lists =
-    elim (marked-or-not act) [
-      | inl may ↦
-          both_moves code_of Step act laws code plain marked moves plain_is (told may) lists
-      | inr not ↦
-          one_move code_of Step act laws code plain moves not plain_is
-          (subst (AreMoves moves plain) (untold not) lists)
-    ]
+either-moves code_of Step act laws code plain marked moves plain_is sound whole lists next gains = (
+  λ among. elim ((lists (next, gains)).0 among) [
+    | inl is ↦ (true, Plain, (plain_is next gains).0 is)
+    | inr is ↦ (false, Restart, sound next gains is)
+  ],
+  λ move.
+      let by = move.2 in
+      (lists (next, gains)).1
+      (elim (two_ways act laws move.0 move.1 by.before by.after gains by.step) [
+        | inl step ↦ inl ((plain_is next gains).1 (record {
+          before = by.before;
+          after = by.after;
+          starts = by.starts;
+          ends = by.ends;
+          step = step;
+        }))
+        | inr step ↦
+            elim (whole next gains (record {
+              before = by.before;
+              after = by.after;
+              starts = by.starts;
+              ends = by.ends;
+              step = step;
+            })) [
+              | inl is ↦ inr is
+              | inr other ↦ inl ((plain_is next gains).1 other)
+            ]
+      ]),
+)
+
+-- a step with a mark is one without a mark too, where a mark leads nowhere else
+pub unmarked : {State : Type 0} (code_of : State → ℕ)
+    (Step : Bool → Reading → State → State → Gains → Type 0) (code : ℕ) (state : State)
+    → ((one other : State) → code_of one ≡ code_of other → one ≡ other) → code_of state ≡ code
+    → ((after : State) (gains : Gains) → Step false Restart state after gains
+    → Step true Plain state after gains)
+    → (next : ℕ) (gains : Gains) → IsMarkedStep code_of Step true code next gains
+    → IsMarkedStep code_of Step false code next gains
+unmarked code_of Step code state apart its unheeded next gains step =
+    let same : step.before ≡ state = apart step.before state (step.starts ∙ sym its) in
+    record {
+      before = state;
+      after = step.after;
+      starts = its;
+      ends = step.ends;
+      step = unheeded step.after gains
+          (subst (λ s. Step false Restart s step.after gains) same step.step);
+    }

@@ -1,12 +1,11 @@
 //! The states that are possible now, with what the sums may be.
 
-ghost use Rattle.std.specs.Prelude.{◌≡◌, ◌<◌, ◌+◌, ◌^◌, ◌↔◌, ◌⊎◌, ℕ, true, List, [], ◌∷◌, All, None, Some, IfSome, length};
+ghost use Rattle.std.specs.Prelude.{◌≡◌, ◌<◌, ◌+◌, ◌^◌, ◌↔◌, ◌⊎◌, ℕ, false, true, List, [], ◌∷◌, All, None, Some, IfSome, length};
 ghost use Rattle.std.specs.Bool.{OnFalse, OnTrue};
 ghost use Rattle.mdb_bus.specs.declared.act.Act.{Act};
-ghost use Rattle.mdb_bus.specs.Choice.{IsAck};
 ghost use Rattle.mdb_cash.specs.declared.gains.Gains.{Gains};
 ghost use Rattle.mdb_cash.specs.Gains.{IsSmall};
-ghost use Rattle.mdb_cash.specs.Pair.{IsMarkedStep, IsReply};
+ghost use Rattle.mdb_cash.specs.Pair.{IsMarkedStep};
 ghost use Rattle.mdb_follow.specs.Arrivals.{Arrives};
 ghost use Rattle.mdb_follow.specs.Limits.{IsTableWithin};
 ghost use Rattle.mdb_follow.specs.Ranges.{IsCell};
@@ -18,7 +17,7 @@ use crate::Cell;
 use crate::entries::{add_steps, join_all, lead_only};
 use crate::list::Entries;
 use mdb_bus::Act;
-use mdb_cash::{Gains, Pair, may_be_marked};
+use mdb_cash::{Gains, Pair};
 use std::marker::Model;
 
 /// The states of a pair that are possible now, by their codes, each with what the sums may be.
@@ -239,18 +238,21 @@ fn fill<P: Pair, const N: usize>(
 }
 
 /// The step that an act with a mark is, from the state of a code. `None` where there is no such
-/// step, and where a mark says nothing.
+/// step, and it may be where a mark leads nowhere else.
 // Not inlined, so that the step is made where it is looked at, and not moved there.
 #[inline(never)]
 fn marked_step<P: Pair>(facts: &P::Facts, act: &Act, code: usize) -> Option<(usize, Gains)>
     requires { code < P.CODES }
-    ensures told { IsAck act.now ⊎ IsReply act.now → (acts : List Act)
-        → P.stands_for facts.now acts → (next : ℕ) (gains : Gains) → (result ≡ Some (next, gains))
-        ↔ IsMarkedStep P.code_of (P.may_step acts act.now) true code next gains }
-    ensures untold { (IsAck act.now ⊎ IsReply act.now → ⊥) → result ≡ None }
+    ensures sound { (acts : List Act) → P.stands_for facts.now acts → (next : ℕ) (gains : Gains)
+        → result ≡ Some (next, gains)
+        → IsMarkedStep P.code_of (P.may_step acts act.now) true code next gains }
+    ensures whole { (acts : List Act) → P.stands_for facts.now acts → (next : ℕ) (gains : Gains)
+        → IsMarkedStep P.code_of (P.may_step acts act.now) true code next gains
+        → (result ≡ Some (next, gains))
+        ⊎ IsMarkedStep P.code_of (P.may_step acts act.now) false code next gains }
     ensures below { IfSome result (λ move. (move.0 < P.CODES) × IsSmall move.1) }
 {
-    if may_be_marked(act) {
+    if P::heeds_mark(act, P::state(code)) {
         P::step(facts, act, code, true)
     } else {
         None

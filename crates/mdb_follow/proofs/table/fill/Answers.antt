@@ -61,8 +61,9 @@ loop-code-preserved g c =
             readings = λ heard one. g.met.P.Pair.readings acts c.args.act.now heard one;
           })
           _ c.step-plain.result c.marked_step-marked.result moves.0
-          (c.step-plain.ensures.steps acts stands) (λ may. c.marked_step-marked.ensures.told may acts stands)
-          c.marked_step-marked.ensures.untold moves.1)
+          (c.step-plain.ensures.steps acts stands)
+          (c.marked_step-marked.ensures.sound acts stands)
+          (c.marked_step-marked.ensures.whole acts stands) moves.1)
           refl below c.loop-code.invariant.keyed moves.2
           (c.loop-code.invariant.led acts stands table);
       within = λ limit all.

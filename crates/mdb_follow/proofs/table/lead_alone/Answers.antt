@@ -39,8 +39,8 @@ arrives g c acts entry after stands table only led =
     (code-is c.as_slice.result.now entry _ (c.as_slice.ensures ∙ only))
     g.met.P.Pair.apart c.requires.size c.step-plain.ensures.below
     c.marked_step-marked.ensures.below (c.step-plain.ensures.steps acts stands)
-    (λ may. c.marked_step-marked.ensures.told may acts stands)
-    c.marked_step-marked.ensures.untold table led
+    (c.marked_step-marked.ensures.sound acts stands)
+    (c.marked_step-marked.ensures.whole acts stands) table led
 
 table-told : (g : given.Over) (c : goal.After-lead_only g) → c.lead_only.result ≡ true
     → (acts : List Act) → g.P.Pair.stands_for c.args.facts.now acts
