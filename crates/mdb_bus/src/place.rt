@@ -335,35 +335,24 @@ impl Place {
         ensures unchanged { OnErr result (self.new ≡ self.old) }
         ensures untouched { OnErr result (act.new ≡ act.old) }
     {
-        let reply = self.read_reply(levels)?;
-        match self.phase {
-            Phase::InReply => {
-                self.phase = Phase::Replied;
-                self.answer = Spelled {
-                    reply,
-                    bytes: self.bytes.copy(),
-                };
-                *act = Act::Reply(self.command, self.answer.reply.copy());
-                Ok(())
-            }
-            _ => unreachable!(),
-        }
-    }
-
-    /// The reply whose bytes were sent, or the rule that it breaks.
-    #[inline(always)]
-    fn read_reply(&self, levels: Levels) -> Result<Reply, Rule>
-        ensures { IsReadAt (position_at self.now) levels result }
-    {
         let Phase::InReply = self.phase else {
             return Err(Rule::Answer);
         };
         see_bytes(self.bytes.as_slice());
-        match reply_of(&self.command, self.bytes.as_slice()) {
-            Err(fault) => Err(rule_of(fault)),
-            Ok(reply) if levels.fit(self.command, &reply) => Ok(reply),
-            Ok(_) => Err(Rule::Profile),
+        let reply = match reply_of(&self.command, self.bytes.as_slice()) {
+            Ok(reply) => reply,
+            Err(fault) => return Err(rule_of(fault)),
+        };
+        if !levels.fit(self.command, &reply) {
+            return Err(Rule::Profile);
         }
+        *act = Act::Reply(self.command, reply.copy());
+        self.phase = Phase::Replied;
+        self.answer = Spelled {
+            reply,
+            bytes: self.bytes.copy(),
+        };
+        Ok(())
     }
 
     /// The controller acknowledges the reply.

@@ -12,7 +12,7 @@ use std::io::Read;
 use std::marker::Model;
 
 /// The most rows of a batch.
-pub(crate) const BATCH: usize = 64;
+pub(crate) const BATCH: usize = 128;
 
 /// What comes behind the rows of a batch.
 #[derive(Clone, Copy, PartialEq, Eq, Debug)]
@@ -88,6 +88,8 @@ impl Batch {
 
     /// Reads the next rows in place of these, until there is no room or no row, and answers what
     /// comes behind them.
+    // Not inlined, so that its loop has the processor's registers to itself.
+    #[inline(never)]
     pub(crate) fn refill<R: Read + Drop>(&mut self, records: &mut Records<R>) -> Next
         ensures read { (all : List (List (List ℕ))) → ToCome R.remaining records.old all
             → HasRead R.remaining all records.new self.new result }

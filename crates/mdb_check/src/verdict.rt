@@ -27,7 +27,7 @@ use std::io::{Read, Write};
 pub const BYTES_MAX: u64 = 6_400_000_000;
 
 /// The most batches of rows: together they are [`ROWS_MAX`] rows.
-const BATCHES_MAX: u64 = 1_562_500;
+const BATCHES_MAX: u64 = 781_250;
 
 /// Reads a transcript, writes the text of its verdict, and answers it.
 ///

@@ -21,9 +21,9 @@ fn has_at(entries: &[(usize, Cell)], place: usize, code: usize) -> bool
     place < entries.len() && entries[place].0 == code
 }
 
-/// Takes in one cell more, which is a cell with the gains of a step: joined to that of its code, else
-/// as an entry of its own. The places of the entries are noted under their codes; what is noted
-/// under other codes may be anything.
+/// Takes in one cell more, which is a cell with the gains of a step: joined to that of its code,
+/// else as an entry of its own. The places of the entries are noted under their codes; what is
+/// noted under other codes may be anything.
 // The gains are added where the sums are written, and not beforehand.
 fn add_cell<const N: usize>(
     entries: &mut Entries<N>,

@@ -179,8 +179,8 @@ fn all_rest<P: Pair>(act: &Act, entries: &[(usize, Cell)]) -> bool
     true
 }
 
-/// Puts the entries behind an act in place of the only one before it. Where there is none it answers
-/// `false`, and the entry stays.
+/// Puts the entries behind an act in place of the only one before it. Where there is none it
+/// answers `false`, and the entry stays.
 fn lead_alone<P: Pair, const N: usize>(
     facts: &P::Facts,
     act: &Act,

@@ -212,10 +212,13 @@ fn read_content(command: &Command, content: &[u8]) -> Result<Reply, MsgFault>
     if !form.allows(content.len()) {
         return Err(MsgFault::Length);
     }
-    match read_form(form, content) {
-        Ok(reply) if !may_keep(command) && reply.has_kept() => Err(MsgFault::Answer),
-        read => read,
+    let read = read_form(form, content);
+    if let Ok(reply) = &read {
+        if !may_keep(command) && reply.has_kept() {
+            return Err(MsgFault::Answer);
+        }
     }
+    read
 }
 
 /// The reply to a command that a block spells.

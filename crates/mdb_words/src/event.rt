@@ -140,6 +140,18 @@ impl Event {
     }
 }
 
+/// The line that each letter from `M` to `S` tells. Looked up, since which of the two it is can't be
+/// foreseen, and a processor loses time where it foresees wrongly.
+static LINES: [Option<Line>; 7] = [
+    Some(Line::Controller),
+    None,
+    None,
+    None,
+    None,
+    None,
+    Some(Line::Peripheral),
+];
+
 /// The line that the letter of a row tells; `None` where it tells none.
 #[inline(always)]
 fn line_of(letter: &[u8]) -> Option<Line>
@@ -147,8 +159,7 @@ fn line_of(letter: &[u8]) -> Option<Line>
     ensures none { IfNone result ((line : Line) → letter.now ≢ letter_of line ∷ []) }
 {
     match letter {
-        [b'M'] => Some(Line::Controller),
-        [b'S'] => Some(Line::Peripheral),
+        [letter @ b'M'..=b'S'] => LINES[usize::from(*letter - b'M')],
         _ => None,
     }
 }

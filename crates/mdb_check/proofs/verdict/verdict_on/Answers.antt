@@ -21,14 +21,14 @@ loop-init g c = record {
 pub returns-in-Err-clause-answer : goal.returns-in-Err-clause-answer
 returns-in-Err-clause-answer g c all to_come =
     let Offends : List Event → Type 0 = λ rows. (before : List Event) → StandsFor c.loop.follower before → HasOffence before rows c.in-Err.offence in
-    batches.offence_in g.R.Read.remaining all c.loop.records c.refill-next.new.records c.loop.follower (c.loop.counter * 64) c.refill-next.new.self c.in-Err.offence
+    batches.offence_in g.R.Read.remaining all c.loop.records c.refill-next.new.records c.loop.follower (c.loop.counter * 128) c.refill-next.new.self c.in-Err.offence
     (c.loop.invariant.taken all to_come) c.refill-next.result c.refill-next.ensures.read (subst Offends c.as_slice.ensures.rows c.in-Err.ensures.offence)
     (omega (arith, c.loop-test.true, c.as_slice.ensures.few))
 
 pub returns-in-End-clause-answer : goal.returns-in-End-clause-answer
 returns-in-End-clause-answer g c all to_come =
     let Goes : List Event → Type 0 = λ rows. Follows c.loop.follower c.feed_all.new.self rows in
-    batches.answered c.sales_follow_their_approvals.ensures g.R.Read.remaining all c.loop.records c.refill-next.new.records c.loop.follower c.feed_all.new.self (c.loop.counter * 64)
+    batches.answered c.sales_follow_their_approvals.ensures g.R.Read.remaining all c.loop.records c.refill-next.new.records c.loop.follower c.feed_all.new.self (c.loop.counter * 128)
     c.refill-next.new.self (c.loop.invariant.taken all to_come) c.refill-next.result c.in-End.is c.refill-next.ensures.read (subst Goes c.as_slice.ensures.rows c.in_default.ensures.reached)
     (omega (arith, c.loop-test.true, c.as_slice.ensures.few)) c.outcome_of.result c.outcome_of.ensures
 
@@ -37,7 +37,7 @@ returns-in-BadRow-clause-answer g c all to_come =
     let Goes : List Event → Type 0 = λ rows. Follows c.loop.follower c.feed_all.new.self rows in
     let Counted : List Event → Type 0 = λ rows. rows_of c.feed_all.new.self ≡ rows_of c.loop.follower + length rows in
     let counted : rows_of c.feed_all.new.self ≡ rows_of c.loop.follower + length c.refill-next.new.self = subst Counted c.as_slice.ensures.rows c.in_default.ensures.counted in
-    batches.bad_row c.followers_stand_for_reached_rows.ensures g.R.Read.remaining all c.loop.records c.refill-next.new.records c.loop.follower c.feed_all.new.self (c.loop.counter * 64)
+    batches.bad_row c.followers_stand_for_reached_rows.ensures g.R.Read.remaining all c.loop.records c.refill-next.new.records c.loop.follower c.feed_all.new.self (c.loop.counter * 128)
     (c.rows.result + 1) c.refill-next.new.self c.in-BadRow.fault (c.loop.invariant.taken all to_come) c.refill-next.result c.in-BadRow.is c.refill-next.ensures.read
     (subst Goes c.as_slice.ensures.rows c.in_default.ensures.reached) (omega (arith, c.loop-test.true)) (omega (arith, c.rows.ensures, counted, c.loop.invariant.counted))
 
@@ -52,9 +52,9 @@ loop-preserved g c =
     let Counted : List Event → Type 0 = λ rows. rows_of c.feed_all.new.self ≡ rows_of c.loop.follower + length rows in
     let counted : rows_of c.feed_all.new.self ≡ rows_of c.loop.follower + length c.refill-next.new.self = subst Counted c.as_slice.ensures.rows c.in_default.ensures.counted in
     record {
-      taken = λ all to_come. batches.taken g.R.Read.remaining all c.loop.records c.refill-next.new.records c.loop.follower c.feed_all.new.self (c.loop.counter * 64)
+      taken = λ all to_come. batches.taken g.R.Read.remaining all c.loop.records c.refill-next.new.records c.loop.follower c.feed_all.new.self (c.loop.counter * 128)
           c.refill-next.new.self (c.loop.invariant.taken all to_come) c.refill-next.result c.in-More.is c.refill-next.ensures.read (subst Goes c.as_slice.ensures.rows c.in_default.ensures.reached)
-          (c.in-More.ensures.full refl) ((c.loop.counter + 1) * 64) (omega arith);
+          (c.in-More.ensures.full refl) ((c.loop.counter + 1) * 128) (omega arith);
       over = λ over. c.in-More.ensures.over (c.loop.invariant.over over);
       met = λ none. c.in-More.ensures.met (c.loop.invariant.met none);
       counted = omega (arith, counted, c.loop.invariant.counted, c.in-More.ensures.full refl);
@@ -62,10 +62,10 @@ loop-preserved g c =
 
 pub returns-then-more-clause-answer : goal.returns-then-more-clause-answer
 returns-then-more-clause-answer g c all to_come =
-    reading.too_long c.followers_stand_for_reached_rows.ensures g.R.Read.remaining all c.loop.records c.advance.new.self c.loop.follower (c.loop.counter * 64)
+    reading.too_long c.followers_stand_for_reached_rows.ensures g.R.Read.remaining all c.loop.records c.advance.new.self c.loop.follower (c.loop.counter * 128)
     (c.loop.invariant.taken all to_come) c.in_ok-more.more c.if-more.true c.in_ok-more.ensures.next (omega (arith, c.loop-test.false, c.loop.auto.counter-end))
 
 pub returns-clause-answer : goal.returns-clause-answer
 returns-clause-answer g c all to_come =
-    reading.ended c.sales_follow_their_approvals.ensures g.R.Read.remaining all c.loop.records c.advance.new.self c.loop.follower (c.loop.counter * 64)
+    reading.ended c.sales_follow_their_approvals.ensures g.R.Read.remaining all c.loop.records c.advance.new.self c.loop.follower (c.loop.counter * 128)
     (c.loop.invariant.taken all to_come) c.in_ok-more.more c.if-more.false c.in_ok-more.ensures.next (omega (arith, c.loop-test.false, c.loop.auto.counter-end)) c.outcome_of-2.result c.outcome_of-2.ensures

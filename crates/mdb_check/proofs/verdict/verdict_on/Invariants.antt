@@ -7,8 +7,8 @@ use Rattle.mdb_check.proofs.verdict.verdict_on.Given as goal
 -- the rows so far are taken, and the rest of the records is to come; a text that is too long still is
 abbrev pub invariant-loop : goal.invariant-loop
 invariant-loop g l = record {
-  taken : (all : List (List (List ℕ))) → ToCome g.R.Read.remaining l.fn.records all → Progress g.R.Read.remaining all l.records l.follower (l.counter * 64);
+  taken : (all : List (List (List ℕ))) → ToCome g.R.Read.remaining l.fn.records all → Progress g.R.Read.remaining all l.records l.follower (l.counter * 128);
   over : IsOverLimit g.R.Read.remaining l.fn.records → IsOverLimit g.R.Read.remaining l.records;
   met : fault_of l.fn.records ≡ None → fault_of l.records ≡ None;
-  counted : rows_of l.follower ≡ l.counter * 64;
+  counted : rows_of l.follower ≡ l.counter * 128;
 }
