@@ -115,8 +115,6 @@ impl Follower {
     /// # Errors
     ///
     /// The offence of the first row that cannot be, as from `feed`, or one that was met before.
-    // Not inlined, so that its loop has the processor's registers to itself.
-    #[inline(never)]
     pub fn feed_all(&mut self, events: &[Event]) -> Result<(), Offence>
         requires { rows_of self.old + length events.now ≤ ROWS_MAX }
         ensures reached { (before : List Event) → StandsFor self.old before
