@@ -1,4 +1,3 @@
-pub mod Batches
 pub mod Fields
 pub mod Headline
 pub mod OneAnswer

@@ -1,5 +1,4 @@
 pub mod Accounts
-pub mod Batch
 pub mod Headline
 pub mod Program
 pub mod Show

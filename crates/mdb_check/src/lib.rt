@@ -2,7 +2,6 @@
 //! said these words at these times, and what the money can have come to then.
 #![tactic(auto)]
 
-mod batch;
 pub mod laws;
 mod outcome;
 mod page;

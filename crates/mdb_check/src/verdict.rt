@@ -7,17 +7,16 @@ ghost use Rattle.csv.specs.Records.{field_at, fields_of};
 ghost use Rattle.mdb_records.specs.ToCome.{IsOverLimit, IsUncut, ToCome, fault_of};
 ghost use Rattle.mdb_check.specs.Headline.{Headline};
 ghost use Rattle.mdb_check.specs.Text.{report_text};
-ghost use Rattle.mdb_check.specs.Verdict.{IsAnswer, IsYes, HasMet, HasOutcome, IsNoYes, IsToldAs};
+ghost use Rattle.mdb_check.specs.Verdict.{IsAnswer, IsYes, HasMet, HasOutcome, IsNoYes, run_fault_of};
 ghost use Rattle.mdb_follow.specs.Follower.{StandsFor};
 ghost use Rattle.mdb_words.specs.declared.event.Event.{Event};
 ghost use Rattle.mdb_words.specs.Row.{Tells};
 
-use super::batch::{Batch, Next};
 use super::laws::verdicts_say_the_headline;
 use super::outcome::{Outcome, RunFault};
 use super::text::text_of;
 use csv::ByteRecord;
-use mdb_follow::{Follower, laws};
+use mdb_follow::{Follower, ROWS_MAX, laws};
 use mdb_records::Records;
 use mdb_words::{Event, RowFault};
 use std::alloc::Global;
@@ -25,9 +24,6 @@ use std::io::{Read, Write};
 
 /// The most bytes of an input (this profile).
 pub const BYTES_MAX: u64 = 6_400_000_000;
-
-/// The most batches of rows: together they are [`ROWS_MAX`] rows.
-const BATCHES_MAX: u64 = 781_250;
 
 /// Reads a transcript, writes the text of its verdict, and answers it.
 ///
@@ -38,7 +34,7 @@ const BATCHES_MAX: u64 = 781_250;
 /// # Errors
 ///
 /// `BadRow` for the first record that is no row, if no row before it is impossible; `TooLong` for a
-/// record past [`ROWS_MAX`](mdb_follow::ROWS_MAX); `Read` where the reader failed, or for an input of more than
+/// record past [`ROWS_MAX`]; `Read` where the reader failed, or for an input of more than
 /// [`BYTES_MAX`] bytes that isn't answered before; `Memory` where memory was refused. Nothing has
 /// been written then. `Write` where the writer failed: then nothing is said of how much was
 /// written.
@@ -103,26 +99,27 @@ fn verdict_on<R: Read + Drop>(records: &mut Records<R>) -> Result<Outcome, RunFa
     ensures whole { IsOverLimit R.remaining records.old → IsNoYes result }
     ensures heard { IfErr result (HasMet (fault_of records.new)) }
     ensures met { fault_of records.old ≡ None → IfSome (fault_of records.new)
-        (λ fault. IsToldAs fault result) }
+        (λ fault. result ≡ Err (run_fault_of fault)) }
     ensures not_write { IfErr result (λ fault. fault ≢ RunFault.Write) }
 {
     laws::followers_stand_for_reached_rows();
     laws::sales_follow_their_approvals();
     let mut follower = Follower::new();
-    let mut batch = Batch::new();
-    for _ in 0..BATCHES_MAX {
-        let next = batch.refill(records);
-        if let Err(offence) = follower.feed_all(batch.as_slice()) {
-            return Ok(Outcome::No(offence));
+    for row in 0..ROWS_MAX {
+        let found = records.advance()?;
+        if !found {
+            return Ok(outcome_of(&follower));
         }
-        match next {
-            Next::More => {}
-            Next::End => return Ok(outcome_of(&follower)),
-            Next::BadRow(fault) => return Err(RunFault::BadRow {
-                row: follower.rows() + 1,
+        let event = match event_of(records.row()) {
+            Ok(event) => event,
+            Err(fault) => return Err(RunFault::BadRow {
+                row: row + 1,
                 fault,
             }),
-            Next::Failed(fault) => return Err(RunFault::from(fault)),
+        };
+        match follower.feed(event) {
+            Ok(()) => {}
+            Err(offence) => return Ok(Outcome::No(offence)),
         }
     }
     let more = records.advance()?;
