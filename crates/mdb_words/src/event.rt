@@ -140,8 +140,8 @@ impl Event {
     }
 }
 
-/// The line that each letter from `M` to `S` tells. Looked up, since which of the two it is can't be
-/// foreseen, and a processor loses time where it foresees wrongly.
+/// The line that each letter from `M` to `S` tells. Looked up, since which of the two it is can't
+/// be foreseen, and a processor loses time where it foresees wrongly.
 static LINES: [Option<Line>; 7] = [
     Some(Line::Controller),
     None,

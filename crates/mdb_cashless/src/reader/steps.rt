@@ -174,8 +174,8 @@ pub(crate) fn rests(unit: ReaderUnit, act: &Act, state: ReaderState) -> bool
     }
 }
 
-/// Whether a mark may lead an act from a state elsewhere than no mark does: an ACK that isn't heard,
-/// or a reply that tells of a restart.
+/// Whether a mark may lead an act from a state elsewhere than no mark does: an ACK that isn't
+/// heard, or a reply that tells of a restart.
 // It doesn't look at whose the act is: acts that are no matter of the pair aren't asked about.
 #[inline(always)]
 pub(crate) fn heeds_mark(act: &Act, state: ReaderState) -> bool
