@@ -14,8 +14,7 @@ use super::levels::Levels;
 use arrayvec::ArrayVec;
 use mdb_blocks::{Block, seal};
 use mdb_msgs::{
-    ChangerCommand, ChangerMsg, Command, Device, MsgFault, Reply, command_of, laws, polled,
-    reply_of,
+    ChangerCommand, ChangerMsg, Command, MsgFault, Reply, command_of, laws, polled, reply_of,
 };
 use mdb_words::Event;
 use std::marker::Model;
@@ -160,7 +159,6 @@ pub struct Place {
 }
 
 impl Place {
-    ghost use Rattle.mdb_msgs.specs.Commands.{poll_of};
     ghost use Rattle.mdb_bus.specs.ActLists as lists;
     ghost use Rattle.mdb_bus.specs.declared.act.Act.TheVariants as acts;
     ghost use Rattle.mdb_bus.specs.Bus.{ended_act, position_at};
@@ -258,27 +256,14 @@ impl Place {
         let Phase::InAsk = self.phase else {
             return false;
         };
-        // A POLL, which most asks are, is known without a call, and not copied.
+        // A POLL, which most asks are, is known without a call.
         if let Some(device) = polled(self.bytes.as_slice()) {
-            return self.ask_poll(device, act);
+            return self.ask(device.poll(), act);
         }
         match command_of(self.bytes.as_slice()) {
             Ok(command) => self.ask(command, act),
             Err(_) => false,
         }
-    }
-
-    /// The controller has asked the POLL of a device.
-    // The POLL is made twice, since to move it costs more.
-    #[inline(always)]
-    fn ask_poll(&mut self, device: Device, act: &mut Act) -> bool
-        ensures asked { position_at self.new ≡ lists.Asked (poll_of device) }
-        ensures ended { ended_act result act.new ≡ Some (acts.Ask (poll_of device)) }
-        ensures ends { result ≡ true }
-    {
-        self.phase = Phase::Asked;
-        self.command = device.poll();
-        act.note(Act::Ask(device.poll()))
     }
 
     /// The controller has asked a command.
