@@ -1,3 +1,4 @@
+pub mod Batches
 pub mod Fields
 pub mod Headline
 pub mod OneAnswer

@@ -1,23 +1,19 @@
 -- How far the reading of the records of a text has come.
-use Rattle.std.proofs.Common.{arith, refl, ap, sym, subst, ◌∙◌, ◌≡◌, ◌+◌, ◌<◌, ◌≤◌, ℕ, List, [], ◌∷◌, ◌++◌, Option, Bool, true, false, Result, Ok, Err, length, length-append, append_assoc, IfOk, IfErr, IsOk}
+use Rattle.std.proofs.Common.{arith, refl, ap, sym, subst, ◌∙◌, ◌≡◌, ◌≤◌, ℕ, List, [], ◌∷◌, ◌++◌, Option, Bool, true, false, Result, Ok, Err, length, IfOk, IfErr, IsOk}
 use Rattle.std.proofs.lemmas.List.{append-nil}
 use Rattle.mdb_words.specs.declared.event.Event.{Event}
 use Rattle.mdb_words.specs.declared.row.RowFault.{RowFault}
 use Rattle.mdb_words.specs.Row.{IsRow, IsRefusal, Tells}
-use Rattle.mdb_records.specs.declared.ReadFault.{ReadFault}
-use Rattle.mdb_records.specs.declared.ReadFault.TheVariants as reading
 use Rattle.mdb_records.specs.declared.Records.{Records}
 use Rattle.mdb_records.specs.ToCome.{Advances, ToCome, current_fields}
 use Rattle.mdb_follow.specs.declared.follower.Follower.{Follower}
 use Rattle.mdb_follow.specs.declared.follower.TheConstants.{ROWS_MAX}
-use Rattle.mdb_follow.specs.declared.offence.Offence.{Offence}
 use Rattle.mdb_follow.specs.Follower.{StandsFor}
-use Rattle.mdb_follow.specs.Offences.{IsOffence}
 use Rattle.mdb_follow.specs.Runs.{IsReached}
 use Rattle.mdb_follow.specs.Sales.{SalesFollowApprovals}
 use Rattle.mdb_check.specs.declared.outcome.Outcome.{Outcome}
 use Rattle.mdb_check.specs.declared.outcome.Outcome.TheVariants.{Yes, No}
-use Rattle.mdb_check.specs.Verdict.{AreRows, IsAnswer, IsBadRow, IsImpossible, IsTooLong, IsYes, LeadUpTo, run_fault_of}
+use Rattle.mdb_check.specs.Verdict.{AreRows, IsAnswer, IsTooLong, IsYes, LeadUpTo}
 
 -- what a follower stands for is reached
 abbrev pub Reaches : Type 0
@@ -80,64 +76,10 @@ pub too_long : {R : Type 0} → Reaches → (remaining : R → Option (List ℕ)
 too_long reaches remaining all old new follower count progress found is advances full =
     record { rows = progress.before; fields = current_fields new; stops = stops reaches remaining all old new follower count progress (one_found remaining old new progress.rest found is advances progress.to_come); full = progress.number ∙ full }
 
--- a record is no row
-pub bad_row : {R : Type 0} → Reaches → (remaining : R → Option (List ℕ)) (all : List (List (List ℕ))) (old new : Records R) (follower : Follower) (count row : ℕ) (fault : RowFault) → Progress remaining all old follower count
-    → (found : Bool) → found ≡ true → ((rows : List (List (List ℕ))) → ToCome remaining old rows → Advances remaining new found rows) → count < ROWS_MAX → row ≡ count + 1 → IsRefusal (current_fields new) fault → IsBadRow all row fault
-bad_row reaches remaining all old new follower count row fault progress found is advances few number refused =
-    record {
-      rows = progress.before;
-      fields = current_fields new;
-      stops = stops reaches remaining all old new follower count progress (one_found remaining old new progress.rest found is advances progress.to_come);
-      few = omega (arith, progress.number, few);
-      number = omega (arith, progress.number, number);
-      refused = refused;
-    }
-
--- a row cannot be
-pub offence_at : {R : Type 0} → Reaches → (remaining : R → Option (List ℕ)) (all : List (List (List ℕ))) (old new : Records R) (follower : Follower) (count : ℕ) (event : Event) (offence : Offence)
-    → Progress remaining all old follower count → (found : Bool) → found ≡ true → ((rows : List (List (List ℕ))) → ToCome remaining old rows → Advances remaining new found rows) → count < ROWS_MAX
-    → IsRow (current_fields new) event → ((rows : List Event) → StandsFor follower rows → IsOffence rows event offence) → IsImpossible all offence
-offence_at reaches remaining all old new follower count event offence progress found is advances few told refused =
-    record {
-      rows = progress.before;
-      row = event;
-      fields = current_fields new;
-      stops = stops reaches remaining all old new follower count progress (one_found remaining old new progress.rest found is advances progress.to_come);
-      told = told;
-      few = omega (arith, progress.number, few);
-      is = refused progress.before progress.stands;
-    }
-
--- a row is taken
-pub goes_on : {R : Type 0} (remaining : R → Option (List ℕ)) (all : List (List (List ℕ))) (old new : Records R) (follower next : Follower) (count : ℕ) (event : Event) → Progress remaining all old follower count
-    → (found : Bool) → found ≡ true → ((rows : List (List (List ℕ))) → ToCome remaining old rows → Advances remaining new found rows) → IsRow (current_fields new) event
-    → ((rows : List Event) → StandsFor follower rows → StandsFor next (rows ++ event ∷ [])) → Progress remaining all new next (count + 1)
-goes_on remaining all old new follower next count event progress more is advances told stands =
-    let found = one_found remaining old new progress.rest more is advances progress.to_come in
-    record {
-      done = progress.done ++ current_fields new ∷ [];
-      rest = found.0;
-      before = progress.before ++ event ∷ [];
-      split = progress.split ∙ (ap (λ l. progress.done ++ l) found.1 ∙ sym (append_assoc progress.done (current_fields new ∷ []) found.0));
-      to_come = found.2;
-      told = rows_push progress.done progress.before (current_fields new) event progress.told told;
-      stands = stands progress.before progress.stands;
-      number = omega (arith, progress.number, length-append progress.before (event ∷ []));
-    }
-
 -- what is told of a record
 pub tells : (read : Result Event RowFault) (fields : List (List ℕ)) → IfOk read (IsRow fields) → IfErr read (IsRefusal fields) → Tells read fields
 tells (Ok event) fields ok err = ok
 tells (Err fault) fields ok err = err
-
--- of a refused read the records say nothing
-pub refused_read : (records : List (List (List ℕ))) (fault : ReadFault) → IsAnswer records (Err (run_fault_of fault))
-refused_read records reading.Read = tt
-refused_read records reading.Memory = tt
-
--- a text that goes on behind the limit has no end
-pub not_ended : (found : Bool) → found ≡ false → found ≡ true → ⊥
-not_ended found ends goes = cc
 
 -- what answers isn't refused
 pub not_refused : {T E : Type 0} (answer : Result T E) (e : E) → answer ≡ Err e → IsOk answer → ⊥

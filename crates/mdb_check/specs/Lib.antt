@@ -1,4 +1,5 @@
 pub mod Accounts
+pub mod Batch
 pub mod Headline
 pub mod Program
 pub mod Show

@@ -114,3 +114,9 @@ abbrev pub HasMet : Option ReadFault → RunFault → Type 0
 HasMet met Read = met ≡ Some reading.Read
 HasMet met Memory = met ≡ Some reading.Memory
 HasMet met _ = ⊤
+
+-- a fault of reading that was met is the answer, or a row before it can't be
+abbrev pub IsToldAs : ReadFault → Result Outcome RunFault → Type 0
+IsToldAs met (Ok (Yes report)) = ⊥
+IsToldAs met (Ok (No offence)) = ⊤
+IsToldAs met (Err fault) = fault ≡ run_fault_of met

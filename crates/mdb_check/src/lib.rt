@@ -2,6 +2,7 @@
 //! said these words at these times, and what the money can have come to then.
 #![tactic(auto)]
 
+mod batch;
 pub mod laws;
 mod outcome;
 mod page;

@@ -363,20 +363,28 @@ fn faults_of_the_program_are_told_on_one_line(rt: HostRuntime) -> Result<(), Fai
     Ok(())
 }
 
+// Ten rows of eight bytes, the first of them one that cannot be.
+const AT_ONCE: &[u8] =
+    b"1,S,100\n1,M,000\n2,M,000\n3,M,000\n4,M,000\n5,M,000\n6,M,000\n7,M,000\n8,M,000\n9,M,000\n";
+
 #[test]
 fn an_offence_ends_the_reading(rt: HostRuntime) {
-    let mut out = Vec::new(rt.alloc());
-    let mut reader = Pieces::failing(b"1,S,100\nx\nx\nx\nx\n", 8, 3, ErrorKind::BrokenPipe);
     let offence = Offence {
         row: 1,
         rule: Rule::Speaker,
         blame: Blame::Other,
     };
-    assert_eq!(rt;
-        check(rt.alloc(), &mut reader, &mut out),
-        Ok(Outcome::No(offence))
-    );
-    assert!(rt; !reader.has_failed());
+    // In small pieces, and in one of many rows.
+    let short = b"1,S,100\nx\nx\nx\nx\n".as_slice();
+    for (text, most, failing) in [(short, 8, 3), (AT_ONCE, 80, 2)] {
+        let mut out = Vec::new(rt.alloc());
+        let mut reader = Pieces::failing(text, most, failing, ErrorKind::BrokenPipe);
+        assert_eq!(rt;
+            check(rt.alloc(), &mut reader, &mut out),
+            Ok(Outcome::No(offence))
+        );
+        assert!(rt; !reader.has_failed());
+    }
 }
 
 #[test]

@@ -7,11 +7,12 @@ ghost use Rattle.csv.specs.Records.{field_at, fields_of};
 ghost use Rattle.mdb_records.specs.ToCome.{IsOverLimit, IsUncut, ToCome, fault_of};
 ghost use Rattle.mdb_check.specs.Headline.{Headline};
 ghost use Rattle.mdb_check.specs.Text.{report_text};
-ghost use Rattle.mdb_check.specs.Verdict.{IsAnswer, IsYes, HasMet, HasOutcome, IsNoYes, run_fault_of};
+ghost use Rattle.mdb_check.specs.Verdict.{IsAnswer, IsYes, HasMet, HasOutcome, IsNoYes, IsToldAs};
 ghost use Rattle.mdb_follow.specs.Follower.{StandsFor};
 ghost use Rattle.mdb_words.specs.declared.event.Event.{Event};
 ghost use Rattle.mdb_words.specs.Row.{Tells};
 
+use super::batch::{Batch, Next};
 use super::laws::verdicts_say_the_headline;
 use super::outcome::{Outcome, RunFault};
 use super::text::text_of;
@@ -99,27 +100,26 @@ fn verdict_on<R: Read + Drop>(records: &mut Records<R>) -> Result<Outcome, RunFa
     ensures whole { IsOverLimit R.remaining records.old → IsNoYes result }
     ensures heard { IfErr result (HasMet (fault_of records.new)) }
     ensures met { fault_of records.old ≡ None → IfSome (fault_of records.new)
-        (λ fault. result ≡ Err (run_fault_of fault)) }
+        (λ fault. IsToldAs fault result) }
     ensures not_write { IfErr result (λ fault. fault ≢ RunFault.Write) }
 {
     laws::followers_stand_for_reached_rows();
     laws::sales_follow_their_approvals();
     let mut follower = Follower::new();
-    for row in 0..ROWS_MAX {
-        let found = records.advance()?;
-        if !found {
-            return Ok(outcome_of(&follower));
+    let mut batch = Batch::new();
+    while follower.rows() < ROWS_MAX {
+        let next = batch.refill(records, ROWS_MAX - follower.rows());
+        if let Err(offence) = follower.feed_all(batch.as_slice()) {
+            return Ok(Outcome::No(offence));
         }
-        let event = match event_of(records.row()) {
-            Ok(event) => event,
-            Err(fault) => return Err(RunFault::BadRow {
-                row: row + 1,
+        match next {
+            Next::More => {}
+            Next::End => return Ok(outcome_of(&follower)),
+            Next::BadRow(fault) => return Err(RunFault::BadRow {
+                row: follower.rows() + 1,
                 fault,
             }),
-        };
-        match follower.feed(event) {
-            Ok(()) => {}
-            Err(offence) => return Ok(Outcome::No(offence)),
+            Next::Failed(fault) => return Err(RunFault::from(fault)),
         }
     }
     let more = records.advance()?;

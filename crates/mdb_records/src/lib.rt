@@ -34,6 +34,8 @@ pub struct Records<R> {
     row: ByteRecord,
     // The fault that ended the reading.
     fault: Option<ReadFault>,
+    // The most bytes that are asked of the reader.
+    limit: u64,
     ghost set_up: { fault ≡ None → IsSetUp reader },
 }
 
@@ -64,6 +66,7 @@ impl<R: Read + Drop> Records<R> {
                 .from_reader(alloc, Limited::new(reader, limit)),
             row: ByteRecord::new(alloc),
             fault: None,
+            limit,
         }
     }
 
@@ -97,6 +100,14 @@ impl<R: Read + Drop> Records<R> {
                 Err(fault)
             }
         }
+    }
+
+    /// How many bytes of the text were read and are in no record yet, so that they are there without
+    /// a wait. No clause says so: it tells how soon the next records come, and never which.
+    #[inline(always)]
+    pub fn bytes_ahead(&self) -> u64 {
+        let given = self.limit.saturating_sub(self.reader.get_ref().left());
+        given.saturating_sub(self.reader.position().byte())
     }
 
     /// The record that the last `advance` read.

@@ -28,6 +28,13 @@ impl<R> Limited<R> {
             held: None,
         }
     }
+
+    /// How many bytes may still be given.
+    pub(crate) fn left(&self) -> u64
+        ensures { result ≡ self.now.left }
+    {
+        self.left
+    }
 }
 
 // The error of a text that goes on behind the limit.

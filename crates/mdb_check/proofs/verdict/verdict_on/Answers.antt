@@ -1,52 +1,87 @@
-use Rattle.std.proofs.Common.{arith, refl, ◌≡◌, ◌+◌, ap, subst, ℕ, List}
-use Rattle.mdb_words.specs.Row.{IsRefusal, IsRow}
-use Rattle.mdb_follow.specs.Follower.{rows_of}
+use Rattle.std.proofs.Common.{arith, sym, subst, ◌≡◌, ◌<◌, ◌+◌, ◌-◌, List, ℕ, length}
+use Rattle.mdb_words.specs.declared.event.Event.{Event}
+use Rattle.mdb_follow.specs.declared.follower.TheConstants.{ROWS_MAX}
+use Rattle.mdb_check.specs.declared.batch.Next.{Next}
+use Rattle.mdb_check.specs.Batch.{FitsIn}
+use Rattle.mdb_follow.specs.Follower.{StandsFor, rows_of}
+use Rattle.mdb_follow.specs.Offences.{HasOffence}
+use Rattle.mdb_check.specs.declared.outcome.RunFault.{RunFault}
+use Rattle.mdb_check.specs.Verdict.{HasMet}
+use Rattle.mdb_records.specs.ToCome.{fault_of}
+use Rattle.mdb_check.proofs.Batches as batches
+use Rattle.mdb_check.proofs.Batches.{Follows}
+use Rattle.mdb_check.proofs.Reading.{Progress}
 use Rattle.mdb_check.proofs.Reading as reading
 use Rattle.mdb_check.proofs.verdict.verdict_on.Goals as goal
 
-pub loop-row-init : goal.loop-row-init
-loop-row-init g c = record {
-  taken = λ all to_come. reading.begins g.R.Read.remaining all _ c.new-follower.result to_come c.new-follower.ensures.stands;
+pub loop-batch-init : goal.loop-batch-init
+loop-batch-init g c = record {
+  taken = λ all to_come.
+      let Counted : ℕ → Type 0 = λ count. Progress g.R.Read.remaining all c.args.records.now c.new-follower.result count in
+      subst Counted (sym c.new-follower.ensures.empty) (reading.begins g.R.Read.remaining all c.args.records.now c.new-follower.result to_come c.new-follower.ensures.stands);
   over = λ over. over;
-  counted = c.new-follower.ensures.empty;
+  met = λ none. none;
+  few = omega (arith, c.new-follower.ensures.empty);
 }
-
-pub returns-then-not-found-clause-answer : goal.returns-then-not-found-clause-answer
-returns-then-not-found-clause-answer g c all to_come =
-    reading.ended c.sales_follow_their_approvals.ensures g.R.Read.remaining all c.loop-row.records c.advance.new.self c.loop-row.follower c.loop-row.row
-    (c.loop-row.invariant.taken all to_come) c.in_ok-found.found c.if-not-found.true c.in_ok-found.ensures.next (omega arith) c.outcome_of.result c.outcome_of.ensures
 
 pub returns-in-Err-clause-answer : goal.returns-in-Err-clause-answer
 returns-in-Err-clause-answer g c all to_come =
-    let Refused : List (List ℕ) → Type 0 = λ fields. IsRefusal fields c.in-Err.fault in
-    reading.bad_row c.followers_stand_for_reached_rows.ensures g.R.Read.remaining all c.loop-row.records c.advance.new.self c.loop-row.follower c.loop-row.row (c.loop-row.row + 1)
-    c.in-Err.fault (c.loop-row.invariant.taken all to_come) c.in_ok-found.found c.if-not-found.false c.in_ok-found.ensures.next (omega arith) refl
-    (subst Refused c.row.ensures c.in-Err.ensures)
+    let Offends : List Event → Type 0 = λ rows. (before : List Event) → StandsFor c.loop-batch.follower before → HasOffence before rows c.in-Err.offence in
+    batches.offence_in g.R.Read.remaining all c.loop-batch.records c.refill-next.new.records c.loop-batch.follower (rows_of c.loop-batch.follower) c.refill-next.new.self c.in-Err.offence
+    (c.loop-batch.invariant.taken all to_come) c.refill-next.result c.refill-next.ensures.read (subst Offends c.as_slice.ensures.rows c.in-Err.ensures.offence)
+    (omega (arith, c.loop-batch-test.true, c.rows.ensures, c.rows-in-loop-batch.ensures, batches.fits (ROWS_MAX - c.rows-in-loop-batch.result) c.refill-next.new.self c.refill-next.result c.refill-next.ensures.fits))
 
-pub returns-in-Err-feed-clause-answer : goal.returns-in-Err-feed-clause-answer
-returns-in-Err-feed-clause-answer g c all to_come =
-    let Row : List (List ℕ) → Type 0 = λ fields. IsRow fields c.in-Ok.event in
-    reading.offence_at c.followers_stand_for_reached_rows.ensures g.R.Read.remaining all c.loop-row.records c.advance.new.self c.loop-row.follower c.loop-row.row c.in-Ok.event _
-    (c.loop-row.invariant.taken all to_come) c.in_ok-found.found c.if-not-found.false c.in_ok-found.ensures.next (omega arith)
-    (subst Row c.row.ensures c.in-Ok.ensures) c.in-Err-feed.ensures.offence
+pub returns-in-End-clause-answer : goal.returns-in-End-clause-answer
+returns-in-End-clause-answer g c all to_come =
+    let Goes : List Event → Type 0 = λ rows. Follows c.loop-batch.follower c.feed_all.new.self rows in
+    batches.answered c.sales_follow_their_approvals.ensures g.R.Read.remaining all c.loop-batch.records c.refill-next.new.records c.loop-batch.follower c.feed_all.new.self (rows_of c.loop-batch.follower)
+    c.refill-next.new.self (c.loop-batch.invariant.taken all to_come) c.refill-next.result c.in-End.is c.refill-next.ensures.read (subst Goes c.as_slice.ensures.rows c.in_default.ensures.reached)
+    (omega (arith, c.loop-batch-test.true, c.rows.ensures, c.rows-in-loop-batch.ensures, batches.fits (ROWS_MAX - c.rows-in-loop-batch.result) c.refill-next.new.self c.refill-next.result c.refill-next.ensures.fits)) c.outcome_of.result c.outcome_of.ensures
 
-pub loop-row-preserved : goal.loop-row-preserved
-loop-row-preserved g c =
-    let Row : List (List ℕ) → Type 0 = λ fields. IsRow fields c.in-Ok.event in
+pub returns-in-BadRow-clause-answer : goal.returns-in-BadRow-clause-answer
+returns-in-BadRow-clause-answer g c all to_come =
+    let Goes : List Event → Type 0 = λ rows. Follows c.loop-batch.follower c.feed_all.new.self rows in
+    let Counted : List Event → Type 0 = λ rows. rows_of c.feed_all.new.self ≡ rows_of c.loop-batch.follower + length rows in
+    let counted : rows_of c.feed_all.new.self ≡ rows_of c.loop-batch.follower + length c.refill-next.new.self = subst Counted c.as_slice.ensures.rows c.in_default.ensures.counted in
+    let Fits : Next → Type 0 = λ next. FitsIn (ROWS_MAX - c.rows-in-loop-batch.result) c.refill-next.new.self next in
+    let left : length c.refill-next.new.self < ROWS_MAX - c.rows-in-loop-batch.result = subst Fits c.in-BadRow.is c.refill-next.ensures.fits in
+    batches.bad_row c.followers_stand_for_reached_rows.ensures g.R.Read.remaining all c.loop-batch.records c.refill-next.new.records c.loop-batch.follower c.feed_all.new.self (rows_of c.loop-batch.follower)
+    (c.rows-in-BadRow.result + 1) c.refill-next.new.self c.in-BadRow.fault (c.loop-batch.invariant.taken all to_come) c.refill-next.result c.in-BadRow.is c.refill-next.ensures.read
+    (subst Goes c.as_slice.ensures.rows c.in_default.ensures.reached) (omega (arith, c.loop-batch-test.true, c.rows.ensures, c.rows-in-loop-batch.ensures, left)) (omega (arith, c.rows-in-BadRow.ensures, counted))
+
+pub returns-in-Failed-clause-heard : goal.returns-in-Failed-clause-heard
+returns-in-Failed-clause-heard g c =
+    let Met : RunFault → Type 0 = λ fault. HasMet (fault_of c.refill-next.new.records) fault in
+    subst Met (sym c.from.ensures) (batches.heard c.in-Failed.fault (fault_of c.refill-next.new.records) (c.refill-next.ensures.failed c.in-Failed.fault c.in-Failed.is))
+
+pub loop-batch-preserved : goal.loop-batch-preserved
+loop-batch-preserved g c =
+    let Goes : List Event → Type 0 = λ rows. Follows c.loop-batch.follower c.feed_all.new.self rows in
+    let Counted : List Event → Type 0 = λ rows. rows_of c.feed_all.new.self ≡ rows_of c.loop-batch.follower + length rows in
+    let counted : rows_of c.feed_all.new.self ≡ rows_of c.loop-batch.follower + length c.refill-next.new.self = subst Counted c.as_slice.ensures.rows c.in_default.ensures.counted in
     record {
-      taken = λ all to_come. reading.goes_on g.R.Read.remaining all c.loop-row.records c.advance.new.self c.loop-row.follower c.feed.new.self c.loop-row.row c.in-Ok.event
-          (c.loop-row.invariant.taken all to_come) c.in_ok-found.found c.if-not-found.false c.in_ok-found.ensures.next
-          (subst Row c.row.ensures c.in-Ok.ensures) c.in-Ok-feed.ensures.reached;
-      over = λ over. (c.in_ok-found.ensures.endless (c.loop-row.invariant.over over)).1;
-      counted = subst (λ n. rows_of c.feed.new.self ≡ n) (ap (λ n. n + 1) c.loop-row.invariant.counted) c.in-Ok-feed.ensures.counted;
+      taken = λ all to_come. batches.taken g.R.Read.remaining all c.loop-batch.records c.refill-next.new.records c.loop-batch.follower c.feed_all.new.self (rows_of c.loop-batch.follower)
+          c.refill-next.new.self (c.loop-batch.invariant.taken all to_come) c.refill-next.result c.in-More.is c.refill-next.ensures.read (subst Goes c.as_slice.ensures.rows c.in_default.ensures.reached)
+          (rows_of c.feed_all.new.self) counted;
+      over = λ over. c.in-More.ensures.over (c.loop-batch.invariant.over over);
+      met = λ none. c.in-More.ensures.met (c.loop-batch.invariant.met none);
+      few = omega (arith, counted, c.loop-batch-test.true, c.rows.ensures, c.rows-in-loop-batch.ensures, batches.fits (ROWS_MAX - c.rows-in-loop-batch.result) c.refill-next.new.self c.refill-next.result c.refill-next.ensures.fits);
     }
 
 pub returns-then-more-clause-answer : goal.returns-then-more-clause-answer
 returns-then-more-clause-answer g c all to_come =
-    reading.too_long c.followers_stand_for_reached_rows.ensures g.R.Read.remaining all c.loop-row.records c.advance-2.new.self c.loop-row.follower c.loop-row.row
-    (c.loop-row.invariant.taken all to_come) c.in_ok-more.more c.if-more.true c.in_ok-more.ensures.next (omega arith)
+    reading.too_long c.followers_stand_for_reached_rows.ensures g.R.Read.remaining all c.loop-batch.records c.advance.new.self c.loop-batch.follower (rows_of c.loop-batch.follower)
+    (c.loop-batch.invariant.taken all to_come) c.in_ok-more.more c.if-more.true c.in_ok-more.ensures.next (omega (arith, c.loop-batch-test.false, c.rows.ensures, c.loop-batch.invariant.few))
 
 pub returns-clause-answer : goal.returns-clause-answer
 returns-clause-answer g c all to_come =
-    reading.ended c.sales_follow_their_approvals.ensures g.R.Read.remaining all c.loop-row.records c.advance-2.new.self c.loop-row.follower c.loop-row.row
-    (c.loop-row.invariant.taken all to_come) c.in_ok-more.more c.if-more.false c.in_ok-more.ensures.next (omega arith) c.outcome_of-2.result c.outcome_of-2.ensures
+    reading.ended c.sales_follow_their_approvals.ensures g.R.Read.remaining all c.loop-batch.records c.advance.new.self c.loop-batch.follower (rows_of c.loop-batch.follower)
+    (c.loop-batch.invariant.taken all to_come) c.in_ok-more.more c.if-more.false c.in_ok-more.ensures.next c.loop-batch.invariant.few c.outcome_of-2.result c.outcome_of-2.ensures
+
+pub loop-batch-smaller : goal.loop-batch-smaller
+loop-batch-smaller g c =
+    let Fits : Next → Type 0 = λ next. FitsIn (ROWS_MAX - c.rows-in-loop-batch.result) c.refill-next.new.self next in
+    let Counted : List Event → Type 0 = λ rows. rows_of c.feed_all.new.self ≡ rows_of c.loop-batch.follower + length rows in
+    let counted : rows_of c.feed_all.new.self ≡ rows_of c.loop-batch.follower + length c.refill-next.new.self = subst Counted c.as_slice.ensures.rows c.in_default.ensures.counted in
+    let fits = subst Fits c.in-More.is c.refill-next.ensures.fits in
+    omega (arith, counted, c.loop-batch-test.true, c.rows.ensures, fits.0)

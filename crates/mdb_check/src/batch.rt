@@ -1,0 +1,140 @@
+//! Rows that are read before they are followed.
+
+ghost use Rattle.std.specs.Prelude.{◌≡◌, ◌<◌, ◌≤◌, List, ℕ, None, Some, length};
+ghost use Rattle.mdb_records.specs.declared.ReadFault.{ReadFault};
+ghost use Rattle.mdb_records.specs.ToCome.{IsOverLimit, ToCome, fault_of};
+ghost use Rattle.mdb_check.specs.Batch.{FitsIn, GoesOnOver, HasRead, IsMet};
+
+use super::verdict::event_of;
+use mdb_records::{ReadFault, Records};
+use mdb_words::{Event, Line, RowFault, Time, Word};
+use std::io::Read;
+use std::marker::Model;
+
+/// The most rows of a batch.
+pub(crate) const BATCH: usize = 128;
+
+/// So many bytes have a whole row, where it is written as a recorder does.
+const ROW_BYTES: u64 = 64;
+
+/// What comes behind the rows of a batch.
+#[derive(Clone, Copy, PartialEq, Eq, Debug)]
+pub(crate) enum Next {
+    /// What the next batch tells: this one is full, or the text has to be waited for.
+    More,
+    /// Nothing: the text has ended.
+    End,
+    /// A record that is no row.
+    BadRow(RowFault),
+    /// A record that can't be read.
+    Failed(ReadFault),
+}
+
+/// Rows that were read, and are followed next.
+///
+/// Reading and following take turns by batches, since a processor does many rows of the same work
+/// in less time than one row of each in turn. A clause sees the rows as a list.
+#[derive(Drop)]
+pub(crate) struct Batch {
+    rows: [Event; BATCH],
+    count: usize,
+}
+
+impl Model for Batch {
+    ghost use Rattle.std.specs.Prelude.{List, ◌≡◌, ◌≤◌, length, take};
+    ghost use Rattle.mdb_words.specs.declared.event.Event.{Event};
+    ghost use Rattle.mdb_check.specs.declared.batch.TheConstants.{BATCH};
+
+    ghost Value = { List Event };
+
+    ghost view = { λ b. take b.count b.rows };
+
+    ghost invariant = { λ b. (b.count ≤ BATCH) × (length b.rows ≡ BATCH) };
+}
+
+impl Batch {
+    ghost use Rattle.std.specs.Prelude.{[], ◌∷◌, ◌++◌};
+
+    /// No rows.
+    pub(crate) fn new() -> Batch
+        ensures { result ≡ [] }
+    {
+        Batch {
+            rows: [any_row(); BATCH],
+            count: 0,
+        }
+    }
+
+    /// Leaves out all rows.
+    fn clear(&mut self)
+        ensures { self.new ≡ [] }
+    {
+        self.count = 0;
+    }
+
+    /// Adds the next row.
+    fn push(&mut self, row: Event)
+        requires { length self.old < BATCH }
+        ensures { self.new ≡ self.old ++ row ∷ [] }
+    {
+        self.rows[self.count] = row;
+        self.count += 1;
+    }
+
+    /// The rows.
+    pub(crate) fn as_slice(&self) -> &[Event]
+        ensures rows { result.now ≡ self.now }
+        ensures few { length self.now ≤ BATCH }
+    {
+        &self.rows[..self.count]
+    }
+
+    /// Reads the next rows in place of these, at most `room`, and answers what comes behind them.
+    ///
+    /// It ends behind a row where the text that was read ahead may not have one more, so that
+    /// nothing is awaited while a row that was read is not followed.
+    // Not inlined, so that its loop has the processor's registers to itself.
+    #[inline(never)]
+    pub(crate) fn refill<R: Read + Drop>(&mut self, records: &mut Records<R>, room: u64) -> Next
+        requires { 0 < room }
+        ensures read { (all : List (List (List ℕ))) → ToCome R.remaining records.old all
+            → HasRead R.remaining all records.new self.new result }
+        ensures over { IsOverLimit R.remaining records.old
+            → GoesOnOver R.remaining records.new result }
+        ensures met { fault_of records.old ≡ None → IsMet result (fault_of records.new) }
+        ensures fits { FitsIn room self.new result }
+        ensures failed { (fault : ReadFault) → result ≡ Next.Failed fault
+            → fault_of records.new ≡ Some fault }
+    {
+        self.clear();
+        for _ in 0..room.min(BATCH as u64) {
+            let found = match records.advance() {
+                Ok(found) => found,
+                Err(fault) => return Next::Failed(fault),
+            };
+            if !found {
+                return Next::End;
+            }
+            match event_of(records.row()) {
+                Ok(event) => self.push(event),
+                Err(fault) => return Next::BadRow(fault),
+            }
+            if records.bytes_ahead() < ROW_BYTES {
+                return Next::More;
+            }
+        }
+        Next::More
+    }
+}
+
+/// What stands where no row was read yet.
+fn any_row() -> Event {
+    let (Some(at), Some(word)) = (Time::new(0), Word::new(0)) else {
+        unreachable!()
+    };
+    Event::Word {
+        at,
+        line: Line::Controller,
+        word,
+    }
+}
