@@ -374,9 +374,9 @@ fn an_offence_ends_the_reading(rt: HostRuntime) {
         rule: Rule::Speaker,
         blame: Blame::Other,
     };
-    // In small pieces, and in one of many rows.
+    // In small pieces, and in one of many rows; a first read asks for one byte.
     let short = b"1,S,100\nx\nx\nx\nx\n".as_slice();
-    for (text, most, failing) in [(short, 8, 3), (AT_ONCE, 80, 2)] {
+    for (text, most, failing) in [(short, 8, 3), (AT_ONCE, 80, 3)] {
         let mut out = Vec::new(rt.alloc());
         let mut reader = Pieces::failing(text, most, failing, ErrorKind::BrokenPipe);
         assert_eq!(rt;
