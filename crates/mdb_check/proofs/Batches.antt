@@ -1,5 +1,5 @@
 -- How far the reading of a batch of rows has come, and what following the batch tells.
-use Rattle.std.proofs.Common.{arith, refl, ap, sym, subst, ◌∙◌, ◌≡◌, ◌+◌, ◌<◌, ◌≤◌, ℕ, List, [], ◌∷◌, ◌++◌, Option, Some, Bool, true, false, Ok, length, length-append, append_assoc}
+use Rattle.std.proofs.Common.{arith, refl, ap, sym, subst, ◌∙◌, ◌≡◌, ◌+◌, ◌<◌, ◌≤◌, ◌⊎◌, inl, inr, ℕ, List, [], ◌∷◌, ◌++◌, Option, Some, Bool, true, false, Ok, length, length-append, append_assoc}
 use Rattle.std.proofs.lemmas.List.{append-nil}
 use Rattle.mdb_words.specs.declared.event.Event.{Event}
 use Rattle.mdb_words.specs.declared.row.RowFault.{RowFault}
@@ -19,7 +19,7 @@ use Rattle.mdb_check.specs.declared.batch.Next.TheVariants.{More, End, BadRow, F
 use Rattle.mdb_check.specs.declared.outcome.Outcome.{Outcome}
 use Rattle.mdb_check.specs.declared.outcome.Outcome.TheVariants.{Yes, No}
 use Rattle.mdb_check.specs.Batch.{FitsIn, HasRead}
-use Rattle.mdb_check.specs.Verdict.{AreRows, IsAnswer, IsBadRow, IsImpossible, IsYes, HasMet, run_fault_of}
+use Rattle.mdb_check.specs.Verdict.{AreRows, IsAnswer, IsBadRow, IsImpossible, IsTooLong, IsYes, HasMet, run_fault_of}
 use Rattle.mdb_check.proofs.Reading.{Progress, Reaches, rows_push}
 
 -- The first of the records are these rows, and the rest is to come.
@@ -226,3 +226,72 @@ fits room rows More within = within.1
 fits room rows End within = omega (arith, within)
 fits room rows (BadRow fault) within = omega (arith, within)
 fits room rows (Failed fault) within = omega (arith, within)
+
+-- Behind as many rows as there may be.
+
+empty : (rows : List Event) → length rows < 1 → rows ≡ []
+empty [] few = refl
+empty (e ∷ rows) few = absurd (omega (arith, few))
+
+-- the text ends there
+pub ended_at : {R : Type 0} → ((rows : List Event) → SalesFollowApprovals rows) → (remaining : R → Option (List ℕ)) (all : List (List (List ℕ))) (old new : Records R) (follower : Follower) (count : ℕ) (rows : List Event)
+    → Progress remaining all old follower count → (next : Next) → next ≡ End → ((to_come : List (List (List ℕ))) → ToCome remaining old to_come → HasRead remaining to_come new rows next) → FitsIn 1 rows next
+    → count ≤ ROWS_MAX → (outcome : Outcome) → ((l : List Event) → StandsFor follower l → IsYes l outcome) → IsAnswer all (Ok outcome)
+ended_at sales remaining all old new follower count rows progress next is reads within few outcome tells_yes =
+    let Fits : Next → Type 0 = λ n. FitsIn 1 rows n in
+    let none : rows ≡ [] = empty rows (subst Fits is within) in
+    let follows : Follows follower follower rows =
+    λ before stands. let Stands : List Event → Type 0 = λ l. StandsFor follower l in subst Stands (sym (ap (λ l. before ++ l) none ∙ append-nil before)) stands in
+    answered sales remaining all old new follower follower count rows progress next is reads follows (omega (arith, few, ap length none)) outcome tells_yes
+
+-- the first of some records, of which there is one
+record First (records : List (List (List ℕ))) : Type 0 where
+  fields : List (List ℕ)
+  after : List (List (List ℕ))
+  is : records ≡ fields ∷ after
+
+first_row : (done rest : List (List (List ℕ))) (rows : List Event) → AreRows done rows → 0 < length rows → First (done ++ rest)
+first_row [] rest [] told some = absurd (omega (arith, some))
+first_row [] rest (e ∷ rows) told some = absurd told
+first_row (r ∷ done) rest rows told some = record { fields = r; after = done ++ rest; is = refl }
+
+no_rows : (done : List (List (List ℕ))) (rows : List Event) → AreRows done rows → rows ≡ [] → done ≡ []
+no_rows [] rows told none = refl
+no_rows (r ∷ done) [] told none = absurd told
+no_rows (r ∷ done) (e ∷ rows) told none = absurd (cc)
+
+-- a row was read, or a record that is none
+abbrev pub HasMore : Next → Type 0
+HasMore next = (next ≡ More) ⊎ ((fault : RowFault) × (next ≡ BadRow fault))
+
+first_found : {R : Type 0} (remaining : R → Option (List ℕ)) (all : List (List (List ℕ))) (new : Records R) (rows : List Event) (next : Next)
+    → HasRead remaining all new rows next → FitsIn 1 rows next → HasMore next → First all
+first_found remaining all new rows More read within more =
+    let first = first_row read.done read.rest rows read.told within.0 in
+    record { fields = first.fields; after = first.after; is = read.split ∙ first.is }
+first_found remaining all new rows (BadRow fault) read within more =
+    let none : read.done ≡ [] = no_rows read.done rows read.told (empty rows within) in
+    record { fields = read.behind.0; after = read.behind.1; is = read.split ∙ (ap (λ l. l ++ read.rest) none ∙ read.behind.2) }
+first_found remaining all new rows End read within (inl is) = absurd (cc)
+first_found remaining all new rows End read within (inr other) = let is = other.1 in absurd (cc)
+first_found remaining all new rows (Failed fault) read within (inl is) = absurd (cc)
+first_found remaining all new rows (Failed fault) read within (inr other) = let is = other.1 in absurd (cc)
+
+-- there is a record too many
+pub too_long : {R : Type 0} → Reaches → (remaining : R → Option (List ℕ)) (all : List (List (List ℕ))) (old new : Records R) (follower : Follower) (count : ℕ) (rows : List Event)
+    → Progress remaining all old follower count → (next : Next) → ((to_come : List (List (List ℕ))) → ToCome remaining old to_come → HasRead remaining to_come new rows next) → FitsIn 1 rows next
+    → HasMore next → count ≡ ROWS_MAX → IsTooLong all
+too_long reaches remaining all old new follower count rows progress next reads within more full =
+    let first : First progress.rest = first_found remaining progress.rest new rows next (reads progress.rest progress.to_come) within more in
+    record {
+      rows = progress.before;
+      fields = first.fields;
+      stops = record {
+        done = progress.done;
+        rest = first.after;
+        split = progress.split ∙ ap (λ l. progress.done ++ l) first.is;
+        told = progress.told;
+        possible = reaches follower progress.before progress.stands;
+      };
+      full = progress.number ∙ full;
+    }

@@ -122,11 +122,11 @@ fn verdict_on<R: Read + Drop>(records: &mut Records<R>) -> Result<Outcome, RunFa
             Next::Failed(fault) => return Err(RunFault::from(fault)),
         }
     }
-    let more = records.advance()?;
-    if more {
-        return Err(RunFault::TooLong);
+    match batch.refill(records, 1) {
+        Next::End => Ok(outcome_of(&follower)),
+        Next::Failed(fault) => Err(RunFault::from(fault)),
+        Next::More | Next::BadRow(_) => Err(RunFault::TooLong),
     }
-    Ok(outcome_of(&follower))
 }
 
 /// What the rows that a follower has taken come to.

@@ -68,15 +68,17 @@ loop-batch-preserved g c =
       few = omega (arith, counted, c.loop-batch-test.true, c.rows.ensures, c.rows-in-loop-batch.ensures, batches.fits (ROWS_MAX - c.rows-in-loop-batch.result) c.refill-next.new.self c.refill-next.result c.refill-next.ensures.fits);
     }
 
-pub returns-then-more-clause-answer : goal.returns-then-more-clause-answer
-returns-then-more-clause-answer g c all to_come =
-    reading.too_long c.followers_stand_for_reached_rows.ensures g.R.Read.remaining all c.loop-batch.records c.advance.new.self c.loop-batch.follower (rows_of c.loop-batch.follower)
-    (c.loop-batch.invariant.taken all to_come) c.in_ok-more.more c.if-more.true c.in_ok-more.ensures.next (omega (arith, c.loop-batch-test.false, c.rows.ensures, c.loop-batch.invariant.few))
+pub returns-in-End-refill-clause-answer : goal.returns-in-End-refill-clause-answer
+returns-in-End-refill-clause-answer g c all to_come =
+    batches.ended_at c.sales_follow_their_approvals.ensures g.R.Read.remaining all c.loop-batch.records c.refill.new.records c.loop-batch.follower (rows_of c.loop-batch.follower) c.refill.new.self
+    (c.loop-batch.invariant.taken all to_come) c.refill.result c.in-End-refill.is c.refill.ensures.read c.refill.ensures.fits c.loop-batch.invariant.few
+    c.outcome_of-in-End-refill.result c.outcome_of-in-End-refill.ensures
 
-pub returns-clause-answer : goal.returns-clause-answer
-returns-clause-answer g c all to_come =
-    reading.ended c.sales_follow_their_approvals.ensures g.R.Read.remaining all c.loop-batch.records c.advance.new.self c.loop-batch.follower (rows_of c.loop-batch.follower)
-    (c.loop-batch.invariant.taken all to_come) c.in_ok-more.more c.if-more.false c.in_ok-more.ensures.next c.loop-batch.invariant.few c.outcome_of-2.result c.outcome_of-2.ensures
+pub returns-in-More-refill-clause-answer : goal.returns-in-More-refill-clause-answer
+returns-in-More-refill-clause-answer g c all to_come =
+    batches.too_long c.followers_stand_for_reached_rows.ensures g.R.Read.remaining all c.loop-batch.records c.refill.new.records c.loop-batch.follower (rows_of c.loop-batch.follower) c.refill.new.self
+    (c.loop-batch.invariant.taken all to_come) c.refill.result c.refill.ensures.read c.refill.ensures.fits c.in-More-refill.is
+    (omega (arith, c.loop-batch-test.false, c.rows.ensures, c.loop-batch.invariant.few))
 
 pub loop-batch-smaller : goal.loop-batch-smaller
 loop-batch-smaller g c =
