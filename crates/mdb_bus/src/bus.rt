@@ -141,8 +141,8 @@ impl Bus {
             → HasGone self.old next event self.new (ended_act result act.new)) }
         ensures none { result ≡ false → act.new ≡ act.old }
     {
-        self.last = Some(event);
         let ended = self.place.advance(judged, &event, act);
+        self.last = Some(event);
         match judged {
             Judged::Ask => self.note_ask(act),
             Judged::Foreign | Judged::Break => self.asked = None,
