@@ -2,7 +2,8 @@
 use Rattle.std.proofs.Common.{refl, sym, ap, subst, ◌∙◌, ◌≡◌, inl, inr, ℕ, ℤ, pos, ◌-ℤ◌, ◌+◌, List, [], ◌∷◌, ◌++◌, length, length-append, ◌<◌, ◌≤◌, take, drop, get_or, append_assoc, append-nil, add-one, arith, Option, Some, None}
 use Rattle.std.proofs.lemmas.List.{take_all, take_more}
 use Rattle.std.proofs.Math.Seq.{split_at}
-use Rattle.std.specs.Prelude.{Result, Ok, Err, IfErr, IfOk, IsErrAnd, OnErr}
+use Rattle.std.specs.Bool.{OnFalse, OnTrue}
+use Rattle.std.specs.Prelude.{Bool, true, false, Result, Ok, Err, IfErr, IfOk, IsErrAnd, IsSomeAnd}
 use Rattle.mdb_words.specs.declared.event.Event.{Event}
 use Rattle.mdb_words.specs.Event.{start_of}
 use Rattle.mdb_msgs.specs.declared.command.ReaderUnit.TheVariants.{First, Second}
@@ -48,19 +49,28 @@ pub if-ok : {T E : Type 0} (r : Result T E) (P Q : T → Type 0) → ((x : T) �
 if-ok (Ok x) P Q weaker h = weaker x h
 if-ok (Err e) P Q weaker h = tt
 
-pub if-err : {T E : Type 0} (r : Result T E) (P Q : E → Type 0) → ((e : E) → P e → Q e)
-    → IfErr r P → IfErr r Q
-if-err (Ok x) P Q weaker h = tt
-if-err (Err e) P Q weaker h = weaker e h
+pub on-true : (b : Bool) (P Q : Type 0) → (P → Q) → OnTrue b P → OnTrue b Q
+on-true true P Q weaker h = weaker h
+on-true false P Q weaker h = tt
+
+pub on-false-some : {T : Type 0} (b : Bool) (o : Option T) (P Q : T → Type 0)
+    → ((x : T) → P x → Q x) → OnFalse b (IsSomeAnd o P) → OnFalse b (IsSomeAnd o Q)
+on-false-some true o P Q weaker h = tt
+on-false-some false (Some x) P Q weaker h = weaker x h
+on-false-some false None P Q weaker h = absurd h
+
+pub some-at : {T : Type 0} (o : Option T) (x : T) (P : T → Type 0) → o ≡ Some x → P x
+    → IsSomeAnd o P
+some-at o x P is h = subst (λ o. IsSomeAnd o P) (sym is) h
+
+pub of-some : {T : Type 0} (o : Option T) (x : T) (P : T → Type 0) → o ≡ Some x
+    → IsSomeAnd o P → P x
+of-some o x P is h = subst (λ o. IsSomeAnd o P) is h
 
 pub if-err-is : {T E : Type 0} (r : Result T E) (e : E) (P : E → Type 0)
     → IsErrAnd r (λ x. x ≡ e) → P e → IfErr r P
 if-err-is (Ok x) e P is h = tt
 if-err-is (Err x) e P is h = subst P (sym is) h
-
-pub on-err : {T E : Type 0} (r : Result T E) (P : Type 0) → P → OnErr r P
-on-err (Ok x) P h = tt
-on-err (Err e) P h = h
 
 -- the act list of the events
 pub list-of : (follower : Follower) (events : List Event) (on : StandsFor follower events)
@@ -430,15 +440,17 @@ reported one joins follower events report changer bill cashless cashless2 on of_
           (listed (accounts_in changer bill cashless cashless2))) on.rows;
     }
 
--- a follower has taken so many events
+-- a follower has taken so many events, and met no offence
 pub record HasFed (old : Follower) (events : List Event) (count : ℕ) (new : Follower) : Type 0 where
   pub rows : new.rows ≡ old.rows + count
+  pub going : new.offence ≡ None
   pub still : count ≡ 0 → new ≡ old
   pub stands : (earlier : List Event) → StandsFor old earlier → StandsFor new (earlier ++ events)
 
-pub fed-none : (follower : Follower) → HasFed follower [] 0 follower
-fed-none follower = record {
+pub fed-none : (follower : Follower) → follower.offence ≡ None → HasFed follower [] 0 follower
+fed-none follower going = record {
   rows = omega arith;
+  going = going;
   still = λ none. refl;
   stands = λ earlier on. subst (StandsFor follower) (sym (append-nil earlier)) on;
 }
@@ -455,11 +467,12 @@ fed-all old new events i low high has =
 -- one event more was taken
 pub fed-more : (old mid new : Follower) (events : List Event) (i : ℕ) (d : Event)
     → i < length events → HasFed old (take i events) i mid → new.rows ≡ mid.rows + 1
-    → ((earlier : List Event) → StandsFor mid earlier
+    → new.offence ≡ None → ((earlier : List Event) → StandsFor mid earlier
     → StandsFor new (earlier ++ get_or events i d ∷ []))
     → HasFed old (take (i + 1) events) (i + 1) new
-fed-more old mid new events i d within has more stands = record {
+fed-more old mid new events i d within has more going stands = record {
   rows = omega (arith, more, has.rows);
+  going = going;
   still = λ none. absurd (omega (arith, none));
   stands = λ earlier on. subst (StandsFor new)
       (append_assoc earlier (take i events) (get_or events i d ∷ [])

@@ -1,6 +1,7 @@
 //! The follower of a recording: every possible state of each device and the controller.
 
-ghost use Rattle.std.specs.Prelude.{◌≡◌, ◌<◌, ◌≤◌, ◌+◌, ◌*◌, ◌^◌, List, [], ◌∷◌, ◌++◌, ℕ, length, Some, None, Err, IfSome, IfOk, IfErr, IsOk, OnErr};
+ghost use Rattle.std.specs.Prelude.{◌≡◌, ◌<◌, ◌≤◌, ◌+◌, ◌*◌, ◌^◌, List, [], ◌∷◌, ◌++◌, ℕ, length, Some, None, Err, IfSome, IfOk, IfErr, IsOk, IsSome, IsSomeAnd, OnErr};
+ghost use Rattle.std.specs.Bool.{OnFalse, OnTrue};
 ghost use Rattle.std.specs.Option.{ForNone, ForSome, IfNone};
 ghost use Rattle.mdb_words.specs.declared.event.Event.{Event};
 ghost use Rattle.mdb_bus.specs.declared.act.Act.{Act};
@@ -96,17 +97,13 @@ impl Follower {
     {
         laws::ways_join();
         laws::sales_follow_their_approvals();
-        bus_laws::transcripts_have_one_act_list();
         if let Some(offence) = self.offence {
             return Err(offence);
         }
-        match self.bus.feed_into(event, &mut self.act) {
-            Err(fault) => Err(stop(&mut self.offence, self.rows, fault)),
-            Ok(false) => {
-                self.rows += 1;
-                Ok(())
-            }
-            Ok(true) => self.follow(event.start()),
+        if self.take(event) {
+            Ok(())
+        } else {
+            Err(self.noted())
         }
     }
 
@@ -141,31 +138,76 @@ impl Follower {
             return Err(offence);
         }
         for event in events {
-            self.feed(*event)?;
+            if !self.take(*event) {
+                return Err(self.noted());
+            }
         }
         Ok(())
     }
 
-    /// Follows the act that was ended by a row that started at a time.
-    fn follow(&mut self, at: Time) -> Result<(), Offence>
+    /// Takes the next row, behind rows that can be. Answers whether it can be too: where it can't,
+    /// its offence is noted.
+    #[inline(always)]
+    fn take(&mut self, event: Event) -> bool
         requires room { rows_of self.old < ROWS_MAX }
         requires going { offence_of self.old ≡ None }
-        ensures followed { IfOk result (λ _. HasFollowed self.old self.old.act at self.new) }
-        ensures stopped { IfErr result (HasStopped self.old self.old.act self.new) }
+        ensures reached { OnTrue result ((events : List Event) → StandsFor self.old events
+            → StandsFor self.new (events ++ event ∷ [])) }
+        ensures going { OnTrue result (offence_of self.new ≡ None) }
+        ensures counted { OnTrue result (rows_of self.new ≡ rows_of self.old + 1) }
+        ensures offence { OnFalse result (IsSomeAnd (offence_of self.new) (λ offence.
+            (events : List Event) → StandsFor self.old events → IsOffence events event offence)) }
+        ensures uncounted { OnFalse result (rows_of self.new ≡ rows_of self.old) }
+    {
+        laws::ways_join();
+        bus_laws::transcripts_have_one_act_list();
+        match self.bus.feed_into(event, &mut self.act) {
+            Err(fault) => {
+                stop(&mut self.offence, self.rows, fault);
+                false
+            }
+            Ok(false) => {
+                self.rows += 1;
+                true
+            }
+            Ok(true) => self.follow(event.start()),
+        }
+    }
+
+    /// Follows the act that was ended by a row that started at a time. Answers whether each side
+    /// has a step by it: where one hasn't, the offence is noted.
+    fn follow(&mut self, at: Time) -> bool
+        requires room { rows_of self.old < ROWS_MAX }
+        requires going { offence_of self.old ≡ None }
+        ensures followed { OnTrue result (HasFollowed self.old self.old.act at self.new) }
+        ensures stopped { OnFalse result
+            (IsSomeAnd (offence_of self.new) (HasStopped self.old self.old.act self.new)) }
     {
         match self.sides.lead(&self.act) {
             Ok(()) => {
                 self.silences.follow(&self.act, at, &self.sides);
                 self.rows += 1;
-                Ok(())
+                true
             }
             Err(rule) => {
                 let fault = LinkFault {
                     rule,
                     blame: sender_of(&self.act),
                 };
-                Err(stop(&mut self.offence, self.rows, fault))
+                stop(&mut self.offence, self.rows, fault);
+                false
             }
+        }
+    }
+
+    /// The offence that was noted.
+    fn noted(&self) -> Offence
+        requires { IsSome (offence_of self.now) }
+        ensures { offence_of self.now ≡ Some result }
+    {
+        match self.offence {
+            Some(offence) => offence,
+            None => unreachable!(),
         }
     }
 
@@ -205,22 +247,19 @@ impl Follower {
 }
 
 /// Notes the offence of the row behind so many rows.
-fn stop(noted: &mut Option<Offence>, rows: u64, fault: LinkFault) -> Offence
+fn stop(noted: &mut Option<Offence>, rows: u64, fault: LinkFault)
     requires { rows < ROWS_MAX }
-    ensures offence { result ≡ record {
+    ensures { noted.new ≡ Some (record {
       row = rows + 1;
       rule = fault.rule;
       blame = fault.blame;
-    } }
-    ensures noted { noted.new ≡ Some result }
+    }) }
 {
-    let offence = Offence {
+    *noted = Some(Offence {
         row: rows + 1,
         rule: fault.rule,
         blame: fault.blame,
-    };
-    *noted = Some(offence);
-    offence
+    });
 }
 
 /// Who sends an act: the controller, or the device that it asked.

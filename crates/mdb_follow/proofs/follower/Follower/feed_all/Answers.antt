@@ -1,42 +1,34 @@
-use Rattle.std.proofs.Common.{◌∷◌, [], ◌++◌, subst, arith}
+use Rattle.std.proofs.Common.{List, ◌∷◌, [], ◌++◌, subst, arith}
+use Rattle.mdb_words.specs.declared.event.Event.{Event}
 use Rattle.mdb_follow.specs.Follower.{StandsFor}
 use Rattle.mdb_follow.specs.Offences.{IsOffence}
-use Rattle.mdb_follow.proofs.Following.{fed-all, fed-more, fed-none, fed-refused, if-err-is, on-err, reached-by}
+use Rattle.mdb_follow.proofs.Following.{fed-all, fed-more, fed-refused, of-some, reached-by}
 use Rattle.mdb_follow.proofs.follower.Follower.feed_all.Goals as goal
 
-pub loop-event-init : goal.loop-event-init
-loop-event-init c = fed-none c.args.self.now
-
-pub feed-requires : goal.feed-requires
-feed-requires c =
+pub take-requires-clause-room : goal.take-requires-clause-room
+take-requires-clause-room c =
     let rows = c.loop-event.invariant.rows in
     omega arith
 
-pub returns-in_err-feed-clause-offence : goal.returns-in_err-feed-clause-offence
-returns-in_err-feed-clause-offence c earlier on =
-    let here = c.in_err-feed.ensures.offence in
-    if-err-is c.from_residual.result c.in_err-feed.field-0.0 _ c.from_residual.ensures.1
-    (fed-refused c.args.self.now c.loop-event.self c.args.events.now earlier
-    c.loop-event.event-index c.event-item.result c.in_err-feed.field-0.0
+pub returns-then-not-take-clause-offence : goal.returns-then-not-take-clause-offence
+returns-then-not-take-clause-offence c earlier on =
+    fed-refused c.args.self.now c.loop-event.self c.args.events.now earlier
+    c.loop-event.event-index c.event-item.result c.noted.result
     c.loop-event-test.true c.loop-event.invariant
-    (λ before stands. subst (λ row. IsOffence before row c.in_err-feed.field-0.0)
-    c.event-item.is (here before stands))
-    on)
-
-pub returns-in_err-feed-clause-fewer : goal.returns-in_err-feed-clause-fewer
-returns-in_err-feed-clause-fewer c =
-    let rows = c.loop-event.invariant.rows in
-    let same = c.in_err-feed.ensures.uncounted in
-    on-err c.from_residual.result _ (omega arith)
+    (λ before stands. subst (λ row. IsOffence before row c.noted.result) c.event-item.is
+    (of-some c.take.new.self.offence c.noted.result
+    (λ offence. (events : List Event) → StandsFor c.loop-event.self events
+    → IsOffence events c.event-item.result offence)
+    c.noted.ensures c.if-not-take.ensures.offence before stands))
+    on
 
 pub loop-event-preserved : goal.loop-event-preserved
 loop-event-preserved c =
-    let ok = c.in_ok-feed.ensures.reached in
-    fed-more c.args.self.now c.loop-event.self c.feed.new.self c.args.events.now
+    fed-more c.args.self.now c.loop-event.self c.take.new.self c.args.events.now
     c.loop-event.event-index c.event-item.result c.loop-event-test.true c.loop-event.invariant
-    c.in_ok-feed.ensures.counted
-    (λ earlier on. subst (λ e. StandsFor c.feed.new.self (earlier ++ e ∷ [])) c.event-item.is
-    (ok earlier on))
+    c.if-not-take.ensures.counted c.if-not-take.ensures.going
+    (λ earlier on. subst (λ e. StandsFor c.take.new.self (earlier ++ e ∷ [])) c.event-item.is
+    (c.if-not-take.ensures.reached earlier on))
 
 pub returns-clause-reached : goal.returns-clause-reached
 returns-clause-reached c earlier on =

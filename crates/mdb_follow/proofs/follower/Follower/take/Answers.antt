@@ -1,0 +1,52 @@
+use Rattle.std.proofs.Common.{List, ◌+◌, ◌*◌, ◌^◌, None, Some, arith, refl, subst}
+use Rattle.mdb_words.specs.declared.event.Event.{Event}
+use Rattle.mdb_bus.specs.Bus.{GoesOn, ended_act}
+use Rattle.mdb_follow.specs.Follower.{StandsFor}
+use Rattle.mdb_follow.specs.Offences.{IsOffence}
+use Rattle.mdb_follow.proofs.Within.{sides-within-weaker}
+use Rattle.mdb_follow.proofs.Following.{link-offence, machine-offence, on-false-some, on-true, some-at, stands-on, stands-still}
+use Rattle.mdb_follow.proofs.follower.Follower.take.Goals as goal
+
+pub invariant_of-self-in-Ok-false-clause-within : goal.invariant_of-self-in-Ok-false-clause-within
+invariant_of-self-in-Ok-false-clause-within c going =
+    sides-within-weaker (c.args.self.now.rows * 2 ^ 32) ((c.args.self.now.rows + 1) * 2 ^ 32)
+    c.args.self.now.sides (omega arith) (c.args.self.now.within going)
+
+pub returns-in-Ok-true-clause-reached : goal.returns-in-Ok-true-clause-reached
+returns-in-Ok-true-clause-reached c =
+    on-true c.follow.result _ _
+    (λ has events on.
+    let goes : GoesOn c.feed_into.new.self on.pieces c.args.event (Some c.feed_into.new.act) =
+    subst (λ b. GoesOn c.feed_into.new.self on.pieces c.args.event (ended_act b c.feed_into.new.act))
+    c.in-Ok-true.field-0-test (c.in-Ok-true.ensures.goes_on on.pieces on.on_bus) in
+    stands-on c.args.self.now _ c.follow.new.self events c.args.event c.feed_into.new.act on
+    goes refl refl refl refl c.start.result c.start.ensures has)
+    c.follow.ensures.followed
+
+pub returns-in-Ok-true-clause-offence : goal.returns-in-Ok-true-clause-offence
+returns-in-Ok-true-clause-offence c =
+    on-false-some c.follow.result _ _
+    (λ offence. (events : List Event) → StandsFor c.args.self.now events
+    → IsOffence events c.args.event offence)
+    (λ offence has events on.
+    let goes : GoesOn c.feed_into.new.self on.pieces c.args.event (Some c.feed_into.new.act) =
+    subst (λ b. GoesOn c.feed_into.new.self on.pieces c.args.event (ended_act b c.feed_into.new.act))
+    c.in-Ok-true.field-0-test (c.in-Ok-true.ensures.goes_on on.pieces on.on_bus) in
+    machine-offence c.transcripts_have_one_act_list.ensures c.ways_join.ensures
+    c.args.self.now _ c.follow.new.self events c.args.event c.feed_into.new.act offence on goes
+    refl refl has)
+    c.follow.ensures.stopped
+
+pub returns-in-Ok-false-clause-reached : goal.returns-in-Ok-false-clause-reached
+returns-in-Ok-false-clause-reached c events on =
+    let goes : GoesOn c.feed_into.new.self on.pieces c.args.event None =
+    subst (λ b. GoesOn c.feed_into.new.self on.pieces c.args.event (ended_act b c.feed_into.new.act))
+    c.in-Ok-false.field-0-test (c.in-Ok-false.ensures.goes_on on.pieces on.on_bus) in
+    stands-still c.args.self.now _ c.feed_into.new.self events c.args.event on goes refl refl refl refl refl
+
+pub returns-in-Err-clause-offence : goal.returns-in-Err-clause-offence
+returns-in-Err-clause-offence c =
+    some-at c.stop.new.noted _ _ c.stop.ensures
+    (λ events on. link-offence c.ways_join.ensures c.args.self.now events c.args.event on
+    c.in-Err.fault _ (c.in-Err.ensures.faults on.pieces on.on_bus)
+    (c.in-Err.ensures.impossible on.pieces on.on_bus) refl refl refl)
