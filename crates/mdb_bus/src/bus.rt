@@ -106,9 +106,7 @@ impl Bus {
 
     /// Takes the reply that a row has ended, if it can be read and fits the levels, and answers
     /// that it ends an act, which it then puts into `act`.
-    // Not inlined, so that only rows that end a reply pay for it. What it calls is inlined here, so
-    // that a reply is moved less often.
-    #[inline(never)]
+    #[inline(always)]
     fn take_reply(&mut self, event: Event, act: &mut Act) -> Result<bool, LinkFault>
         ensures taken { IfOk result (λ ended. (reply : Reply)
             × IsReadAt (position_at self.old.place) self.old.levels (Ok reply)

@@ -326,7 +326,9 @@ impl Place {
 
     /// The reply has ended, with the right length and sum: takes it, if it can be read and fits the
     /// levels, and puts the act into `act`. Else both are as they were.
-    #[inline(always)]
+    // Not inlined, so that only rows that end a reply pay for it. What it calls is inlined here, so
+    // that a reply is moved less often.
+    #[inline(never)]
     pub(crate) fn end_reply(&mut self, levels: Levels, act: &mut Act) -> Result<(), Rule>
         ensures taken { IfOk result (λ _.
             IsTaken (position_at self.old) levels (position_at self.new) (Ok act.new)) }
