@@ -140,6 +140,8 @@ impl Bus {
         ensures none { result ≡ false → act.new ≡ act.old }
     {
         let ended = self.place.advance(judged, &event, act);
+        // Behind the step: so nothing stands between judging a row and choosing its step, and the
+        // compiler makes one choice of both.
         self.last = Some(event);
         match judged {
             Judged::Ask => self.note_ask(act),
