@@ -34,8 +34,6 @@ pub struct Records<R> {
     row: ByteRecord,
     // The fault that ended the reading.
     fault: Option<ReadFault>,
-    // The most bytes that are asked of the reader.
-    limit: u64,
     ghost set_up: { fault ≡ None → IsSetUp reader },
 }
 
@@ -66,7 +64,6 @@ impl<R: Read + Drop> Records<R> {
                 .from_reader(alloc, Limited::new(reader, limit)),
             row: ByteRecord::new(alloc),
             fault: None,
-            limit,
         }
     }
 
@@ -106,7 +103,7 @@ impl<R: Read + Drop> Records<R> {
     /// a wait. No clause says so: it tells how soon the next records come, and never which.
     #[inline(always)]
     pub fn bytes_ahead(&self) -> u64 {
-        let given = self.limit.saturating_sub(self.reader.get_ref().left());
+        let given = self.reader.get_ref().given();
         given.saturating_sub(self.reader.position().byte())
     }
 

@@ -11,6 +11,8 @@ pub(crate) struct Limited<R> {
     inner: R,
     // How many bytes may still be given.
     left: u64,
+    // How many were given.
+    given: u64,
     // The first byte past the limit, once it was read.
     held: Option<u8>,
 }
@@ -25,15 +27,16 @@ impl<R> Limited<R> {
         Limited {
             inner,
             left: limit,
+            given: 0,
             held: None,
         }
     }
 
-    /// How many bytes may still be given.
-    pub(crate) fn left(&self) -> u64
-        ensures { result ≡ self.now.left }
+    /// How many bytes were given.
+    pub(crate) fn given(&self) -> u64
+        ensures { result ≡ self.now.given }
     {
-        self.left
+        self.given
     }
 }
 
@@ -65,6 +68,7 @@ impl<R: Read> Read for Limited<R> {
         let room = self.left.min(buf.len() as u64) as usize;
         let given = self.inner.read(&mut buf[..room])?;
         self.left -= given as u64;
+        self.given = self.given.saturating_add(given as u64);
         Ok(given)
     }
 }
