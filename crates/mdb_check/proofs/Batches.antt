@@ -82,7 +82,7 @@ more remaining all records rows taken = record { done = taken.done; rest = taken
 
 -- Following a batch.
 
-rows_append : (one : List (List (List ℕ))) (first : List Event) (other : List (List (List ℕ))) (second : List Event) → AreRows one first → AreRows other second → AreRows (one ++ other) (first ++ second)
+pub rows_append : (one : List (List (List ℕ))) (first : List Event) (other : List (List (List ℕ))) (second : List Event) → AreRows one first → AreRows other second → AreRows (one ++ other) (first ++ second)
 rows_append [] [] other second told more = more
 rows_append (r ∷ one) (e ∷ first) other second told more = (told.0, rows_append one first other second told.1 more)
 rows_append [] (e ∷ first) other second told more = absurd told
@@ -171,15 +171,15 @@ bad_row reaches remaining all old new follower later count row rows fault progre
     }
 
 -- the records of rows that have parts have parts too
-record Split (records : List (List (List ℕ))) (front : List Event) (row : Event) (rest : List Event) : Type 0 where
-  done : List (List (List ℕ))
-  fields : List (List ℕ)
-  after : List (List (List ℕ))
-  is : records ≡ done ++ fields ∷ after
-  told : AreRows done front
-  one : IsRow fields row
+pub record Split (records : List (List (List ℕ))) (front : List Event) (row : Event) (rest : List Event) : Type 0 where
+  pub done : List (List (List ℕ))
+  pub fields : List (List ℕ)
+  pub after : List (List (List ℕ))
+  pub is : records ≡ done ++ fields ∷ after
+  pub told : AreRows done front
+  pub one : IsRow fields row
 
-split_rows : (records : List (List (List ℕ))) (front : List Event) (row : Event) (rest : List Event) → AreRows records (front ++ row ∷ rest) → Split records front row rest
+pub split_rows : (records : List (List (List ℕ))) (front : List Event) (row : Event) (rest : List Event) → AreRows records (front ++ row ∷ rest) → Split records front row rest
 split_rows [] [] row rest told = absurd told
 split_rows (r ∷ records) [] row rest told = record { done = []; fields = r; after = records; is = refl; told = tt; one = told.0 }
 split_rows [] (e ∷ front) row rest told = absurd told
@@ -229,7 +229,7 @@ fits room rows (Failed fault) within = omega (arith, within)
 
 -- Behind as many rows as there may be.
 
-empty : (rows : List Event) → length rows < 1 → rows ≡ []
+pub empty : (rows : List Event) → length rows < 1 → rows ≡ []
 empty [] few = refl
 empty (e ∷ rows) few = absurd (omega (arith, few))
 
@@ -245,10 +245,10 @@ ended_at sales remaining all old new follower count rows progress next is reads 
     answered sales remaining all old new follower follower count rows progress next is reads follows (omega (arith, few, ap length none)) outcome tells_yes
 
 -- the first of some records, of which there is one
-record First (records : List (List (List ℕ))) : Type 0 where
-  fields : List (List ℕ)
-  after : List (List (List ℕ))
-  is : records ≡ fields ∷ after
+pub record First (records : List (List (List ℕ))) : Type 0 where
+  pub fields : List (List ℕ)
+  pub after : List (List (List ℕ))
+  pub is : records ≡ fields ∷ after
 
 first_row : (done rest : List (List (List ℕ))) (rows : List Event) → AreRows done rows → 0 < length rows → First (done ++ rest)
 first_row [] rest [] told some = absurd (omega (arith, some))
@@ -264,7 +264,7 @@ no_rows (r ∷ done) (e ∷ rows) told none = absurd (cc)
 abbrev pub HasMore : Next → Type 0
 HasMore next = (next ≡ More) ⊎ ((fault : RowFault) × (next ≡ BadRow fault))
 
-first_found : {R : Type 0} (remaining : R → Option (List ℕ)) (all : List (List (List ℕ))) (new : Records R) (rows : List Event) (next : Next)
+pub first_found : {R : Type 0} (remaining : R → Option (List ℕ)) (all : List (List (List ℕ))) (new : Records R) (rows : List Event) (next : Next)
     → HasRead remaining all new rows next → FitsIn 1 rows next → HasMore next → First all
 first_found remaining all new rows More read within more =
     let first = first_row read.done read.rest rows read.told within.0 in

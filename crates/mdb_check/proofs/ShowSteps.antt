@@ -1,11 +1,12 @@
 -- How far the showing of the records of a text has come.
-use Rattle.std.proofs.Common.{arith, refl, ap, sym, subst, ◌∙◌, ◌≡◌, ◌+◌, ◌<◌, ◌≤◌, ℕ, List, [], ◌∷◌, ◌++◌, Option, Some, None, Bool, true, false, Result, Ok, Err, length, length-append, append_assoc}
-use Rattle.std.proofs.lemmas.List.{append-nil}
-use Rattle.std.specs.Prelude.{IsErrAnd}
+use Rattle.std.proofs.Common.{arith, refl, ap, sym, subst, ◌∙◌, ◌≡◌, ◌+◌, ◌<◌, ◌≤◌, ℕ, List, [], ◌∷◌, ◌++◌, Option, Some, None, Result, Ok, Err, length, length-append, append_assoc, take, drop, get_or, add-one}
+use Rattle.std.proofs.lemmas.List.{append-nil, take_all, take_more}
+use Rattle.std.proofs.Math.Seq.{split_at}
+use Rattle.std.specs.Prelude.{IfErr, IfSome, IsErrAnd}
 use Rattle.std.specs.Io.KnownBytes.{Appends}
 use Rattle.mdb_words.specs.declared.event.Event.{Event}
 use Rattle.mdb_words.specs.declared.row.RowFault.{RowFault}
-use Rattle.mdb_words.specs.Row.{IsRow, IsRefusal}
+use Rattle.mdb_words.specs.Row.{IsRow}
 use Rattle.mdb_bus.specs.declared.act.Act.{Act}
 use Rattle.mdb_bus.specs.declared.bus.Bus.{Bus}
 use Rattle.mdb_bus.specs.declared.fault.LinkFault.{LinkFault}
@@ -16,287 +17,491 @@ use Rattle.mdb_bus.specs.LinkFaults.{IsLinkFault}
 use Rattle.mdb_records.specs.declared.ReadFault.{ReadFault}
 use Rattle.mdb_records.specs.declared.ReadFault.TheVariants as reading
 use Rattle.mdb_records.specs.declared.Records.{Records}
-use Rattle.mdb_records.specs.ToCome.{Advances, ToCome, current_fields}
+use Rattle.mdb_records.specs.ToCome.{ToCome}
 use Rattle.mdb_follow.specs.declared.follower.TheConstants.{ROWS_MAX}
+use Rattle.mdb_check.specs.declared.batch.Next.{Next}
+use Rattle.mdb_check.specs.declared.batch.Next.TheVariants as next
 use Rattle.mdb_check.specs.declared.outcome.RunFault.{RunFault}
 use Rattle.mdb_check.specs.declared.outcome.RunFault.TheVariants.{BadRow, TooLong, Read, Write, Memory}
+use Rattle.mdb_check.specs.declared.showing.Lines.{Lines}
+use Rattle.mdb_check.specs.Batch.{FitsIn, HasRead}
 use Rattle.mdb_check.specs.Show.{AreShown, Shows}
-use Rattle.mdb_check.specs.ShowSteps.{IsNotTaken, cut_text, ended_text}
+use Rattle.mdb_check.specs.ShowSteps.{HasAdded, HasPieces, HasShown, IsAddedToFault, IsNotTaken, IsShownAs, LeadTo, cut_text, ended_text}
 use Rattle.mdb_check.specs.ShowText.{closed_pieces, fault_line, show_text}
 use Rattle.mdb_check.specs.Verdict.{AreRows, run_fault_of}
-use Rattle.mdb_check.proofs.Reading.{rows_push}
+use Rattle.mdb_check.proofs.Batches.{First, HasMore, Split, empty, first_found, rows_append, split_rows}
 use Rattle.mdb_check.proofs.ShowTexts.{all_shown, ends_act, goes_on_closed, whole_of}
 use Rattle.mdb_check.proofs.Texts.{appended}
 
--- the records up to the rest are the rows of pieces, and the rest is to come
-pub record HasRead {R : Type 0} (remaining : R → Option (List ℕ)) (all : List (List (List ℕ))) (records : Records R) (pieces : List Piece) : Type 0 where
-  pub done : List (List (List ℕ))
-  pub rest : List (List (List ℕ))
-  pub split : all ≡ done ++ rest
-  pub to_come : ToCome remaining records rest
-  pub told : AreRows done (events_of pieces)
+-- The lines of some rows.
 
--- The bus stands for pieces of so many rows, and the lines of the closed ones are written. Their
--- rows are `shown`.
-pub record Progress {R : Type 0} (remaining : R → Option (List ℕ)) (start records : Records R) (bus : Bus) (before after : Option (List ℕ)) (shown rows : ℕ) : Type 0 where
-  pub pieces : List Piece
-  pub stands : StandsFor bus pieces
-  pub closed : length (events_of (closed_pieces pieces)) ≡ shown
-  pub counted : length (events_of pieces) ≡ rows
-  pub few : shown ≤ rows
-  pub written : Appends before after (show_text (closed_pieces pieces))
-  pub has_read : (all : List (List (List ℕ))) → ToCome remaining start all → HasRead remaining all records pieces
+-- behind the old lines those of so many rows are added
+pub record Adds (old lines : Lines) (was now : Option (List ℕ)) (rows : List Event) (count : ℕ) : Type 0 where
+  pub stands : HasPieces lines.bus
+  pub few : lines.shown ≤ lines.rows
+  pub counted : lines.rows ≡ old.rows + count
+  pub shown : (before : Option (List ℕ)) (earlier : List Event) → HasShown old before was earlier → HasShown lines before now (earlier ++ rows)
+
+pub adds_none : (lines : Lines) (now : Option (List ℕ)) → HasPieces lines.bus → lines.shown ≤ lines.rows → Adds lines lines now now [] 0
+adds_none lines now stands few = record {
+  stands = stands;
+  few = few;
+  counted = omega (arith);
+  shown = λ before earlier has. let P : List Event → Type 0 = λ l. HasShown lines before now l in subst P (sym (append-nil earlier)) has;
+}
+
+-- all rows are added
+pub adds_all : (old lines : Lines) (was now : Option (List ℕ)) (rows : List Event) (i : ℕ) → length rows ≤ i → Adds old lines was now (take i rows) i
+    → (before : Option (List ℕ)) (earlier : List Event) → HasShown old before was earlier → HasShown lines before now (earlier ++ rows)
+adds_all old lines was now rows i end adds before earlier has =
+    let P : List Event → Type 0 = λ l. HasShown lines before now (earlier ++ l) in
+    subst P (take_all i rows end) (adds.shown before earlier has)
+
+-- a row that ends no act is shown
+row_shown : (old new : Lines) (before now : Option (List ℕ)) (rows : List Event) (event : Event) → HasShown old before now rows → new.rows ≡ old.rows + 1 → new.shown ≡ old.shown
+    → ((pieces : List Piece) → StandsFor old.bus pieces → GoesOn new.bus pieces event None) → HasShown new before now (rows ++ event ∷ [])
+row_shown old new before now rows event has more same on =
+    let gone : GoesOn new.bus has.pieces event None = on has.pieces has.stands in
+    let closed : closed_pieces gone.longer ≡ closed_pieces has.pieces = goes_on_closed has.pieces gone.longer event gone.grown gone.stands.in_order in
+    let P : List Piece → Type 0 = λ l. Appends before now (show_text l) in
+    record {
+      pieces = gone.longer;
+      stands = gone.stands;
+      are = gone.rows ∙ ap (λ l. l ++ event ∷ []) has.are;
+      counted = omega (arith, length-append rows (event ∷ []), has.counted, more);
+      closed = ap (λ l. length (events_of l)) closed ∙ (has.closed ∙ sym same);
+      few = omega (arith, has.few, more, same);
+      written = subst P (sym closed) has.written;
+    }
+
+-- a row that ends an act is shown, whose lines are written
+act_shown : (old new : Lines) (before now later : Option (List ℕ)) (rows : List Event) (event : Event) (act : Act) → HasShown old before now rows → new.rows ≡ old.rows + 1 → new.shown ≡ old.rows + 1
+    → ((pieces : List Piece) → StandsFor old.bus pieces → GoesOn new.bus pieces event (Some act)) → Appends now later (ended_text old.shown old.rows act) → HasShown new before later (rows ++ event ∷ [])
+act_shown old new before now later rows event act has more all on lines =
+    let gone : GoesOn new.bus has.pieces event (Some act) = on has.pieces has.stands in
+    let added = ends_act has.pieces gone.longer event act old.shown old.rows gone.grown has.stands.in_order gone.stands.in_order has.closed (ap length has.are ∙ has.counted) in
+    let are : events_of gone.longer ≡ rows ++ event ∷ [] = gone.rows ∙ ap (λ l. l ++ event ∷ []) has.are in
+    let counted : length (rows ++ event ∷ []) ≡ old.rows + 1 = length-append rows (event ∷ []) ∙ ap (λ n. n + 1) has.counted in
+    let P : List ℕ → Type 0 = λ text. Appends before later text in
+    record {
+      pieces = gone.longer;
+      stands = gone.stands;
+      are = are;
+      counted = counted ∙ sym more;
+      closed = ap (λ l. length (events_of l)) added.0 ∙ (ap length are ∙ (counted ∙ sym all));
+      few = omega (arith, more, all);
+      written = subst P (sym (ap show_text added.0 ∙ added.1)) (appended before now later (show_text (closed_pieces has.pieces)) (ended_text old.shown old.rows act) has.written lines);
+    }
+
+-- one row more of them
+one_more : (earlier events : List Event) (i : ℕ) (event default : Event) → i < length events → event ≡ get_or events i default
+    → (earlier ++ take i events) ++ event ∷ [] ≡ earlier ++ take (i + 1) events
+one_more earlier events i event default within is =
+    append_assoc earlier (take i events) (event ∷ []) ∙ ap (λ l. earlier ++ l) (ap (λ e. take i events ++ e ∷ []) is ∙ sym (take_more events i default within))
+
+-- a row ends no act
+pub goes_on : (old lines new : Lines) (was now : Option (List ℕ)) (events : List Event) (i : ℕ) (event default : Event) → i < length events → event ≡ get_or events i default
+    → Adds old lines was now (take i events) i → new.rows ≡ lines.rows + 1 → new.shown ≡ lines.shown
+    → ((pieces : List Piece) → StandsFor lines.bus pieces → GoesOn new.bus pieces event None) → Adds old new was now (take (i + 1) events) (i + 1)
+goes_on old lines new was now events i event default within is adds more same on =
+    let gone : GoesOn new.bus adds.stands.0 event None = on adds.stands.0 adds.stands.1 in
+    record {
+      stands = (gone.longer, gone.stands);
+      few = omega (arith, adds.few, more, same);
+      counted = omega (arith, adds.counted, more);
+      shown = λ before earlier has.
+          let P : List Event → Type 0 = λ l. HasShown new before now l in
+          subst P (one_more earlier events i event default within is) (row_shown lines new before now (earlier ++ take i events) event (adds.shown before earlier has) more same on);
+    }
+
+-- a row ends an act, whose lines are written
+pub act_ended : (old lines new : Lines) (was now later : Option (List ℕ)) (events : List Event) (i : ℕ) (event default : Event) (act : Act) → i < length events → event ≡ get_or events i default
+    → Adds old lines was now (take i events) i → new.rows ≡ lines.rows + 1 → new.shown ≡ lines.rows + 1
+    → ((pieces : List Piece) → StandsFor lines.bus pieces → GoesOn new.bus pieces event (Some act)) → Appends now later (ended_text lines.shown lines.rows act)
+    → Adds old new was later (take (i + 1) events) (i + 1)
+act_ended old lines new was now later events i event default act within is adds more all on written =
+    let gone : GoesOn new.bus adds.stands.0 event (Some act) = on adds.stands.0 adds.stands.1 in
+    record {
+      stands = (gone.longer, gone.stands);
+      few = omega (arith, more, all);
+      counted = omega (arith, adds.counted, more);
+      shown = λ before earlier has.
+          let P : List Event → Type 0 = λ l. HasShown new before later l in
+          subst P (one_more earlier events i event default within is)
+          (act_shown lines new before now later (earlier ++ take i events) event act (adds.shown before earlier has) more all on written);
+    }
+
+-- the lines with a row more
+abbrev pub one_row_more : Lines → Lines
+one_row_more lines = record { bus = lines.bus; rows = lines.rows + 1; shown = lines.shown; act = lines.act }
+
+-- the same with the values by other names
+pub adds_is : (old lines other : Lines) (was now later : Option (List ℕ)) (rows : List Event) (count : ℕ) → other ≡ lines → later ≡ now → Adds old (one_row_more lines) was now rows count
+    → Adds old (one_row_more other) was later rows count
+adds_is old lines other was now later rows count same same_bytes adds =
+    let P : Option (List ℕ) → Type 0 = λ bytes. Adds old (one_row_more lines) was bytes rows count in
+    let Q : Lines → Type 0 = λ l. Adds old (one_row_more l) was later rows count in
+    subst Q (sym same) (subst P (sym same_bytes) adds)
+
+-- the reply of the act that a row ends is one
+pub names : (bus next : Bus) (event : Event) (act : Act) → HasPieces bus → ((act : Act) (events : List Event) (pieces : List Piece) → ArePieces (Whole act events ∷ pieces) → NamesAReply act)
+    → ((pieces : List Piece) → StandsFor bus pieces → GoesOn next pieces event (Some act)) → NamesAReply act
+names bus next event act stands law on =
+    let gone : GoesOn next stands.0 event (Some act) = on stands.0 stands.1 in
+    let are : gone.longer ≡ Whole act (piece_events gone.grown.newest) ∷ gone.grown.earlier = gone.grown.are ∙ ap (λ piece. piece ∷ gone.grown.earlier) (whole_of gone.grown.newest act gone.grown.ends) in
+    law act (piece_events gone.grown.newest) gone.grown.earlier (subst ArePieces are gone.stands.in_order)
+
+-- the pieces lead up to a row
+lead_up : (lines : Lines) (before now : Option (List ℕ)) (earlier events : List Event) (i : ℕ) (event default : Event) → i < length events → event ≡ get_or events i default
+    → (has : HasShown lines before now (earlier ++ take i events)) → LeadTo earlier events has.pieces event
+lead_up lines before now earlier events i event default within is has = record {
+  front = take i events;
+  rest = drop (i + 1) events;
+  parts = rw add-one (split_at events i default within) ∙ ap (λ e. take i events ++ e ∷ drop (i + 1) events) (sym is);
+  are = has.are;
+  in_order = has.stands.in_order;
+}
+
+-- a row breaks a rule of the link
+pub fault_added : (old lines : Lines) (was now later : Option (List ℕ)) (events : List Event) (i : ℕ) (event default : Event) (row : ℕ) (fault : LinkFault) → i < length events → event ≡ get_or events i default
+    → Adds old lines was now (take i events) i → row ≡ lines.rows + 1 → ((pieces : List Piece) → StandsFor lines.bus pieces → IsLinkFault pieces event fault.rule fault.blame)
+    → Appends now later (fault_line row fault) → (before : Option (List ℕ)) (earlier : List Event) → HasShown old before was earlier → IsAddedToFault before later earlier events fault
+fault_added old lines was now later events i event default row fault within is adds number faults line before earlier has_old =
+    let has : HasShown lines before now (earlier ++ take i events) = adds.shown before earlier has_old in
+    let same : row ≡ length (events_of has.pieces) + 1 = number ∙ ap (λ n. n + 1) (sym (ap length has.are ∙ has.counted)) in
+    let P : ℕ → Type 0 = λ n. Appends before later (show_text (closed_pieces has.pieces) ++ fault_line n fault) in
+    record {
+      pieces = has.pieces;
+      row = event;
+      lead = lead_up lines before now earlier events i event default within is has;
+      is = faults has.pieces has.stands;
+      written = subst P same (appended before now later (show_text (closed_pieces has.pieces)) (fault_line row fault) has.written line);
+    }
+
+-- a line isn't taken
+line_untaken : (lines left : Lines) (before now later : Option (List ℕ)) (earlier events : List Event) (i : ℕ) (event default : Event) → i < length events → event ≡ get_or events i default
+    → HasShown lines before now (earlier ++ take i events) → (fault : RunFault) → IsNotTaken fault now later → HasAdded left before later earlier events (Err fault)
+line_untaken lines left before now later earlier events i event default within is has (BadRow row fault) not_taken = absurd not_taken
+line_untaken lines left before now later earlier events i event default within is has TooLong not_taken = absurd not_taken
+line_untaken lines left before now later earlier events i event default within is has Read not_taken = absurd not_taken
+line_untaken lines left before now later earlier events i event default within is has Write not_taken = tt
+line_untaken lines left before now later earlier events i event default within is has Memory not_taken =
+    let P : Option (List ℕ) → Type 0 = λ bytes. Appends before bytes (show_text (closed_pieces has.pieces)) in
+    record {
+      pieces = has.pieces;
+      row = event;
+      lead = lead_up lines before now earlier events i event default within is has;
+      written = subst P (sym not_taken) has.written;
+    }
+
+-- the same, handed on by `?`
+pub line_refused : (old lines left : Lines) (was now later : Option (List ℕ)) (events : List Event) (i : ℕ) (event default : Event) → i < length events → event ≡ get_or events i default
+    → Adds old lines was now (take i events) i → (fault : RunFault) → IsNotTaken fault now later → (answer : Result (Option LinkFault) RunFault) → IsErrAnd answer (λ told. told ≡ fault)
+    → (before : Option (List ℕ)) (earlier : List Event) → HasShown old before was earlier → HasAdded left before later earlier events answer
+line_refused old lines left was now later events i event default within is adds fault not_taken (Ok showing) told before earlier has = absurd told
+line_refused old lines left was now later events i event default within is adds fault not_taken (Err other) told before earlier has =
+    let P : RunFault → Type 0 = λ f. HasAdded left before later earlier events (Err f) in
+    subst P (sym told) (line_untaken lines left before now later earlier events i event default within is (adds.shown before earlier has) fault not_taken)
+
+-- The lines of the records.
+
+-- The first of the records are rows, whose lines are written, and this is what comes behind them.
+pub record Progress {R : Type 0} (remaining : R → Option (List ℕ)) (start records : Records R) (lines : Lines) (before now : Option (List ℕ)) (next : Next) : Type 0 where
+  pub rows : List Event
+  pub shown : HasShown lines before now rows
+  pub has_read : (all : List (List (List ℕ))) → ToCome remaining start all → HasRead remaining all records rows next
 
 keeps : (a : Option (List ℕ)) → Appends a a []
 keeps None = tt
 keeps (Some bytes) = sym (append-nil bytes)
 
-pub begins : {R : Type 0} (remaining : R → Option (List ℕ)) (start : Records R) (bus : Bus) (now : Option (List ℕ)) → StandsFor bus [] → Progress remaining start start bus now now 0 0
-begins remaining start bus now stands = record {
-  pieces = [];
-  stands = stands;
-  closed = refl;
-  counted = refl;
-  few = omega (arith);
-  written = keeps now;
-  has_read = λ all to_come. record { done = []; rest = all; split = refl; to_come = to_come; told = tt };
+pub begins : {R : Type 0} (remaining : R → Option (List ℕ)) (start : Records R) (lines : Lines) (now : Option (List ℕ)) → StandsFor lines.bus [] → lines.rows ≡ 0 → lines.shown ≡ 0
+    → Progress remaining start start lines now now next.More
+begins remaining start lines now stands no_rows none = record {
+  rows = [];
+  shown = record {
+    pieces = [];
+    stands = stands;
+    are = refl;
+    counted = sym no_rows;
+    closed = sym none;
+    few = omega (arith, none);
+    written = keeps now;
+  };
+  has_read = λ all to_come. record { done = []; rest = all; split = refl; told = tt; behind = to_come };
 }
 
--- one record more was found
-pub record HasFound {R : Type 0} (remaining : R → Option (List ℕ)) (all : List (List (List ℕ))) (records : Records R) (pieces : List Piece) : Type 0 where
-  pub done : List (List (List ℕ))
-  pub rest : List (List (List ℕ))
-  pub split : all ≡ done ++ current_fields records ∷ rest
-  pub to_come : ToCome remaining records rest
-  pub told : AreRows done (events_of pieces)
+-- the lines of all rows of a batch are added
+pub all_added : (lines after : Lines) (now later : Option (List ℕ)) (events rows : List Event) (outcome : Option LinkFault) → events ≡ rows → outcome ≡ None
+    → ((before : Option (List ℕ)) (earlier : List Event) → HasShown lines before now earlier → HasAdded after before later earlier events (Ok outcome))
+    → (before : Option (List ℕ)) (earlier : List Event) → HasShown lines before now earlier → HasShown after before later (earlier ++ rows)
+all_added lines after now later events rows outcome same none adds before earlier has =
+    let P : Option LinkFault → Type 0 = λ o. HasAdded after before later earlier events (Ok o) in
+    let Q : List Event → Type 0 = λ l. HasShown after before later (earlier ++ l) in
+    subst Q same (subst P none (adds before earlier has))
 
-found_one : {R : Type 0} (remaining : R → Option (List ℕ)) (all : List (List (List ℕ))) (old new : Records R) (pieces : List Piece) → HasRead remaining all old pieces
-    → (found : Bool) → found ≡ true → ((rows : List (List (List ℕ))) → ToCome remaining old rows → Advances remaining new found rows) → HasFound remaining all new pieces
-found_one remaining all old new pieces has found is advances =
-    let Q : Bool → Type 0 = λ f. Advances remaining new f has.rest in
-    let one : Advances remaining new true has.rest = subst Q is (advances has.rest has.to_come) in
-    record { done = has.done; rest = one.0; split = has.split ∙ ap (λ l. has.done ++ l) one.1; to_come = one.2; told = has.told }
+-- a batch is read, and its lines are added
+pub read_on : {R : Type 0} (remaining : R → Option (List ℕ)) (start old new : Records R) (lines after : Lines) (before now later : Option (List ℕ)) (rows : List Event) (behind : Next)
+    → Progress remaining start old lines before now next.More → ((all : List (List (List ℕ))) → ToCome remaining old all → HasRead remaining all new rows behind)
+    → ((before : Option (List ℕ)) (earlier : List Event) → HasShown lines before now earlier → HasShown after before later (earlier ++ rows)) → Progress remaining start new after before later behind
+read_on remaining start old new lines after before now later rows behind progress reads adds = record {
+  rows = progress.rows ++ rows;
+  shown = adds before progress.rows progress.shown;
+  has_read = λ all to_come.
+      let first : HasRead remaining all old progress.rows next.More = progress.has_read all to_come in
+      let second : HasRead remaining first.rest new rows behind = reads first.rest first.behind in
+      record {
+        done = first.done ++ second.done;
+        rest = second.rest;
+        split = first.split ∙ (ap (λ l. first.done ++ l) second.split ∙ sym (append_assoc first.done second.done second.rest));
+        told = rows_append first.done progress.rows second.done rows first.told second.told;
+        behind = second.behind;
+      };
+}
 
-shown_front : {R : Type 0} (remaining : R → Option (List ℕ)) (all : List (List (List ℕ))) (new : Records R) (pieces : List Piece) → ArePieces pieces → (has : HasFound remaining all new pieces)
-    → AreShown all pieces (current_fields new ∷ has.rest)
-shown_front remaining all new pieces order has = record { done = has.done; split = has.split; told = has.told; in_order = order }
+-- so many rows are added
+pub more_rows : {R : Type 0} (remaining : R → Option (List ℕ)) (start old : Records R) (lines after : Lines) (before now later : Option (List ℕ)) (rows : List Event)
+    → Progress remaining start old lines before now next.More
+    → ((before : Option (List ℕ)) (earlier : List Event) → HasShown lines before now earlier → HasShown after before later (earlier ++ rows)) → after.rows ≡ lines.rows + length rows
+more_rows remaining start old lines after before now later rows progress adds =
+    omega (arith, progress.shown.counted, (adds before progress.rows progress.shown).counted, length-append progress.rows rows)
+
+-- a batch without a row is read
+pub read_none : {R : Type 0} (remaining : R → Option (List ℕ)) (start old new : Records R) (lines : Lines) (before now : Option (List ℕ)) (rows : List Event) (behind : Next)
+    → Progress remaining start old lines before now next.More → ((all : List (List (List ℕ))) → ToCome remaining old all → HasRead remaining all new rows behind)
+    → behind ≡ next.End → FitsIn 1 rows behind → Progress remaining start new lines before now behind
+read_none remaining start old new lines before now rows behind progress reads is within =
+    let Fits : Next → Type 0 = λ n. FitsIn 1 rows n in
+    let none : rows ≡ [] = empty rows (subst Fits is within) in
+    read_on remaining start old new lines lines before now now rows behind progress reads
+    (λ before earlier has. let P : List Event → Type 0 = λ l. HasShown lines before now l in subst P (sym (ap (λ l. earlier ++ l) none ∙ append-nil earlier)) has)
+
+-- the pieces of the rows that were read
+front : {R : Type 0} (remaining : R → Option (List ℕ)) (all : List (List (List ℕ))) (records : Records R) (lines : Lines) (before now : Option (List ℕ)) (rows : List Event) (behind : Next)
+    (has : HasShown lines before now rows) → (read : HasRead remaining all records rows behind) → AreShown all has.pieces read.rest
+front remaining all records lines before now rows behind has read =
+    let P : List Event → Type 0 = λ l. AreRows read.done l in
+    record { done = read.done; split = read.split; told = subst P (sym has.are) read.told; in_order = has.stands.in_order }
 
 -- part of it was shown, whatever was refused then
-in_part : (all : List (List (List ℕ))) (before after : Option (List ℕ)) (pieces : List Piece) (rest : List (List (List ℕ))) → AreShown all pieces rest
-    → Appends before after (show_text (closed_pieces pieces)) → (fault : ReadFault) → Shows all before after (Err (run_fault_of fault))
-in_part all before after pieces rest front written reading.Read not =
-    (show_text (closed_pieces pieces), record { pieces = pieces; rest = rest; shown = front; lines = refl }, written)
-in_part all before after pieces rest front written reading.Memory not =
-    (show_text (closed_pieces pieces), record { pieces = pieces; rest = rest; shown = front; lines = refl }, written)
+in_part : (all : List (List (List ℕ))) (before now : Option (List ℕ)) (pieces : List Piece) (rest : List (List (List ℕ))) → AreShown all pieces rest
+    → Appends before now (show_text (closed_pieces pieces)) → (fault : ReadFault) → Shows all before now (Err (run_fault_of fault))
+in_part all before now pieces rest shown written reading.Read not =
+    (show_text (closed_pieces pieces), record { pieces = pieces; rest = rest; shown = shown; lines = refl }, written)
+in_part all before now pieces rest shown written reading.Memory not =
+    (show_text (closed_pieces pieces), record { pieces = pieces; rest = rest; shown = shown; lines = refl }, written)
 
 -- a record can't be read
-pub unread : {R : Type 0} (remaining : R → Option (List ℕ)) (all : List (List (List ℕ))) (start old : Records R) (bus : Bus) (before after : Option (List ℕ)) (shown rows : ℕ)
-    → Progress remaining start old bus before after shown rows → ToCome remaining start all → (fault : ReadFault) (told : RunFault) → told ≡ run_fault_of fault → Shows all before after (Err told)
-unread remaining all start old bus before after shown rows progress to_come fault told is =
-    let has : HasRead remaining all old progress.pieces = progress.has_read all to_come in
-    let P : RunFault → Type 0 = λ f. Shows all before after (Err f) in
-    subst P (sym is) (in_part all before after progress.pieces has.rest (record { done = has.done; split = has.split; told = has.told; in_order = progress.stands.in_order }) progress.written fault)
+pub unread : {R : Type 0} (remaining : R → Option (List ℕ)) (all : List (List (List ℕ))) (start records : Records R) (lines : Lines) (before now : Option (List ℕ)) (behind : Next)
+    → Progress remaining start records lines before now behind → ToCome remaining start all → (fault : ReadFault) (told : RunFault) → told ≡ run_fault_of fault → Shows all before now (Err told)
+unread remaining all start records lines before now behind progress to_come fault told is =
+    let read : HasRead remaining all records progress.rows behind = progress.has_read all to_come in
+    let P : RunFault → Type 0 = λ f. Shows all before now (Err f) in
+    subst P (sym is)
+    (in_part all before now progress.shown.pieces read.rest (front remaining all records lines before now progress.rows behind progress.shown read) progress.shown.written fault)
 
--- a line isn't taken
-untaken : (all : List (List (List ℕ))) (before old new : Option (List ℕ)) (pieces : List Piece) (rest : List (List (List ℕ))) → AreShown all pieces rest
-    → Appends before old (show_text (closed_pieces pieces)) → (fault : RunFault) → IsNotTaken fault old new → Shows all before new (Err fault)
-untaken all before old new pieces rest front written (BadRow row fault) not_taken = absurd not_taken
-untaken all before old new pieces rest front written TooLong not_taken = absurd not_taken
-untaken all before old new pieces rest front written Read not_taken = absurd not_taken
-untaken all before old new pieces rest front written Write not_taken = λ not. absurd (not refl)
-untaken all before old new pieces rest front written Memory not_taken =
-    let P : Option (List ℕ) → Type 0 = λ now. Shows all before now (Err Memory) in
-    subst P (sym not_taken) (in_part all before old pieces rest front written reading.Memory)
+-- the line of a tail isn't taken
+untaken : (all : List (List (List ℕ))) (before now later : Option (List ℕ)) (pieces : List Piece) (rest : List (List (List ℕ))) → AreShown all pieces rest
+    → Appends before now (show_text (closed_pieces pieces)) → (fault : RunFault) → IsNotTaken fault now later → Shows all before later (Err fault)
+untaken all before now later pieces rest shown written (BadRow row fault) not_taken = absurd not_taken
+untaken all before now later pieces rest shown written TooLong not_taken = absurd not_taken
+untaken all before now later pieces rest shown written Read not_taken = absurd not_taken
+untaken all before now later pieces rest shown written Write not_taken = λ not. absurd (not refl)
+untaken all before now later pieces rest shown written Memory not_taken =
+    let P : Option (List ℕ) → Type 0 = λ bytes. Shows all before bytes (Err Memory) in
+    subst P (sym not_taken) (in_part all before now pieces rest shown written reading.Memory)
 
-pub line_refused : {R : Type 0} (remaining : R → Option (List ℕ)) (all : List (List (List ℕ))) (start old : Records R) (bus : Bus) (before after new : Option (List ℕ)) (shown rows : ℕ)
-    → Progress remaining start old bus before after shown rows → ToCome remaining start all → (fault : RunFault) → IsNotTaken fault after new → Shows all before new (Err fault)
-line_refused remaining all start old bus before after new shown rows progress to_come fault not_taken =
-    let has : HasRead remaining all old progress.pieces = progress.has_read all to_come in
-    untaken all before after new progress.pieces has.rest (record { done = has.done; split = has.split; told = has.told; in_order = progress.stands.in_order }) progress.written fault not_taken
-
--- of which no read was refused
-pub no_read_refused : (fault : RunFault) (a b : Option (List ℕ)) → IsNotTaken fault a b → fault ≡ Read → ⊥
-no_read_refused (BadRow row other) a b not_taken is = cc
-no_read_refused TooLong a b not_taken is = cc
-no_read_refused Read a b not_taken is = not_taken
-no_read_refused Write a b not_taken is = cc
-no_read_refused Memory a b not_taken is = cc
-
--- nothing was refused but a read
-pub read_refused : (fault : ReadFault) (told : RunFault) (met : Option ReadFault) → told ≡ run_fault_of fault → met ≡ Some fault → told ≡ Read → met ≡ Some reading.Read
-read_refused reading.Read told met is heard read = heard
-read_refused reading.Memory told met is heard read = let clash : Memory ≡ Read = sym is ∙ read in cc
+pub cut_refused : {R : Type 0} (remaining : R → Option (List ℕ)) (all : List (List (List ℕ))) (start records : Records R) (lines : Lines) (before now later : Option (List ℕ)) (behind : Next)
+    → Progress remaining start records lines before now behind → ToCome remaining start all → (fault : RunFault) → IsNotTaken fault now later → (answer : Result (Option LinkFault) RunFault)
+    → IsErrAnd answer (λ told. told ≡ fault) → Shows all before later answer
+cut_refused remaining all start records lines before now later behind progress to_come fault not_taken (Ok showing) is = absurd is
+cut_refused remaining all start records lines before now later behind progress to_come fault not_taken (Err told) is =
+    let read : HasRead remaining all records progress.rows behind = progress.has_read all to_come in
+    let P : RunFault → Type 0 = λ f. Shows all before later (Err f) in
+    subst P (sym is)
+    (untaken all before now later progress.shown.pieces read.rest (front remaining all records lines before now progress.rows behind progress.shown read) progress.shown.written fault not_taken)
 
 -- the text ends
-pub ended : {R : Type 0} (remaining : R → Option (List ℕ)) (all : List (List (List ℕ))) (start old new : Records R) (bus : Bus) (before after now : Option (List ℕ)) (shown rows : ℕ)
-    → Progress remaining start old bus before after shown rows → ToCome remaining start all → (found : Bool) → found ≡ false
-    → ((rest : List (List (List ℕ))) → ToCome remaining old rest → Advances remaining new found rest) → rows ≤ ROWS_MAX → Appends after now (cut_text shown rows) → Shows all before now (Ok None)
-ended remaining all start old new bus before after now shown rows progress to_come found is advances few cut not =
-    let pieces : List Piece = progress.pieces in
-    let has : HasRead remaining all old pieces = progress.has_read all to_come in
-    let Q : Bool → Type 0 = λ f. Advances remaining new f has.rest in
-    let none : has.rest ≡ [] = subst Q is (advances has.rest has.to_come) in
-    let lines : show_text pieces ≡ show_text (closed_pieces pieces) ++ cut_text shown rows =
-    all_shown pieces progress.stands.in_order
-    ∙ (ap (λ n. show_text (closed_pieces pieces) ++ cut_text n (length (events_of pieces))) progress.closed ∙ ap (λ n. show_text (closed_pieces pieces) ++ cut_text shown n) progress.counted) in (
-      show_text (closed_pieces pieces) ++ cut_text shown rows,
+pub ended : {R : Type 0} (remaining : R → Option (List ℕ)) (all : List (List (List ℕ))) (start records : Records R) (lines : Lines) (before now later : Option (List ℕ)) (behind : Next)
+    → Progress remaining start records lines before now behind → ToCome remaining start all → behind ≡ next.End → lines.rows ≤ ROWS_MAX → Appends now later (cut_text lines.shown lines.rows)
+    → Shows all before later (Ok None)
+ended remaining all start records lines before now later behind progress to_come is few cut not =
+    let has : HasShown lines before now progress.rows = progress.shown in
+    let P : Next → Type 0 = λ n. HasRead remaining all records progress.rows n in
+    let read : HasRead remaining all records progress.rows next.End = subst P is (progress.has_read all to_come) in
+    let Rest : List (List (List ℕ)) → Type 0 = λ l. AreShown all has.pieces l in
+    let counted : length (events_of has.pieces) ≡ lines.rows = ap length has.are ∙ has.counted in
+    let text : show_text has.pieces ≡ show_text (closed_pieces has.pieces) ++ cut_text lines.shown lines.rows =
+    all_shown has.pieces has.stands.in_order
+    ∙ (ap (λ n. show_text (closed_pieces has.pieces) ++ cut_text n (length (events_of has.pieces))) has.closed ∙ ap (λ n. show_text (closed_pieces has.pieces) ++ cut_text lines.shown n) counted) in (
+      show_text (closed_pieces has.pieces) ++ cut_text lines.shown lines.rows,
       record {
-        pieces = pieces;
-        shown = record { done = has.done; split = has.split ∙ ap (λ l. has.done ++ l) none; told = has.told; in_order = progress.stands.in_order };
-        few = omega (arith, progress.counted, few);
-        lines = sym lines;
+        pieces = has.pieces;
+        shown = subst Rest read.behind (front remaining all records lines before now progress.rows next.End has read);
+        few = omega (arith, counted, few);
+        lines = sym text;
       },
-      appended before after now (show_text (closed_pieces pieces)) (cut_text shown rows) progress.written cut,
-    )
-
--- there is a record too many
-pub too_long : {R : Type 0} (remaining : R → Option (List ℕ)) (all : List (List (List ℕ))) (start old new : Records R) (bus : Bus) (before after : Option (List ℕ)) (shown rows : ℕ)
-    → Progress remaining start old bus before after shown rows → ToCome remaining start all → (found : Bool) → found ≡ true
-    → ((rest : List (List (List ℕ))) → ToCome remaining old rest → Advances remaining new found rest) → rows ≡ ROWS_MAX → Shows all before after (Err TooLong)
-too_long remaining all start old new bus before after shown rows progress to_come found is advances full not =
-    let pieces : List Piece = progress.pieces in
-    let has : HasFound remaining all new pieces = found_one remaining all old new pieces (progress.has_read all to_come) found is advances in (
-      show_text (closed_pieces pieces),
-      record {
-        pieces = pieces;
-        fields = current_fields new;
-        rest = has.rest;
-        shown = shown_front remaining all new pieces progress.stands.in_order has;
-        full = progress.counted ∙ full;
-        lines = refl;
-      },
-      progress.written,
+      appended before now later (show_text (closed_pieces has.pieces)) (cut_text lines.shown lines.rows) has.written cut,
     )
 
 -- a record is no row
-pub bad_row : {R : Type 0} (remaining : R → Option (List ℕ)) (all : List (List (List ℕ))) (start old new : Records R) (bus : Bus) (before after : Option (List ℕ)) (shown rows row : ℕ) (fault : RowFault)
-    → Progress remaining start old bus before after shown rows → ToCome remaining start all → (found : Bool) → found ≡ true
-    → ((rest : List (List (List ℕ))) → ToCome remaining old rest → Advances remaining new found rest) → rows < ROWS_MAX → row ≡ rows + 1 → IsRefusal (current_fields new) fault
-    → Shows all before after (Err (BadRow row fault))
-bad_row remaining all start old new bus before after shown rows row fault progress to_come found is advances few number refused not =
-    let pieces : List Piece = progress.pieces in
-    let has : HasFound remaining all new pieces = found_one remaining all old new pieces (progress.has_read all to_come) found is advances in (
-      show_text (closed_pieces pieces),
+pub bad_row : {R : Type 0} (remaining : R → Option (List ℕ)) (all : List (List (List ℕ))) (start records : Records R) (lines : Lines) (before now : Option (List ℕ)) (behind : Next) (row : ℕ) (fault : RowFault)
+    → Progress remaining start records lines before now behind → ToCome remaining start all → behind ≡ next.BadRow fault → lines.rows < ROWS_MAX → row ≡ lines.rows + 1
+    → Shows all before now (Err (BadRow row fault))
+bad_row remaining all start records lines before now behind row fault progress to_come is few number not =
+    let has : HasShown lines before now progress.rows = progress.shown in
+    let P : Next → Type 0 = λ n. HasRead remaining all records progress.rows n in
+    let read : HasRead remaining all records progress.rows (next.BadRow fault) = subst P is (progress.has_read all to_come) in
+    let Rest : List (List (List ℕ)) → Type 0 = λ l. AreShown all has.pieces l in
+    let counted : length (events_of has.pieces) ≡ lines.rows = ap length has.are ∙ has.counted in (
+      show_text (closed_pieces has.pieces),
       record {
-        pieces = pieces;
-        fields = current_fields new;
-        rest = has.rest;
-        shown = shown_front remaining all new pieces progress.stands.in_order has;
-        few = omega (arith, progress.counted, few);
-        number = omega (arith, progress.counted, number);
-        refused = refused;
+        pieces = has.pieces;
+        fields = read.behind.0;
+        rest = read.behind.1;
+        shown = subst Rest read.behind.2 (front remaining all records lines before now progress.rows (next.BadRow fault) has read);
+        few = omega (arith, counted, few);
+        number = omega (arith, counted, number);
+        refused = read.behind.3;
         lines = refl;
       },
-      progress.written,
+      has.written,
     )
 
--- a row breaks a rule of the link
-pub fault_at : {R : Type 0} (remaining : R → Option (List ℕ)) (all : List (List (List ℕ))) (start old new : Records R) (bus : Bus) (before after now : Option (List ℕ)) (shown rows row : ℕ) (event : Event)
-    (fault : LinkFault) → (progress : Progress remaining start old bus before after shown rows) → ToCome remaining start all → (found : Bool) → found ≡ true
-    → ((rest : List (List (List ℕ))) → ToCome remaining old rest → Advances remaining new found rest) → rows < ROWS_MAX → row ≡ rows + 1 → IsRow (current_fields new) event
-    → ((pieces : List Piece) → StandsFor bus pieces → IsLinkFault pieces event fault.rule fault.blame) → Appends after now (fault_line row fault) → Shows all before now (Ok (Some fault))
-fault_at remaining all start old new bus before after now shown rows row event fault progress to_come found is advances few number told faults line not =
-    let pieces : List Piece = progress.pieces in
-    let has : HasFound remaining all new pieces = found_one remaining all old new pieces (progress.has_read all to_come) found is advances in
-    let same : row ≡ length (events_of pieces) + 1 = number ∙ ap (λ n. n + 1) (sym progress.counted) in (
-      show_text (closed_pieces pieces) ++ fault_line row fault,
+-- there is a record too many
+pub too_long : {R : Type 0} (remaining : R → Option (List ℕ)) (all : List (List (List ℕ))) (start old new : Records R) (lines : Lines) (before now : Option (List ℕ)) (rows : List Event) (behind : Next)
+    → Progress remaining start old lines before now next.More → ToCome remaining start all → ((rest : List (List (List ℕ))) → ToCome remaining old rest → HasRead remaining rest new rows behind)
+    → FitsIn 1 rows behind → HasMore behind → lines.rows ≡ ROWS_MAX → Shows all before now (Err TooLong)
+too_long remaining all start old new lines before now rows behind progress to_come reads within more full not =
+    let has : HasShown lines before now progress.rows = progress.shown in
+    let read : HasRead remaining all old progress.rows next.More = progress.has_read all to_come in
+    let first : First read.rest = first_found remaining read.rest new rows behind (reads read.rest read.behind) within more in
+    let Rest : List (List (List ℕ)) → Type 0 = λ l. AreShown all has.pieces l in (
+      show_text (closed_pieces has.pieces),
       record {
-        pieces = pieces;
-        fields = current_fields new;
-        rest = has.rest;
-        shown = shown_front remaining all new pieces progress.stands.in_order has;
-        few = omega (arith, progress.counted, few);
-        row = event;
-        row_told = told;
-        is = faults pieces progress.stands;
-        lines = ap (λ n. show_text (closed_pieces pieces) ++ fault_line n fault) same;
+        pieces = has.pieces;
+        fields = first.fields;
+        rest = first.after;
+        shown = subst Rest first.is (front remaining all old lines before now progress.rows next.More has read);
+        full = ap length has.are ∙ (has.counted ∙ full);
+        lines = refl;
       },
-      appended before after now (show_text (closed_pieces pieces)) (fault_line row fault) progress.written line,
+      has.written,
     )
 
-has_one_more : {R : Type 0} (remaining : R → Option (List ℕ)) (all : List (List (List ℕ))) (new : Records R) (pieces longer : List Piece) (event : Event) → HasFound remaining all new pieces
-    → IsRow (current_fields new) event → events_of longer ≡ events_of pieces ++ event ∷ [] → HasRead remaining all new longer
-has_one_more remaining all new pieces longer event has row are =
-    let P : List Event → Type 0 = λ events. AreRows (has.done ++ current_fields new ∷ []) events in
+-- the record of the row that pieces lead up to
+record LeadThere (all : List (List (List ℕ))) (pieces : List Piece) (row : Event) : Type 0 where
+  fields : List (List ℕ)
+  rest : List (List (List ℕ))
+  shown : AreShown all pieces (fields ∷ rest)
+  told : IsRow fields row
+
+lead_there : {R : Type 0} (remaining : R → Option (List ℕ)) (all : List (List (List ℕ))) (start old new : Records R) (lines : Lines) (before now : Option (List ℕ)) (rows : List Event) (behind : Next)
+    (pieces : List Piece) (row : Event) → (progress : Progress remaining start old lines before now next.More) → ToCome remaining start all
+    → ((rest : List (List (List ℕ))) → ToCome remaining old rest → HasRead remaining rest new rows behind) → LeadTo progress.rows rows pieces row → LeadThere all pieces row
+lead_there remaining all start old new lines before now rows behind pieces row progress to_come reads lead =
+    let first : HasRead remaining all old progress.rows next.More = progress.has_read all to_come in
+    let second : HasRead remaining first.rest new rows behind = reads first.rest first.behind in
+    let Told : List Event → Type 0 = λ l. AreRows second.done l in
+    let split : Split second.done lead.front row lead.rest = split_rows second.done lead.front row lead.rest (subst Told lead.parts second.told) in
+    let of_batch : second.done ++ second.rest ≡ split.done ++ split.fields ∷ (split.after ++ second.rest) =
+    ap (λ l. l ++ second.rest) split.is ∙ append_assoc split.done (split.fields ∷ split.after) second.rest in
+    let Rows : List Event → Type 0 = λ l. AreRows (first.done ++ split.done) l in
     record {
-      done = has.done ++ current_fields new ∷ [];
-      rest = has.rest;
-      split = has.split ∙ sym (append_assoc has.done (current_fields new ∷ []) has.rest);
-      to_come = has.to_come;
-      told = subst P (sym are) (rows_push has.done (events_of pieces) (current_fields new) event has.told row);
+      fields = split.fields;
+      rest = split.after ++ second.rest;
+      shown = record {
+        done = first.done ++ split.done;
+        split = first.split ∙ (ap (λ l. first.done ++ l) (second.split ∙ of_batch) ∙ sym (append_assoc first.done split.done (split.fields ∷ (split.after ++ second.rest))));
+        told = subst Rows (sym lead.are) (rows_append first.done progress.rows split.done lead.front first.told split.told);
+        in_order = lead.in_order;
+      };
+      told = split.one;
     }
 
--- a row ends no act
-pub goes_on : {R : Type 0} (remaining : R → Option (List ℕ)) (start old new : Records R) (bus next : Bus) (before after : Option (List ℕ)) (shown rows : ℕ) (event : Event)
-    → (progress : Progress remaining start old bus before after shown rows) → (found : Bool) → found ≡ true
-    → ((rest : List (List (List ℕ))) → ToCome remaining old rest → Advances remaining new found rest) → IsRow (current_fields new) event
-    → ((pieces : List Piece) → StandsFor bus pieces → GoesOn next pieces event None) → Progress remaining start new next before after shown (rows + 1)
-goes_on remaining start old new bus next before after shown rows event progress found is advances row on =
-    let pieces : List Piece = progress.pieces in
-    let gone : GoesOn next pieces event None = on pieces progress.stands in
-    let closed : closed_pieces gone.longer ≡ closed_pieces pieces = goes_on_closed pieces gone.longer event gone.grown gone.stands.in_order in
-    let P : List Piece → Type 0 = λ l. Appends before after (show_text l) in
-    record {
-      pieces = gone.longer;
-      stands = gone.stands;
-      closed = ap (λ l. length (events_of l)) closed ∙ progress.closed;
-      counted = ap length gone.rows ∙ (length-append (events_of pieces) (event ∷ []) ∙ ap (λ n. n + 1) progress.counted);
-      few = omega (arith, progress.few);
-      written = subst P (sym closed) progress.written;
-      has_read = λ all to_come. has_one_more remaining all new pieces gone.longer event (found_one remaining all old new pieces (progress.has_read all to_come) found is advances) row gone.rows;
-    }
+-- a row of a batch breaks a rule of the link
+pub fault_added_in : (lines after : Lines) (now later : Option (List ℕ)) (events rows : List Event) (outcome : Option LinkFault) (fault : LinkFault) → events ≡ rows → outcome ≡ Some fault
+    → ((before : Option (List ℕ)) (earlier : List Event) → HasShown lines before now earlier → HasAdded after before later earlier events (Ok outcome))
+    → (before : Option (List ℕ)) (earlier : List Event) → HasShown lines before now earlier → IsAddedToFault before later earlier rows fault
+fault_added_in lines after now later events rows outcome fault same some adds before earlier has =
+    let P : Option LinkFault → Type 0 = λ o. HasAdded after before later earlier events (Ok o) in
+    let Q : List Event → Type 0 = λ l. IsAddedToFault before later earlier l fault in
+    subst Q same (subst P some (adds before earlier has))
 
--- a row ends an act, whose lines are written
-pub act_ended : {R : Type 0} (remaining : R → Option (List ℕ)) (start old new : Records R) (bus next : Bus) (before after now : Option (List ℕ)) (shown rows : ℕ) (event : Event) (act : Act)
-    → (progress : Progress remaining start old bus before after shown rows) → (found : Bool) → found ≡ true
-    → ((rest : List (List (List ℕ))) → ToCome remaining old rest → Advances remaining new found rest) → IsRow (current_fields new) event
-    → ((pieces : List Piece) → StandsFor bus pieces → GoesOn next pieces event (Some act)) → Appends after now (ended_text shown rows act) → Progress remaining start new next before now (rows + 1) (rows + 1)
-act_ended remaining start old new bus next before after now shown rows event act progress found is advances row on lines =
-    let pieces : List Piece = progress.pieces in
-    let gone : GoesOn next pieces event (Some act) = on pieces progress.stands in
-    let added = ends_act pieces gone.longer event act shown rows gone.grown progress.stands.in_order gone.stands.in_order progress.closed progress.counted in
-    let counted : length (events_of gone.longer) ≡ rows + 1 = ap length gone.rows ∙ (length-append (events_of pieces) (event ∷ []) ∙ ap (λ n. n + 1) progress.counted) in
-    let P : List ℕ → Type 0 = λ text. Appends before now text in
-    record {
-      pieces = gone.longer;
-      stands = gone.stands;
-      closed = ap (λ l. length (events_of l)) added.0 ∙ counted;
-      counted = counted;
-      few = omega (arith);
-      written = subst P (sym (ap show_text added.0 ∙ added.1)) (appended before after now (show_text (closed_pieces pieces)) (ended_text shown rows act) progress.written lines);
-      has_read = λ all to_come. has_one_more remaining all new pieces gone.longer event (found_one remaining all old new pieces (progress.has_read all to_come) found is advances) row gone.rows;
-    }
+-- the answer is its fault then
+pub fault_in : {R : Type 0} (remaining : R → Option (List ℕ)) (all : List (List (List ℕ))) (start old new : Records R) (lines : Lines) (before now later : Option (List ℕ)) (rows : List Event) (behind : Next)
+    (fault : LinkFault) → Progress remaining start old lines before now next.More → ToCome remaining start all
+    → ((rest : List (List (List ℕ))) → ToCome remaining old rest → HasRead remaining rest new rows behind)
+    → ((before : Option (List ℕ)) (earlier : List Event) → HasShown lines before now earlier → IsAddedToFault before later earlier rows fault)
+    → lines.rows + length rows ≤ ROWS_MAX → Shows all before later (Ok (Some fault))
+fault_in remaining all start old new lines before now later rows behind fault progress to_come reads adds room not =
+    let added : IsAddedToFault before later progress.rows rows fault = adds before progress.rows progress.shown in
+    let there : LeadThere all added.pieces added.row = lead_there remaining all start old new lines before now rows behind added.pieces added.row progress to_come reads added.lead in
+    let counted : length (events_of added.pieces) ≡ length progress.rows + length added.lead.front = ap length added.lead.are ∙ length-append progress.rows added.lead.front in
+    let of_batch : length rows ≡ length added.lead.front + length (added.row ∷ added.lead.rest) = ap length added.lead.parts ∙ length-append added.lead.front (added.row ∷ added.lead.rest) in (
+      show_text (closed_pieces added.pieces) ++ fault_line (length (events_of added.pieces) + 1) fault,
+      record {
+        pieces = added.pieces;
+        fields = there.fields;
+        rest = there.rest;
+        shown = there.shown;
+        few = omega (arith, counted, of_batch, progress.shown.counted, room);
+        row = added.row;
+        row_told = there.told;
+        is = added.is;
+        lines = refl;
+      },
+      added.written,
+    )
 
--- the reply of the act that a row ends is one
-pub names : {R : Type 0} (remaining : R → Option (List ℕ)) (start old : Records R) (bus next : Bus) (before after : Option (List ℕ)) (shown rows : ℕ) (event : Event) (act : Act)
-    → (progress : Progress remaining start old bus before after shown rows)
-    → ((act : Act) (events : List Event) (pieces : List Piece) → ArePieces (Whole act events ∷ pieces) → NamesAReply act)
-    → ((pieces : List Piece) → StandsFor bus pieces → GoesOn next pieces event (Some act)) → NamesAReply act
-names remaining start old bus next before after shown rows event act progress law on =
-    let gone : GoesOn next progress.pieces event (Some act) = on progress.pieces progress.stands in
-    let are : gone.longer ≡ Whole act (piece_events gone.grown.newest) ∷ gone.grown.earlier = gone.grown.are ∙ ap (λ piece. piece ∷ gone.grown.earlier) (whole_of gone.grown.newest act gone.grown.ends) in
-    law act (piece_events gone.grown.newest) gone.grown.earlier (subst ArePieces are gone.stands.in_order)
+-- a line of a batch isn't taken
+refused_in : {R : Type 0} (remaining : R → Option (List ℕ)) (all : List (List (List ℕ))) (start old new : Records R) (lines left : Lines) (before now later : Option (List ℕ)) (rows : List Event) (behind : Next)
+    → (progress : Progress remaining start old lines before now next.More) → ToCome remaining start all
+    → ((rest : List (List (List ℕ))) → ToCome remaining old rest → HasRead remaining rest new rows behind)
+    → (fault : RunFault) → HasAdded left before later progress.rows rows (Err fault) → Shows all before later (Err fault)
+refused_in remaining all start old new lines left before now later rows behind progress to_come reads (BadRow row fault) added = absurd added
+refused_in remaining all start old new lines left before now later rows behind progress to_come reads TooLong added = absurd added
+refused_in remaining all start old new lines left before now later rows behind progress to_come reads Read added = absurd added
+refused_in remaining all start old new lines left before now later rows behind progress to_come reads Write added = λ not. absurd (not refl)
+refused_in remaining all start old new lines left before now later rows behind progress to_come reads Memory added =
+    let there : LeadThere all added.pieces added.row = lead_there remaining all start old new lines before now rows behind added.pieces added.row progress to_come reads added.lead in
+    in_part all before later added.pieces (there.fields ∷ there.rest) there.shown added.written reading.Memory
 
--- the same, handed on by `?`
-pub unread_on : {R : Type 0} (remaining : R → Option (List ℕ)) (all : List (List (List ℕ))) (start old : Records R) (bus : Bus) (before after : Option (List ℕ)) (shown rows : ℕ)
-    → Progress remaining start old bus before after shown rows → ToCome remaining start all → (fault : ReadFault) (answer : Result (Option LinkFault) RunFault)
-    → IsErrAnd answer (λ told. told ≡ run_fault_of fault) → Shows all before after answer
-unread_on remaining all start old bus before after shown rows progress to_come fault (Ok showing) is = absurd is
-unread_on remaining all start old bus before after shown rows progress to_come fault (Err told) is =
-    unread remaining all start old bus before after shown rows progress to_come fault told is
+pub batch_refused : {R : Type 0} (remaining : R → Option (List ℕ)) (all : List (List (List ℕ))) (start old new : Records R) (lines left : Lines) (before now later : Option (List ℕ)) (events rows : List Event)
+    (behind : Next) → (progress : Progress remaining start old lines before now next.More) → ToCome remaining start all
+    → ((rest : List (List (List ℕ))) → ToCome remaining old rest → HasRead remaining rest new rows behind) → events ≡ rows
+    → (fault : RunFault) → ((before : Option (List ℕ)) (earlier : List Event) → HasShown lines before now earlier → HasAdded left before later earlier events (Err fault))
+    → (answer : Result (Option LinkFault) RunFault) → IsErrAnd answer (λ told. told ≡ fault) → Shows all before later answer
+batch_refused remaining all start old new lines left before now later events rows behind progress to_come reads same fault adds (Ok showing) is = absurd is
+batch_refused remaining all start old new lines left before now later events rows behind progress to_come reads same fault adds (Err told) is =
+    let P : RunFault → Type 0 = λ f. Shows all before later (Err f) in
+    let Q : List Event → Type 0 = λ l. HasAdded left before later progress.rows l (Err fault) in
+    subst P (sym is)
+    (refused_in remaining all start old new lines left before now later rows behind progress to_come reads fault (subst Q same (adds before progress.rows progress.shown)))
 
-pub line_refused_on : {R : Type 0} (remaining : R → Option (List ℕ)) (all : List (List (List ℕ))) (start old : Records R) (bus : Bus) (before after new : Option (List ℕ)) (shown rows : ℕ)
-    → Progress remaining start old bus before after shown rows → ToCome remaining start all → (fault : RunFault) → IsNotTaken fault after new → (answer : Result (Option LinkFault) RunFault)
-    → IsErrAnd answer (λ told. told ≡ fault) → Shows all before new answer
-line_refused_on remaining all start old bus before after new shown rows progress to_come fault not_taken (Ok showing) is = absurd is
-line_refused_on remaining all start old bus before after new shown rows progress to_come fault not_taken (Err told) is =
-    let P : RunFault → Type 0 = λ f. Shows all before new (Err f) in
-    subst P (sym is) (line_refused remaining all start old bus before after new shown rows progress to_come fault not_taken)
+-- of which no read was refused
+pub no_read_refused : {R : Type 0} (remaining : R → Option (List ℕ)) (start old : Records R) (lines left : Lines) (before now later : Option (List ℕ)) (events : List Event)
+    → Progress remaining start old lines before now next.More
+    → (fault : RunFault) → ((before : Option (List ℕ)) (earlier : List Event) → HasShown lines before now earlier → HasAdded left before later earlier events (Err fault))
+    → (answer : Result (Option LinkFault) RunFault) → IsErrAnd answer (λ told. told ≡ fault) → (met : Option ReadFault) → IfErr answer (λ told. told ≡ Read → met ≡ Some reading.Read)
+no_read_refused remaining start old lines left before now later events progress fault adds (Ok showing) is met = tt
+no_read_refused remaining start old lines left before now later events progress fault adds (Err told) is met = λ read.
+    let P : RunFault → Type 0 = λ f. HasAdded left before later progress.rows events (Err f) in
+    absurd (subst P (sym is ∙ read) (adds before progress.rows progress.shown))
 
--- the same with the values by other names
-pub progress_is : {R : Type 0} (remaining : R → Option (List ℕ)) (start records : Records R) (bus : Bus) (before now after : Option (List ℕ)) (next shown rows : ℕ) → now ≡ after → next ≡ shown
-    → Progress remaining start records bus before after shown rows → Progress remaining start records bus before now next rows
-progress_is remaining start records bus before now after next shown rows same_bytes same_count progress =
-    let P : Option (List ℕ) → Type 0 = λ bytes. Progress remaining start records bus before bytes shown rows in
-    let Q : ℕ → Type 0 = λ n. Progress remaining start records bus before now n rows in
-    subst Q (sym same_count) (subst P (sym same_bytes) progress)
+shown_as : (left : Lines) (before later : Option (List ℕ)) (earlier events : List Event) (fault : RunFault) → HasAdded left before later earlier events (Err fault) → (met : ReadFault) → IsShownAs met (Err fault)
+shown_as left before later earlier events (BadRow row fault) added met = absurd added
+shown_as left before later earlier events TooLong added met = absurd added
+shown_as left before later earlier events Read added met = absurd added
+shown_as left before later earlier events Write added met = tt
+shown_as left before later earlier events Memory added met = tt
+
+pub refused_as : {R : Type 0} (remaining : R → Option (List ℕ)) (start old : Records R) (lines left : Lines) (before now later : Option (List ℕ)) (events : List Event)
+    → Progress remaining start old lines before now next.More
+    → (fault : RunFault) → ((before : Option (List ℕ)) (earlier : List Event) → HasShown lines before now earlier → HasAdded left before later earlier events (Err fault))
+    → (answer : Result (Option LinkFault) RunFault) → IsErrAnd answer (λ told. told ≡ fault) → (met : Option ReadFault) → IfSome met (λ m. IsShownAs m answer)
+refused_as remaining start old lines left before now later events progress fault adds answer is None = tt
+refused_as remaining start old lines left before now later events progress fault adds (Ok showing) is (Some met) = absurd is
+refused_as remaining start old lines left before now later events progress fault adds (Err told) is (Some met) =
+    let P : RunFault → Type 0 = λ f. IsShownAs met (Err f) in
+    subst P (sym is) (shown_as left before later progress.rows events fault (adds before progress.rows progress.shown) met)

@@ -12,13 +12,13 @@ use Rattle.mdb_check.specs.Verdict.{AreRows}
 -- Behind the rows of a batch comes the rest of the records: all of it is to come, or there is none, or
 -- it begins with a record that is no row. Of a refused read nothing is said.
 abbrev pub IsBehind : {R : Type 0} → (R → Option (List ℕ)) → Records R → List (List (List ℕ))
-    → List Event → Next → Type 0
-IsBehind remaining records rest rows More = ToCome remaining records rest
-IsBehind remaining records rest rows End = rest ≡ []
-IsBehind remaining records rest rows (BadRow fault) =
+    → Next → Type 0
+IsBehind remaining records rest More = ToCome remaining records rest
+IsBehind remaining records rest End = rest ≡ []
+IsBehind remaining records rest (BadRow fault) =
     (fields : List (List ℕ)) × (after : List (List (List ℕ))) × (rest ≡ fields ∷ after)
     × IsRefusal fields fault
-IsBehind remaining records rest rows (Failed fault) = ⊤
+IsBehind remaining records rest (Failed fault) = ⊤
 
 -- The first of the records are the rows of a batch, and this is what comes behind them.
 pub record HasRead {R : Type 0} (remaining : R → Option (List ℕ)) (all : List (List (List ℕ)))
@@ -27,7 +27,7 @@ pub record HasRead {R : Type 0} (remaining : R → Option (List ℕ)) (all : Lis
   pub rest : List (List (List ℕ))
   pub split : all ≡ done ++ rest
   pub told : AreRows done rows
-  pub behind : IsBehind remaining records rest rows next
+  pub behind : IsBehind remaining records rest next
 
 -- the text goes on behind its limit, and no end was told
 abbrev pub GoesOnOver : {R : Type 0} → (R → Option (List ℕ)) → Records R → Next → Type 0

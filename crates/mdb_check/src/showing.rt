@@ -6,15 +6,16 @@ ghost use Rattle.mdb_records.specs.ToCome.{IsOverLimit, ToCome, fault_of};
 ghost use Rattle.mdb_records.specs.declared.ReadFault.{ReadFault};
 ghost use Rattle.mdb_check.specs.declared.verdict.TheConstants.{BYTES_MAX};
 ghost use Rattle.mdb_check.specs.Show.{Shows};
-ghost use Rattle.mdb_check.specs.ShowSteps.{output};
-ghost use Rattle.mdb_check.specs.Verdict.{run_fault_of};
+ghost use Rattle.mdb_check.specs.ShowSteps.{IsShownAs, output};
 
+use super::batch::{Batch, Next};
 use super::outcome::RunFault;
 use super::page::Page;
-use super::verdict::{event_of, records_of};
+use super::verdict::records_of;
 use mdb_bus::{Act, Bus, LinkFault, laws};
 use mdb_follow::ROWS_MAX;
 use mdb_records::Records;
+use mdb_words::Event;
 use std::alloc::Global;
 use std::io::{Read, Write};
 
@@ -67,42 +68,100 @@ fn show_rows<R: Read + Drop, W: Write>(
     ensures heard { IfErr result (λ fault. fault ≡ RunFault.Read
         → fault_of records.new ≡ Some ReadFault.Read) }
     ensures met { fault_of records.old ≡ None → IfSome (fault_of records.new)
-        (λ fault. result ≡ Err (run_fault_of fault)) }
+        (λ fault. IsShownAs fault result) }
 {
-    laws::acts_name_replies_of_their_commands();
-    let mut bus = Bus::new();
-    let mut act = Act::Foreign;
-    // So many rows have their lines. Those behind them are a tail.
-    let mut shown = 0;
-    for rows in 0..ROWS_MAX {
-        let found = records.advance()?;
-        if !found {
-            page.add_cut(writer, shown, rows)?;
-            return Ok(None);
+    let mut lines = Lines::new();
+    let mut batch = Batch::new();
+    while lines.rows < ROWS_MAX {
+        let next = batch.refill(records, ROWS_MAX - lines.rows);
+        if let Some(fault) = lines.add_all(batch.as_slice(), page, writer)? {
+            return Ok(Some(fault));
         }
-        let event = match event_of(records.row()) {
-            Ok(event) => event,
-            Err(fault) => return Err(RunFault::BadRow {
-                row: rows + 1,
+        match next {
+            Next::More => {}
+            Next::End => {
+                page.add_cut(writer, lines.shown, lines.rows)?;
+                return Ok(None);
+            }
+            Next::BadRow(fault) => return Err(RunFault::BadRow {
+                row: lines.rows + 1,
                 fault,
             }),
-        };
-        let ended = match bus.feed_into(event, &mut act) {
-            Ok(ended) => ended,
-            Err(fault) => {
-                page.add_fault(writer, rows + 1, fault)?;
-                return Ok(Some(fault));
-            }
-        };
-        if ended {
-            page.add_ended(writer, shown, rows, &act)?;
-            shown = rows + 1;
+            Next::Failed(fault) => return Err(RunFault::from(fault)),
         }
     }
-    let more = records.advance()?;
-    if more {
-        return Err(RunFault::TooLong);
+    match batch.refill(records, 1) {
+        Next::End => {
+            page.add_cut(writer, lines.shown, lines.rows)?;
+            Ok(None)
+        }
+        Next::Failed(fault) => Err(RunFault::from(fault)),
+        Next::More | Next::BadRow(_) => Err(RunFault::TooLong),
     }
-    page.add_cut(writer, shown, ROWS_MAX)?;
-    Ok(None)
+}
+
+/// How far the lines of the rows have come.
+#[derive(Drop)]
+struct Lines {
+    bus: Bus,
+    rows: u64,
+    /// So many rows have their lines. Those behind them are a tail.
+    shown: u64,
+    /// Room for the act that a row ends. Between rows what is in it is of no matter.
+    act: Act,
+}
+
+impl Lines {
+    ghost use Rattle.std.specs.Prelude.{◌≤◌, ◌+◌, [], Option};
+    ghost use Rattle.mdb_words.specs.declared.event.Event.{Event};
+    ghost use Rattle.mdb_bus.specs.Bus.{StandsFor};
+    ghost use Rattle.mdb_check.specs.ShowSteps.{HasAdded, HasPieces, HasShown};
+
+    /// No lines: before the first row.
+    fn new() -> Lines
+        ensures stands { StandsFor result.bus [] }
+        ensures rows { result.rows ≡ 0 }
+        ensures shown { result.shown ≡ 0 }
+    {
+        Lines {
+            bus: Bus::new(),
+            rows: 0,
+            shown: 0,
+            act: Act::Foreign,
+        }
+    }
+
+    /// Adds the lines of the next rows. The first of them that breaks a rule of the link has a line
+    /// too, and is answered: of those behind it nothing is said.
+    fn add_all<W: Write>(
+        &mut self,
+        events: &[Event],
+        page: &mut Page,
+        writer: &mut W,
+    ) -> Result<Option<LinkFault>, RunFault>
+        requires stands { HasPieces self.old.bus }
+        requires few { self.old.shown ≤ self.old.rows }
+        requires room { self.old.rows + length events.now ≤ ROWS_MAX }
+        ensures { (before : Option (List ℕ)) (earlier : List Event)
+            → HasShown self.old before (output (W.contents writer.old) page.old) earlier
+            → HasAdded self.new before (output (W.contents writer.new) page.new) earlier events.now
+            result }
+    {
+        laws::acts_name_replies_of_their_commands();
+        for event in events {
+            let ended = match self.bus.feed_into(*event, &mut self.act) {
+                Ok(ended) => ended,
+                Err(fault) => {
+                    page.add_fault(writer, self.rows + 1, fault)?;
+                    return Ok(Some(fault));
+                }
+            };
+            if ended {
+                page.add_ended(writer, self.shown, self.rows, &self.act)?;
+                self.shown = self.rows + 1;
+            }
+            self.rows += 1;
+        }
+        Ok(None)
+    }
 }

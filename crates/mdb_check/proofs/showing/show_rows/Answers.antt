@@ -1,105 +1,132 @@
-use Rattle.std.proofs.Common.{arith, refl, subst, ◌≡◌, ◌+◌, ℕ, List, Bool}
-use Rattle.mdb_words.specs.Row.{IsRefusal, IsRow}
-use Rattle.std.specs.Io.KnownBytes.{Appends}
+use Rattle.std.proofs.Common.{arith, refl, subst, ◌≡◌, ◌<◌, ◌≤◌, ◌+◌, ◌-◌, length}
 use Rattle.mdb_follow.specs.declared.follower.TheConstants.{ROWS_MAX}
-use Rattle.mdb_check.specs.ShowSteps.{cut_text, output}
+use Rattle.mdb_check.specs.declared.batch.Next.{Next}
+use Rattle.mdb_check.specs.declared.batch.Next.TheVariants as next
+use Rattle.mdb_check.specs.Batch.{FitsIn}
+use Rattle.mdb_check.specs.ShowSteps.{output}
+use Rattle.mdb_check.proofs.Batches as batches
 use Rattle.mdb_check.proofs.ShowSteps as steps
-use Rattle.mdb_bus.specs.ActLists.{Piece}
-use Rattle.mdb_bus.specs.Bus.{GoesOn, StandsFor, ended_act}
-use Rattle.mdb_records.specs.ToCome.{current_fields}
+use Rattle.mdb_check.proofs.ShowSteps.{Progress}
 use Rattle.mdb_check.proofs.showing.show_rows.Goals as goal
-use Rattle.mdb_check.proofs.showing.show_rows.Goals.{then-ended+in_ok-add_ended, else-ended}
 
-pub loop-rows-init : goal.loop-rows-init
-loop-rows-init g c = record {
-  progress = steps.begins g.R.Read.remaining _ _ _ c.new-bus.ensures;
+pub loop-lines-init : goal.loop-lines-init
+loop-lines-init g c = record {
+  progress = steps.begins g.R.Read.remaining c.args.records.now c.new-lines.result _ c.new-lines.ensures.stands c.new-lines.ensures.rows c.new-lines.ensures.shown;
   over = λ over. over;
+  met = λ none. none;
+  few = omega (arith, c.new-lines.ensures.rows);
 }
 
-pub returns-in_err-found-clause-shows : goal.returns-in_err-found-clause-shows
-returns-in_err-found-clause-shows g c all to_come =
-    steps.unread_on g.R.Read.remaining all _ _ _ _ _ _ _ c.loop-rows.invariant.progress to_come c.in_err-found.field-0.0 c.from_residual.result c.from_residual.ensures.1
+pub returns-in_err-fault-clause-shows : goal.returns-in_err-fault-clause-shows
+returns-in_err-fault-clause-shows g c all to_come =
+    steps.batch_refused g.R.Read.remaining all c.args.records.now c.loop-lines.records c.refill-next.new.records c.loop-lines.lines c.add_all.new.self _ _ _ _ c.refill-next.new.self c.refill-next.result
+    c.loop-lines.invariant.progress to_come c.refill-next.ensures.read c.as_slice.ensures.rows c.in_err-fault.field-0.0 c.in_err-fault.ensures c.from_residual.result c.from_residual.ensures.1
 
-pub returns-in_err-add_cut-clause-shows : goal.returns-in_err-add_cut-clause-shows
-returns-in_err-add_cut-clause-shows g c all to_come =
-    steps.line_refused_on g.R.Read.remaining all _ _ _ _ _ _ _ _ c.loop-rows.invariant.progress to_come c.in_err-add_cut.field-0.0 c.in_err-add_cut.ensures.refused
-    c.from_residual-in_err-add_cut.result c.from_residual-in_err-add_cut.ensures.1
+pub returns-in_err-fault-clause-heard : goal.returns-in_err-fault-clause-heard
+returns-in_err-fault-clause-heard g c =
+    steps.no_read_refused g.R.Read.remaining c.args.records.now c.loop-lines.records c.loop-lines.lines c.add_all.new.self _ _ _ _
+    c.loop-lines.invariant.progress c.in_err-fault.field-0.0 c.in_err-fault.ensures c.from_residual.result c.from_residual.ensures.1 _
 
-pub returns-then-not-found-clause-shows : goal.returns-then-not-found-clause-shows
-returns-then-not-found-clause-shows g c all to_come =
-    steps.ended g.R.Read.remaining all _ _ _ _ _ _ _ _ _
-    c.loop-rows.invariant.progress to_come c.in_ok-found.found c.if-not-found.true c.in_ok-found.ensures.next (omega arith) c.in_ok-add_cut.ensures.added
+pub returns-in_err-fault-clause-met : goal.returns-in_err-fault-clause-met
+returns-in_err-fault-clause-met g c none =
+    steps.refused_as g.R.Read.remaining c.args.records.now c.loop-lines.records c.loop-lines.lines c.add_all.new.self _ _ _ _
+    c.loop-lines.invariant.progress c.in_err-fault.field-0.0 c.in_err-fault.ensures c.from_residual.result c.from_residual.ensures.1 _
 
-pub returns-in-Err-clause-shows : goal.returns-in-Err-clause-shows
-returns-in-Err-clause-shows g c all to_come =
-    let Refused : List (List ℕ) → Type 0 = λ fields. IsRefusal fields c.in-Err.fault in
-    steps.bad_row g.R.Read.remaining all _ _ _ _ _ _ _ _ _ c.in-Err.fault
-    c.loop-rows.invariant.progress to_come c.in_ok-found.found c.if-not-found.false c.in_ok-found.ensures.next (omega arith) refl
-    (subst Refused c.row.ensures c.in-Err.ensures)
+pub returns-in-Some-clause-shows : goal.returns-in-Some-clause-shows
+returns-in-Some-clause-shows g c all to_come =
+    steps.fault_in g.R.Read.remaining all c.args.records.now c.loop-lines.records c.refill-next.new.records c.loop-lines.lines _ _ _ c.refill-next.new.self c.refill-next.result c.in-Some.fault
+    c.loop-lines.invariant.progress to_come c.refill-next.ensures.read (steps.fault_added_in _ c.add_all.new.self _ _ _ _ _ c.in-Some.fault c.as_slice.ensures.rows c.in-Some.is c.in_ok-fault.ensures)
+    (omega (arith, c.loop-lines-test.true, batches.fits (ROWS_MAX - c.loop-lines.lines.rows) c.refill-next.new.self c.refill-next.result c.refill-next.ensures.fits))
 
-pub add_ended-requires-clause-reply : goal.add_ended-requires-clause-reply
-add_ended-requires-clause-reply g c =
-    let On : Bool → Type 0 = λ ended. (pieces : List Piece) → StandsFor c.loop-rows.bus pieces → GoesOn c.feed_into.new.self pieces c.in-Ok.event (ended_act ended c.feed_into.new.act) in
-    steps.names g.R.Read.remaining _ _ _ c.feed_into.new.self _ _ _ _ c.in-Ok.event c.feed_into.new.act c.loop-rows.invariant.progress c.acts_name_replies_of_their_commands.ensures
-    (subst On c.if-ended.true c.in-Ok-feed_into.ensures.goes_on)
+pub loop-lines-smaller : goal.loop-lines-smaller
+loop-lines-smaller g c =
+    let Fits : Next → Type 0 = λ next. FitsIn (ROWS_MAX - c.loop-lines.lines.rows) c.refill-next.new.self next in
+    let fits = subst Fits c.in-More.is c.refill-next.ensures.fits in
+    let counted : c.add_all.new.self.rows ≡ c.loop-lines.lines.rows + length c.refill-next.new.self = steps.more_rows g.R.Read.remaining c.args.records.now c.loop-lines.records c.loop-lines.lines c.add_all.new.self _ _ _ c.refill-next.new.self c.loop-lines.invariant.progress
+    (steps.all_added _ _ _ _ _ _ _ c.as_slice.ensures.rows c.in_default.is c.in_ok-fault.ensures) in
+    omega (arith, counted, c.loop-lines-test.true, fits.0)
 
-pub returns-in_err-add_ended-clause-shows : goal.returns-in_err-add_ended-clause-shows
-returns-in_err-add_ended-clause-shows g c all to_come =
-    steps.line_refused_on g.R.Read.remaining all _ _ _ _ _ _ _ _ c.loop-rows.invariant.progress to_come c.in_err-add_ended.field-0.0 c.in_err-add_ended.ensures.refused
-    c.from_residual-in_err-add_ended.result c.from_residual-in_err-add_ended.ensures.1
-
-pub returns-in_err-add_fault-in-Err-feed_into-clause-shows : goal.returns-in_err-add_fault-in-Err-feed_into-clause-shows
-returns-in_err-add_fault-in-Err-feed_into-clause-shows g c all to_come =
-    steps.line_refused_on g.R.Read.remaining all _ _ _ _ _ _ _ _ c.loop-rows.invariant.progress to_come c.in_err-add_fault-in-Err-feed_into.field-0.0 c.in_err-add_fault-in-Err-feed_into.ensures.refused
-    c.from_residual-in_err-add_fault-in-Err-feed_into.result c.from_residual-in_err-add_fault-in-Err-feed_into.ensures.1
-
-pub returns-in-Err-feed_into-clause-shows : goal.returns-in-Err-feed_into-clause-shows
-returns-in-Err-feed_into-clause-shows g c all to_come =
-    let Row : List (List ℕ) → Type 0 = λ fields. IsRow fields c.in-Ok.event in
-    steps.fault_at g.R.Read.remaining all _ _ _ _ _ _ _ _ _ _ c.in-Ok.event c.in-Err-feed_into.fault
-    c.loop-rows.invariant.progress to_come c.in_ok-found.found c.if-not-found.false c.in_ok-found.ensures.next (omega arith) refl
-    (subst Row c.row.ensures c.in-Ok.ensures) c.in-Err-feed_into.ensures.faults c.in_ok-add_fault-in-Err-feed_into.ensures.added
-
-pub returns-in_err-more-clause-shows : goal.returns-in_err-more-clause-shows
-returns-in_err-more-clause-shows g c all to_come =
-    steps.unread_on g.R.Read.remaining all _ _ _ _ _ _ _ c.loop-rows.invariant.progress to_come c.in_err-more.field-0.0 c.from_residual-in_err-more.result c.from_residual-in_err-more.ensures.1
-
-pub returns-then-more-clause-shows : goal.returns-then-more-clause-shows
-returns-then-more-clause-shows g c all to_come =
-    steps.too_long g.R.Read.remaining all _ _ _ _ _ _ _ _
-    c.loop-rows.invariant.progress to_come c.in_ok-more.more c.if-more.true c.in_ok-more.ensures.next (omega arith)
-
-pub returns-in_err-add_cut-2-clause-shows : goal.returns-in_err-add_cut-2-clause-shows
-returns-in_err-add_cut-2-clause-shows g c all to_come =
-    steps.line_refused_on g.R.Read.remaining all _ _ _ _ _ _ _ _ c.loop-rows.invariant.progress to_come c.in_err-add_cut-2.field-0.0 c.in_err-add_cut-2.ensures.refused
-    c.from_residual-in_err-add_cut-2.result c.from_residual-in_err-add_cut-2.ensures.1
-
-pub returns-clause-shows : goal.returns-clause-shows
-returns-clause-shows g c all to_come =
-    let full : ROWS_MAX ≡ c.loop-rows.rows = omega arith in
-    let P : ℕ → Type 0 = λ n. Appends (output (g.W.Write.contents c.loop-rows.writer) c.loop-rows.page) (output (g.W.Write.contents c.add_cut-2.new.writer) c.add_cut-2.new.self) (cut_text c.loop-rows.shown n) in
-    steps.ended g.R.Read.remaining all _ _ _ _ _ _ _ _ _
-    c.loop-rows.invariant.progress to_come c.in_ok-more.more c.if-more.false c.in_ok-more.ensures.next (omega arith) (subst P full c.in_ok-add_cut-2.ensures.added)
-
-pub loop-rows-preserved : goal.loop-rows-preserved
-loop-rows-preserved g c =
-    let Row : List (List ℕ) → Type 0 = λ fields. IsRow fields c.in-Ok.event in
-    let row : IsRow (current_fields c.advance.new.self) c.in-Ok.event = subst Row c.row.ensures c.in-Ok.ensures in
-    let On : Bool → Type 0 = λ ended. (pieces : List Piece) → StandsFor c.loop-rows.bus pieces → GoesOn c.feed_into.new.self pieces c.in-Ok.event (ended_act ended c.feed_into.new.act) in
+pub loop-lines-preserved : goal.loop-lines-preserved
+loop-lines-preserved g c =
+    let On : Next → Type 0 = λ behind. Progress g.R.Read.remaining c.args.records.now c.refill-next.new.records c.add_all.new.self
+    (output (g.W.Write.contents c.args.writer.now) c.args.page.now) (output (g.W.Write.contents c.add_all.new.writer) c.add_all.new.page) behind in
+    let counted : c.add_all.new.self.rows ≡ c.loop-lines.lines.rows + length c.refill-next.new.self = steps.more_rows g.R.Read.remaining c.args.records.now c.loop-lines.records c.loop-lines.lines c.add_all.new.self _ _ _ c.refill-next.new.self c.loop-lines.invariant.progress
+    (steps.all_added _ _ _ _ _ _ _ c.as_slice.ensures.rows c.in_default.is c.in_ok-fault.ensures) in
     record {
-      progress = elim c.if-ended.branch [
-        | then-ended+in_ok-add_ended w ↦
-            steps.progress_is g.R.Read.remaining _ _ c.feed_into.new.self (output (g.W.Write.contents c.args.writer.now) c.args.page.now) _ _ _ _ (c.loop-rows.rows + 1)
-            (cc (w.writer-is, w.page-is)) w.shown-is
-            (steps.act_ended g.R.Read.remaining _ _ _ _ c.feed_into.new.self _ _ _ _ _ c.in-Ok.event c.feed_into.new.act
-            c.loop-rows.invariant.progress c.in_ok-found.found c.if-not-found.false c.in_ok-found.ensures.next row
-            (subst On w.if-ended.true c.in-Ok-feed_into.ensures.goes_on) w.in_ok-add_ended.ensures.added)
-        | else-ended w ↦
-            steps.progress_is g.R.Read.remaining _ _ c.feed_into.new.self (output (g.W.Write.contents c.args.writer.now) c.args.page.now) _ _ _ _ (c.loop-rows.rows + 1)
-            (cc (w.writer-is, w.page-is)) w.shown-is
-            (steps.goes_on g.R.Read.remaining _ _ _ _ c.feed_into.new.self _ _ _ _ c.in-Ok.event
-            c.loop-rows.invariant.progress c.in_ok-found.found c.if-not-found.false c.in_ok-found.ensures.next row
-            (subst On w.if-ended.false c.in-Ok-feed_into.ensures.goes_on))
-      ];
-      over = λ over. (c.in_ok-found.ensures.endless (c.loop-rows.invariant.over over)).1;
+      progress = subst On c.in-More.is (steps.read_on g.R.Read.remaining c.args.records.now c.loop-lines.records c.refill-next.new.records c.loop-lines.lines c.add_all.new.self _ _ _ c.refill-next.new.self c.refill-next.result
+          c.loop-lines.invariant.progress c.refill-next.ensures.read (steps.all_added _ _ _ _ _ _ _ c.as_slice.ensures.rows c.in_default.is c.in_ok-fault.ensures));
+      over = λ over. c.in-More.ensures.over (c.loop-lines.invariant.over over);
+      met = λ none. c.in-More.ensures.met (c.loop-lines.invariant.met none);
+      few = omega (arith, counted, c.loop-lines-test.true, batches.fits (ROWS_MAX - c.loop-lines.lines.rows) c.refill-next.new.self c.refill-next.result c.refill-next.ensures.fits);
     }
+
+pub add_cut-requires : goal.add_cut-requires
+add_cut-requires g c =
+    let counted : c.add_all.new.self.rows ≡ c.loop-lines.lines.rows + length c.refill-next.new.self = steps.more_rows g.R.Read.remaining c.args.records.now c.loop-lines.records c.loop-lines.lines c.add_all.new.self _ _ _ c.refill-next.new.self c.loop-lines.invariant.progress
+    (steps.all_added _ _ _ _ _ _ _ c.as_slice.ensures.rows c.in_default.is c.in_ok-fault.ensures) in
+    omega (arith, counted, c.loop-lines-test.true, batches.fits (ROWS_MAX - c.loop-lines.lines.rows) c.refill-next.new.self c.refill-next.result c.refill-next.ensures.fits)
+
+pub returns-in_err-add_cut-in-End-clause-shows : goal.returns-in_err-add_cut-in-End-clause-shows
+returns-in_err-add_cut-in-End-clause-shows g c all to_come =
+    steps.cut_refused g.R.Read.remaining all c.args.records.now c.refill-next.new.records c.add_all.new.self _ _ _ c.refill-next.result
+    (steps.read_on g.R.Read.remaining c.args.records.now c.loop-lines.records c.refill-next.new.records c.loop-lines.lines c.add_all.new.self _ _ _ c.refill-next.new.self c.refill-next.result
+    c.loop-lines.invariant.progress c.refill-next.ensures.read (steps.all_added _ _ _ _ _ _ _ c.as_slice.ensures.rows c.in_default.is c.in_ok-fault.ensures))
+    to_come c.in_err-add_cut-in-End.field-0.0 c.in_err-add_cut-in-End.ensures.refused c.from_residual-in_err-add_cut-in-End.result c.from_residual-in_err-add_cut-in-End.ensures.1
+
+pub returns-in-End-clause-shows : goal.returns-in-End-clause-shows
+returns-in-End-clause-shows g c all to_come =
+    let counted : c.add_all.new.self.rows ≡ c.loop-lines.lines.rows + length c.refill-next.new.self = steps.more_rows g.R.Read.remaining c.args.records.now c.loop-lines.records c.loop-lines.lines c.add_all.new.self _ _ _ c.refill-next.new.self c.loop-lines.invariant.progress
+    (steps.all_added _ _ _ _ _ _ _ c.as_slice.ensures.rows c.in_default.is c.in_ok-fault.ensures) in
+    steps.ended g.R.Read.remaining all c.args.records.now c.refill-next.new.records c.add_all.new.self _ _ _ c.refill-next.result
+    (steps.read_on g.R.Read.remaining c.args.records.now c.loop-lines.records c.refill-next.new.records c.loop-lines.lines c.add_all.new.self _ _ _ c.refill-next.new.self c.refill-next.result
+    c.loop-lines.invariant.progress c.refill-next.ensures.read (steps.all_added _ _ _ _ _ _ _ c.as_slice.ensures.rows c.in_default.is c.in_ok-fault.ensures))
+    to_come c.in-End.is (omega (arith, counted, c.loop-lines-test.true, batches.fits (ROWS_MAX - c.loop-lines.lines.rows) c.refill-next.new.self c.refill-next.result c.refill-next.ensures.fits)) c.in_ok-add_cut-in-End.ensures.added
+
+pub overflow_add-result : goal.overflow_add-result
+overflow_add-result g c =
+    let counted : c.add_all.new.self.rows ≡ c.loop-lines.lines.rows + length c.refill-next.new.self = steps.more_rows g.R.Read.remaining c.args.records.now c.loop-lines.records c.loop-lines.lines c.add_all.new.self _ _ _ c.refill-next.new.self c.loop-lines.invariant.progress
+    (steps.all_added _ _ _ _ _ _ _ c.as_slice.ensures.rows c.in_default.is c.in_ok-fault.ensures) in
+    let few : c.add_all.new.self.rows ≤ ROWS_MAX = omega (arith, counted, c.loop-lines-test.true, batches.fits (ROWS_MAX - c.loop-lines.lines.rows) c.refill-next.new.self c.refill-next.result c.refill-next.ensures.fits) in
+    omega (arith, few)
+
+pub returns-in-BadRow-clause-shows : goal.returns-in-BadRow-clause-shows
+returns-in-BadRow-clause-shows g c all to_come =
+    let Fits : Next → Type 0 = λ next. FitsIn (ROWS_MAX - c.loop-lines.lines.rows) c.refill-next.new.self next in
+    let left : length c.refill-next.new.self < ROWS_MAX - c.loop-lines.lines.rows = subst Fits c.in-BadRow.is c.refill-next.ensures.fits in
+    let counted : c.add_all.new.self.rows ≡ c.loop-lines.lines.rows + length c.refill-next.new.self = steps.more_rows g.R.Read.remaining c.args.records.now c.loop-lines.records c.loop-lines.lines c.add_all.new.self _ _ _ c.refill-next.new.self c.loop-lines.invariant.progress
+    (steps.all_added _ _ _ _ _ _ _ c.as_slice.ensures.rows c.in_default.is c.in_ok-fault.ensures) in
+    steps.bad_row g.R.Read.remaining all c.args.records.now c.refill-next.new.records c.add_all.new.self _ _ c.refill-next.result (c.add_all.new.self.rows + 1) c.in-BadRow.fault
+    (steps.read_on g.R.Read.remaining c.args.records.now c.loop-lines.records c.refill-next.new.records c.loop-lines.lines c.add_all.new.self _ _ _ c.refill-next.new.self c.refill-next.result
+    c.loop-lines.invariant.progress c.refill-next.ensures.read (steps.all_added _ _ _ _ _ _ _ c.as_slice.ensures.rows c.in_default.is c.in_ok-fault.ensures))
+    to_come c.in-BadRow.is (omega (arith, counted, c.loop-lines-test.true, left)) refl
+
+pub returns-in-Failed-clause-shows : goal.returns-in-Failed-clause-shows
+returns-in-Failed-clause-shows g c all to_come =
+    steps.unread g.R.Read.remaining all c.args.records.now c.refill-next.new.records c.add_all.new.self _ _ c.refill-next.result
+    (steps.read_on g.R.Read.remaining c.args.records.now c.loop-lines.records c.refill-next.new.records c.loop-lines.lines c.add_all.new.self _ _ _ c.refill-next.new.self c.refill-next.result
+    c.loop-lines.invariant.progress c.refill-next.ensures.read (steps.all_added _ _ _ _ _ _ _ c.as_slice.ensures.rows c.in_default.is c.in_ok-fault.ensures))
+    to_come c.in-Failed.fault c.from.result c.from.ensures
+
+pub returns-in_err-add_cut-in-End-refill-clause-shows : goal.returns-in_err-add_cut-in-End-refill-clause-shows
+returns-in_err-add_cut-in-End-refill-clause-shows g c all to_come =
+    steps.cut_refused g.R.Read.remaining all c.args.records.now c.refill.new.records c.loop-lines.lines _ _ _ c.refill.result
+    (steps.read_none g.R.Read.remaining c.args.records.now c.loop-lines.records c.refill.new.records c.loop-lines.lines _ _ c.refill.new.self c.refill.result
+    c.loop-lines.invariant.progress c.refill.ensures.read c.in-End-refill.is c.refill.ensures.fits)
+    to_come c.in_err-add_cut-in-End-refill.field-0.0 c.in_err-add_cut-in-End-refill.ensures.refused c.from_residual-in_err-add_cut-in-End-refill.result c.from_residual-in_err-add_cut-in-End-refill.ensures.1
+
+pub returns-in_ok-add_cut-in-End-refill-clause-shows : goal.returns-in_ok-add_cut-in-End-refill-clause-shows
+returns-in_ok-add_cut-in-End-refill-clause-shows g c all to_come =
+    steps.ended g.R.Read.remaining all c.args.records.now c.refill.new.records c.loop-lines.lines _ _ _ c.refill.result
+    (steps.read_none g.R.Read.remaining c.args.records.now c.loop-lines.records c.refill.new.records c.loop-lines.lines _ _ c.refill.new.self c.refill.result
+    c.loop-lines.invariant.progress c.refill.ensures.read c.in-End-refill.is c.refill.ensures.fits)
+    to_come c.in-End-refill.is c.loop-lines.invariant.few c.in_ok-add_cut-in-End-refill.ensures.added
+
+pub returns-in-Failed-refill-clause-shows : goal.returns-in-Failed-refill-clause-shows
+returns-in-Failed-refill-clause-shows g c all to_come =
+    steps.unread g.R.Read.remaining all c.args.records.now c.loop-lines.records c.loop-lines.lines _ _ next.More
+    c.loop-lines.invariant.progress to_come c.in-Failed-refill.fault c.from-in-Failed-refill.result c.from-in-Failed-refill.ensures
+
+pub returns-in-More-refill-clause-shows : goal.returns-in-More-refill-clause-shows
+returns-in-More-refill-clause-shows g c all to_come =
+    steps.too_long g.R.Read.remaining all c.args.records.now c.loop-lines.records c.refill.new.records c.loop-lines.lines _ _ c.refill.new.self c.refill.result
+    c.loop-lines.invariant.progress to_come c.refill.ensures.read c.refill.ensures.fits c.in-More-refill.is (omega (arith, c.loop-lines-test.false, c.loop-lines.invariant.few))
