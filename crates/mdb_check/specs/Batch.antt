@@ -9,8 +9,8 @@ use Rattle.mdb_check.specs.declared.batch.Next.{Next}
 use Rattle.mdb_check.specs.declared.batch.Next.TheVariants.{More, End, BadRow, Failed}
 use Rattle.mdb_check.specs.Verdict.{AreRows}
 
--- Behind the rows of a batch comes the rest of the records: all of it is to come, or there is none, or
--- it begins with a record that is no row. Of a refused read nothing is said.
+-- Behind the rows of a batch comes the rest of the records: all of it is to come, or there is none,
+-- or it begins with a record that is no row. Of a refused read nothing is said.
 abbrev pub IsBehind : {R : Type 0} → (R → Option (List ℕ)) → Records R → List (List (List ℕ))
     → Next → Type 0
 IsBehind remaining records rest More = ToCome remaining records rest
@@ -41,7 +41,8 @@ abbrev pub IsMet : Next → Option ReadFault → Type 0
 IsMet (Failed fault) met = met ≡ Some fault
 IsMet _ met = met ≡ None
 
--- the rows have room, and so has a row more where one was asked for; while more is to come there is one
+-- the rows have room, and so has a row more where one was asked for; while more is to come there is
+-- a row
 abbrev pub FitsIn : ℕ → List Event → Next → Type 0
 FitsIn room rows More = (0 < length rows) × (length rows ≤ room)
 FitsIn room rows _ = length rows < room

@@ -14,7 +14,7 @@ use std::marker::Model;
 /// The most rows of a batch.
 pub(crate) const BATCH: usize = 128;
 
-/// So many bytes have a whole row, where it is written as a recorder does.
+/// So many bytes have a whole row, where it is written as recorders write it.
 const ROW_BYTES: u64 = 64;
 
 /// What comes behind the rows of a batch.
@@ -91,8 +91,9 @@ impl Batch {
 
     /// Reads the next rows in place of these, at most `room`, and answers what comes behind them.
     ///
-    /// It ends behind a row where the text that was read ahead may not have one more, so that
-    /// nothing is awaited while a row that was read is not followed.
+    /// It ends behind a row where less of the text was read ahead than a row may have. So no row
+    /// waits to be followed while the next one is awaited, unless that is written in more bytes
+    /// than recorders take, or behind many blank lines.
     // Not inlined, so that its loop has the processor's registers to itself.
     #[inline(never)]
     pub(crate) fn refill<R: Read + Drop>(&mut self, records: &mut Records<R>, room: u64) -> Next

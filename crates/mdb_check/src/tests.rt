@@ -387,6 +387,26 @@ fn an_offence_ends_the_reading(rt: HostRuntime) {
     }
 }
 
+// A row that cannot be, and the front of a record that isn't read whole at once.
+const CUT_SHORT: &[u8] =
+    b"1,S,100\n22222222222222222222222222222222222222222222222222222222222222222222222222222222";
+
+#[test]
+fn an_offence_comes_before_a_failed_read(rt: HostRuntime) {
+    let mut out = Vec::new(rt.alloc());
+    let mut reader = Pieces::failing(CUT_SHORT, 100, 3, ErrorKind::BrokenPipe);
+    let offence = Offence {
+        row: 1,
+        rule: Rule::Speaker,
+        blame: Blame::Other,
+    };
+    assert_eq!(rt;
+        check(rt.alloc(), &mut reader, &mut out),
+        Ok(Outcome::No(offence))
+    );
+    assert!(rt; reader.has_failed());
+}
+
 #[test]
 fn statuses_of_check(rt: HostRuntime) -> Result<(), Fail> {
     for (text, status, report) in [(ROWS, 0, REPORT), (WRONG_SUM, 1, WRONG_SUM_REPORT)] {

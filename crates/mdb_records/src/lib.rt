@@ -99,8 +99,8 @@ impl<R: Read + Drop> Records<R> {
         }
     }
 
-    /// How many bytes of the text were read and are in no record yet, so that they are there without
-    /// a wait. No clause says so: it tells how soon the next records come, and never which.
+    /// How many bytes of the text were read and are in no record yet, so that they are there
+    /// without a wait. No clause says so: it tells how soon the next records come, and never which.
     #[inline(always)]
     pub fn bytes_ahead(&self) -> u64 {
         let given = self.reader.get_ref().given();

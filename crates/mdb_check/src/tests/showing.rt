@@ -1,7 +1,7 @@
 //! What no contract says of `show`: that it can answer at all, and the faults of readers and
 //! writers.
 
-use super::{CALLS, Counter, POLLS, Pieces, ROWS, Sheet, WRONG_SUM, words_of};
+use super::{CALLS, CUT_SHORT, Counter, POLLS, Pieces, ROWS, Sheet, WRONG_SUM, words_of};
 use crate::{Blame, LinkFault, Rule, RunFault, run, show};
 use mdb_words::RowFault;
 use std::io::{ErrorKind, Write};
@@ -151,6 +151,18 @@ fn a_fault_ends_the_reading(rt: HostRuntime) {
     assert!(rt; !reader.has_failed());
     let line: &[u8] = b"fault 1 Speaker other\n";
     assert_eq!(rt; out.as_slice(), line);
+}
+
+#[test]
+fn a_fault_comes_before_a_failed_read(rt: HostRuntime) {
+    let mut out = Vec::new(rt.alloc());
+    let mut reader = Pieces::failing(CUT_SHORT, 100, 3, ErrorKind::BrokenPipe);
+    let fault = LinkFault {
+        rule: Rule::Speaker,
+        blame: Blame::Other,
+    };
+    assert_eq!(rt; show(rt.alloc(), &mut reader, &mut out), Ok(Some(fault)));
+    assert!(rt; reader.has_failed());
 }
 
 #[test]
