@@ -140,8 +140,8 @@ impl Bus {
         ensures none { result ≡ false → act.new ≡ act.old }
     {
         let ended = self.place.advance(judged, &event, act);
-        // Behind the step: so nothing stands between judging a row and choosing its step, and the
-        // compiler makes one choice of both.
+        // Behind the step, since it was measured to be quicker: so no store stands between judging
+        // a row and choosing its step.
         self.last = Some(event);
         match judged {
             Judged::Ask => self.note_ask(act),

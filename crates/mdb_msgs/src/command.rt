@@ -18,8 +18,8 @@ pub enum Device {
 }
 
 impl Device {
-    /// The POLL of the device (MDB/ICP 4.3: 0B to the changer, 33 to the validator, 12 and 62 to the
-    /// readers).
+    /// The POLL of the device (MDB/ICP 4.3: 0B to the changer, 33 to the validator, 12 and 62 to
+    /// the readers).
     #[inline(always)]
     pub fn poll(self) -> Command
         ensures { result ≡ poll_of self }
