@@ -146,11 +146,10 @@ impl<const N: usize> Table<N> {
         requires { N ≡ P.CODES }
         ensures { OnTrue result (AllRest P.code_of P.may_step act.now self.now) }
     {
-        if self.turned {
-            all_rest::<P>(act, self.other.as_slice())
-        } else {
-            all_rest::<P>(act, self.one.as_slice())
-        }
+        // One loop for both, and no choice of a way through the code: which of them it is can't be
+        // foreseen.
+        let entries = if self.turned { &self.other } else { &self.one };
+        all_rest::<P>(act, entries.as_slice())
     }
 
     /// What the sums may be, whatever the state is.

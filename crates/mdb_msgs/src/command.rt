@@ -24,14 +24,24 @@ impl Device {
     pub fn poll(self) -> Command
         ensures { result ≡ poll_of self }
     {
-        match self {
-            Device::Changer => Command::Changer(ChangerCommand::Poll),
-            Device::Bill => Command::Bill(BillCommand::Poll),
-            Device::Cashless => Command::Reader(ReaderUnit::First, ReaderCommand::Poll),
-            Device::Cashless2 => Command::Reader(ReaderUnit::Second, ReaderCommand::Poll),
-        }
+        let number = match self {
+            Device::Changer => 0,
+            Device::Bill => 1,
+            Device::Cashless => 2,
+            Device::Cashless2 => 3,
+        };
+        POLLS[number]
     }
 }
+
+/// The POLL of each device. Looked up, since a command that was just made is moved more slowly than
+/// one that stands there.
+static POLLS: [Command; 4] = [
+    Command::Changer(ChangerCommand::Poll),
+    Command::Bill(BillCommand::Poll),
+    Command::Reader(ReaderUnit::First, ReaderCommand::Poll),
+    Command::Reader(ReaderUnit::Second, ReaderCommand::Poll),
+];
 
 /// A cashless reader: MDB/ICP 4.3 has two, with the same commands and the same answers.
 #[derive(Clone, Copy, PartialEq, Eq, Debug)]
