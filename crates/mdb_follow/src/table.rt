@@ -146,8 +146,7 @@ impl<const N: usize> Table<N> {
         requires { N ≡ P.CODES }
         ensures { OnTrue result (AllRest P.code_of P.may_step act.now self.now) }
     {
-        // One loop for both, and no choice of a way through the code: which of them it is can't be
-        // foreseen.
+        // Chosen without a branch, and one loop for both: which of the two it is can't be foreseen.
         let entries = if self.turned { &self.other } else { &self.one };
         all_rest::<P>(act, entries.as_slice())
     }

@@ -34,8 +34,8 @@ impl Device {
     }
 }
 
-/// The POLL of each device. Looked up, since a command that was just made is moved more slowly than
-/// one that stands there.
+/// The POLL of each device, in the order of `Device`. Copied from here, since a command that is
+/// made on the spot is written in parts and then read whole, for which a processor waits.
 static POLLS: [Command; 4] = [
     Command::Changer(ChangerCommand::Poll),
     Command::Bill(BillCommand::Poll),

@@ -17,6 +17,11 @@ use limited::Limited;
 use std::alloc::Global;
 use std::io::Read;
 
+// The bytes and the fields of a record for which there is room from the start.
+const ROW_BYTES: usize = 64;
+
+const ROW_FIELDS: usize = 4;
+
 /// Why the next record could not be read.
 #[derive(Clone, Copy, PartialEq, Eq, Debug)]
 pub enum ReadFault {
@@ -62,7 +67,7 @@ impl<R: Read + Drop> Records<R> {
                 .has_headers(false)
                 .flexible(true)
                 .from_reader(alloc, Limited::new(reader, limit)),
-            row: ByteRecord::new(alloc),
+            row: empty_row(alloc),
             fault: None,
         }
     }
@@ -112,6 +117,16 @@ impl<R: Read + Drop> Records<R> {
         ensures { fields_of result.now ≡ current_fields self.now }
     {
         &self.row
+    }
+}
+
+// A record of no fields, with room for a short one. `csv` reads a record from as many bytes at once
+// as there is room for, so one that doesn't fit takes longer. Where memory is refused there is no
+// room at first.
+fn empty_row(alloc: Global) -> ByteRecord {
+    match ByteRecord::with_capacity(alloc, ROW_BYTES, ROW_FIELDS) {
+        Ok(row) => row,
+        Err(_) => ByteRecord::new(alloc),
     }
 }
 
