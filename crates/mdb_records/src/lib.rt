@@ -17,9 +17,10 @@ use limited::Limited;
 use std::alloc::Global;
 use std::io::Read;
 
-// The bytes and the fields of a record for which there is room from the start.
+// For so many bytes of a record there is room from the start, which are more than a row has.
 const ROW_BYTES: usize = 64;
 
+// And for so many fields.
 const ROW_FIELDS: usize = 4;
 
 /// Why the next record could not be read.
@@ -120,9 +121,9 @@ impl<R: Read + Drop> Records<R> {
     }
 }
 
-// A record of no fields, with room for a short one. `csv` reads a record from as many bytes at once
-// as there is room for, so one that doesn't fit takes longer. Where memory is refused there is no
-// room at first.
+// A record of no fields, with room for a row. `csv` reads a record from as many bytes at once as
+// there is room for, so one that doesn't fit takes longer. Where memory is refused, there is no
+// room at first, and it is asked for again with the first record.
 fn empty_row(alloc: Global) -> ByteRecord {
     match ByteRecord::with_capacity(alloc, ROW_BYTES, ROW_FIELDS) {
         Ok(row) => row,
