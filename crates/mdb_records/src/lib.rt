@@ -17,7 +17,7 @@ use limited::Limited;
 use std::alloc::Global;
 use std::io::Read;
 
-// For so many bytes of a record there is room from the start. A longer one makes room as it is read.
+// For so many bytes of a record there is room from the start. A longer one makes room itself.
 const ROW_BYTES: usize = 64;
 
 // And for so many fields.
