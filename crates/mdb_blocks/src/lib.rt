@@ -8,6 +8,3 @@ pub mod laws;
 
 pub use answer::Answer;
 pub use block::{Block, BlockFault, seal, sum_of, unseal};
-
-#[cfg(test)]
-mod tests;

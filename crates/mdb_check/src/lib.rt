@@ -9,8 +9,6 @@ mod page;
 mod program;
 mod show_text;
 mod showing;
-#[cfg(test)]
-mod tests;
 mod text;
 mod verdict;
 
@@ -19,4 +17,5 @@ pub use mdb_follow::{Account, Offence, ROWS_MAX, Range, Report};
 pub use outcome::{Outcome, RunFault};
 pub use program::run;
 pub use showing::show;
+pub use text::text_of;
 pub use verdict::{BYTES_MAX, check};

@@ -49,8 +49,8 @@ pub(crate) fn word_of_blame(blame: Blame) -> &'static str
     }
 }
 
-/// The text of an outcome as bytes. Only want of memory is an error here.
-pub(crate) fn text_of(alloc: Global, outcome: &Outcome) -> io::Result<Vec<u8>>
+/// The text of an outcome as bytes: what `check` writes of it. Only want of memory is an error here.
+pub fn text_of(alloc: Global, outcome: &Outcome) -> io::Result<Vec<u8>>
     ensures { IfOk result (λ text. text.items ≡ report_text outcome.now) }
 {
     let mut text = Vec::new(alloc);

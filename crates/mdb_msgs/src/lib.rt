@@ -4,8 +4,6 @@
 mod answer;
 mod command;
 mod command_reading;
-#[cfg(test)]
-mod command_tests;
 mod command_writing;
 mod fault;
 mod first_needs;

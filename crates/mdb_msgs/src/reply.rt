@@ -291,6 +291,3 @@ fn written_bytes(command: &Command, reply: &Reply) -> Result<Bytes, MsgFault>
     }
     Ok(reply.bytes())
 }
-
-#[cfg(test)]
-mod tests;

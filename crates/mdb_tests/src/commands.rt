@@ -1,8 +1,10 @@
-use super::{
+//! Commands as blocks.
+
+use mdb_blocks::unseal;
+use mdb_msgs::{
     ChangerCommand, Command, Device, MsgFault, Need, ReaderCommand, ReaderUnit, need_of,
     read_command, write_command,
 };
-use mdb_blocks::unseal;
 
 const REQUEST: Command = Command::Reader(
     ReaderUnit::First,

@@ -1,8 +1,8 @@
 //! What no contract says of `show`: that it can answer at all, and the faults of readers and
 //! writers.
 
-use super::{CALLS, CUT_SHORT, Counter, POLLS, Pieces, ROWS, Sheet, WRONG_SUM, words_of};
-use crate::{Blame, LinkFault, Rule, RunFault, run, show};
+use super::streams::{CALLS, CUT_SHORT, Counter, POLLS, Pieces, ROWS, Sheet, WRONG_SUM, words_of};
+use mdb_check::{Blame, LinkFault, Rule, RunFault, run, show};
 use mdb_words::RowFault;
 use std::io::{ErrorKind, Write};
 use std::test::Fail;

@@ -1,10 +1,11 @@
-use super::{BillMsg, ChangerMsg, ChangerSetup, Reply, read_reply, write_reply};
-use crate::{
-    BillCommand, ChangerCommand, Command, MsgFault, ReaderCommand, ReaderList, ReaderMsg,
-    ReaderUnit,
-};
+//! Replies as blocks.
+
 use arrayvec::ArrayVec;
 use mdb_blocks::seal;
+use mdb_msgs::{
+    BillCommand, BillMsg, ChangerCommand, ChangerMsg, ChangerSetup, Command, MsgFault,
+    ReaderCommand, ReaderList, ReaderMsg, ReaderUnit, Reply, read_reply, write_reply,
+};
 
 const CHANGER_SETUP: Command = Command::Changer(ChangerCommand::Setup);
 

@@ -1,19 +1,13 @@
 //! What no contract says: that a call can answer at all, the faults of readers and writers, and the
 //! program's words.
 
-mod showing;
-
-use super::text::text_of;
-use super::{Account, Blame, Offence, Outcome, Range, Report, Rule, RunFault, check, run};
+use super::streams::{CALLS, CUT_SHORT, Counter, POLLS, Pieces, ROWS, Sheet, WRONG_SUM, words_of};
+use mdb_check::{
+    Account, Blame, Offence, Outcome, Range, Report, Rule, RunFault, check, run, text_of,
+};
 use mdb_words::RowFault;
-use std::alloc::{AllocError, Global};
-use std::io;
-use std::io::{ErrorKind, Read, Write};
+use std::io::{ErrorKind, Write};
 use std::test::Fail;
-
-/// A changer's RESET and ACK, a POLL, the answer that it was reset, and the controller's ACK.
-const ROWS: &[u8] = b"1000,M,108\n2200,M,008\n4200,S,100\n24200,M,10B\n\
-25400,M,00B\n27400,S,00B\n28600,S,10B\n30600,M,000\n";
 
 /// The report on `ROWS`.
 const REPORT: &[u8] = b"verdict yes\nrows 8\n\
@@ -27,109 +21,8 @@ approved-2 device 0..0 controller 0..0 difference 0..0\n\
 sold-2 device 0..0 controller 0..0 difference 0..0\n\
 silences changer 0 bill 0 cashless 0 cashless-2 0\n";
 
-/// `ROWS` up to a reply whose sum is wrong.
-const WRONG_SUM: &[u8] =
-    b"1000,M,108\n2200,M,008\n4200,S,100\n24200,M,10B\n25400,M,00B\n27400,S,00B\n28600,S,10C\n";
-
 /// The report on `WRONG_SUM`.
 const WRONG_SUM_REPORT: &[u8] = b"verdict no\nrow 7\nrule Sum\nblame changer\n";
-
-/// The polls of a long recording, each acknowledged: three rows.
-const POLLS: u64 = 50_000;
-
-/// More reads and writes than `check` makes of `ROWS` in small pieces.
-const CALLS: u64 = 1_000;
-
-/// Gives a text in pieces, and fails at one of its reads alone.
-#[derive(Drop)]
-struct Pieces<'a> {
-    text: &'a [u8],
-    // The most bytes that a read gives.
-    most: usize,
-    reads: u64,
-    // The number of the read that fails, from 1; 0 for none.
-    failing: u64,
-    kind: ErrorKind,
-}
-
-impl<'a> Pieces<'a> {
-    fn new(text: &'a [u8], most: usize) -> Pieces<'a> {
-        Pieces {
-            text,
-            most,
-            reads: 0,
-            failing: 0,
-            kind: ErrorKind::Other,
-        }
-    }
-
-    fn failing(text: &'a [u8], most: usize, failing: u64, kind: ErrorKind) -> Pieces<'a> {
-        Pieces {
-            text,
-            most,
-            reads: 0,
-            failing,
-            kind,
-        }
-    }
-
-    fn has_failed(&self) -> bool {
-        0 < self.failing && self.failing <= self.reads
-    }
-}
-
-impl<'a> Read for Pieces<'a> {
-    fn read(&mut self, buf: &mut [u8]) -> io::Result<usize> {
-        self.reads = self.reads.saturating_add(1);
-        if self.reads == self.failing {
-            return Err(io::Error::from(self.kind));
-        }
-        let count = self.most.min(buf.len()).min(self.text.len());
-        let (given, rest) = self.text.split_at(count);
-        buf[..count].copy_from_slice(given);
-        self.text = rest;
-        Ok(count)
-    }
-}
-
-/// Keeps what is written, a few bytes at a time, and fails at one of its writes alone.
-#[derive(Drop)]
-struct Sheet {
-    text: Vec<u8>,
-    writes: u64,
-    // The number of the write that fails, from 1; 0 for none.
-    failing: u64,
-}
-
-impl Sheet {
-    fn failing(alloc: Global, failing: u64) -> Sheet {
-        Sheet {
-            text: Vec::new(alloc),
-            writes: 0,
-            failing,
-        }
-    }
-
-    fn has_failed(&self) -> bool {
-        0 < self.failing && self.failing <= self.writes
-    }
-}
-
-impl Write for Sheet {
-    fn write(&mut self, buf: &[u8]) -> io::Result<usize> {
-        self.writes = self.writes.saturating_add(1);
-        if self.writes == self.failing {
-            return Err(io::Error::from(ErrorKind::BrokenPipe));
-        }
-        let count = buf.len().min(3);
-        self.text.extend_from_slice(&buf[..count])?;
-        Ok(count)
-    }
-
-    fn flush(&mut self) -> io::Result<()> {
-        Ok(())
-    }
-}
 
 /// The number of rows of a yes.
 fn rows_of(answer: Result<Outcome, RunFault>) -> Option<u64> {
@@ -137,15 +30,6 @@ fn rows_of(answer: Result<Outcome, RunFault>) -> Option<u64> {
         Ok(Outcome::Yes(report)) => Some(report.rows),
         _ => None,
     }
-}
-
-/// The words of a command line.
-fn words_of(alloc: Global, words: &[&str]) -> Result<Vec<String>, AllocError> {
-    let mut list = Vec::new(alloc);
-    for word in words {
-        list.push(String::from_str(alloc, word)?)?;
-    }
-    Ok(list)
 }
 
 #[test]
@@ -286,25 +170,6 @@ fn a_failed_write_is_told(rt: HostRuntime) {
     assert!(rt; untouched);
 }
 
-/// Takes what is written whole, and counts the writes.
-#[derive(Drop)]
-struct Counter {
-    text: Vec<u8>,
-    writes: u64,
-}
-
-impl Write for Counter {
-    fn write(&mut self, buf: &[u8]) -> io::Result<usize> {
-        self.writes = self.writes.saturating_add(1);
-        self.text.extend_from_slice(buf)?;
-        Ok(buf.len())
-    }
-
-    fn flush(&mut self) -> io::Result<()> {
-        Ok(())
-    }
-}
-
 #[test]
 fn a_report_is_one_write(rt: HostRuntime) {
     for (rows, report) in [(ROWS, REPORT), (WRONG_SUM, WRONG_SUM_REPORT)] {
@@ -386,10 +251,6 @@ fn an_offence_ends_the_reading(rt: HostRuntime) {
         assert!(rt; !reader.has_failed());
     }
 }
-
-// A row that cannot be, and the front of a record that isn't read whole at once.
-const CUT_SHORT: &[u8] =
-    b"1,S,100\n22222222222222222222222222222222222222222222222222222222222222222222222222222222";
 
 #[test]
 fn an_offence_comes_before_a_failed_read(rt: HostRuntime) {

@@ -1,4 +1,6 @@
-use super::{Answer, Block, BlockFault, seal, unseal};
+//! Blocks and their sums.
+
+use mdb_blocks::{Answer, Block, BlockFault, seal, unseal};
 use mdb_words::Line;
 
 fn bytes_of(block: &Result<Block, BlockFault>) -> Result<&[u8], BlockFault> {

@@ -1,0 +1,128 @@
+//! Rows, events and the gaps between them.
+
+use mdb_words::{Event, Line, RowFault, Span, Time, Word, gap_of, is_at_least, is_at_most};
+
+fn read(time: &str, letter: &str, value: &str) -> Result<Event, RowFault> {
+    Event::read(&[time.as_bytes(), letter.as_bytes(), value.as_bytes()])
+}
+
+fn word_at(at: u64, line: Line, value: u16) -> Option<Event> {
+    let at = Time::new(at)?;
+    let word = Word::new(value)?;
+    Some(Event::Word { at, line, word })
+}
+
+fn break_at(at: u64, length: u64) -> Option<Event> {
+    let at = Time::new(at)?;
+    let length = Span::new(length)?;
+    Some(Event::Break { at, length })
+}
+
+#[test]
+fn rows_are_refused_for_their_first_fault(rt: HostRuntime) {
+    for (time, letter, value, fault) in [
+        ("12", "M", "200", RowFault::BadValue),
+        ("", "M", "108", RowFault::BadTime),
+        (" 1", "M", "108", RowFault::BadTime),
+        ("+1", "M", "108", RowFault::BadTime),
+        ("1234567890123456", "M", "108", RowFault::BadTime),
+        ("x", "m", "2", RowFault::BadTime),
+        ("1", "m", "108", RowFault::BadLine),
+        ("1", "MS", "2", RowFault::BadLine),
+        ("1", "", "108", RowFault::BadLine),
+        ("1", "M", "10", RowFault::BadValue),
+        ("1", "S", "0108", RowFault::BadValue),
+        ("1", "M", "10G", RowFault::BadValue),
+        ("1", "B", "", RowFault::BadValue),
+        ("1", "B", "1000000000", RowFault::BadValue),
+    ] {
+        assert_eq!(rt;
+            read(time, letter, value),
+            Err(fault),
+            "at {time},{letter},{value}"
+        );
+    }
+    assert_eq!(rt;
+        Event::read(&["1".as_bytes(), "M".as_bytes()]),
+        Err(RowFault::FieldCount)
+    );
+}
+
+#[test]
+fn rows_are_read_and_written(rt: HostRuntime) {
+    for (time, letter, value, event, text) in [
+        (
+            "000000000000001",
+            "M",
+            "108",
+            word_at(1, Line::Controller, 0x108),
+            "1,M,108",
+        ),
+        (
+            "1",
+            "M",
+            "1ff",
+            word_at(1, Line::Controller, 0x1FF),
+            "1,M,1FF",
+        ),
+        (
+            "1000",
+            "M",
+            "108",
+            word_at(1000, Line::Controller, 0x108),
+            "1000,M,108",
+        ),
+        (
+            "2146",
+            "S",
+            "00a",
+            word_at(2146, Line::Peripheral, 10),
+            "2146,S,00A",
+        ),
+        ("0", "B", "100000", break_at(0, 100_000), "0,B,100000"),
+        (
+            "999999999999999",
+            "B",
+            "999999999",
+            break_at(999_999_999_999_999, 999_999_999),
+            "999999999999999,B,999999999",
+        ),
+    ] {
+        let found = read(time, letter, value).ok();
+        assert_eq!(rt; found, event);
+        let is_written = found.is_some_and(|event| event.row_text().as_str() == text);
+        assert!(rt; is_written);
+    }
+}
+
+#[test]
+fn gaps_count_from_the_start_of_a_word_and_the_end_of_a_break(rt: HostRuntime) {
+    for (earlier, later, gap) in [
+        (
+            word_at(1000, Line::Controller, 0x108),
+            word_at(2146, Line::Controller, 0x008),
+            Some(1146),
+        ),
+        (
+            break_at(0, 100_000),
+            word_at(300_000, Line::Controller, 0x108),
+            Some(200_000),
+        ),
+        (break_at(0, 100_000), break_at(99_999, 100_000), None),
+    ] {
+        let found = earlier.and_then(|earlier| later.and_then(|later| gap_of(&earlier, &later)));
+        assert_eq!(rt; found, gap);
+    }
+}
+
+#[test]
+fn limits_hold_to_the_microsecond(rt: HostRuntime) {
+    let pause = break_at(0, 100_000).expect(&rt, "a break");
+    let word = word_at(300_000, Line::Controller, 0x108).expect(&rt, "a word");
+    assert!(rt; is_at_least(&pause, &word, 200_000));
+    assert!(rt; !is_at_least(&pause, &word, 200_001));
+    assert!(rt; is_at_most(&pause, &word, 200_000));
+    assert!(rt; !is_at_most(&pause, &word, 199_999));
+    assert!(rt; !is_at_least(&word, &pause, 0));
+    assert!(rt; is_at_most(&word, &pause, 0));
+}

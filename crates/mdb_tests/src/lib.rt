@@ -1,0 +1,21 @@
+//! What no contract says of the libraries: that a call can answer at all, worked cases from outside,
+//! the faults of readers and writers, and the program's words. All tests stand in this one crate,
+//! since a crate that has tests is proved a second time for them.
+#![tactic(auto)]
+
+#[cfg(test)]
+mod blocks;
+#[cfg(test)]
+mod checking;
+#[cfg(test)]
+mod commands;
+#[cfg(test)]
+mod events;
+#[cfg(test)]
+mod records;
+#[cfg(test)]
+mod replies;
+#[cfg(test)]
+mod showing;
+#[cfg(test)]
+mod streams;

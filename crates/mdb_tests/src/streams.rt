@@ -1,0 +1,147 @@
+//! Recordings, readers and writers that the tests of `check` and `show` share.
+
+use std::alloc::{AllocError, Global};
+use std::io;
+use std::io::{ErrorKind, Read, Write};
+
+/// A changer's RESET and ACK, a POLL, the answer that it was reset, and the controller's ACK.
+pub(crate) const ROWS: &[u8] = b"1000,M,108\n2200,M,008\n4200,S,100\n24200,M,10B\n\
+25400,M,00B\n27400,S,00B\n28600,S,10B\n30600,M,000\n";
+
+/// `ROWS` up to a reply whose sum is wrong.
+pub(crate) const WRONG_SUM: &[u8] =
+    b"1000,M,108\n2200,M,008\n4200,S,100\n24200,M,10B\n25400,M,00B\n27400,S,00B\n28600,S,10C\n";
+
+/// A row that cannot be, and the front of a record that isn't read whole at once.
+pub(crate) const CUT_SHORT: &[u8] =
+    b"1,S,100\n22222222222222222222222222222222222222222222222222222222222222222222222222222222";
+
+/// The polls of a long recording, each acknowledged: three rows.
+pub(crate) const POLLS: u64 = 50_000;
+
+/// More reads and writes than `check` makes of `ROWS` in small pieces.
+pub(crate) const CALLS: u64 = 1_000;
+
+/// Gives a text in pieces, and fails at one of its reads alone.
+#[derive(Drop)]
+pub(crate) struct Pieces<'a> {
+    text: &'a [u8],
+    // The most bytes that a read gives.
+    most: usize,
+    reads: u64,
+    // The number of the read that fails, from 1; 0 for none.
+    failing: u64,
+    kind: ErrorKind,
+}
+
+impl<'a> Pieces<'a> {
+    pub(crate) fn new(text: &'a [u8], most: usize) -> Pieces<'a> {
+        Pieces {
+            text,
+            most,
+            reads: 0,
+            failing: 0,
+            kind: ErrorKind::Other,
+        }
+    }
+
+    pub(crate) fn failing(
+        text: &'a [u8],
+        most: usize,
+        failing: u64,
+        kind: ErrorKind,
+    ) -> Pieces<'a> {
+        Pieces {
+            text,
+            most,
+            reads: 0,
+            failing,
+            kind,
+        }
+    }
+
+    pub(crate) fn has_failed(&self) -> bool {
+        0 < self.failing && self.failing <= self.reads
+    }
+}
+
+impl<'a> Read for Pieces<'a> {
+    fn read(&mut self, buf: &mut [u8]) -> io::Result<usize> {
+        self.reads = self.reads.saturating_add(1);
+        if self.reads == self.failing {
+            return Err(io::Error::from(self.kind));
+        }
+        let count = self.most.min(buf.len()).min(self.text.len());
+        let (given, rest) = self.text.split_at(count);
+        buf[..count].copy_from_slice(given);
+        self.text = rest;
+        Ok(count)
+    }
+}
+
+/// Keeps what is written, a few bytes at a time, and fails at one of its writes alone.
+#[derive(Drop)]
+pub(crate) struct Sheet {
+    pub(crate) text: Vec<u8>,
+    writes: u64,
+    // The number of the write that fails, from 1; 0 for none.
+    failing: u64,
+}
+
+impl Sheet {
+    pub(crate) fn failing(alloc: Global, failing: u64) -> Sheet {
+        Sheet {
+            text: Vec::new(alloc),
+            writes: 0,
+            failing,
+        }
+    }
+
+    pub(crate) fn has_failed(&self) -> bool {
+        0 < self.failing && self.failing <= self.writes
+    }
+}
+
+impl Write for Sheet {
+    fn write(&mut self, buf: &[u8]) -> io::Result<usize> {
+        self.writes = self.writes.saturating_add(1);
+        if self.writes == self.failing {
+            return Err(io::Error::from(ErrorKind::BrokenPipe));
+        }
+        let count = buf.len().min(3);
+        self.text.extend_from_slice(&buf[..count])?;
+        Ok(count)
+    }
+
+    fn flush(&mut self) -> io::Result<()> {
+        Ok(())
+    }
+}
+
+/// Takes what is written whole, and counts the writes.
+#[derive(Drop)]
+pub(crate) struct Counter {
+    pub(crate) text: Vec<u8>,
+    pub(crate) writes: u64,
+}
+
+impl Write for Counter {
+    fn write(&mut self, buf: &[u8]) -> io::Result<usize> {
+        self.writes = self.writes.saturating_add(1);
+        self.text.extend_from_slice(buf)?;
+        Ok(buf.len())
+    }
+
+    fn flush(&mut self) -> io::Result<()> {
+        Ok(())
+    }
+}
+
+/// The words of a command line.
+pub(crate) fn words_of(alloc: Global, words: &[&str]) -> Result<Vec<String>, AllocError> {
+    let mut list = Vec::new(alloc);
+    for word in words {
+        list.push(String::from_str(alloc, word)?)?;
+    }
+    Ok(list)
+}
