@@ -1,12 +1,20 @@
-/* A library to be loaded before a program (LD_PRELOAD), which refuses one of the program's allocations: the one whose
- * number, from 1, is in REFUSE_NTH. It then writes a byte to the file descriptor 3. All others are passed on to glibc.
- * It is used by tests/refused-memory alone, and is no part of the product. */
+/* A library to be loaded before a program (LD_PRELOAD), which refuses one of the program's calls: the one whose number,
+ * from 1, is in REFUSE_NTH, of those that REFUSE names: `memory` (allocations), `read` (of standard input) or `write` (to
+ * standard output). It then writes a byte to the file descriptor 3. All others are passed on to glibc, and where reads or
+ * writes are named, each of them goes on with 7 bytes at most. With `wait` none is refused, and standard input is one
+ * that doesn't wait for bytes (O_NONBLOCK).
+ * It is used by tests/refused-memory and tests/failing-streams alone, and is no part of the product. */
 typedef unsigned long size_t;
+
+enum { EIO = 5, F_SETFL = 4, O_NONBLOCK = 04000, PIECE = 7 };
 
 extern void *__libc_malloc(size_t size);
 extern void *__libc_realloc(void *old, size_t size);
+extern long __read(int from, void *bytes, size_t count);
+extern long __write(int to, const void *bytes, size_t count);
+extern int *__errno_location(void);
+extern int fcntl(int file, int command, ...);
 extern char *getenv(const char *name);
-extern long write(int to, const void *bytes, size_t count);
 
 static unsigned long calls;
 
@@ -20,21 +28,55 @@ static unsigned long nth(void)
     return number;
 }
 
+/* Whether REFUSE names these calls. */
+static int is_named(const char *kind)
+{
+    const char *named = getenv("REFUSE");
+    for (; named && *named && *named == *kind; named++)
+        kind++;
+    return named && *named == *kind;
+}
+
+/* Whether the next call of the named kind is the one to be refused. */
 static int is_refused(void)
 {
     calls++;
     if (calls != nth())
         return 0;
-    write(3, "x", 1);
+    __write(3, "x", 1);
     return 1;
 }
 
 void *malloc(size_t size)
 {
-    return is_refused() ? 0 : __libc_malloc(size);
+    return is_named("memory") && is_refused() ? 0 : __libc_malloc(size);
 }
 
 void *realloc(void *old, size_t size)
 {
-    return is_refused() ? 0 : __libc_realloc(old, size);
+    return is_named("memory") && is_refused() ? 0 : __libc_realloc(old, size);
+}
+
+long read(int from, void *bytes, size_t count)
+{
+    if (from == 0 && is_named("wait"))
+        fcntl(from, F_SETFL, O_NONBLOCK);
+    if (from != 0 || !is_named("read"))
+        return __read(from, bytes, count);
+    if (is_refused()) {
+        *__errno_location() = EIO;
+        return -1;
+    }
+    return __read(from, bytes, count < PIECE ? count : PIECE);
+}
+
+long write(int to, const void *bytes, size_t count)
+{
+    if (to != 1 || !is_named("write"))
+        return __write(to, bytes, count);
+    if (is_refused()) {
+        *__errno_location() = EIO;
+        return -1;
+    }
+    return __write(to, bytes, count < PIECE ? count : PIECE);
 }
