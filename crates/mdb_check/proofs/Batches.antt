@@ -9,7 +9,6 @@ use Rattle.mdb_records.specs.declared.ReadFault.TheVariants as reading
 use Rattle.mdb_records.specs.declared.Records.{Records}
 use Rattle.mdb_records.specs.ToCome.{Advances, ToCome, current_fields}
 use Rattle.mdb_follow.specs.declared.follower.Follower.{Follower}
-use Rattle.mdb_follow.specs.declared.follower.TheConstants.{ROWS_MAX}
 use Rattle.mdb_follow.specs.declared.offence.Offence.{Offence}
 use Rattle.mdb_follow.specs.Follower.{StandsFor}
 use Rattle.mdb_follow.specs.Offences.{HasOffence}
@@ -120,10 +119,10 @@ taken remaining all old new follower later count rows progress next is reads fol
     }
 
 -- the text ends behind a batch
-pub answered : {R : Type 0} → ((rows : List Event) → SalesFollowApprovals rows) → (remaining : R → Option (List ℕ)) (all : List (List (List ℕ))) (old new : Records R) (follower later : Follower) (count : ℕ) (rows : List Event)
+pub answered : {R : Type 0} → ((rows : List Event) → SalesFollowApprovals rows) → (limit : ℕ) (remaining : R → Option (List ℕ)) (all : List (List (List ℕ))) (old new : Records R) (follower later : Follower) (count : ℕ) (rows : List Event)
     → Progress remaining all old follower count → (next : Next) → next ≡ End → ((to_come : List (List (List ℕ))) → ToCome remaining old to_come → HasRead remaining to_come new rows next)
-    → Follows follower later rows → count + length rows ≤ ROWS_MAX → (outcome : Outcome) → ((l : List Event) → StandsFor later l → IsYes l outcome) → IsAnswer all (Ok outcome)
-answered sales remaining all old new follower later count rows progress next is reads follows few outcome tells_yes =
+    → Follows follower later rows → count + length rows ≤ limit → (outcome : Outcome) → ((l : List Event) → StandsFor later l → IsYes l outcome) → IsAnswer limit all (Ok outcome)
+answered sales limit remaining all old new follower later count rows progress next is reads follows few outcome tells_yes =
     told outcome (tells_yes (progress.before ++ rows) (follows progress.before progress.stands))
   where
     Read : Next → Type 0
@@ -135,7 +134,7 @@ answered sales remaining all old new follower later count rows progress next is 
     P : List (List (List ℕ)) → Type 0
     P l = AreRows l (progress.before ++ rows)
 
-    told : (outcome : Outcome) → IsYes (progress.before ++ rows) outcome → IsAnswer all (Ok outcome)
+    told : (outcome : Outcome) → IsYes (progress.before ++ rows) outcome → IsAnswer limit all (Ok outcome)
     told (Yes report) is_report =
         let whole : progress.done ++ read.done ≡ all =
         sym (append-nil (progress.done ++ read.done)) ∙ (ap (λ l. (progress.done ++ read.done) ++ l) (sym read.behind) ∙ sym (parts remaining all old new follower count rows End progress read)) in
@@ -149,10 +148,10 @@ answered sales remaining all old new follower later count rows progress next is 
     told (No offence) never = absurd never
 
 -- a record behind a batch is no row
-pub bad_row : {R : Type 0} → Reaches → (remaining : R → Option (List ℕ)) (all : List (List (List ℕ))) (old new : Records R) (follower later : Follower) (count row : ℕ) (rows : List Event) (fault : RowFault)
+pub bad_row : {R : Type 0} → Reaches → (limit : ℕ) (remaining : R → Option (List ℕ)) (all : List (List (List ℕ))) (old new : Records R) (follower later : Follower) (count row : ℕ) (rows : List Event) (fault : RowFault)
     → Progress remaining all old follower count → (next : Next) → next ≡ BadRow fault → ((to_come : List (List (List ℕ))) → ToCome remaining old to_come → HasRead remaining to_come new rows next)
-    → Follows follower later rows → count + length rows < ROWS_MAX → row ≡ count + length rows + 1 → IsBadRow all row fault
-bad_row reaches remaining all old new follower later count row rows fault progress next is reads follows few number =
+    → Follows follower later rows → count + length rows < limit → row ≡ count + length rows + 1 → IsBadRow limit all row fault
+bad_row reaches limit remaining all old new follower later count row rows fault progress next is reads follows few number =
     let Read : Next → Type 0 = λ n. HasRead remaining progress.rest new rows n in
     let read : HasRead remaining progress.rest new rows (BadRow fault) = subst Read is (reads progress.rest progress.to_come) in
     record {
@@ -188,10 +187,10 @@ split_rows (r ∷ records) (e ∷ front) row rest told =
     record { done = r ∷ later.done; fields = later.fields; after = later.after; is = ap (λ l. r ∷ l) later.is; told = (told.0, later.told); one = later.one }
 
 -- a row of a batch cannot be
-pub offence_in : {R : Type 0} (remaining : R → Option (List ℕ)) (all : List (List (List ℕ))) (old new : Records R) (follower : Follower) (count : ℕ) (rows : List Event) (offence : Offence)
+pub offence_in : {R : Type 0} (limit : ℕ) (remaining : R → Option (List ℕ)) (all : List (List (List ℕ))) (old new : Records R) (follower : Follower) (count : ℕ) (rows : List Event) (offence : Offence)
     → Progress remaining all old follower count → (next : Next) → ((to_come : List (List (List ℕ))) → ToCome remaining old to_come → HasRead remaining to_come new rows next)
-    → ((before : List Event) → StandsFor follower before → HasOffence before rows offence) → count + length rows ≤ ROWS_MAX → IsImpossible all offence
-offence_in remaining all old new follower count rows offence progress next reads offends few =
+    → ((before : List Event) → StandsFor follower before → HasOffence before rows offence) → count + length rows ≤ limit → IsImpossible limit all offence
+offence_in limit remaining all old new follower count rows offence progress next reads offends few =
     let read : HasRead remaining progress.rest new rows next = reads progress.rest progress.to_come in
     let has : HasOffence progress.before rows offence = offends progress.before progress.stands in
     let Told : List Event → Type 0 = λ l. AreRows read.done l in
@@ -234,15 +233,15 @@ empty [] few = refl
 empty (e ∷ rows) few = absurd (omega (arith, few))
 
 -- the text ends there
-pub ended_at : {R : Type 0} → ((rows : List Event) → SalesFollowApprovals rows) → (remaining : R → Option (List ℕ)) (all : List (List (List ℕ))) (old new : Records R) (follower : Follower) (count : ℕ) (rows : List Event)
+pub ended_at : {R : Type 0} → ((rows : List Event) → SalesFollowApprovals rows) → (limit : ℕ) (remaining : R → Option (List ℕ)) (all : List (List (List ℕ))) (old new : Records R) (follower : Follower) (count : ℕ) (rows : List Event)
     → Progress remaining all old follower count → (next : Next) → next ≡ End → ((to_come : List (List (List ℕ))) → ToCome remaining old to_come → HasRead remaining to_come new rows next) → FitsIn 1 rows next
-    → count ≤ ROWS_MAX → (outcome : Outcome) → ((l : List Event) → StandsFor follower l → IsYes l outcome) → IsAnswer all (Ok outcome)
-ended_at sales remaining all old new follower count rows progress next is reads within few outcome tells_yes =
+    → count ≤ limit → (outcome : Outcome) → ((l : List Event) → StandsFor follower l → IsYes l outcome) → IsAnswer limit all (Ok outcome)
+ended_at sales limit remaining all old new follower count rows progress next is reads within few outcome tells_yes =
     let Fits : Next → Type 0 = λ n. FitsIn 1 rows n in
     let none : rows ≡ [] = empty rows (subst Fits is within) in
     let follows : Follows follower follower rows =
     λ before stands. let Stands : List Event → Type 0 = λ l. StandsFor follower l in subst Stands (sym (ap (λ l. before ++ l) none ∙ append-nil before)) stands in
-    answered sales remaining all old new follower follower count rows progress next is reads follows (omega (arith, few, ap length none)) outcome tells_yes
+    answered sales limit remaining all old new follower follower count rows progress next is reads follows (omega (arith, few, ap length none)) outcome tells_yes
 
 -- the first of some records, of which there is one
 pub record First (records : List (List (List ℕ))) : Type 0 where
@@ -278,10 +277,10 @@ first_found remaining all new rows (Failed fault) read within (inl is) = absurd 
 first_found remaining all new rows (Failed fault) read within (inr other) = let is = other.1 in absurd (cc)
 
 -- there is a record too many
-pub too_long : {R : Type 0} → Reaches → (remaining : R → Option (List ℕ)) (all : List (List (List ℕ))) (old new : Records R) (follower : Follower) (count : ℕ) (rows : List Event)
+pub too_long : {R : Type 0} → Reaches → (limit : ℕ) (remaining : R → Option (List ℕ)) (all : List (List (List ℕ))) (old new : Records R) (follower : Follower) (count : ℕ) (rows : List Event)
     → Progress remaining all old follower count → (next : Next) → ((to_come : List (List (List ℕ))) → ToCome remaining old to_come → HasRead remaining to_come new rows next) → FitsIn 1 rows next
-    → HasMore next → count ≡ ROWS_MAX → IsTooLong all
-too_long reaches remaining all old new follower count rows progress next reads within more full =
+    → HasMore next → count ≡ limit → IsTooLong limit all
+too_long reaches limit remaining all old new follower count rows progress next reads within more full =
     let first : First progress.rest = first_found remaining progress.rest new rows next (reads progress.rest progress.to_come) within more in
     record {
       rows = progress.before;

@@ -3,7 +3,6 @@ use Rattle.std.proofs.Common.{get_or, Ok, arith, refl, ap, sym, subst, ◌∙◌
 use Rattle.std.proofs.lemmas.List.{length-take-le, take-append-drop, take_all, take_at}
 use Rattle.mdb_words.specs.declared.event.Event.{Event}
 use Rattle.mdb_follow.specs.declared.cell.Account.{Account}
-use Rattle.mdb_follow.specs.declared.follower.TheConstants.{ROWS_MAX}
 use Rattle.mdb_follow.specs.declared.offence.Offence.{Offence}
 use Rattle.mdb_follow.specs.declared.report.Report.{Report}
 use Rattle.mdb_follow.specs.Ranges.{IsAccount, IsRange}
@@ -71,8 +70,8 @@ first_rows count records rows told number reached = record {
 }
 
 -- a yes: all records are rows, and they have a run
-yes_has_run : (records : List (List (List ℕ))) (report : Report) → IsPossible records report → (length records ≤ ROWS_MAX) × HaveRun records (length records)
-yes_has_run records report is =
+yes_has_run : (limit : ℕ) (records : List (List (List ℕ))) (report : Report) → IsPossible limit records report → (length records ≤ limit) × HaveRun records (length records)
+yes_has_run limit records report is =
     let many : length is.rows ≡ length records = as_many records is.rows is.told in
     let P : List (List (List ℕ)) → Type 0 = λ l. AreRows l is.rows in
     let told : AreRows (take (length records) records) is.rows = subst P (sym (take_all (length records) records (omega arith))) is.told in
@@ -104,14 +103,14 @@ bounds_of rows report is account side =
     let P : List Account → Type 0 = λ accounts. IsRange (Run rows) (λ s. value_of side (sums_of account s)) (range_of side (get_or accounts (account_place account) no_account)) in
     subst P (sym same) (on_side (λ s. sums_of account s) (get_or (listed is.accounts) (account_place account) no_account) (in_place is.accounts is.of_runs account) side)
 
-has_bounds : (records : List (List (List ℕ))) (report : Report) → IsPossible records report → HasBounds records report
-has_bounds records report is rows told account side =
+has_bounds : (limit : ℕ) (records : List (List (List ℕ))) (report : Report) → IsPossible limit records report → HasBounds records report
+has_bounds limit records report is rows told account side =
     let P : List Event → Type 0 = λ es. IsRange (Run es) (λ s. value_of side (sums_of account s)) (range_of side (account_of account report)) in
     subst P (one_list records is.rows rows is.told told) (bounds_of is.rows report is.is account side)
 
 -- the records up to the row that is named, and these rows
-up_to : (records : List (List (List ℕ))) (offence : Offence) (is : IsImpossible records offence) → AreFirstRows records offence.row (is.rows ++ is.row ∷ [])
-up_to records offence is =
+up_to : (limit : ℕ) (records : List (List (List ℕ))) (offence : Offence) (is : IsImpossible limit records offence) → AreFirstRows records offence.row (is.rows ++ is.row ∷ [])
+up_to limit records offence is =
     let done : List (List (List ℕ)) = is.stops.done in
     let upto : List (List (List ℕ)) = done ++ is.fields ∷ [] in
     let many : length is.rows ≡ length done = as_many done is.rows is.stops.told in
@@ -125,9 +124,9 @@ up_to records offence is =
     }
 
 -- the rows up to the one that is named have no run
-no_run : (records : List (List (List ℕ))) (offence : Offence) → IsImpossible records offence → HaveRun records offence.row → ⊥
-no_run records offence is has =
-    let same : has.rows ≡ is.rows ++ is.row ∷ [] = one_list (take offence.row records) has.rows (is.rows ++ is.row ∷ []) has.are.told (up_to records offence is).told in
+no_run : (limit : ℕ) (records : List (List (List ℕ))) (offence : Offence) → IsImpossible limit records offence → HaveRun records offence.row → ⊥
+no_run limit records offence is has =
+    let same : has.rows ≡ is.rows ++ is.row ∷ [] = one_list (take offence.row records) has.rows (is.rows ++ is.row ∷ []) has.are.told (up_to limit records offence is).told in
     let P : List Event → Type 0 = λ es. IsReached es in
     is.is.not_reached (subst P same (has.sums, has.run))
 
@@ -143,8 +142,8 @@ fewer_reached fronts records more count fewer has =
     (fronts (take count has.rows) (drop count has.rows) (subst Q parts (has.sums, has.run)))
 
 -- the rows before the one that is named are reached
-before_reached : (records : List (List (List ℕ))) (offence : Offence) (is : IsImpossible records offence) → HaveRun records (length is.rows)
-before_reached records offence is =
+before_reached : (limit : ℕ) (records : List (List (List ℕ))) (offence : Offence) (is : IsImpossible limit records offence) → HaveRun records (length is.rows)
+before_reached limit records offence is =
     let done : List (List (List ℕ)) = is.stops.done in
     let many : length is.rows ≡ length done = as_many done is.rows is.stops.told in
     let front : take (length is.rows) records ≡ done = ap (λ l. take (length is.rows) l) is.stops.split ∙ take_at done (is.fields ∷ is.stops.rest) (length is.rows) (sym many) in
@@ -152,40 +151,40 @@ before_reached records offence is =
     first_rows (length is.rows) records is.rows (subst P (sym front) is.stops.told) refl is.stops.possible
 
 -- the runs end before the row that a no names
-names_first : FrontsAreReached → (records : List (List (List ℕ))) (offence : Offence) → IsImpossible records offence → NamesFirstRow records offence
-names_first fronts records offence is = record {
+names_first : FrontsAreReached → (limit : ℕ) (records : List (List (List ℕ))) (offence : Offence) → IsImpossible limit records offence → NamesFirstRow records offence
+names_first fronts limit records offence is = record {
   before = is.rows;
   row = is.row;
-  there = up_to records offence is;
-  no_run = no_run records offence is;
-  fewer = λ count below. fewer_reached fronts records (length is.rows) count (omega (arith, below, is.is.number)) (before_reached records offence is);
+  there = up_to limit records offence is;
+  no_run = no_run limit records offence is;
+  fewer = λ count below. fewer_reached fronts records (length is.rows) count (omega (arith, below, is.is.number)) (before_reached limit records offence is);
   why = is.is;
 }
 
 -- where a no is answered, not all the records have a run
-no_has_none : FrontsAreReached → (records : List (List (List ℕ))) (offence : Offence) → IsImpossible records offence → HaveRun records (length records) → ⊥
-no_has_none fronts records offence is has =
-    let there : AreFirstRows records offence.row (is.rows ++ is.row ∷ []) = up_to records offence is in
+no_has_none : FrontsAreReached → (limit : ℕ) (records : List (List (List ℕ))) (offence : Offence) → IsImpossible limit records offence → HaveRun records (length records) → ⊥
+no_has_none fronts limit records offence is has =
+    let there : AreFirstRows records offence.row (is.rows ++ is.row ∷ []) = up_to limit records offence is in
     let many : length (is.rows ++ is.row ∷ []) ≡ length (take offence.row records) = as_many (take offence.row records) (is.rows ++ is.row ∷ []) there.told in
-    no_run records offence is (fewer_reached fronts records (length records) offence.row (omega (arith, many, there.number, take_most offence.row records)) has)
+    no_run limit records offence is (fewer_reached fronts records (length records) offence.row (omega (arith, many, there.number, take_most offence.row records)) has)
 
 -- the sales of its runs are approved
-approved_sales : (records : List (List (List ℕ))) (report : Report) → IsPossible records report → HasApprovedSales records
-approved_sales records report is rows told =
+approved_sales : (limit : ℕ) (records : List (List (List ℕ))) (report : Report) → IsPossible limit records report → HasApprovedSales records
+approved_sales limit records report is rows told =
     let P : List Event → Type 0 = λ es. SalesFollowApprovals es in
     subst P (one_list records is.rows rows is.told told) is.sales
 
 -- what a verdict says
-pub headline_of : FrontsAreReached → (records : List (List (List ℕ))) (outcome : Outcome) → IsAnswer records (Ok outcome) → Headline records outcome
-headline_of fronts records (Yes report) is = record {
-  yes = (λ said. yes_has_run records report is, λ has. tt);
-  sales = approved_sales records report is;
-  bounds = has_bounds records report is;
+pub headline_of : FrontsAreReached → (limit : ℕ) (records : List (List (List ℕ))) (outcome : Outcome) → IsAnswer limit records (Ok outcome) → Headline limit records outcome
+headline_of fronts limit records (Yes report) is = record {
+  yes = (λ said. yes_has_run limit records report is, λ has. tt);
+  sales = approved_sales limit records report is;
+  bounds = has_bounds limit records report is;
   first_row = tt;
 }
-headline_of fronts records (No offence) is = record {
-  yes = (λ said. absurd said, λ has. absurd (no_has_none fronts records offence is has.1));
+headline_of fronts limit records (No offence) is = record {
+  yes = (λ said. absurd said, λ has. absurd (no_has_none fronts limit records offence is has.1));
   sales = tt;
   bounds = tt;
-  first_row = names_first fronts records offence is;
+  first_row = names_first fronts limit records offence is;
 }

@@ -5,7 +5,6 @@ use Rattle.std.proofs.lemmas.Grind.{common_steps}
 use Rattle.mdb_words.specs.declared.event.Event.{Event}
 use Rattle.mdb_words.specs.declared.row.RowFault.{RowFault}
 use Rattle.mdb_words.specs.Row.{IsRow, IsRefusal}
-use Rattle.mdb_follow.specs.declared.follower.TheConstants.{ROWS_MAX}
 use Rattle.mdb_follow.specs.declared.offence.Offence.{Offence}
 use Rattle.mdb_follow.specs.declared.report.Report.{Report}
 use Rattle.mdb_follow.specs.Offences.{IsOffence}
@@ -36,13 +35,13 @@ one_refusal fields a b p q = grind (arith, common_steps)
 
 -- The rows at the front of the records that are reached, where no more row goes on: there is no record behind them, it is no
 -- row, it isn't reached, or it is one too many.
-record Front (records : List (List (List ℕ))) (rows : List Event) (rest : List (List (List ℕ))) : Type 0 where
+record Front (limit : ℕ) (records : List (List (List ℕ))) (rows : List Event) (rest : List (List (List ℕ))) : Type 0 where
   done : List (List (List ℕ))
   split : records ≡ done ++ rest
   told : AreRows done rows
   possible : IsReached rows
-  few : length rows ≤ ROWS_MAX
-  ends : (fields : List (List ℕ)) (more : List (List (List ℕ))) (event : Event) → rest ≡ fields ∷ more → IsRow fields event → IsReached (rows ++ event ∷ []) → length rows < ROWS_MAX → ⊥
+  few : length rows ≤ limit
+  ends : (fields : List (List ℕ)) (more : List (List (List ℕ))) (event : Event) → rest ≡ fields ∷ more → IsRow fields event → IsReached (rows ++ event ∷ []) → length rows < limit → ⊥
 
 -- of two fronts of rows the longer one goes on behind the shorter one, with a record that is a row
 pub record GoesOn (rows longer : List Event) (rest : List (List (List ℕ))) : Type 0 where
@@ -91,24 +90,24 @@ compared done [] rest left rows (event ∷ events) told heard same = absurd hear
 compared done (fields ∷ others) rest left rows [] told heard same = absurd heard
 
 -- no such front is longer than another one
-no_longer : RunLaws → (records : List (List (List ℕ))) (rows events : List Event) (rest left : List (List (List ℕ))) → Front records rows rest → Front records events left → GoesOn rows events rest → ⊥
-no_longer laws records rows events rest left first second on =
+no_longer : RunLaws → (limit : ℕ) (records : List (List (List ℕ))) (rows events : List Event) (rest left : List (List (List ℕ))) → Front limit records rows rest → Front limit records events left → GoesOn rows events rest → ⊥
+no_longer laws limit records rows events rest left first second on =
     let split : events ≡ (rows ++ on.event ∷ []) ++ on.more = on.longer_is ∙ sym (append_assoc rows (on.event ∷ []) on.more) in
     let long : length events ≡ length rows + length (on.event ∷ on.more) = ap length on.longer_is ∙ length-append rows (on.event ∷ on.more) in
     first.ends on.fields on.behind on.event on.record_is on.row (laws.fronts (rows ++ on.event ∷ []) on.more (subst IsReached split second.possible)) (omega (arith, second.few, long))
 
 -- such a front of the records is one, and so is what stands behind it
-one_front : RunLaws → (records : List (List (List ℕ))) (rows events : List Event) (rest left : List (List (List ℕ))) → Front records rows rest → Front records events left → (rows ≡ events) × (rest ≡ left)
-one_front laws records rows events rest left first second = by_case (compared first.done second.done rest left rows events first.told second.told (sym first.split ∙ second.split))
+one_front : RunLaws → (limit : ℕ) (records : List (List (List ℕ))) (rows events : List Event) (rest left : List (List (List ℕ))) → Front limit records rows rest → Front limit records events left → (rows ≡ events) × (rest ≡ left)
+one_front laws limit records rows events rest left first second = by_case (compared first.done second.done rest left rows events first.told second.told (sym first.split ∙ second.split))
   where
     by_case : ((rows ≡ events) × (rest ≡ left)) ⊎ (GoesOn rows events rest ⊎ GoesOn events rows left) → (rows ≡ events) × (rest ≡ left)
     by_case (inl same) = same
-    by_case (inr (inl on)) = absurd (no_longer laws records rows events rest left first second on)
-    by_case (inr (inr on)) = absurd (no_longer laws records events rows left rest second first on)
+    by_case (inr (inl on)) = absurd (no_longer laws limit records rows events rest left first second on)
+    by_case (inr (inr on)) = absurd (no_longer laws limit records events rows left rest second first on)
 
 -- the front of each answer
-yes_front : (records : List (List (List ℕ))) (report : Report) (is : IsPossible records report) → Front records is.rows []
-yes_front records report is = record {
+yes_front : (limit : ℕ) (records : List (List (List ℕ))) (report : Report) (is : IsPossible limit records report) → Front limit records is.rows []
+yes_front limit records report is = record {
   done = records;
   split = sym (append-nil records);
   told = is.told;
@@ -117,8 +116,8 @@ yes_front records report is = record {
   ends = λ fields more event none row list below. cc;
 }
 
-no_front : RunLaws → (records : List (List (List ℕ))) (offence : Offence) (is : IsImpossible records offence) → Front records is.rows (is.fields ∷ is.stops.rest)
-no_front laws records offence is = record {
+no_front : RunLaws → (limit : ℕ) (records : List (List (List ℕ))) (offence : Offence) (is : IsImpossible limit records offence) → Front limit records is.rows (is.fields ∷ is.stops.rest)
+no_front laws limit records offence is = record {
   done = is.stops.done;
   split = is.stops.split;
   told = is.stops.told;
@@ -134,8 +133,8 @@ no_front laws records offence is = record {
         let Q : Event → Type 0 = λ e. IsReached (is.rows ++ e ∷ []) in
         is.is.not_reached (subst Q one list)
 
-bad_front : (records : List (List (List ℕ))) (row : ℕ) (fault : RowFault) (is : IsBadRow records row fault) → Front records is.rows (is.fields ∷ is.stops.rest)
-bad_front records row fault is = record {
+bad_front : (limit : ℕ) (records : List (List (List ℕ))) (row : ℕ) (fault : RowFault) (is : IsBadRow limit records row fault) → Front limit records is.rows (is.fields ∷ is.stops.rest)
+bad_front limit records row fault is = record {
   done = is.stops.done;
   split = is.stops.split;
   told = is.stops.told;
@@ -147,8 +146,8 @@ bad_front records row fault is = record {
     no_row : (fields : List (List ℕ)) (event : Event) → fields ≡ is.fields → IsRow fields event → ⊥
     no_row fields event same told = let P : List (List ℕ) → Type 0 = λ f. IsRow f event in row_not_refused is.fields event fault (subst P same told) is.refused
 
-long_front : (records : List (List (List ℕ))) (is : IsTooLong records) → Front records is.rows (is.fields ∷ is.stops.rest)
-long_front records is = record {
+long_front : (limit : ℕ) (records : List (List (List ℕ))) (is : IsTooLong limit records) → Front limit records is.rows (is.fields ∷ is.stops.rest)
+long_front limit records is = record {
   done = is.stops.done;
   split = is.stops.split;
   told = is.stops.told;
@@ -158,9 +157,9 @@ long_front records is = record {
 }
 
 -- the offence behind a front is one
-one_offence : RunLaws → (records : List (List (List ℕ))) (a b : Offence) → IsImpossible records a → IsImpossible records b → a ≡ b
-one_offence laws records a b first second =
-    let same = one_front laws records _ _ _ _ (no_front laws records a first) (no_front laws records b second) in
+one_offence : RunLaws → (limit : ℕ) (records : List (List (List ℕ))) (a b : Offence) → IsImpossible limit records a → IsImpossible limit records b → a ≡ b
+one_offence laws limit records a b first second =
+    let same = one_front laws limit records _ _ _ _ (no_front laws limit records a first) (no_front laws limit records b second) in
     let tails : first.fields ∷ first.stops.rest ≡ second.fields ∷ second.stops.rest = same.1 in
     let fields : second.fields ≡ first.fields = cc in
     let P : List (List ℕ) → Type 0 = λ f. IsRow f second.row in
@@ -170,9 +169,9 @@ one_offence laws records a b first second =
     laws.one_offence first.rows first.row a b first.is (subst OfRow event (subst Behind (sym same.0) second.is))
 
 -- the record that is no row is one, and so is its refusal
-one_bad_row : RunLaws → (records : List (List (List ℕ))) (m n : ℕ) (a b : RowFault) → IsBadRow records m a → IsBadRow records n b → (m ≡ n) × (a ≡ b)
-one_bad_row laws records m n a b first second =
-    let same = one_front laws records _ _ _ _ (bad_front records m a first) (bad_front records n b second) in
+one_bad_row : RunLaws → (limit : ℕ) (records : List (List (List ℕ))) (m n : ℕ) (a b : RowFault) → IsBadRow limit records m a → IsBadRow limit records n b → (m ≡ n) × (a ≡ b)
+one_bad_row laws limit records m n a b first second =
+    let same = one_front laws limit records _ _ _ _ (bad_front limit records m a first) (bad_front limit records n b second) in
     let tails : first.fields ∷ first.stops.rest ≡ second.fields ∷ second.stops.rest = same.1 in
     let fields : second.fields ≡ first.fields = cc in
     let P : List (List ℕ) → Type 0 = λ f. IsRefusal f b in (
@@ -181,69 +180,69 @@ one_bad_row laws records m n a b first second =
     )
 
 -- two answers of different kinds
-yes_or_no : RunLaws → (records : List (List (List ℕ))) (report : Report) (offence : Offence) → IsPossible records report → IsImpossible records offence → ⊥
-yes_or_no laws records report offence first second =
-    let same = one_front laws records _ _ _ _ (yes_front records report first) (no_front laws records offence second) in
+yes_or_no : RunLaws → (limit : ℕ) (records : List (List (List ℕ))) (report : Report) (offence : Offence) → IsPossible limit records report → IsImpossible limit records offence → ⊥
+yes_or_no laws limit records report offence first second =
+    let same = one_front laws limit records _ _ _ _ (yes_front limit records report first) (no_front laws limit records offence second) in
     let clash : [] ≡ second.fields ∷ second.stops.rest = same.1 in cc
 
-yes_or_bad : RunLaws → (records : List (List (List ℕ))) (report : Report) (row : ℕ) (fault : RowFault) → IsPossible records report → IsBadRow records row fault → ⊥
-yes_or_bad laws records report row fault first second =
-    let same = one_front laws records _ _ _ _ (yes_front records report first) (bad_front records row fault second) in
+yes_or_bad : RunLaws → (limit : ℕ) (records : List (List (List ℕ))) (report : Report) (row : ℕ) (fault : RowFault) → IsPossible limit records report → IsBadRow limit records row fault → ⊥
+yes_or_bad laws limit records report row fault first second =
+    let same = one_front laws limit records _ _ _ _ (yes_front limit records report first) (bad_front limit records row fault second) in
     let clash : [] ≡ second.fields ∷ second.stops.rest = same.1 in cc
 
-yes_or_long : RunLaws → (records : List (List (List ℕ))) (report : Report) → IsPossible records report → IsTooLong records → ⊥
-yes_or_long laws records report first second =
-    let same = one_front laws records _ _ _ _ (yes_front records report first) (long_front records second) in
+yes_or_long : RunLaws → (limit : ℕ) (records : List (List (List ℕ))) (report : Report) → IsPossible limit records report → IsTooLong limit records → ⊥
+yes_or_long laws limit records report first second =
+    let same = one_front laws limit records _ _ _ _ (yes_front limit records report first) (long_front limit records second) in
     let clash : [] ≡ second.fields ∷ second.stops.rest = same.1 in cc
 
-no_or_bad : RunLaws → (records : List (List (List ℕ))) (offence : Offence) (row : ℕ) (fault : RowFault) → IsImpossible records offence → IsBadRow records row fault → ⊥
-no_or_bad laws records offence row fault first second =
-    let same = one_front laws records _ _ _ _ (no_front laws records offence first) (bad_front records row fault second) in
+no_or_bad : RunLaws → (limit : ℕ) (records : List (List (List ℕ))) (offence : Offence) (row : ℕ) (fault : RowFault) → IsImpossible limit records offence → IsBadRow limit records row fault → ⊥
+no_or_bad laws limit records offence row fault first second =
+    let same = one_front laws limit records _ _ _ _ (no_front laws limit records offence first) (bad_front limit records row fault second) in
     let tails : first.fields ∷ first.stops.rest ≡ second.fields ∷ second.stops.rest = same.1 in
     let fields : second.fields ≡ first.fields = cc in
     let P : List (List ℕ) → Type 0 = λ f. IsRefusal f fault in
     row_not_refused first.fields first.row fault first.told (subst P fields second.refused)
 
-no_or_long : RunLaws → (records : List (List (List ℕ))) (offence : Offence) → IsImpossible records offence → IsTooLong records → ⊥
-no_or_long laws records offence first second =
-    let same = one_front laws records _ _ _ _ (no_front laws records offence first) (long_front records second) in
+no_or_long : RunLaws → (limit : ℕ) (records : List (List (List ℕ))) (offence : Offence) → IsImpossible limit records offence → IsTooLong limit records → ⊥
+no_or_long laws limit records offence first second =
+    let same = one_front laws limit records _ _ _ _ (no_front laws limit records offence first) (long_front limit records second) in
     omega (arith, ap length same.0, first.few, second.full)
 
-bad_or_long : RunLaws → (records : List (List (List ℕ))) (row : ℕ) (fault : RowFault) → IsBadRow records row fault → IsTooLong records → ⊥
-bad_or_long laws records row fault first second =
-    let same = one_front laws records _ _ _ _ (bad_front records row fault first) (long_front records second) in
+bad_or_long : RunLaws → (limit : ℕ) (records : List (List (List ℕ))) (row : ℕ) (fault : RowFault) → IsBadRow limit records row fault → IsTooLong limit records → ⊥
+bad_or_long laws limit records row fault first second =
+    let same = one_front laws limit records _ _ _ _ (bad_front limit records row fault first) (long_front limit records second) in
     omega (arith, ap length same.0, first.few, second.full)
 
 -- the report is one
-one_yes : RunLaws → (records : List (List (List ℕ))) (a b : Report) → IsPossible records a → IsPossible records b → a ≡ b
-one_yes laws records a b first second =
-    let same = one_front laws records _ _ _ _ (yes_front records a first) (yes_front records b second) in
+one_yes : RunLaws → (limit : ℕ) (records : List (List (List ℕ))) (a b : Report) → IsPossible limit records a → IsPossible limit records b → a ≡ b
+one_yes laws limit records a b first second =
+    let same = one_front laws limit records _ _ _ _ (yes_front limit records a first) (yes_front limit records b second) in
     let Behind : List Event → Type 0 = λ rs. IsReport rs b in
     laws.one_report first.rows a b first.is (subst Behind (sym same.0) second.is)
 
 -- the answer to the records of a text is one
-pub one_answer : RunLaws → (records : List (List (List ℕ))) (a b : Result Outcome RunFault) → IsAnswer records a → IsAnswer records b → IsOwnAnswer a → IsOwnAnswer b → a ≡ b
-one_answer laws records (Ok (Yes a)) (Ok (Yes b)) p q s t = ap (λ report. Ok (Yes report)) (one_yes laws records a b p q)
-one_answer laws records (Ok (Yes a)) (Ok (No b)) p q s t = absurd (yes_or_no laws records a b p q)
-one_answer laws records (Ok (Yes a)) (Err (BadRow n b)) p q s t = absurd (yes_or_bad laws records a n b p q)
-one_answer laws records (Ok (Yes a)) (Err TooLong) p q s t = absurd (yes_or_long laws records a p q)
-one_answer laws records (Ok (No a)) (Ok (Yes b)) p q s t = absurd (yes_or_no laws records b a q p)
-one_answer laws records (Ok (No a)) (Ok (No b)) p q s t = ap (λ offence. Ok (No offence)) (one_offence laws records a b p q)
-one_answer laws records (Ok (No a)) (Err (BadRow n b)) p q s t = absurd (no_or_bad laws records a n b p q)
-one_answer laws records (Ok (No a)) (Err TooLong) p q s t = absurd (no_or_long laws records a p q)
-one_answer laws records (Err (BadRow m a)) (Ok (Yes b)) p q s t = absurd (yes_or_bad laws records b m a q p)
-one_answer laws records (Err (BadRow m a)) (Ok (No b)) p q s t = absurd (no_or_bad laws records b m a q p)
-one_answer laws records (Err (BadRow m a)) (Err (BadRow n b)) p q s t =
-    let same = one_bad_row laws records m n a b p q in
+pub one_answer : RunLaws → (limit : ℕ) (records : List (List (List ℕ))) (a b : Result Outcome RunFault) → IsAnswer limit records a → IsAnswer limit records b → IsOwnAnswer a → IsOwnAnswer b → a ≡ b
+one_answer laws limit records (Ok (Yes a)) (Ok (Yes b)) p q s t = ap (λ report. Ok (Yes report)) (one_yes laws limit records a b p q)
+one_answer laws limit records (Ok (Yes a)) (Ok (No b)) p q s t = absurd (yes_or_no laws limit records a b p q)
+one_answer laws limit records (Ok (Yes a)) (Err (BadRow n b)) p q s t = absurd (yes_or_bad laws limit records a n b p q)
+one_answer laws limit records (Ok (Yes a)) (Err TooLong) p q s t = absurd (yes_or_long laws limit records a p q)
+one_answer laws limit records (Ok (No a)) (Ok (Yes b)) p q s t = absurd (yes_or_no laws limit records b a q p)
+one_answer laws limit records (Ok (No a)) (Ok (No b)) p q s t = ap (λ offence. Ok (No offence)) (one_offence laws limit records a b p q)
+one_answer laws limit records (Ok (No a)) (Err (BadRow n b)) p q s t = absurd (no_or_bad laws limit records a n b p q)
+one_answer laws limit records (Ok (No a)) (Err TooLong) p q s t = absurd (no_or_long laws limit records a p q)
+one_answer laws limit records (Err (BadRow m a)) (Ok (Yes b)) p q s t = absurd (yes_or_bad laws limit records b m a q p)
+one_answer laws limit records (Err (BadRow m a)) (Ok (No b)) p q s t = absurd (no_or_bad laws limit records b m a q p)
+one_answer laws limit records (Err (BadRow m a)) (Err (BadRow n b)) p q s t =
+    let same = one_bad_row laws limit records m n a b p q in
     ap (λ row. Err (BadRow row a)) same.0 ∙ ap (λ fault. Err (BadRow n fault)) same.1
-one_answer laws records (Err (BadRow m a)) (Err TooLong) p q s t = absurd (bad_or_long laws records m a p q)
-one_answer laws records (Err TooLong) (Ok (Yes b)) p q s t = absurd (yes_or_long laws records b q p)
-one_answer laws records (Err TooLong) (Ok (No b)) p q s t = absurd (no_or_long laws records b q p)
-one_answer laws records (Err TooLong) (Err (BadRow n b)) p q s t = absurd (bad_or_long laws records n b q p)
-one_answer laws records (Err TooLong) (Err TooLong) p q s t = refl
-one_answer laws records (Err Read) b p q s t = absurd s
-one_answer laws records (Err Write) b p q s t = absurd s
-one_answer laws records (Err Memory) b p q s t = absurd s
-one_answer laws records a (Err Read) p q s t = absurd t
-one_answer laws records a (Err Write) p q s t = absurd t
-one_answer laws records a (Err Memory) p q s t = absurd t
+one_answer laws limit records (Err (BadRow m a)) (Err TooLong) p q s t = absurd (bad_or_long laws limit records m a p q)
+one_answer laws limit records (Err TooLong) (Ok (Yes b)) p q s t = absurd (yes_or_long laws limit records b q p)
+one_answer laws limit records (Err TooLong) (Ok (No b)) p q s t = absurd (no_or_long laws limit records b q p)
+one_answer laws limit records (Err TooLong) (Err (BadRow n b)) p q s t = absurd (bad_or_long laws limit records n b q p)
+one_answer laws limit records (Err TooLong) (Err TooLong) p q s t = refl
+one_answer laws limit records (Err Read) b p q s t = absurd s
+one_answer laws limit records (Err Write) b p q s t = absurd s
+one_answer laws limit records (Err Memory) b p q s t = absurd s
+one_answer laws limit records a (Err Read) p q s t = absurd t
+one_answer laws limit records a (Err Write) p q s t = absurd t
+one_answer laws limit records a (Err Memory) p q s t = absurd t

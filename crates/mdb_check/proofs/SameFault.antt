@@ -9,6 +9,7 @@ use Rattle.mdb_bus.specs.declared.fault.LinkFault.{LinkFault}
 use Rattle.mdb_bus.specs.declared.fault.Rule.{Rule}
 use Rattle.mdb_bus.specs.ActLists.{Piece, Whole, ArePieces, HasActList, acts_of, events_of}
 use Rattle.mdb_bus.specs.LinkFaults.{IsLinkFault}
+use Rattle.mdb_follow.specs.declared.follower.TheConstants.{ROWS_MAX}
 use Rattle.mdb_follow.specs.declared.offence.Offence.{Offence}
 use Rattle.mdb_follow.specs.Offences.{BreaksLink, BreaksMachine, IsOffence, NoStep, ByBill, ByChanger, ByReader}
 use Rattle.mdb_follow.specs.Runs.{IsReached}
@@ -86,7 +87,7 @@ no_yes laws records fault text shown rows reached (inr (inl on)) = nothing_there
 no_yes laws records fault text shown rows reached (inr (inr on)) = none_beyond laws records fault text shown rows on (reached.1.pieces, reached.1.act_list)
 
 -- a no is that fault, or comes before it
-no_up_to : BusLaws → (records : List (List (List ℕ))) (fault : LinkFault) (text : List ℕ) → (shown : IsShownToFault records fault text) → (offence : Offence) → (is : IsImpossible records offence)
+no_up_to : BusLaws → (records : List (List (List ℕ))) (fault : LinkFault) (text : List ℕ) → (shown : IsShownToFault records fault text) → (offence : Offence) → (is : IsImpossible ROWS_MAX records offence)
     → ((is.rows ≡ events_of shown.pieces) × (is.fields ∷ is.stops.rest ≡ shown.fields ∷ shown.rest))
     ⊎ (GoesOn is.rows (events_of shown.pieces) (is.fields ∷ is.stops.rest) ⊎ GoesOn (events_of shown.pieces) is.rows (shown.fields ∷ shown.rest))
     → IsNoUpTo (length (events_of shown.pieces) + 1) fault (Ok (No offence))
@@ -112,7 +113,7 @@ no_refusal fields others rest left event fault same refused told =
     row_not_refused fields event fault (subst P (same_fields fields others rest left same) told) refused
 
 -- no record before the row of the fault is no row
-no_bad_row : BusLaws → (records : List (List (List ℕ))) (fault : LinkFault) (text : List ℕ) → (shown : IsShownToFault records fault text) → (row : ℕ) (why : RowFault) → (is : IsBadRow records row why)
+no_bad_row : BusLaws → (records : List (List (List ℕ))) (fault : LinkFault) (text : List ℕ) → (shown : IsShownToFault records fault text) → (row : ℕ) (why : RowFault) → (is : IsBadRow ROWS_MAX records row why)
     → ((is.rows ≡ events_of shown.pieces) × (is.fields ∷ is.stops.rest ≡ shown.fields ∷ shown.rest))
     ⊎ (GoesOn is.rows (events_of shown.pieces) (is.fields ∷ is.stops.rest) ⊎ GoesOn (events_of shown.pieces) is.rows (shown.fields ∷ shown.rest)) → ⊥
 no_bad_row laws records fault text shown row why is (inl same) = no_refusal is.fields shown.fields is.stops.rest shown.rest shown.row why same.1 is.refused shown.row_told
@@ -121,7 +122,7 @@ no_bad_row laws records fault text shown row why is (inr (inr on)) =
     none_beyond laws records fault text shown is.rows on (is.stops.possible.1.pieces, is.stops.possible.1.act_list)
 
 -- nor are there too many
-not_too_long : BusLaws → (records : List (List (List ℕ))) (fault : LinkFault) (text : List ℕ) → (shown : IsShownToFault records fault text) → (is : IsTooLong records)
+not_too_long : BusLaws → (records : List (List (List ℕ))) (fault : LinkFault) (text : List ℕ) → (shown : IsShownToFault records fault text) → (is : IsTooLong ROWS_MAX records)
     → ((is.rows ≡ events_of shown.pieces) × (is.fields ∷ is.stops.rest ≡ shown.fields ∷ shown.rest))
     ⊎ (GoesOn is.rows (events_of shown.pieces) (is.fields ∷ is.stops.rest) ⊎ GoesOn (events_of shown.pieces) is.rows (shown.fields ∷ shown.rest)) → ⊥
 not_too_long laws records fault text shown is (inl same) =
@@ -133,7 +134,7 @@ not_too_long laws records fault text shown is (inr (inl on)) =
 not_too_long laws records fault text shown is (inr (inr on)) =
     none_beyond laws records fault text shown is.rows on (is.stops.possible.1.pieces, is.stops.possible.1.act_list)
 
-pub same_fault : BusLaws → (records : List (List (List ℕ))) (fault : LinkFault) (text : List ℕ) (answer : Result Outcome RunFault) → (shown : IsShownToFault records fault text) → IsAnswer records answer
+pub same_fault : BusLaws → (records : List (List (List ℕ))) (fault : LinkFault) (text : List ℕ) (answer : Result Outcome RunFault) → (shown : IsShownToFault records fault text) → IsAnswer ROWS_MAX records answer
     → IsOwnAnswer answer → IsNoUpTo (length (events_of shown.pieces) + 1) fault answer
 same_fault laws records fault text (Ok (Yes report)) shown is own =
     no_yes laws records fault text shown is.rows is.is.reached

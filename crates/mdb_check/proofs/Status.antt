@@ -4,6 +4,7 @@ use Rattle.std.specs.Prelude.{codes}
 use Rattle.std.specs.Io.KnownBytes.{Appends}
 use Rattle.csv.specs.Reading.{default_config, records, strip_bom}
 use Rattle.mdb_bus.specs.declared.fault.LinkFault.{LinkFault}
+use Rattle.mdb_follow.specs.declared.follower.TheConstants.{ROWS_MAX}
 use Rattle.mdb_check.specs.declared.outcome.Outcome.{Outcome}
 use Rattle.mdb_check.specs.declared.outcome.Outcome.TheVariants.{Yes, No}
 use Rattle.mdb_check.specs.declared.outcome.RunFault.{RunFault}
@@ -14,9 +15,9 @@ use Rattle.mdb_check.specs.Text.{report_text}
 use Rattle.mdb_check.specs.Verdict.{HasOutcome, IsAnswer}
 
 says_checked : {W : Type 0} (contents : W → Option (List ℕ)) (all : List (List (List ℕ))) (old new : W) (answer : Result Outcome RunFault)
-    → IsAnswer all answer
+    → IsAnswer ROWS_MAX all answer
     → IfOk answer (λ outcome. Appends (contents old) (contents new) (report_text outcome))
-    → IfErr answer (λ fault. fault ≢ Write → new ≡ old) → (answer ≡ Err Write → HasOutcome all)
+    → IfErr answer (λ fault. fault ≢ Write → new ≡ old) → (answer ≡ Err Write → HasOutcome ROWS_MAX all)
     → SaysChecked all (contents old) (contents new) (status_of answer)
 says_checked contents all old new (Ok (Yes report)) is written kept had =
     ((λ e. (report, is, written)), (λ e. absurd (omega (arith, e))), (λ e. absurd (omega (arith, e))))
@@ -35,10 +36,10 @@ says_shown all before after (Err fault) shows = ((λ e. absurd (omega (arith, e)
 -- what the status of a checked text says
 pub ran : {W : Type 0} (contents : W → Option (List ℕ)) (known : Option (List ℕ)) (words : List (List ℕ)) (old new : W) (answer : Result Outcome RunFault) (status : ℕ)
     → NamesTask words (codes "check")
-    → IfSome known (λ text. IsAnswer (records default_config (strip_bom text)) answer)
+    → IfSome known (λ text. IsAnswer ROWS_MAX (records default_config (strip_bom text)) answer)
     → IfOk answer (λ outcome. Appends (contents old) (contents new) (report_text outcome))
     → IfErr answer (λ fault. fault ≢ Write → new ≡ old)
-    → IfSome known (λ text. answer ≡ Err Write → HasOutcome (records default_config (strip_bom text)))
+    → IfSome known (λ text. answer ≡ Err Write → HasOutcome ROWS_MAX (records default_config (strip_bom text)))
     → status ≡ status_of answer
     → IfSome known (λ text. Says words (records default_config (strip_bom text)) (contents old) (contents new) status)
 ran contents None words old new answer status names is written kept had same = tt

@@ -10,7 +10,6 @@
 -- loss, and a way of changer, validator and both readers, each with the controller, through it.
 use Rattle.std.specs.Prelude.{◌≡◌, ◌↔◌, ◌<◌, ◌≤◌, ℕ, List, [], ◌∷◌, ◌++◌, length, take, ⊤}
 use Rattle.mdb_words.specs.declared.event.Event.{Event}
-use Rattle.mdb_follow.specs.declared.follower.TheConstants.{ROWS_MAX}
 use Rattle.mdb_follow.specs.declared.offence.Offence.{Offence}
 use Rattle.mdb_follow.specs.declared.report.Report.{Report}
 use Rattle.mdb_follow.specs.Offences.{IsOffence}
@@ -74,9 +73,11 @@ pub record NamesFirstRow (records : List (List (List ℕ))) (offence : Offence) 
   pub fewer : (count : ℕ) → count < offence.row → HaveRun records count
   pub why : IsOffence before row offence
 
--- the headline, of the records of a text and the outcome that they were answered with
-pub record Headline (records : List (List (List ℕ))) (outcome : Outcome) : Type 0 where
-  pub yes : SaysYes outcome ↔ (length records ≤ ROWS_MAX) × HaveRun records (length records)
+-- the headline, of the records of a text, where it may have so many rows, and the outcome that they
+-- were answered with
+pub record Headline (limit : ℕ) (records : List (List (List ℕ)))
+    (outcome : Outcome) : Type 0 where
+  pub yes : SaysYes outcome ↔ (length records ≤ limit) × HaveRun records (length records)
   pub sales : IfYes outcome (λ report. HasApprovedSales records)
   pub bounds : IfYes outcome (HasBounds records)
   pub first_row : IfNo outcome (NamesFirstRow records)

@@ -2,6 +2,7 @@
 use Rattle.std.specs.Prelude.{◌≡◌, ◌⊎◌, ℕ, List, [], ◌∷◌, codes, Option, Some, None, Result, Ok, Err}
 use Rattle.std.specs.Io.KnownBytes.{Appends}
 use Rattle.mdb_bus.specs.declared.fault.LinkFault.{LinkFault}
+use Rattle.mdb_follow.specs.declared.follower.TheConstants.{ROWS_MAX}
 use Rattle.mdb_follow.specs.declared.offence.Offence.{Offence}
 use Rattle.mdb_follow.specs.declared.report.Report.{Report}
 use Rattle.mdb_check.specs.Show.{IsShownToFault, IsShownWhole}
@@ -24,11 +25,11 @@ NamesTask [] task = ⊥
 -- the bytes.
 abbrev pub SaysChecked : List (List (List ℕ)) → Option (List ℕ) → Option (List ℕ) → ℕ → Type 0
 SaysChecked records before after status =
-    (status ≡ 0 → (report : Report) × IsPossible records report
+    (status ≡ 0 → (report : Report) × IsPossible ROWS_MAX records report
     × Appends before after (report_text (Yes report)))
-    × (status ≡ 1 → (offence : Offence) × IsImpossible records offence
+    × (status ≡ 1 → (offence : Offence) × IsImpossible ROWS_MAX records offence
     × Appends before after (report_text (No offence)))
-    × (status ≡ 2 → (after ≡ before) ⊎ HasOutcome records)
+    × (status ≡ 2 → (after ≡ before) ⊎ HasOutcome ROWS_MAX records)
 
 -- The same of `show`. At 2 nothing is said: the writer may have failed anywhere.
 abbrev pub SaysShown : List (List (List ℕ)) → Option (List ℕ) → Option (List ℕ) → ℕ → Type 0

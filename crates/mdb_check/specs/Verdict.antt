@@ -1,9 +1,8 @@
--- What is answered to the records of a text.
+-- What is answered to the records of a text, where it may have so many rows (`limit`).
 use Rattle.std.specs.Prelude.{◌≡◌, ◌+◌, ◌<◌, ◌≤◌, ℕ, List, [], ◌∷◌, ◌++◌, length, ⊤, Option, Some, Result, Ok, Err}
 use Rattle.mdb_words.specs.declared.event.Event.{Event}
 use Rattle.mdb_words.specs.declared.row.RowFault.{RowFault}
 use Rattle.mdb_words.specs.Row.{IsRow, IsRefusal}
-use Rattle.mdb_follow.specs.declared.follower.TheConstants.{ROWS_MAX}
 use Rattle.mdb_follow.specs.declared.offence.Offence.{Offence}
 use Rattle.mdb_follow.specs.declared.report.Report.{Report}
 use Rattle.mdb_follow.specs.Offences.{IsOffence}
@@ -27,10 +26,11 @@ AreRows (fields ∷ records) [] = ⊥
 -- All records are rows, and the controller and its peripherals can have said these words at these
 -- times: the rows have a run. The report is what their runs tell, and in each of them every sale at
 -- a reader follows its approval.
-pub record IsPossible (records : List (List (List ℕ))) (report : Report) : Type 0 where
+pub record IsPossible (limit : ℕ) (records : List (List (List ℕ)))
+    (report : Report) : Type 0 where
   pub rows : List Event
   pub told : AreRows records rows
-  pub few : length rows ≤ ROWS_MAX
+  pub few : length rows ≤ limit
   pub is : IsReport rows report
   pub sales : SalesFollowApprovals rows
 
@@ -45,40 +45,42 @@ pub record LeadUpTo (records : List (List (List ℕ))) (rows : List Event)
 
 -- The first row that cannot follow the rows before it, the rule that it breaks, and who is to
 -- blame.
-pub record IsImpossible (records : List (List (List ℕ))) (offence : Offence) : Type 0 where
+pub record IsImpossible (limit : ℕ) (records : List (List (List ℕ)))
+    (offence : Offence) : Type 0 where
   pub rows : List Event
   pub row : Event
   pub fields : List (List ℕ)
   pub stops : LeadUpTo records rows fields
   pub told : IsRow fields row
-  pub few : length rows < ROWS_MAX
+  pub few : length rows < limit
   pub is : IsOffence rows row offence
 
 -- The first record that is no row, behind rows that can be.
-pub record IsBadRow (records : List (List (List ℕ))) (row : ℕ) (fault : RowFault) : Type 0 where
+pub record IsBadRow (limit : ℕ) (records : List (List (List ℕ))) (row : ℕ)
+    (fault : RowFault) : Type 0 where
   pub rows : List Event
   pub fields : List (List ℕ)
   pub stops : LeadUpTo records rows fields
-  pub few : length rows < ROWS_MAX
+  pub few : length rows < limit
   pub number : row ≡ length rows + 1
   pub refused : IsRefusal fields fault
 
--- As many rows as there may be, which can be, and then a record.
-pub record IsTooLong (records : List (List (List ℕ))) : Type 0 where
+-- As many rows as there may be, which can be, and then a record, whatever it holds.
+pub record IsTooLong (limit : ℕ) (records : List (List (List ℕ))) : Type 0 where
   pub rows : List Event
   pub fields : List (List ℕ)
   pub stops : LeadUpTo records rows fields
-  pub full : length rows ≡ ROWS_MAX
+  pub full : length rows ≡ limit
 
 -- The answer to the records of a text. Of a refused read, write or memory the records say nothing.
-abbrev pub IsAnswer : List (List (List ℕ)) → Result Outcome RunFault → Type 0
-IsAnswer records (Ok (Yes report)) = IsPossible records report
-IsAnswer records (Ok (No offence)) = IsImpossible records offence
-IsAnswer records (Err (BadRow row fault)) = IsBadRow records row fault
-IsAnswer records (Err TooLong) = IsTooLong records
-IsAnswer records (Err Read) = ⊤
-IsAnswer records (Err Write) = ⊤
-IsAnswer records (Err Memory) = ⊤
+abbrev pub IsAnswer : ℕ → List (List (List ℕ)) → Result Outcome RunFault → Type 0
+IsAnswer limit records (Ok (Yes report)) = IsPossible limit records report
+IsAnswer limit records (Ok (No offence)) = IsImpossible limit records offence
+IsAnswer limit records (Err (BadRow row fault)) = IsBadRow limit records row fault
+IsAnswer limit records (Err TooLong) = IsTooLong limit records
+IsAnswer limit records (Err Read) = ⊤
+IsAnswer limit records (Err Write) = ⊤
+IsAnswer limit records (Err Memory) = ⊤
 
 -- an answer that the records themselves have: every one but a refused read, write or memory
 abbrev pub IsOwnAnswer : Result Outcome RunFault → Type 0
@@ -90,8 +92,8 @@ IsOwnAnswer (Err Write) = ⊥
 IsOwnAnswer (Err Memory) = ⊥
 
 -- the records have a verdict
-abbrev pub HasOutcome : List (List (List ℕ)) → Type 0
-HasOutcome records = (outcome : Outcome) × IsAnswer records (Ok outcome)
+abbrev pub HasOutcome : ℕ → List (List (List ℕ)) → Type 0
+HasOutcome limit records = (outcome : Outcome) × IsAnswer limit records (Ok outcome)
 
 -- a yes with the report on these rows; this serves a private function
 abbrev pub IsYes : List Event → Outcome → Type 0

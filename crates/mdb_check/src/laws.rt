@@ -23,8 +23,8 @@ use mdb_follow::laws;
 /// each, and none goes beyond. Behind a no, the rows have a run up to the one before the row that
 /// it names, and no further.
 pub fn verdicts_say_the_headline()
-    ensures { (records : List (List (List ℕ))) (outcome : Outcome)
-        → IsAnswer records (Ok outcome) → Headline records outcome }
+    ensures { (limit : ℕ) (records : List (List (List ℕ))) (outcome : Outcome)
+        → IsAnswer limit records (Ok outcome) → Headline limit records outcome }
 {
     laws::fronts_of_reached_rows_are_reached();
 }
@@ -34,8 +34,9 @@ pub fn verdicts_say_the_headline()
 ///
 /// So where one of these is the answer, no other one would be right.
 pub fn texts_have_one_answer()
-    ensures { (records : List (List (List ℕ))) (a b : Result Outcome RunFault) → IsAnswer records a
-        → IsAnswer records b → IsOwnAnswer a → IsOwnAnswer b → a ≡ b }
+    ensures { (limit : ℕ) (records : List (List (List ℕ))) (a b : Result Outcome RunFault)
+        → IsAnswer limit records a → IsAnswer limit records b → IsOwnAnswer a → IsOwnAnswer b
+        → a ≡ b }
 {
     laws::fronts_of_reached_rows_are_reached();
     laws::rows_have_one_report();
@@ -61,7 +62,7 @@ pub fn texts_are_shown_in_one_way()
 pub fn shown_faults_are_those_of_verdicts()
     ensures { (records : List (List (List ℕ))) (fault : LinkFault) (text : List ℕ)
         (answer : Result Outcome RunFault) → (shown : IsShownToFault records fault text)
-        → IsAnswer records answer → IsOwnAnswer answer
+        → IsAnswer ROWS_MAX records answer → IsOwnAnswer answer
         → IsNoUpTo (length (events_of shown.pieces) + 1) fault answer }
 {
     links::fronts_of_act_lists_have_act_lists();

@@ -18,4 +18,4 @@ pub use outcome::{Outcome, RunFault};
 pub use program::run;
 pub use showing::show;
 pub use text::text_of;
-pub use verdict::{BYTES_MAX, check};
+pub use verdict::{BYTES_MAX, check, check_within};

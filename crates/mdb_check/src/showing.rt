@@ -11,7 +11,7 @@ ghost use Rattle.mdb_check.specs.ShowSteps.{IsShownAs, output};
 use super::batch::{Batch, Next};
 use super::outcome::RunFault;
 use super::page::Page;
-use super::verdict::records_of;
+use super::verdict::{BYTES_MAX, records_of};
 use mdb_bus::{Act, Bus, LinkFault, laws};
 use mdb_follow::ROWS_MAX;
 use mdb_records::Records;
@@ -31,7 +31,7 @@ use std::io::{Read, Write};
 ///
 /// `BadRow` for the first record that is no row, if no row before it breaks a rule of the link;
 /// `TooLong` for a record past [`ROWS_MAX`]; `Read` where the reader failed, or for an input of
-/// more than [`BYTES_MAX`](super::BYTES_MAX) bytes that isn't answered before; `Memory` where
+/// more than [`BYTES_MAX`] bytes that isn't answered before; `Memory` where
 /// memory was refused. Then the lines of the acts so far were written, and of the tails that a
 /// break cut: at `BadRow` and `TooLong` those of all rows before that record. `Write` where the
 /// writer failed: then nothing is said of how much was written.
@@ -46,7 +46,7 @@ pub fn show<R: Read + Drop, W: Write>(
     ensures whole { IfSome (R.remaining reader) (λ text.
         BYTES_MAX < length text → result ≢ Ok None) }
 {
-    let mut records = records_of(alloc, reader);
+    let mut records = records_of(alloc, reader, BYTES_MAX);
     let mut page = Page::new(alloc);
     let answer = show_rows(&mut records, &mut page, writer);
     if answer != Err(RunFault::Write) {

@@ -45,18 +45,50 @@ pub fn check<R: Read + Drop, W: Write>(
     writer: &mut W,
 ) -> Result<Outcome, RunFault>
     ensures answer { IfSome (R.remaining reader)
-        (λ text. IsAnswer (records default_config (strip_bom text)) result) }
+        (λ text. IsAnswer ROWS_MAX (records default_config (strip_bom text)) result) }
     ensures headline { IfSome (R.remaining reader)
-        (λ text. IfOk result (Headline (records default_config (strip_bom text)))) }
+        (λ text. IfOk result (Headline ROWS_MAX (records default_config (strip_bom text)))) }
     ensures whole { IfSome (R.remaining reader) (λ text. BYTES_MAX < length text → IsNoYes result) }
     ensures written { IfOk result (λ outcome. Appends (W.contents writer.old)
         (W.contents writer.new) (report_text outcome)) }
     ensures nothing_written { IfErr result (λ fault. fault ≢ RunFault.Write
         → writer.new ≡ writer.old) }
     ensures had_one { IfSome (R.remaining reader) (λ text. result ≡ Err RunFault.Write
-        → HasOutcome (records default_config (strip_bom text))) }
+        → HasOutcome ROWS_MAX (records default_config (strip_bom text))) }
 {
-    let outcome = verdict_of(alloc, reader)?;
+    check_within(alloc, reader, writer, ROWS_MAX, BYTES_MAX)
+}
+
+/// Does as [`check`] does, with other limits: at most `rows` rows and `bytes` bytes, where `check`
+/// allows [`ROWS_MAX`] and [`BYTES_MAX`].
+///
+/// # Errors
+///
+/// Those of `check`. `TooLong` is for a record past `rows`, whatever it holds: it may be no row,
+/// and a row that cannot be. `Read` is also for an input of more than `bytes` bytes that isn't
+/// answered before.
+pub fn check_within<R: Read + Drop, W: Write>(
+    alloc: Global,
+    reader: R,
+    writer: &mut W,
+    rows: u64,
+    bytes: u64,
+) -> Result<Outcome, RunFault>
+    requires rows { rows ≤ ROWS_MAX }
+    requires bytes { bytes ≤ BYTES_MAX }
+    ensures answer { IfSome (R.remaining reader)
+        (λ text. IsAnswer rows (records default_config (strip_bom text)) result) }
+    ensures headline { IfSome (R.remaining reader)
+        (λ text. IfOk result (Headline rows (records default_config (strip_bom text)))) }
+    ensures whole { IfSome (R.remaining reader) (λ text. bytes < length text → IsNoYes result) }
+    ensures written { IfOk result (λ outcome. Appends (W.contents writer.old)
+        (W.contents writer.new) (report_text outcome)) }
+    ensures nothing_written { IfErr result (λ fault. fault ≢ RunFault.Write
+        → writer.new ≡ writer.old) }
+    ensures had_one { IfSome (R.remaining reader) (λ text. result ≡ Err RunFault.Write
+        → HasOutcome rows (records default_config (strip_bom text))) }
+{
+    let outcome = verdict_of(alloc, reader, rows, bytes)?;
     let Ok(text) = text_of(alloc, &outcome) else {
         return Err(RunFault::Memory);
     };
@@ -66,37 +98,44 @@ pub fn check<R: Read + Drop, W: Write>(
     }
 }
 
-/// The verdict on the text that a reader has left.
-fn verdict_of<R: Read + Drop>(alloc: Global, reader: R) -> Result<Outcome, RunFault>
+/// The verdict on the text that a reader has left, of at most so many rows and bytes.
+fn verdict_of<R: Read + Drop>(
+    alloc: Global,
+    reader: R,
+    rows: u64,
+    bytes: u64,
+) -> Result<Outcome, RunFault>
+    requires { rows ≤ ROWS_MAX }
     ensures answer { IfSome (R.remaining reader)
-        (λ text. IsAnswer (records default_config (strip_bom text)) result) }
+        (λ text. IsAnswer rows (records default_config (strip_bom text)) result) }
     ensures headline { IfSome (R.remaining reader)
-        (λ text. IfOk result (Headline (records default_config (strip_bom text)))) }
-    ensures whole { IfSome (R.remaining reader) (λ text. BYTES_MAX < length text → IsNoYes result) }
+        (λ text. IfOk result (Headline rows (records default_config (strip_bom text)))) }
+    ensures whole { IfSome (R.remaining reader) (λ text. bytes < length text → IsNoYes result) }
     ensures not_write { IfErr result (λ fault. fault ≢ RunFault.Write) }
 {
     verdicts_say_the_headline();
-    let mut records = records_of(alloc, reader);
-    verdict_on(&mut records)
+    let mut records = records_of(alloc, reader, bytes);
+    verdict_on(&mut records, rows)
 }
 
-/// The records of the text that a reader has left, up to [`BYTES_MAX`] and no less.
-pub(crate) fn records_of<R: Read + Drop>(alloc: Global, reader: R) -> Records<R>
+/// The records of the text that a reader has left, up to so many bytes and no less.
+pub(crate) fn records_of<R: Read + Drop>(alloc: Global, reader: R, bytes: u64) -> Records<R>
     ensures records { IfSome (R.remaining reader) (λ text.
         ToCome R.remaining result (records default_config (strip_bom text))) }
     ensures over { IfSome (R.remaining reader) (λ text.
-        BYTES_MAX < length text → IsOverLimit R.remaining result) }
+        bytes < length text → IsOverLimit R.remaining result) }
     ensures within { IfSome (R.remaining reader) (λ text.
-        length text ≤ BYTES_MAX → IsUncut R.remaining result (strip_bom text)) }
+        length text ≤ bytes → IsUncut R.remaining result (strip_bom text)) }
     ensures going { fault_of result ≡ None }
 {
-    Records::new(alloc, reader, BYTES_MAX)
+    Records::new(alloc, reader, bytes)
 }
 
-/// The verdict on the records that are still to come.
-fn verdict_on<R: Read + Drop>(records: &mut Records<R>) -> Result<Outcome, RunFault>
+/// The verdict on the records that are still to come, at most so many.
+fn verdict_on<R: Read + Drop>(records: &mut Records<R>, rows: u64) -> Result<Outcome, RunFault>
+    requires { rows ≤ ROWS_MAX }
     ensures answer { (all : List (List (List ℕ))) → ToCome R.remaining records.old all
-        → IsAnswer all result }
+        → IsAnswer rows all result }
     ensures whole { IsOverLimit R.remaining records.old → IsNoYes result }
     ensures heard { IfErr result (HasMet (fault_of records.new)) }
     ensures met { fault_of records.old ≡ None → IfSome (fault_of records.new)
@@ -107,8 +146,8 @@ fn verdict_on<R: Read + Drop>(records: &mut Records<R>) -> Result<Outcome, RunFa
     laws::sales_follow_their_approvals();
     let mut follower = Follower::new();
     let mut batch = Batch::new();
-    while follower.rows() < ROWS_MAX {
-        let next = batch.refill(records, ROWS_MAX - follower.rows());
+    while follower.rows() < rows {
+        let next = batch.refill(records, rows - follower.rows());
         if let Err(offence) = follower.feed_all(batch.as_slice()) {
             return Ok(Outcome::No(offence));
         }

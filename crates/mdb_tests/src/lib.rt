@@ -12,6 +12,8 @@ mod commands;
 #[cfg(test)]
 mod events;
 #[cfg(test)]
+mod limits;
+#[cfg(test)]
 mod records;
 #[cfg(test)]
 mod replies;
