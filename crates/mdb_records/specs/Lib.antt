@@ -1,3 +1,4 @@
 pub mod Mark
 pub mod SetUp
 pub mod ToCome
+pub mod Cause

@@ -1,7 +1,7 @@
 -- Which records are still to come from a reader of records.
-use Rattle.std.specs.Prelude.{◌≡◌, ◌≤◌, ◌++◌, ◌⊎◌, Bool, true, false, ℕ, List, [], ◌∷◌, Option, Some, None, All}
+use Rattle.std.specs.Prelude.{◌≡◌, ◌≤◌, ◌++◌, ◌⊎◌, Bool, true, false, ℕ, List, [], ◌∷◌, Option, Some, None, IsSome, All}
 use Rattle.csv.specs.Machine.{ends_at_end}
-use Rattle.csv.specs.Reading.{AreRecords, default_config, reader_config, reader_state, source_of}
+use Rattle.csv.specs.Reading.{AreRecords, default_config, reader_config, reader_source, reader_state, source_of}
 use Rattle.csv.specs.Records.{fields_of}
 use Rattle.mdb_records.specs.Mark.{given_of, mark}
 use Rattle.mdb_records.specs.declared.ReadFault.{ReadFault}
@@ -62,6 +62,10 @@ current_fields value = fields_of value.row
 -- the fault that ended the reading
 abbrev pub fault_of : {R : Type 0} → Records R → Option ReadFault
 fault_of value = value.fault
+
+-- a byte of the text behind the limit was read
+abbrev pub IsPastLimit : {R : Type 0} → Records R → Type 0
+IsPastLimit value = IsSome (reader_source value.reader).held
 
 -- a read that found the next of the records to come, and one that found that there is none
 abbrev pub Advances : {R : Type 0} → (R → Option (List ℕ)) → Records R → Bool

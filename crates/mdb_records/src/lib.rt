@@ -5,9 +5,10 @@
 //! is given is one of the whole text's records, and the end is told only where the whole text ends.
 #![tactic(auto)]
 
-ghost use Rattle.std.specs.Prelude.{◌≡◌, ◌<◌, ◌≤◌, ℕ, All, List, None, length, true, IfErr, IfOk, OnOk, IfSome, Some, Err, if◌then◌else◌};
+ghost use Rattle.std.specs.Prelude.{◌≡◌, ◌<◌, ◌≤◌, ◌↔◌, ℕ, All, List, None, length, true, IfErr, IfOk, OnOk, IfSome, IsSome, IsTrue, Some, Err, if◌then◌else◌};
 ghost use Rattle.csv.specs.Reading.{default_config, error_kind, is_io, records, stops_reader, strip_bom};
 ghost use Rattle.csv.specs.Records.{fields_of};
+ghost use Rattle.mdb_records.specs.Cause.{IsBlocked};
 ghost use Rattle.mdb_records.specs.SetUp.{IsSetUp};
 
 mod limited;
@@ -15,6 +16,7 @@ mod limited;
 use csv::{ByteRecord, ErrorKind, Reader, ReaderBuilder};
 use limited::Limited;
 use std::alloc::Global;
+use std::io;
 use std::io::Read;
 
 // For so many bytes of a record there is room from the start. A longer one makes room itself.
@@ -32,6 +34,17 @@ pub enum ReadFault {
     Memory,
 }
 
+/// Why a reading ended by [`ReadFault::Read`].
+#[derive(Clone, Copy, PartialEq, Eq, Debug)]
+pub enum ReadCause {
+    /// The reader failed.
+    Failed,
+    /// The reader has no byte yet, and doesn't wait for one.
+    WouldBlock,
+    /// The text goes on behind the limit.
+    OverLimit,
+}
+
 /// The records of the text that a reader has left, one after the other.
 #[derive(Drop)]
 pub struct Records<R> {
@@ -40,12 +53,14 @@ pub struct Records<R> {
     row: ByteRecord,
     // The fault that ended the reading.
     fault: Option<ReadFault>,
+    // Whether that was a reader that would block.
+    blocked: bool,
     ghost set_up: { fault ≡ None → IsSetUp reader },
 }
 
 impl<R: Read + Drop> Records<R> {
     ghost use Rattle.mdb_records.specs.ToCome.{Advances, IsOverLimit, IsUncut, ToCome};
-    ghost use Rattle.mdb_records.specs.ToCome.{current_fields, fault_of};
+    ghost use Rattle.mdb_records.specs.ToCome.{IsPastLimit, current_fields, fault_of};
 
     /// The records of the text that `reader` has left, which may be at most `limit` bytes long:
     /// past them one more byte is asked for, to tell the end from a longer text. Fields are
@@ -70,6 +85,7 @@ impl<R: Read + Drop> Records<R> {
                 .from_reader(alloc, Limited::new(reader, limit)),
             row: empty_row(alloc),
             fault: None,
+            blocked: false,
         }
     }
 
@@ -88,6 +104,7 @@ impl<R: Read + Drop> Records<R> {
         ensures failed { IfErr result (λ fault. fault_of self.new ≡ Some fault) }
         ensures fine { OnOk result (fault_of self.new ≡ None) }
         ensures stays { IfSome (fault_of self.old) (λ fault. result ≡ Err fault) }
+        ensures kept { IsSome (fault_of self.old) → self.new ≡ self.old }
     {
         if let Some(fault) = self.fault {
             return Err(fault);
@@ -98,10 +115,26 @@ impl<R: Read + Drop> Records<R> {
                 Ok(found)
             }
             Err(e) => {
+                self.blocked = is_blocked(&e);
                 let fault = fault_by(e);
                 self.fault = Some(fault);
                 Err(fault)
             }
+        }
+    }
+
+    /// Why the reading ended, where it ended by [`ReadFault::Read`]: the limit exactly where a byte
+    /// behind it was read. Nothing is said of it elsewhere.
+    pub fn cause(&self) -> ReadCause
+        ensures over { result ≡ ReadCause.OverLimit ↔ IsPastLimit self.now }
+    {
+        if self.reader.get_ref().is_past() {
+            return ReadCause::OverLimit;
+        }
+        if self.blocked {
+            ReadCause::WouldBlock
+        } else {
+            ReadCause::Failed
         }
     }
 
@@ -113,7 +146,7 @@ impl<R: Read + Drop> Records<R> {
         given.saturating_sub(self.reader.position().byte())
     }
 
-    /// The record that the last `advance` read.
+    /// The record that the last `advance` read, field by field.
     pub fn row(&self) -> &ByteRecord
         ensures { fields_of result.now ≡ current_fields self.now }
     {
@@ -135,6 +168,16 @@ fn empty_row(alloc: Global) -> ByteRecord {
 fn see_bytes(_bytes: &[u8])
     ensures { All (λ b. b < 256) _bytes.now }
 {}
+
+// Whether csv's error is that of a reader that would block.
+fn is_blocked(error: &csv::Error) -> bool
+    ensures { IsTrue result ↔ IsBlocked (error_kind error.now) }
+{
+    match error.kind() {
+        ErrorKind::Io(cause) => cause.kind() == io::ErrorKind::WouldBlock,
+        _ => false,
+    }
+}
 
 // The fault that csv's error is, where it ends the reading.
 fn fault_by(error: csv::Error) -> ReadFault

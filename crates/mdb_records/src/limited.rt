@@ -1,6 +1,6 @@
 // A reader up to a limit.
 
-ghost use Rattle.std.specs.Prelude.{◌≡◌, None};
+ghost use Rattle.std.specs.Prelude.{◌≡◌, ◌↔◌, None, IsSome, IsTrue};
 
 use std::io::{Error, ErrorKind, Read, Result};
 
@@ -30,6 +30,13 @@ impl<R> Limited<R> {
             given: 0,
             held: None,
         }
+    }
+
+    /// Whether a byte past the limit was read.
+    pub(crate) fn is_past(&self) -> bool
+        ensures { IsTrue result ↔ IsSome self.now.held }
+    {
+        self.held.is_some()
     }
 
     /// How many bytes were given.

@@ -1,7 +1,9 @@
 //! The records of a text under a limit on its bytes.
 
-use mdb_records::{ReadFault, Records};
+use super::streams::Pieces;
+use mdb_records::{ReadCause, ReadFault, Records};
 use std::alloc::AllocError;
+use std::io::{ErrorKind, Read};
 use std::test::Fail;
 
 // The second fields of the rows of a text under a limit, and how the reading ended.
@@ -38,4 +40,54 @@ fn a_longer_text_has_no_end(rt: HostRuntime) -> Result<(), Fail> {
     assert_eq!(rt; fields.as_slice(), b"M".as_slice());
     assert_eq!(rt; end, Err(ReadFault::Read));
     Ok(())
+}
+
+// How a reading ended, why, and whether a further call says the same.
+fn ending<R: Read + Drop>(
+    rt: &HostRuntime,
+    reader: R,
+    limit: u64,
+) -> (Result<bool, ReadFault>, ReadCause, bool) {
+    let mut rows = Records::new(rt.alloc(), reader, limit);
+    for _ in 0..100 {
+        let end = rows.advance();
+        if end != Ok(true) {
+            let cause = rows.cause();
+            let again = rows.advance();
+            return (end, cause, again == end && rows.cause() == cause);
+        }
+    }
+    (Ok(true), rows.cause(), false)
+}
+
+#[test]
+fn tells_why_a_reading_ended(rt: HostRuntime) {
+    let text = b"1,M\n2,NO";
+    // The fault comes with each read in turn, before the text's end and at it.
+    for read in 1..5 {
+        for (kind, cause) in [
+            (ErrorKind::Other, ReadCause::Failed),
+            (ErrorKind::InvalidData, ReadCause::Failed),
+            (ErrorKind::WouldBlock, ReadCause::WouldBlock),
+        ] {
+            let reader = Pieces::failing(text, 3, read, kind);
+            assert_eq!(rt; ending(&rt, reader, 8), (Err(ReadFault::Read), cause, true));
+        }
+    }
+    let past = (Err(ReadFault::Read), ReadCause::OverLimit, true);
+    assert_eq!(rt; ending(&rt, Pieces::new(text, 3), 7), past);
+    assert_eq!(rt; ending(&rt, Pieces::new(text, 3), 0), past);
+    assert_eq!(rt; ending(&rt, Pieces::new(text, 3), 8).0, Ok(false));
+}
+
+#[test]
+fn gives_the_record_field_by_field(rt: HostRuntime) {
+    let text = b"1,M,108\n\"2\"\"\",,S;\r\n".as_slice();
+    let mut rows = Records::new(rt.alloc(), text, 99);
+    assert_eq!(rt; rows.advance(), Ok(true));
+    assert_eq!(rt; rows.advance(), Ok(true));
+    assert_eq!(rt; rows.row().len(), 3);
+    assert_eq!(rt; rows.row().get(0), Some(b"2\"".as_slice()));
+    assert_eq!(rt; rows.row().get(1), Some(b"".as_slice()));
+    assert_eq!(rt; rows.row().get(2), Some(b"S;".as_slice()));
 }
