@@ -10,7 +10,7 @@ use std::io::Write;
 use std::{fs, io};
 
 /// The files of cases, one for each subject.
-const FILES: [&str; 15] = [
+const FILES: [&str; 16] = [
     "rows.cases",
     "times.cases",
     "commands.cases",
@@ -26,6 +26,7 @@ const FILES: [&str; 15] = [
     "decimals.cases",
     "show.cases",
     "worked.cases",
+    "least.cases",
 ];
 
 /// A transcript, and what the program has to make of it.
