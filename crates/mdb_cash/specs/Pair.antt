@@ -1,9 +1,10 @@
 -- A device and the controller, as states with codes and as steps. This serves the trait `Pair`.
-use Rattle.std.specs.Prelude.{◌≡◌, ℕ, Bool, true, false, not, Option, Some, None}
+use Rattle.std.specs.Prelude.{◌≡◌, ◌⊎◌, ℕ, Bool, true, false, not, Option, Some, None}
 use Rattle.mdb_msgs.specs.Commands.{device_of}
 use Rattle.mdb_msgs.specs.declared.command.Device.{Device}
 use Rattle.mdb_bus.specs.declared.act.Act.{Act}
 use Rattle.mdb_bus.specs.declared.act.Act.TheVariants as acts
+use Rattle.mdb_bus.specs.Choice.{IsAck}
 use Rattle.mdb_cash.specs.declared.gains.Gains.{Gains}
 use Rattle.mdb_cash.specs.declared.kept.Reading.{Reading}
 use Rattle.mdb_cash.specs.declared.kept.Reading.TheVariants.{Plain, Restart}
@@ -27,6 +28,17 @@ IsActOf device (acts.VmcRet command reply) = device_of command ≡ device
 IsActOf device (acts.Repeat command reply) = device_of command ≡ device
 IsActOf device acts.Foreign = ⊥
 IsActOf device (acts.Break length) = Unit {0}
+
+-- an act of another device alone: foreign traffic and a break are none
+abbrev pub IsOfAnother : Device → Act → Type 0
+IsOfAnother device acts.Foreign = ⊥
+IsOfAnother device act = IsActOf device act → ⊥
+
+-- A mark may stand on an ACK, of the device or of the controller, and on a reply. On an act of
+-- another device it says nothing, so it may stand there too. It stands on no other act of the
+-- device, on no foreign traffic, and on no break.
+abbrev pub MayBeMarked : Device → Act → Type 0
+MayBeMarked device act = IsAck act ⊎ IsReply act ⊎ IsOfAnother device act
 
 -- a step that changes nothing
 abbrev pub Stays : {State : Type 0} → State → State → Gains → Type 0
@@ -54,13 +66,14 @@ pub record IsStep {State : Type 0} (code_of : State → ℕ) (Step : State → S
   pub ends : code_of after ≡ next
   pub step : Step before after gains
 
--- A step by an act with a mark or without one. An ACK without a mark was heard, and a reply is read
--- as plain; an ACK with a mark wasn't heard, and a reply is read as telling of a restart. To other
--- acts a mark says nothing.
-abbrev pub IsMarkedStep : {State : Type 0} → (State → ℕ)
+-- A step by an act with a mark, where one may stand, or without one. An ACK without a mark was
+-- heard, and a reply is read as plain; an ACK with a mark wasn't heard, and a reply is read as
+-- telling of a restart.
+abbrev pub IsMarkedStep : {State : Type 0} → Device → Act → (State → ℕ)
     → (Bool → Reading → State → State → Gains → Type 0) → Bool → ℕ → ℕ → Gains → Type 0
-IsMarkedStep code_of Step marked code next gains =
-    IsStep code_of (Step (not marked) (reading_of marked)) code next gains
+IsMarkedStep device act code_of Step marked code next gains =
+    (marked ≡ true → MayBeMarked device act)
+    × IsStep code_of (Step (not marked) (reading_of marked)) code next gains
 
 -- a step by an act that was heard or not, in one of its readings
 abbrev pub IsMove : {State : Type 0} → (State → ℕ)

@@ -20,7 +20,7 @@ use crate::kept::{Reading, may_be_read};
 use crate::pair::Pair;
 pub use facts::BillFacts;
 use mdb_bus::Act;
-use mdb_msgs::{BillCommand, Command};
+use mdb_msgs::{BillCommand, Command, Device};
 pub use report::BillReport;
 use report::messages_in;
 pub use state::{BillState, BillType, Escrow};
@@ -48,6 +48,10 @@ impl Pair for Bill {
     ghost stands_for = { λ facts acts. facts_in facts ≡ facts_of acts };
 
     ghost may_step = { λ acts. spec.BillStep (facts_of acts) };
+
+    fn device() -> Device {
+        Device::Bill
+    }
 
     fn start() -> usize {
         BillState::power_on().code()

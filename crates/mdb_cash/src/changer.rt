@@ -20,7 +20,7 @@ use crate::kept::{Reading, may_be_read};
 use crate::pair::Pair;
 pub use facts::ChangerFacts;
 use mdb_bus::Act;
-use mdb_msgs::{ChangerCommand, Command};
+use mdb_msgs::{ChangerCommand, Command, Device};
 pub use report::ChangerReport;
 use report::messages_in;
 pub use state::ChangerState;
@@ -48,6 +48,10 @@ impl Pair for Changer {
     ghost stands_for = { λ facts acts. facts_in facts ≡ facts_of acts };
 
     ghost may_step = { λ acts. spec.ChangerStep (facts_of acts) };
+
+    fn device() -> Device {
+        Device::Changer
+    }
 
     fn start() -> usize {
         ChangerState::power_on().code()

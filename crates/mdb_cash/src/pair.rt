@@ -9,12 +9,13 @@ ghost use Rattle.mdb_cash.specs.declared.gains.Gains.{Gains};
 ghost use Rattle.mdb_cash.specs.declared.kept.Reading.{Reading};
 ghost use Rattle.mdb_cash.specs.declared.kept.Reading.TheVariants.{Plain, Restart};
 ghost use Rattle.mdb_cash.specs.Gains.{IsSmall, no_gains};
-ghost use Rattle.mdb_cash.specs.Pair.{IsMarkedStep, IsMove, IsActOf, IsOutcome, IsReply};
+ghost use Rattle.mdb_cash.specs.Pair.{IsActOf, IsMarkedStep, IsMove, IsOfAnother, IsOutcome, IsReply, MayBeMarked};
 
 use super::gains::Gains;
 use super::kept::Reading;
 use arrayvec::ArrayVec;
 use mdb_bus::Act;
+use mdb_msgs::Device;
 
 /// A device and the controller's dealings with it: its states as codes, its facts, and its steps.
 ///
@@ -47,6 +48,10 @@ pub trait Pair {
     /// Behind acts, a step by an act that was heard or not, in a reading, from a state to a state,
     /// with its gains.
     ghost may_step: { List Act → Act → Bool → Reading → Self.State → Self.State → Gains → Type 0 };
+
+    /// The device.
+    fn device() -> Device
+        ensures { result ≡ device };
 
     /// The code at power-on.
     fn start() -> usize
@@ -140,10 +145,12 @@ pub trait Pair {
         → (IsActOf device act → ⊥) → stands_for facts acts → stands_for facts (act ∷ acts) };
 
     /// The step that an act is, from the state of a code, with a mark or without one: the code
-    /// behind it, and what it adds to the sums. `None` where there is no such step.
+    /// behind it, and what it adds to the sums. `None` where there is no such step, and where the
+    /// act has a mark and none may stand on it.
     ///
-    /// An ACK with a mark wasn't heard, and a reply with a mark tells of a restart. To other acts a
-    /// mark says nothing.
+    /// An ACK with a mark wasn't heard, and a reply with a mark tells of a restart. An act of
+    /// another device leaves the code, with a mark and without. No mark stands on any other act of
+    /// this device, on foreign traffic or on a break (this profile).
     final fn step(
         facts: &Self::Facts,
         act: &Act,
@@ -153,9 +160,15 @@ pub trait Pair {
         requires { code < CODES }
         ensures steps { (acts : List Act) → stands_for facts.now acts → (next : ℕ) (gains : Gains)
             → (result ≡ Some (next, gains))
-            ↔ IsMarkedStep code_of (may_step acts act.now) marked code next gains }
+            ↔ IsMarkedStep device act.now code_of (may_step acts act.now) marked code next gains }
+        ensures unmarkable { marked ≡ true → (MayBeMarked device act.now → ⊥) → result ≡ None }
+        ensures elsewhere { (acts : List Act) → stands_for facts.now acts
+            → IsOfAnother device act.now → result ≡ Some (code, no_gains) }
         ensures below { IfSome result (λ move. (move.0 < CODES) × IsSmall move.1) }
     {
+        if marked && !may_be_marked(Self::device(), act) {
+            return None;
+        }
         let before = Self::state(code);
         let outcome = Self::outcome(facts, act, !marked, Reading::of_mark(marked), before);
         match outcome {
@@ -165,7 +178,7 @@ pub trait Pair {
     }
 
     /// The steps that an act may be, from the state of a code, heard or not and in each reading:
-    /// the code behind each, and what it adds to the sums.
+    /// the code behind each, and what it adds to the sums. They are those with a mark and without.
     final fn moves(facts: &Self::Facts, act: &Act, code: usize) -> ArrayVec<(usize, Gains), 2>
         requires { code < CODES }
         ensures steps { (acts : List Act) → stands_for facts.now acts → (next : ℕ) (gains : Gains)
@@ -175,20 +188,25 @@ pub trait Pair {
             → (next < CODES) × IsSmall gains }
     {
         let plain = Self::step(facts, act, code, false);
-        if may_be_marked(act) {
-            both(plain, Self::step(facts, act, code, true))
-        } else {
-            both(plain, None)
-        }
+        let marked = Self::step(facts, act, code, true);
+        both(plain, marked)
     }
 }
 
-/// Whether an act may have two steps from one state: an ACK, which was heard or not, or a reply,
-/// which may be read in two ways.
-pub fn may_be_marked(act: &Act) -> bool
-    ensures { IsTrue result ↔ (IsAck act.now ⊎ IsReply act.now) }
+/// Whether a mark may stand on an act, where it is asked of a device: on an ACK and on a reply, and
+/// on any act of another device, of which it says nothing.
+pub fn may_be_marked(device: Device, act: &Act) -> bool
+    ensures { IsTrue result ↔ MayBeMarked device act.now }
 {
-    matches!(act, Act::Ack(_) | Act::Reply(..) | Act::VmcAck(..))
+    match act {
+        Act::Ack(_) | Act::Reply(..) | Act::VmcAck(..) => true,
+        Act::Ask(command)
+        | Act::Nak(command)
+        | Act::VmcNak(command, _)
+        | Act::VmcRet(command, _)
+        | Act::Repeat(command, _) => command.device() != device,
+        Act::Foreign | Act::Break(_) => false,
+    }
 }
 
 /// Two moves, or the one that both are.

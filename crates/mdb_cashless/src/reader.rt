@@ -24,9 +24,10 @@ pub(crate) mod view;
 use facts::ReaderFacts;
 use mdb_bus::Act;
 use mdb_cash::{Gains, Pair, Reading};
+use mdb_msgs::Device;
 use state::ReaderState;
 use steps::{concerns, heeds_mark, rests, step};
-use unit::unit_of;
+use unit::{device_of, unit_of};
 
 /// A cashless reader and the controller's dealings with it (MDB/ICP 4.3, cashless device). `UNIT`
 /// says which: 0 is the reader at 10H, and any other number that at 60H. Its accounts are approved
@@ -52,6 +53,10 @@ impl<const UNIT: usize> Pair for Reader<UNIT> {
 
     ghost may_step = { λ acts. spec.ReaderStep (units.unit_of UNIT)
         (facts_of (units.unit_of UNIT) acts) };
+
+    fn device() -> Device {
+        device_of(unit_of(UNIT))
+    }
 
     fn start() -> usize {
         ReaderState::power_on().code()

@@ -3,6 +3,7 @@ use Rattle.std.proofs.Common.{◌≡◌, ◌⊎◌, ◌+◌, ◌<◌, ◌^◌, �
 use Rattle.std.specs.Bool.{OnFalse, OnTrue}
 use Rattle.std.specs.Prelude.{All, Contains, IfSome, ◌↔◌}
 use Rattle.std.proofs.lemmas.List.Elements.{All-nil}
+use Rattle.mdb_msgs.specs.declared.command.Device.{Device}
 use Rattle.mdb_bus.specs.declared.act.Act.{Act}
 use Rattle.mdb_cash.specs.declared.gains.Gains.{Gains}
 use Rattle.mdb_cash.specs.declared.kept.Reading.{Reading}
@@ -65,7 +66,7 @@ alone-within limit number codes cell one other after size one_below other_below 
     (All-nil (λ entry. IsCellWithin (limit + 2 ^ 32) entry.1)))
 
 -- what arrives behind one act more is what the steps from the only entry lead to
-pub alone-led : {State : Type 0} (code_of : State → ℕ)
+pub alone-led : {State : Type 0} (device : Device) (code_of : State → ℕ)
     (Step : List Act → Act → Bool → Reading → State → State → Gains → Type 0) (first : State)
     (act : Act) (acts : List Act) (laws : Laws act (Step acts act)) (number codes : ℕ)
     (entries : List (ℕ × Cell)) (entry : ℕ × Cell) (code : ℕ) (one other : Option (ℕ × Gains))
@@ -74,15 +75,15 @@ pub alone-led : {State : Type 0} (code_of : State → ℕ)
     → IfSome one (λ move. (move.0 < codes) × IsSmall move.1)
     → IfSome other (λ move. (move.0 < codes) × IsSmall move.1)
     → ((next : ℕ) (gains : Gains) → (one ≡ Some (next, gains))
-    ↔ IsMarkedStep code_of (Step acts act) false code next gains)
+    ↔ IsMarkedStep device act code_of (Step acts act) false code next gains)
     → ((next : ℕ) (gains : Gains) → other ≡ Some (next, gains)
-    → IsMarkedStep code_of (Step acts act) true code next gains)
-    → ((next : ℕ) (gains : Gains) → IsMarkedStep code_of (Step acts act) true code next gains
-    → (other ≡ Some (next, gains)) ⊎ IsMarkedStep code_of (Step acts act) false code next gains)
+    → IsMarkedStep device act code_of (Step acts act) true code next gains)
+    → ((next : ℕ) (gains : Gains) → IsMarkedStep device act code_of (Step acts act) true code next gains
+    → (other ≡ Some (next, gains)) ⊎ IsMarkedStep device act code_of (Step acts act) false code next gains)
     → IsTable code_of Step first acts entries
     → LeadTo entry.1 one other after
     → Bounds (ArrivesAt code_of (Arrives Step first (act ∷ acts))) after
-alone-led {State} code_of Step first act acts laws number codes entries entry code one other
+alone-led {State} device code_of Step first act acts laws number codes entries entry code one other
     after only at apart size one_below other_below one_is sound whole table led =
     let table' : IsTable code_of Step first acts (entry ∷ []) =
     subst (IsTable code_of Step first acts) only table in
@@ -91,7 +92,7 @@ alone-led {State} code_of Step first act acts laws number codes entries entry co
     ↔ IsMove code_of (Step acts act) entry.0 next gains =
     subst (λ c. (next : ℕ) (gains : Gains) → Contains led.0 (next, gains)
     ↔ IsMove code_of (Step acts act) c next gains) at
-    (either-moves code_of (Step acts act) act laws code one other led.0 one_is sound whole led.1) in
+    (either-moves device code_of (Step acts act) act laws code one other led.0 one_is sound whole led.1) in
     table-led code_of Step first act acts (entry ∷ []) after apart table'
     (subst (Bounds (Led (ArrivesAt code_of (Arrives Step first acts))
     (IsMove code_of (Step acts act)) (entry ∷ []))) (sym led.2)

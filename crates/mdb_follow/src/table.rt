@@ -243,11 +243,12 @@ fn marked_step<P: Pair>(facts: &P::Facts, act: &Act, code: usize) -> Option<(usi
     requires { code < P.CODES }
     ensures sound { (acts : List Act) → P.stands_for facts.now acts → (next : ℕ) (gains : Gains)
         → result ≡ Some (next, gains)
-        → IsMarkedStep P.code_of (P.may_step acts act.now) true code next gains }
+        → IsMarkedStep P.device act.now P.code_of (P.may_step acts act.now) true code next gains }
     ensures whole { (acts : List Act) → P.stands_for facts.now acts → (next : ℕ) (gains : Gains)
-        → IsMarkedStep P.code_of (P.may_step acts act.now) true code next gains
+        → IsMarkedStep P.device act.now P.code_of (P.may_step acts act.now) true code next gains
         → (result ≡ Some (next, gains))
-        ⊎ IsMarkedStep P.code_of (P.may_step acts act.now) false code next gains }
+        ⊎ IsMarkedStep P.device act.now P.code_of (P.may_step acts act.now) false code next
+        gains }
     ensures below { IfSome result (λ move. (move.0 < P.CODES) × IsSmall move.1) }
 {
     if P::heeds_mark(act, P::state(code)) {

@@ -55,7 +55,7 @@ loop-code-preserved g c =
           c.loop-code.into c.add_steps.new.entries c.loop-code-test.true
           (table.bounds.exact _ _ (Contains-get_or c.args.from.now c.loop-code.code-index _
           c.loop-code-test.true))
-          (either-moves p.code_of (p.may_step acts c.args.act.now) c.args.act.now
+          (either-moves p.device p.code_of (p.may_step acts c.args.act.now) c.args.act.now
           (record {
             hearing = λ one other. g.met.P.Pair.hearing acts c.args.act.now one other;
             readings = λ heard one. g.met.P.Pair.readings acts c.args.act.now heard one;

@@ -29,7 +29,7 @@ arrives : (g : given.Over) (c : goal.After-lead_only g) (acts : List Act)
     (Arrives g.P.Pair.may_step g.P.Pair.first (c.args.act.now ∷ acts))) after
 arrives g c acts entry after stands table only led =
     let p = g.P.Pair in
-    alone-led p.code_of p.may_step p.first c.args.act.now acts
+    alone-led p.device p.code_of p.may_step p.first c.args.act.now acts
     (record {
       hearing = λ one other. g.met.P.Pair.hearing acts c.args.act.now one other;
       readings = λ heard one. g.met.P.Pair.readings acts c.args.act.now heard one;
