@@ -1,5 +1,5 @@
 -- Which records are still to come from a reader of records.
-use Rattle.std.specs.Prelude.{◌≡◌, ◌≤◌, ◌++◌, ◌⊎◌, Bool, true, false, ℕ, List, [], ◌∷◌, Option, Some, None, IsSome, All}
+use Rattle.std.specs.Prelude.{◌≡◌, ◌≤◌, ◌++◌, ◌-◌, ◌⊎◌, Bool, true, false, ℕ, List, [], ◌∷◌, Option, Some, None, IsSome, All}
 use Rattle.csv.specs.Machine.{ends_at_end}
 use Rattle.csv.specs.Reading.{AreRecords, default_config, reader_config, reader_source, reader_state, source_of}
 use Rattle.csv.specs.Records.{fields_of}
@@ -62,6 +62,14 @@ current_fields value = fields_of value.row
 -- the fault that ended the reading
 abbrev pub fault_of : {R : Type 0} → Records R → Option ReadFault
 fault_of value = value.fault
+
+-- the most bytes of the text that are given
+abbrev pub limit_of : {R : Type 0} → Records R → ℕ
+limit_of value = (reader_source value.reader).limit
+
+-- how many bytes of the text were given
+abbrev pub given_by : {R : Type 0} → Records R → ℕ
+given_by value = (reader_source value.reader).limit - (reader_source value.reader).left
 
 -- a byte of the text behind the limit was read
 abbrev pub IsPastLimit : {R : Type 0} → Records R → Type 0

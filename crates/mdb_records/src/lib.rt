@@ -5,7 +5,7 @@
 //! is given is one of the whole text's records, and the end is told only where the whole text ends.
 #![tactic(auto)]
 
-ghost use Rattle.std.specs.Prelude.{◌≡◌, ◌<◌, ◌≤◌, ◌↔◌, ℕ, All, List, None, length, true, IfErr, IfOk, OnOk, IfSome, IsSome, IsTrue, Some, Err, if◌then◌else◌};
+ghost use Rattle.std.specs.Prelude.{◌≡◌, ◌<◌, ◌≤◌, ◌+◌, ◌-◌, ◌^◌, ◌↔◌, ◌⊎◌, min, ℕ, All, List, None, length, true, IfErr, IfOk, OnOk, IfSome, IsSome, IsTrue, Some, Err, if◌then◌else◌};
 ghost use Rattle.csv.specs.Reading.{default_config, error_kind, is_io, records, stops_reader, strip_bom};
 ghost use Rattle.csv.specs.Records.{fields_of};
 ghost use Rattle.mdb_records.specs.Cause.{IsBlocked};
@@ -60,7 +60,7 @@ pub struct Records<R> {
 
 impl<R: Read + Drop> Records<R> {
     ghost use Rattle.mdb_records.specs.ToCome.{Advances, IsOverLimit, IsUncut, ToCome};
-    ghost use Rattle.mdb_records.specs.ToCome.{IsPastLimit, current_fields, fault_of};
+    ghost use Rattle.mdb_records.specs.ToCome.{IsPastLimit, current_fields, fault_of, given_by, limit_of};
 
     /// The records of the text that `reader` has left, which may be at most `limit` bytes long:
     /// past them one more byte is asked for, to tell the end from a longer text. Fields are
@@ -77,6 +77,8 @@ impl<R: Read + Drop> Records<R> {
         ensures within { IfSome (R.remaining reader) (λ text.
             length text ≤ limit → IsUncut R.remaining result (strip_bom text)) }
         ensures going { fault_of result ≡ None }
+        ensures limit { limit_of result ≡ limit }
+        ensures fresh { given_by result ≡ 0 }
     {
         Records {
             reader: ReaderBuilder::new()
@@ -138,10 +140,28 @@ impl<R: Read + Drop> Records<R> {
         }
     }
 
+    /// How many bytes were taken of the reader, whatever reader it is: at most as many as the limit
+    /// to which it is held, and one more exactly where the text was seen to go on behind it
+    /// (2^64 - 1 stands for 2^64 too).
+    pub fn taken(&self) -> u64
+        ensures most { result ≤ limit_of self.now + 1 }
+        ensures within { result ≡ given_by self.now ⊎ IsPastLimit self.now }
+        ensures past { IsPastLimit self.now → result ≡ min (limit_of self.now + 1) (2 ^ 64 - 1) }
+    {
+        let given = self.reader.get_ref().given();
+        if self.reader.get_ref().is_past() {
+            given.saturating_add(1)
+        } else {
+            given
+        }
+    }
+
     /// How many bytes of the text were read and are in no record yet, so that they are there
-    /// without a wait. No clause says so: it tells how soon the next records come, and never which.
+    /// without a wait. No clause says which: it tells how soon the next records come.
     #[inline(always)]
-    pub fn bytes_ahead(&self) -> u64 {
+    pub fn bytes_ahead(&self) -> u64
+        ensures { result ≤ given_by self.now }
+    {
         let given = self.reader.get_ref().given();
         given.saturating_sub(self.reader.position().byte())
     }

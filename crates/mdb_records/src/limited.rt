@@ -1,6 +1,9 @@
 // A reader up to a limit.
 
-ghost use Rattle.std.specs.Prelude.{◌≡◌, ◌↔◌, None, IsSome, IsTrue};
+ghost use Rattle.std.specs.Prelude.{◌≡◌, ◌≤◌, ◌-◌, ◌+◌, ◌^◌, ◌↔◌, min, None, IfErr, IfOk, IsSome, IsTrue, OnErr};
+ghost use Rattle.std.specs.Io.{ReadsAtMost};
+ghost use Rattle.std.specs.Io.KnownBytes.{ReadConsumes};
+ghost use Rattle.std.specs.IoError.{error_kind};
 
 use std::io::{Error, ErrorKind, Read, Result};
 
@@ -9,25 +12,28 @@ use std::io::{Error, ErrorKind, Read, Result};
 #[derive(Drop)]
 pub(crate) struct Limited<R> {
     inner: R,
-    // How many bytes may still be given.
+    // The most bytes that are given.
+    limit: u64,
+    // How many of them may still be given.
     left: u64,
-    // How many were given.
-    given: u64,
     // The first byte past the limit, once it was read.
     held: Option<u8>,
+    ghost within: { left ≤ limit },
+    ghost spent: { IsSome held → left ≡ 0 },
 }
 
 impl<R> Limited<R> {
     /// A reader of `inner` up to `limit` bytes.
     pub(crate) fn new(inner: R, limit: u64) -> Limited<R>
         ensures inner { result.inner ≡ inner }
+        ensures limit { result.limit ≡ limit }
         ensures left { result.left ≡ limit }
         ensures held { result.held ≡ None }
     {
         Limited {
             inner,
+            limit,
             left: limit,
-            given: 0,
             held: None,
         }
     }
@@ -41,14 +47,17 @@ impl<R> Limited<R> {
 
     /// How many bytes were given.
     pub(crate) fn given(&self) -> u64
-        ensures { result ≡ self.now.given }
+        ensures count { result ≡ self.now.limit - self.now.left }
+        ensures most { result ≤ self.now.limit }
     {
-        self.given
+        self.limit - self.left
     }
 }
 
 // The error of a text that goes on behind the limit.
-fn past_the_limit() -> Error {
+fn past_the_limit() -> Error
+    ensures { error_kind result ≡ ErrorKind.InvalidData }
+{
     Error::from(ErrorKind::InvalidData)
 }
 
@@ -57,7 +66,19 @@ impl<R: Read> Read for Limited<R> {
 
     ghost remaining = { λ s. given_of (R.remaining s.inner) s.left s.held };
 
-    fn read(&mut self, buf: &mut [u8]) -> Result<usize> {
+    fn read(&mut self, buf: &mut [u8]) -> Result<usize>
+        ensures bound { ReadsAtMost result buf.new }
+        ensures bytes { ReadConsumes
+            (given_of (R.remaining self.old.inner) self.old.left self.old.held)
+            (given_of (R.remaining self.new.inner) self.new.left self.new.held) result buf.new }
+        ensures limit { self.new.limit ≡ self.old.limit }
+        // What is given is counted, and nothing else is.
+        ensures given { IfOk result (λ count. self.old.left ≡ self.new.left + count) }
+        ensures failed { OnErr result (self.new.left ≡ self.old.left) }
+        // Behind the limit a read fails for that alone.
+        ensures past { IsSome self.new.held → IfErr result
+            (λ e. error_kind e ≡ ErrorKind.InvalidData) }
+    {
         if buf.is_empty() {
             return Ok(0);
         }
@@ -75,7 +96,6 @@ impl<R: Read> Read for Limited<R> {
         let room = self.left.min(buf.len() as u64) as usize;
         let given = self.inner.read(&mut buf[..room])?;
         self.left -= given as u64;
-        self.given = self.given.saturating_add(given as u64);
         Ok(given)
     }
 }

@@ -91,3 +91,29 @@ fn gives_the_record_field_by_field(rt: HostRuntime) {
     assert_eq!(rt; rows.row().get(1), Some(b"".as_slice()));
     assert_eq!(rt; rows.row().get(2), Some(b"S;".as_slice()));
 }
+
+#[test]
+fn a_long_text_is_read_to_its_end(rt: HostRuntime) -> Result<(), Fail> {
+    let lines = 1_500;
+    let mut text = Vec::new(rt.alloc());
+    for _ in 0..lines {
+        text.extend_from_slice(&[b'7'; 1_023])?;
+        text.push(b'\n')?;
+    }
+    let bytes = text.len() as u64;
+    let mut rows = Records::new(rt.alloc(), text.as_slice(), bytes);
+    for _ in 0..lines {
+        assert_eq!(rt; rows.advance(), Ok(true));
+    }
+    assert_eq!(rt; rows.advance(), Ok(false));
+    assert_eq!(rt; rows.taken(), bytes);
+
+    let mut rows = Records::new(rt.alloc(), text.as_slice(), bytes.saturating_sub(1));
+    for _ in 1..lines {
+        assert_eq!(rt; rows.advance(), Ok(true));
+    }
+    assert_eq!(rt; rows.advance(), Err(ReadFault::Read));
+    assert_eq!(rt; rows.cause(), ReadCause::OverLimit);
+    assert_eq!(rt; rows.taken(), bytes);
+    Ok(())
+}
