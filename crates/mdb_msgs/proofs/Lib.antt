@@ -1,6 +1,7 @@
 pub mod FirstBytes
 pub mod Addresses
 pub mod Contents
+pub mod ListFaults
 pub mod OneReader
 pub mod OneReading
 pub mod OneReply

@@ -28,13 +28,17 @@ bill_form_of bill.Identification = Some form.BillIdentification
 bill_form_of bill.IdentificationWithOptions = Some form.BillIdentificationWithOptions
 bill_form_of _ = None
 
--- a reader may answer every command with a list of messages (MDB/ICP 4.3, cashless device)
+-- a reader may answer every command with a list of messages: RESET, DISABLE and ENABLE by this
+-- profile, the others by MDB/ICP 4.3, cashless device
 abbrev pub form_of : Command → Option AnswerForm
 form_of (command.Changer c) = changer_form_of c
 form_of (command.Bill c) = bill_form_of c
 form_of (command.Reader unit c) = Some form.Reader
 
--- the least and the greatest number of data bytes, without the sum
+-- the least and the greatest number of data bytes, without the sum. The greatest ones of setup and
+-- tube status have 16 credits or counts (MDB/ICP 4.3); that each may be left out from the last on,
+-- down to none, and that a reader's list may have any number that a block can carry, is this
+-- profile's
 abbrev pub lengths_of : AnswerForm → ℕ × ℕ
 lengths_of form.ChangerSetup = (7, 23)
 lengths_of form.TubeStatus = (2, 18)

@@ -2,12 +2,17 @@
 use Rattle.std.specs.Prelude.{◌≡◌, ◌≢◌, ◌<◌, ◌≤◌, ◌⊎◌, ◌++◌, List, [], ℕ, length, All}
 use Rattle.mdb_blocks.specs.Block.{IsBlock, IsContent}
 use Rattle.mdb_msgs.specs.declared.command.Command.{Command}
+use Rattle.mdb_msgs.specs.declared.command.Command.TheVariants as command
+use Rattle.mdb_msgs.specs.declared.command.ReaderCommand.{ReaderCommand}
+use Rattle.mdb_msgs.specs.declared.command.ReaderUnit.{ReaderUnit}
 use Rattle.mdb_msgs.specs.declared.fault.MsgFault.{MsgFault}
+use Rattle.mdb_msgs.specs.declared.fault.MsgFault.TheVariants.{Answer}
 use Rattle.mdb_msgs.specs.declared.reply.Reply.{Reply}
+use Rattle.mdb_msgs.specs.declared.reply.Reply.TheVariants as reply
 use Rattle.mdb_msgs.specs.Answers.{HasDataAnswer}
 use Rattle.mdb_msgs.specs.Commands.{IsByte, Spells}
 use Rattle.mdb_msgs.specs.Needs.{IsOpen}
-use Rattle.mdb_msgs.specs.Reader.{ReaderMessages, reader_list_bytes, IsReaderList}
+use Rattle.mdb_msgs.specs.Reader.{ReaderMessages, reader_list_bytes, IsListFault, IsReaderList}
 use Rattle.mdb_msgs.specs.ReaderBytes.{messages_of}
 use Rattle.mdb_msgs.specs.Replies.{reply_bytes, IsReplyTo, IsReadFault, IsWriteFault, SpellsReply}
 
@@ -78,6 +83,19 @@ abbrev pub WrittenHasNoFault : Type 0
 WrittenHasNoFault =
     (command : Command) (reply : Reply) (fault : MsgFault)
     → IsReplyTo command reply → IsWriteFault command reply fault → ⊥
+
+-- why messages and texts are no list is the fault in writing them as a reply to a reader's command
+abbrev pub ListFaultIsAWriteFault : Type 0
+ListFaultIsAWriteFault =
+    (unit : ReaderUnit) (asked : ReaderCommand) (list : ReaderMessages) (fault : MsgFault)
+    → IsListFault list fault → IsWriteFault (command.Reader unit asked) (reply.Reader list) fault
+
+-- and every fault in writing them is why they are no list, but for Answer
+abbrev pub WriteFaultIsAListFault : Type 0
+WriteFaultIsAListFault =
+    (unit : ReaderUnit) (asked : ReaderCommand) (list : ReaderMessages) (fault : MsgFault)
+    → IsWriteFault (command.Reader unit asked) (reply.Reader list) fault
+    → (fault ≡ Answer) ⊎ IsListFault list fault
 
 -- a reader's answer is what its bytes are read as
 abbrev pub AnswerIsReadFromItsBytes : Type 0

@@ -2,7 +2,7 @@
 use Rattle.std.specs.Prelude.{◌≡◌, ℕ, ◌<◌, ◌≤◌, ◌⊎◌, Bool, true, false, nat_le, List, [], ◌∷◌, ◌++◌, length, replicate}
 use Rattle.std.specs.List.{flat_map, list_any}
 use Rattle.mdb_msgs.specs.declared.fault.MsgFault.{MsgFault}
-use Rattle.mdb_msgs.specs.declared.fault.MsgFault.TheVariants.{Message, Profile}
+use Rattle.mdb_msgs.specs.declared.fault.MsgFault.TheVariants.{Length, Message, Profile, Answer}
 use Rattle.mdb_msgs.specs.declared.reply.reader.ReaderMsg.{ReaderMsg}
 use Rattle.mdb_msgs.specs.declared.reply.reader.ReaderMsg.TheVariants.{JustReset, Config, Display, BeginSession, CancelRequest, VendApproved, VendDenied, EndSession, Cancelled, PeripheralId, Malfunction, OutOfSequence}
 use Rattle.mdb_msgs.specs.Lists.{StopsAt}
@@ -84,9 +84,20 @@ pub record IsReaderList (list : ReaderMessages) : Type 0 where
   pub no_id : list_any is_id list.messages ≡ false → list.id ≡ replicate 29 0
   pub no_text : list_any is_display list.messages ≡ false → list.text ≡ []
 
--- a list whose bytes a block can carry beside their sum
+-- its bytes are as many as a block can carry beside their sum
+abbrev pub FitsABlock : ReaderMessages → Type 0
+FitsABlock list = (1 ≤ length (reader_list_bytes list)) × (length (reader_list_bytes list) ≤ 35)
+
+-- a list that a block can carry
 abbrev pub IsReaderBlock : ReaderMessages → Type 0
-IsReaderBlock list = IsReaderList list × (length (reader_list_bytes list) ≤ 35)
+IsReaderBlock list = FitsABlock list × IsReaderList list
+
+-- why messages and texts are no such list, in the order in which the checks are made
+abbrev pub IsListFault : ReaderMessages → MsgFault → Type 0
+IsListFault list Length = FitsABlock list → ⊥
+IsListFault list Message = FitsABlock list × (IsReaderList list → ⊥)
+IsListFault list Profile = ⊥
+IsListFault list Answer = ⊥
 
 -- a message that isn't a display request may have messages behind it
 abbrev pub NotDisplay : ReaderMsg → Type 0

@@ -26,7 +26,8 @@ pub enum AnswerForm {
     BillIdentification,
     /// To the validator's identification with options.
     BillIdentificationWithOptions,
-    /// To every command of a reader: a list of messages.
+    /// To every command of a reader: a list of messages. That RESET, DISABLE and ENABLE may be
+    /// answered with one too is this profile's; the others may by MDB/ICP 4.3, cashless device.
     Reader,
 }
 
@@ -70,6 +71,9 @@ impl AnswerForm {
     }
 
     /// The least and the greatest number of data bytes, without the sum.
+    ///
+    /// In setup and tube status each of the 16 credits or counts may be left out from the last on,
+    /// down to none, and a reader's list may have any number that a block can carry (this profile).
     pub fn lengths(self) -> (usize, usize)
         ensures { result ≡ lengths_of self }
     {

@@ -6,7 +6,7 @@ ghost use Rattle.mdb_msgs.specs.declared.command.Command.{Command};
 ghost use Rattle.mdb_msgs.specs.declared.needs.Need.TheVariants.{Exactly};
 ghost use Rattle.mdb_msgs.specs.Commands.{IsByte, Spells};
 ghost use Rattle.mdb_msgs.specs.Needs.{TellsLength, needed};
-ghost use Rattle.mdb_msgs.specs.Laws.{OpenIsAFront, FrontIsOpen, BlockHasOneReply, ReplyHasItsLength, DataFitsABlock, SpelledReplyIsContent, DataIsAReplyOrHasAFault, ReplyHasNoFault, BytesHaveOneFault, ReplyHasOneWriteFault, WrittenHasNoFault, AnswerIsReadFromItsBytes};
+ghost use Rattle.mdb_msgs.specs.Laws.{OpenIsAFront, FrontIsOpen, BlockHasOneReply, ReplyHasItsLength, DataFitsABlock, SpelledReplyIsContent, DataIsAReplyOrHasAFault, ReplyHasNoFault, BytesHaveOneFault, ReplyHasOneWriteFault, WrittenHasNoFault, ListFaultIsAWriteFault, WriteFaultIsAListFault, AnswerIsReadFromItsBytes};
 
 /// A block has at most one command.
 pub fn block_has_one_command()
@@ -85,6 +85,14 @@ pub fn reply_has_one_write_fault()
 /// A reply that may answer a command has no fault in writing.
 pub fn written_has_no_fault()
     ensures { WrittenHasNoFault }
+{}
+
+/// The fault with which a reader's list is refused is the one that these messages have in writing,
+/// as a reply to any command of a reader; and there they have no other, but for `Answer`, which the
+/// command alone tells.
+pub fn list_fault_is_a_write_fault()
+    ensures same { ListFaultIsAWriteFault }
+    ensures only { WriteFaultIsAListFault }
 {}
 
 /// The bytes of a reader's answer are read as that answer.

@@ -152,22 +152,101 @@ fn a_shortened_setup_is_another_reply(rt: HostRuntime) {
 }
 
 /// A reader's answer of these messages, with a text, if there is one.
-fn list_with(messages: &[ReaderMsg], text: &[u8]) -> Option<ReaderList> {
+fn list_with(messages: &[ReaderMsg], text: &[u8]) -> Result<ReaderList, MsgFault> {
     ReaderList::new(messages, &[0; 29], text)
+}
+
+const SHOWN: ReaderMsg = ReaderMsg::Display { time: 5 };
+
+#[test]
+fn a_list_has_1_to_35_bytes(rt: HostRuntime) {
+    let id = ReaderMsg::PeripheralId;
+    let reset = ReaderMsg::JustReset;
+    let config = ReaderMsg::Config {
+        level: 1,
+        code: 0x1840,
+        scale: 1,
+        decimals: 2,
+        response: 5,
+        options: 0,
+    };
+    // none, 36 of one byte, 18 of 2, 30 and 6, 36, 5 of 8
+    let others: [(&[ReaderMsg], &[u8]); 6] = [
+        (&[], &[]),
+        (&[reset; 36], &[]),
+        (&[ReaderMsg::Malfunction(1); 18], &[]),
+        (&[id, SHOWN], &[65; 4]),
+        (&[SHOWN], &[65; 34]),
+        (&[config; 5], &[]),
+    ];
+    for (messages, text) in &others {
+        assert_eq!(rt;
+            list_with(messages, text).err(),
+            Some(MsgFault::Length),
+            "{messages:?}, {text:?}"
+        );
+    }
+    // 1, 35 of one byte, 17 of 2, 30 and 5, 34, 4 of 8 and one of 3
+    let lists: [(&[ReaderMsg], &[u8]); 6] = [
+        (&[reset], &[]),
+        (&[reset; 35], &[]),
+        (&[ReaderMsg::Malfunction(1); 17], &[]),
+        (&[id, SHOWN], &[65; 3]),
+        (&[SHOWN], &[65; 32]),
+        (
+            &[
+                config,
+                config,
+                config,
+                config,
+                ReaderMsg::VendApproved { amount: 1 },
+            ],
+            &[],
+        ),
+    ];
+    for (messages, text) in &lists {
+        assert!(rt; list_with(messages, text).is_ok(), "{messages:?}, {text:?}");
+    }
 }
 
 #[test]
 fn a_list_has_a_display_request_last_and_no_loose_text(rt: HostRuntime) {
-    let shown = ReaderMsg::Display { time: 5 };
-    let id = ReaderMsg::PeripheralId;
-    assert!(rt; list_with(&[shown, ReaderMsg::JustReset], &[]).is_none());
-    assert!(rt; list_with(&[ReaderMsg::JustReset], &[65]).is_none());
-    assert!(rt; list_with(&[shown], &[65; 33]).is_none());
-    assert!(rt; list_with(&[ReaderMsg::JustReset; 36], &[]).is_none());
-    assert!(rt; ReaderList::new(&[], &[1; 29], &[]).is_none());
-    assert!(rt; list_with(&[id, shown], &[65; 4]).is_none());
-    assert!(rt; list_with(&[ReaderMsg::JustReset; 35], &[]).is_some());
-    assert!(rt; list_with(&[], &[]).is_some());
+    let reset = ReaderMsg::JustReset;
+    let others: [(&[ReaderMsg], &[u8]); 6] = [
+        (&[SHOWN, reset], &[]),
+        (&[SHOWN, SHOWN], &[]),
+        (&[reset, SHOWN, reset], &[65]),
+        (&[reset], &[65]),
+        (&[SHOWN], &[65; 33]),
+        (&[reset; 35], &[65]),
+    ];
+    for (messages, text) in &others {
+        assert_eq!(rt;
+            list_with(messages, text).err(),
+            Some(MsgFault::Message),
+            "{messages:?}, {text:?}"
+        );
+    }
+    let loose = ReaderList::new(&[reset], &[1; 29], &[]);
+    assert_eq!(rt; loose.err(), Some(MsgFault::Message));
+}
+
+#[test]
+fn a_list_is_refused_for_its_length_first(rt: HostRuntime) {
+    let reset = ReaderMsg::JustReset;
+    let mut messages = [reset; 35];
+    messages[0] = SHOWN;
+    // 36 bytes, and a display request in front
+    assert_eq!(rt; list_with(&messages, &[]).err(), Some(MsgFault::Length));
+    // 35 bytes
+    assert_eq!(rt;
+        list_with(&messages[..34], &[]).err(),
+        Some(MsgFault::Message)
+    );
+    // no message, and texts of none
+    assert_eq!(rt; list_with(&[], &[65]).err(), Some(MsgFault::Length));
+    let loose = ReaderList::new(&[], &[1; 29], &[]);
+    assert_eq!(rt; loose.err(), Some(MsgFault::Length));
 }
 
 #[test]

@@ -1,10 +1,11 @@
 //! The messages of a reader's answer (MDB/ICP 4.3, cashless device).
 
-ghost use Rattle.std.specs.Prelude.{◌≡◌, ◌≢◌, ◌≤◌, ◌<◌, true, false, [], ◌∷◌, ◌++◌, ◌↔◌, length, replicate, IsTrue, IsSome, IsNone, IfSome, IfOk, IfErr};
+ghost use Rattle.std.specs.Prelude.{◌≡◌, ◌≢◌, ◌≤◌, ◌<◌, true, false, [], ◌∷◌, ◌++◌, ◌↔◌, length, replicate, IsTrue, IsSome, IsNone, IsOk, IfSome, IfOk, IfErr, Err};
 ghost use Rattle.std.specs.List.{flat_map, list_any};
+ghost use Rattle.mdb_msgs.specs.declared.fault.MsgFault.{MsgFault as Fault};
 ghost use Rattle.mdb_msgs.specs.declared.fault.MsgFault.TheVariants.{Message};
 ghost use Rattle.mdb_msgs.specs.TwoBytes.{two_bytes};
-ghost use Rattle.mdb_msgs.specs.Reader.{head_bytes, reader_msg_bytes, reader_list_bytes, is_display, is_id, is_kept, tells_level, text_of, IsDisplayLast, IsReaderBlock, IsReaderList, NoReaderMsg, ReaderStopsAt};
+ghost use Rattle.mdb_msgs.specs.Reader.{head_bytes, reader_msg_bytes, reader_list_bytes, is_display, is_id, is_kept, tells_level, text_of, IsDisplayLast, IsListFault, IsReaderBlock, IsReaderList, NoReaderMsg, ReaderStopsAt};
 ghost use Rattle.mdb_msgs.specs.ReaderBytes.{messages_of, no_messages};
 ghost use Rattle.mdb_msgs.specs.ReaderSteps.{IsTextOf, IsNextMessage, StandAsMessages};
 
@@ -167,20 +168,33 @@ impl ReaderList {
     /// The list of these messages, with the 29 bytes of the message `PeripheralId` and the text of
     /// the message `Display`; each is blank, all 0 or empty, where no message has it.
     ///
-    /// `None` where they are no such list: a display request isn't last (this profile), a text
-    /// stands beside the messages without its message, a display text has more than 32 bytes, or
-    /// all bytes are more than 35, which a block can't carry (MDB/ICP 4.3, block format).
-    pub fn new(messages: &[ReaderMsg], id: &[u8; 29], text: &[u8]) -> Option<Self>
-        ensures exactly { IsSome result ↔ IsReaderBlock
+    /// # Errors
+    ///
+    /// The first of these: `Length` where there is no message, or all bytes are more than 35, which
+    /// a block can't carry (MDB/ICP 4.3, block format); `Message` where a display request isn't
+    /// last (this profile), a display text has more than 32 bytes, or a text stands beside the
+    /// messages without its message. `write_reply` has the same faults in the same order.
+    pub fn new(messages: &[ReaderMsg], id: &[u8; 29], text: &[u8]) -> Result<Self, MsgFault>
+        ensures exactly { IsOk result ↔ IsReaderBlock
             (record { messages = messages.now; id = id.now; text = text.now }) }
-        ensures list { IfSome result (λ list.
+        ensures list { IfOk result (λ list.
             list ≡ record { messages = messages.now; id = id.now; text = text.now }) }
+        ensures fault { IfErr result (IsListFault
+            (record { messages = messages.now; id = id.now; text = text.now })) }
+        ensures refused { (fault : Fault) →
+            IsListFault (record { messages = messages.now; id = id.now; text = text.now }) fault →
+            result ≡ Err fault }
     {
-        if !are_valid(messages, id, text) {
-            return None;
+        let Some(bytes) = bytes_of(messages, id, text) else {
+            return Err(MsgFault::Length);
+        };
+        if bytes.is_empty() {
+            return Err(MsgFault::Length);
         }
-        let bytes = bytes_of(messages, id, text)?;
-        Some(ReaderList { bytes })
+        if !are_valid(messages, id, text) {
+            return Err(MsgFault::Message);
+        }
+        Ok(ReaderList { bytes })
     }
 
     /// The same list again.
