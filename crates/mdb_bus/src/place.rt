@@ -3,6 +3,8 @@
 ghost use Rattle.std.specs.Prelude.{◌≡◌, ◌≤◌, ◌<◌, [], ◌∷◌, ◌++◌, ◌%◌, ℕ, length, false, true, Some, IfSome, IfOk, IfErr, OnErr, Ok, Err};
 ghost use Rattle.mdb_blocks.specs.Block.{block_of};
 ghost use Rattle.mdb_msgs.specs.Replies.{reply_bytes};
+ghost use Rattle.mdb_msgs.specs.declared.reply.Reply.TheVariants.{ChangerPoll};
+ghost use Rattle.mdb_msgs.specs.declared.reply.changer.ChangerMsg.TheVariants.{Status};
 ghost use Rattle.mdb_bus.specs.Step.{word_in};
 ghost use Rattle.mdb_bus.specs.Steps.{rule_of as rule_of_lem};
 
@@ -109,8 +111,12 @@ pub struct Spelled {
 }
 
 impl Spelled {
-    /// What stands for the last reply before the first one: no phase asks for it.
-    pub(crate) fn none() -> Spelled {
+    /// What stands for the last reply before the first one, and no phase asks for: the changer's
+    /// POLL answered with status 00.
+    pub(crate) fn none() -> Spelled
+        ensures reply { result.reply ≡ ChangerPoll (record { items = Status 0 ∷ [] }) }
+        ensures bytes { result.bytes ≡ 0 ∷ [] }
+    {
         let mut messages = ArrayVec::new();
         messages.push(ChangerMsg::Status(0));
         Spelled {
