@@ -1,5 +1,5 @@
--- One step of reading a reader's answer: what the private functions of the reading say, and no
--- public one.
+-- One step of reading a reader's answer: a message, its text, and the bytes behind it. What a value
+-- of `ReaderIter` holds is told by `StandAsMessages`; the rest is cited by private functions.
 use Rattle.std.specs.Prelude.{◌≡◌, ℕ, ◌<◌, ◌≤◌, List, [], ◌∷◌, ◌++◌, length}
 use Rattle.mdb_msgs.specs.declared.reply.reader.ReaderMsg.{ReaderMsg}
 use Rattle.mdb_msgs.specs.declared.reply.reader.ReaderMsg.TheVariants.{Display, PeripheralId}
