@@ -1,4 +1,5 @@
--- How the entries of a table are made. This serves private functions.
+-- The entries of a table. `AreBelow` stands in what a public `Table` is: its codes are those of
+-- states. The rest, how entries are made, serves private functions.
 use Rattle.std.specs.Prelude.{◌≡◌, ◌==◌, ◌<◌, ◌⊎◌, ◌↔◌, ℕ, Bool, List, [], ◌∷◌, All, Contains, Option, Some, None, fold, if◌then◌else◌}
 use Rattle.std.specs.Prelude.{length, slice_index, slice_index_or}
 use Rattle.mdb_bus.specs.declared.act.Act.{Act}
