@@ -8,6 +8,9 @@ use mdb_words::RowFault;
 use std::io::Write;
 use std::test::Fail;
 
+/// The polls of a recording of several batches, each acknowledged: three rows.
+const LIMITED_POLLS: u64 = 100;
+
 /// `ROWS` has so many bytes.
 const ROWS_BYTES: u64 = 93;
 
@@ -79,7 +82,7 @@ fn the_last_allowed_row_is_judged(rt: HostRuntime) {
 #[test]
 fn limits_of_many_rows(rt: HostRuntime) -> Result<(), Fail> {
     let mut text = Vec::new(rt.alloc());
-    for poll in 1..=100 {
+    for poll in 1..=LIMITED_POLLS {
         let at = poll * 20_000;
         writeln!(text, "{at},M,10B")?;
         writeln!(text, "{},M,00B", at + 1_200)?;
