@@ -61,6 +61,10 @@ impl Pair for Bill {
         BillFacts::start()
     }
 
+    fn facts_copy(facts: &BillFacts) -> BillFacts {
+        facts.copy()
+    }
+
     #[inline(always)]
     fn learn(facts: &mut BillFacts, act: &Act) {
         facts.learn(act);

@@ -61,6 +61,10 @@ impl Pair for Changer {
         ChangerFacts::start()
     }
 
+    fn facts_copy(facts: &ChangerFacts) -> ChangerFacts {
+        facts.copy()
+    }
+
     #[inline(always)]
     fn learn(facts: &mut ChangerFacts, act: &Act) {
         facts.learn(act);

@@ -62,7 +62,11 @@ pub trait Pair {
     fn facts_start() -> Self::Facts
         ensures { stands_for result [] };
 
-    /// Takes one act more into the facts.
+    /// The same facts again.
+    fn facts_copy(facts: &Self::Facts) -> Self::Facts
+        ensures { result ≡ facts.now };
+
+    /// Takes one act more into the facts, as `facts_after`, in place.
     fn learn(facts: &mut Self::Facts, act: &Act)
         ensures { (acts : List Act) → stands_for facts.old acts
             → stands_for facts.new (act.now ∷ acts) };
@@ -143,6 +147,16 @@ pub trait Pair {
     /// An act that isn't this device's leaves the facts.
     ghost unmoved: { (facts : Self.Facts) (acts : List Act) (act : Act)
         → (IsActOf device act → ⊥) → stands_for facts acts → stands_for facts (act ∷ acts) };
+
+    /// The facts behind one act more. Those before it stay with their owner.
+    final fn facts_after(facts: &Self::Facts, act: &Act) -> Self::Facts
+        ensures { (acts : List Act) → stands_for facts.now acts
+            → stands_for result (act.now ∷ acts) }
+    {
+        let mut after = Self::facts_copy(facts);
+        Self::learn(&mut after, act);
+        after
+    }
 
     /// The step that an act is, from the state of a code, with a mark or without one: the code
     /// behind it, and what it adds to the sums. `None` where there is no such step, and where the

@@ -49,6 +49,19 @@ impl<M: KeptMessage + Drop, const CAP: usize> Past<M, CAP> {
         }
     }
 
+    /// The same again.
+    pub fn copy(&self) -> Self
+        ensures { result ≡ self.now }
+    {
+        let mut kept = ArrayVec::new();
+        let _ = kept.try_extend_from_slice(self.kept.as_slice());
+        Past {
+            enabled: self.enabled,
+            reset_owed: self.reset_owed,
+            kept,
+        }
+    }
+
     /// The device is put into its power-on state.
     pub fn power_on(&mut self)
         ensures { past_in self.new ≡ past_behind true effects.Other [] (past_in self.old) }

@@ -66,6 +66,10 @@ impl<const UNIT: usize> Pair for Reader<UNIT> {
         ReaderFacts::start()
     }
 
+    fn facts_copy(facts: &ReaderFacts) -> ReaderFacts {
+        facts.copy()
+    }
+
     #[inline(always)]
     fn learn(facts: &mut ReaderFacts, act: &Act) {
         facts.learn(unit_of(UNIT), act);

@@ -37,6 +37,16 @@ impl BillFacts {
         }
     }
 
+    /// The same facts again.
+    pub fn copy(&self) -> BillFacts
+        ensures { result ≡ self.now }
+    {
+        BillFacts {
+            setup: self.setup.as_ref().map(|setup| setup.copy()),
+            past: self.past.copy(),
+        }
+    }
+
     /// The decimal places of the validator's amounts: Z6 of its last setup table, where it has told
     /// one (MDB/ICP 4.3, bill validator).
     pub fn decimals(&self) -> Option<u8>

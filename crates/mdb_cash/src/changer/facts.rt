@@ -42,6 +42,17 @@ impl ChangerFacts {
         }
     }
 
+    /// The same facts again.
+    pub fn copy(&self) -> ChangerFacts
+        ensures { result ≡ self.now }
+    {
+        ChangerFacts {
+            setup: self.setup.as_ref().map(|setup| setup.copy()),
+            past: self.past.copy(),
+            dispense: self.dispense,
+        }
+    }
+
     /// The decimal places of the changer's amounts: Z5 of its last setup table, where it has told
     /// one (MDB/ICP 4.3, coin changer).
     pub fn decimals(&self) -> Option<u8>

@@ -54,6 +54,19 @@ impl ReaderFacts {
         }
     }
 
+    /// The same facts again.
+    pub fn copy(&self) -> ReaderFacts
+        ensures { result ≡ self.now }
+    {
+        ReaderFacts {
+            config: self.config,
+            asked: self.asked,
+            taken: self.taken,
+            amount: self.amount,
+            past: self.past.copy(),
+        }
+    }
+
     /// The decimal places of the reader's amounts: Z6 of its last config message, where it has told
     /// one (MDB/ICP 4.3, cashless device).
     pub fn decimals(&self) -> Option<u8>
