@@ -14,6 +14,7 @@ pub mod Reaching
 pub mod Sales
 pub mod Sided
 pub mod Silent
+pub mod Slices
 pub mod TwoSteps
 pub mod Ways
 pub mod Within

@@ -10,7 +10,7 @@ ghost use Rattle.mdb_follow.specs.declared.follower.Follower.{Follower};
 ghost use Rattle.mdb_follow.specs.declared.offence.Offence.{Offence};
 ghost use Rattle.mdb_follow.specs.declared.report.Report.{Report};
 ghost use Rattle.mdb_follow.specs.declared.silence.TheConstants.{BILL_SILENCE_MAX, CHANGER_SILENCE_MAX, MICROS_PER_SECOND, READER_SILENCE_MAX};
-ghost use Rattle.mdb_follow.specs.Offences.{IsOffence};
+ghost use Rattle.mdb_follow.specs.Offences.{HasOffence, IsOffence};
 ghost use Rattle.mdb_follow.specs.Report.{IsReport};
 ghost use Rattle.mdb_follow.specs.Runs.{AllSums, HearSameAcks, IsReached, IsWay, States};
 ghost use Rattle.mdb_follow.specs.Sales.{SalesFollowApprovals};
@@ -72,6 +72,15 @@ pub fn rows_have_one_offence()
     laws::rows_have_one_fault();
     laws::rows_that_break_a_rule_end_the_act_list();
     laws::act_lists_go_on_row_by_row();
+}
+
+/// A list of rows has one offence: no two places in it end at one, so it is that of one row.
+pub fn lists_have_one_offence()
+    ensures { (earlier rows : List Event) (a b : Offence) → HasOffence earlier rows a
+        → HasOffence earlier rows b → a ≡ b }
+{
+    fronts_of_reached_rows_are_reached();
+    rows_have_one_offence();
 }
 
 /// The rows that a follower stands for are reached.

@@ -1,0 +1,64 @@
+-- A list of rows has one offence: no two places in it end at one.
+use Rattle.std.proofs.Common.{sym, subst, ap, refl, ◌∙◌, ◌≡◌, ◌⊎◌, inl, inr}
+use Rattle.std.proofs.Common.{List, [], ◌∷◌, ◌++◌, append_assoc}
+use Rattle.mdb_words.specs.declared.event.Event.{Event}
+use Rattle.mdb_follow.specs.declared.offence.Offence.{Offence}
+use Rattle.mdb_follow.specs.Offences.{HasOffence, IsOffence}
+use Rattle.mdb_follow.specs.Runs.{IsReached}
+
+-- a list that goes on behind a front and a row of another
+pub record Longer (front : List Event) (row : Event) (other : List Event) : Type 0 where
+  pub more : List Event
+  pub is : other ≡ front ++ row ∷ more
+
+-- two places in one list: they are one, or either comes first
+places : (one other : List Event) (row last : Event) (rest tail : List Event)
+    → one ++ row ∷ rest ≡ other ++ last ∷ tail
+    → ((one ≡ other) × (row ≡ last)) ⊎ (Longer one row other ⊎ Longer other last one)
+places [] [] row last rest tail same = inl (refl, cc same)
+places [] (x ∷ other) row last rest tail same =
+    let first : x ≡ row = cc same in
+    inr (inl (record { more = other; is = ap (λ y. y ∷ other) first }))
+places (x ∷ one) [] row last rest tail same =
+    let first : x ≡ last = cc same in
+    inr (inr (record { more = one; is = ap (λ y. y ∷ one) first }))
+places (x ∷ one) (y ∷ other) row last rest tail same =
+    let first : x ≡ y = cc same in
+    let behind : one ++ row ∷ rest ≡ other ++ last ∷ tail = cc same in
+    elim (places one other row last rest tail behind) [
+      | inl both ↦ (let fronts : one ≡ other = both.0 in inl (cc (first, fronts), both.1))
+      | inr (inl longer) ↦ (let its : other ≡ one ++ row ∷ longer.more = longer.is in
+          inr (inl (record { more = longer.more; is = cc (first, its) })))
+      | inr (inr longer) ↦ (let its : one ≡ other ++ last ∷ longer.more = longer.is in
+          inr (inr (record { more = longer.more; is = cc (first, its) })))
+    ]
+
+abbrev pub Fronts : Type 0
+Fronts = (rows more : List Event) → IsReached (rows ++ more) → IsReached rows
+
+-- rows behind a row that isn't reached aren't either
+later : Fronts → (earlier front other : List Event) (row : Event) → Longer front row other
+    → (IsReached ((earlier ++ front) ++ row ∷ []) → ⊥) → IsReached (earlier ++ other) → ⊥
+later fronts earlier front other row longer not_reached reached =
+    not_reached (fronts ((earlier ++ front) ++ row ∷ []) longer.more
+    (subst IsReached
+    (ap (λ rows. earlier ++ rows) longer.is
+    ∙ (sym (append_assoc earlier front (row ∷ longer.more))
+    ∙ sym (append_assoc (earlier ++ front) (row ∷ []) longer.more)))
+    reached))
+
+pub one-of-rows : Fronts
+    → ((rows : List Event) (row : Event) (a b : Offence) → IsOffence rows row a
+    → IsOffence rows row b → a ≡ b)
+    → (earlier rows : List Event) (a b : Offence) → HasOffence earlier rows a
+    → HasOffence earlier rows b → a ≡ b
+one-of-rows fronts one earlier rows a b p q =
+    elim (places p.front q.front p.row q.row p.rest q.rest (sym p.parts ∙ q.parts)) [
+      | inl same ↦ one (earlier ++ q.front) q.row a b
+          (subst (λ row. IsOffence (earlier ++ q.front) row a) same.1
+          (subst (λ front. IsOffence (earlier ++ front) p.row a) same.0 p.is)) q.is
+      | inr (inl longer) ↦ absurd (later fronts earlier p.front q.front p.row longer
+          p.is.not_reached q.is.reached)
+      | inr (inr longer) ↦ absurd (later fronts earlier q.front p.front q.row longer
+          q.is.not_reached p.is.reached)
+    ]
