@@ -1,6 +1,7 @@
 pub mod Alone
 pub mod Asks
 pub mod Choosing
+pub mod Cuts
 pub mod Ends
 pub mod Following
 pub mod Joining

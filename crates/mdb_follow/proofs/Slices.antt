@@ -37,7 +37,7 @@ abbrev pub Fronts : Type 0
 Fronts = (rows more : List Event) → IsReached (rows ++ more) → IsReached rows
 
 -- rows behind a row that isn't reached aren't either
-later : Fronts → (earlier front other : List Event) (row : Event) → Longer front row other
+pub later : Fronts → (earlier front other : List Event) (row : Event) → Longer front row other
     → (IsReached ((earlier ++ front) ++ row ∷ []) → ⊥) → IsReached (earlier ++ other) → ⊥
 later fronts earlier front other row longer not_reached reached =
     not_reached (fronts ((earlier ++ front) ++ row ∷ []) longer.more

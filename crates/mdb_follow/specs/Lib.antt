@@ -15,5 +15,6 @@ pub mod Senders
 pub mod Sides
 pub mod Silences
 pub mod SilencesKept
+pub mod Slices
 pub mod Sums
 pub mod Tables

@@ -1,6 +1,6 @@
 //! What follows from the definitions of runs alone.
 
-ghost use Rattle.std.specs.Prelude.{◌≡◌, ◌↔◌, List, [], ◌∷◌, ◌++◌};
+ghost use Rattle.std.specs.Prelude.{◌≡◌, ◌↔◌, List, [], ◌∷◌, ◌++◌, Result};
 ghost use Rattle.mdb_words.specs.declared.event.Event.{Event};
 ghost use Rattle.mdb_bus.specs.ActLists.{ArePieces, Piece, acts_of};
 ghost use Rattle.mdb_bus.specs.Loss.{Loss, LossFits};
@@ -14,6 +14,7 @@ ghost use Rattle.mdb_follow.specs.Offences.{HasOffence, IsOffence};
 ghost use Rattle.mdb_follow.specs.Report.{IsReport};
 ghost use Rattle.mdb_follow.specs.Runs.{AllSums, HearSameAcks, IsReached, IsWay, States};
 ghost use Rattle.mdb_follow.specs.Sales.{SalesFollowApprovals};
+ghost use Rattle.mdb_follow.specs.Slices.{Tells, TellsInSlices, joined};
 
 use mdb_bus::laws;
 use mdb_cashless::laws as cashless_laws;
@@ -81,6 +82,22 @@ pub fn lists_have_one_offence()
 {
     fronts_of_reached_rows_are_reached();
     rows_have_one_offence();
+}
+
+/// However rows are cut into slices, a follower that is fed these one by one tells the same as one
+/// that is fed the whole, and it is one answer: the report on all rows, or the offence of one. What
+/// a follower tells of slices is so by the clauses of `Follower::feed_all` and `Follower::report`.
+pub fn cuts_change_no_answer()
+    ensures whole { (earlier : List Event) (slices : List (List Event))
+        (answer : Result Report Offence)
+        → TellsInSlices earlier slices answer ↔ Tells earlier (joined slices) answer }
+    ensures alike { (earlier : List Event) (one other : List (List Event))
+        (a b : Result Report Offence) → joined one ≡ joined other
+        → TellsInSlices earlier one a → TellsInSlices earlier other b → a ≡ b }
+{
+    fronts_of_reached_rows_are_reached();
+    rows_have_one_report();
+    lists_have_one_offence();
 }
 
 /// The rows that a follower stands for are reached.

@@ -1,0 +1,144 @@
+-- However rows are cut into slices, the same is told of them.
+use Rattle.std.proofs.Common.{sym, subst, ap, refl, ◌∙◌, ◌≡◌, ◌⊎◌, inl, inr}
+use Rattle.std.proofs.Common.{List, [], ◌∷◌, ◌++◌, append_assoc, append-nil, Result, Ok, Err}
+use Rattle.mdb_words.specs.declared.event.Event.{Event}
+use Rattle.mdb_follow.specs.declared.offence.Offence.{Offence}
+use Rattle.mdb_follow.specs.declared.report.Report.{Report}
+use Rattle.mdb_follow.specs.Offences.{HasOffence, IsOffence}
+use Rattle.mdb_follow.specs.Report.{IsReport}
+use Rattle.mdb_follow.specs.Slices.{Tells, TellsInSlices, joined}
+use Rattle.mdb_follow.proofs.Slices.{Fronts, Longer, later}
+
+-- a place in rows after a slice of them: what stands between the slice and the place
+record After (slice more front : List Event) (row : Event) (rest : List Event) : Type 0 where
+  between : List Event
+  front_is : front ≡ slice ++ between
+  more_is : more ≡ between ++ row ∷ rest
+
+-- a place in two lists joined is one in the first or one in the second
+parted : (slice more front : List Event) (row : Event) (rest : List Event)
+    → slice ++ more ≡ front ++ row ∷ rest → Longer front row slice ⊎ After slice more front row rest
+parted [] more front row rest same =
+    inr (record { between = front; front_is = refl; more_is = same })
+parted (x ∷ slice) more [] row rest same =
+    let first : x ≡ row = cc same in
+    inl (record { more = slice; is = ap (λ y. y ∷ slice) first })
+parted (x ∷ slice) more (y ∷ front) row rest same =
+    let first : x ≡ y = cc same in
+    let others : slice ++ more ≡ front ++ row ∷ rest = cc same in
+    elim (parted slice more front row rest others) [
+      | inl longer ↦ (let its : slice ≡ front ++ row ∷ longer.more = longer.is in
+          inl (record { more = longer.more; is = cc (first, its) }))
+      | inr place ↦ (let its : front ≡ slice ++ place.between = place.front_is in
+          inr (record {
+            between = place.between;
+            front_is = cc (first, its);
+            more_is = place.more_is;
+          }))
+    ]
+
+-- no row stands in an empty list
+not_empty : (front : List Event) (row : Event) (rest : List Event) → [] ≡ front ++ row ∷ rest → ⊥
+not_empty [] row rest same = absurd (cc same)
+not_empty (x ∷ front) row rest same = absurd (cc same)
+
+-- the offence of a slice is one of it and more
+with-more : (earlier slice more : List Event) (o : Offence) → HasOffence earlier slice o
+    → HasOffence earlier (slice ++ more) o
+with-more earlier slice more o p = record {
+  front = p.front;
+  row = p.row;
+  rest = p.rest ++ more;
+  parts = ap (λ rows. rows ++ more) p.parts ∙ append_assoc p.front (p.row ∷ p.rest) more;
+  is = p.is;
+}
+
+-- and so is that of what comes after the slice
+with-slice : (earlier slice more : List Event) (o : Offence) → HasOffence (earlier ++ slice) more o
+    → HasOffence earlier (slice ++ more) o
+with-slice earlier slice more o p = record {
+  front = slice ++ p.front;
+  row = p.row;
+  rest = p.rest;
+  parts = ap (λ rows. slice ++ rows) p.parts ∙ sym (append_assoc slice p.front (p.row ∷ p.rest));
+  is = subst (λ rows. IsOffence rows p.row o) (append_assoc earlier slice p.front) p.is;
+}
+
+-- there is no other
+either : (earlier slice more : List Event) (o : Offence) → HasOffence earlier (slice ++ more) o
+    → HasOffence earlier slice o ⊎ HasOffence (earlier ++ slice) more o
+either earlier slice more o p =
+    elim (parted slice more p.front p.row p.rest p.parts) [
+      | inl longer ↦ inl (record {
+        front = p.front;
+        row = p.row;
+        rest = longer.more;
+        parts = longer.is;
+        is = p.is;
+      })
+      | inr place ↦ inr (record {
+        front = place.between;
+        row = p.row;
+        rest = p.rest;
+        parts = place.more_is;
+        is = subst (λ rows. IsOffence rows p.row o)
+            (ap (λ front. earlier ++ front) place.front_is
+            ∙ sym (append_assoc earlier slice place.between)) p.is;
+      })
+    ]
+
+-- what is told of slices is told of the whole
+pub whole : (earlier : List Event) (slices : List (List Event)) (answer : Result Report Offence)
+    → TellsInSlices earlier slices answer → Tells earlier (joined slices) answer
+whole earlier [] (Ok report) told =
+    subst (λ rows. IsReport rows report) (sym (append-nil earlier)) told
+whole earlier [] (Err offence) told = absurd told
+whole earlier (slice ∷ slices) (Ok report) told =
+    subst (λ rows. IsReport rows report) (append_assoc earlier slice (joined slices))
+    (whole (earlier ++ slice) slices (Ok report) told.1)
+whole earlier (slice ∷ slices) (Err offence) (inl p) =
+    with-more earlier slice (joined slices) offence p
+whole earlier (slice ∷ slices) (Err offence) (inr p) =
+    with-slice earlier slice (joined slices) offence
+    (whole (earlier ++ slice) slices (Err offence) p.1)
+
+-- and what is told of the whole is told of the slices
+pub in-slices : Fronts → (earlier : List Event) (slices : List (List Event))
+    (answer : Result Report Offence) → Tells earlier (joined slices) answer
+    → TellsInSlices earlier slices answer
+in-slices fronts earlier [] (Ok report) told =
+    subst (λ rows. IsReport rows report) (append-nil earlier) told
+in-slices fronts earlier [] (Err offence) told =
+    not_empty told.front told.row told.rest told.parts
+in-slices fronts earlier (slice ∷ slices) (Ok report) told =
+    let longer : IsReport ((earlier ++ slice) ++ joined slices) report
+    = subst (λ rows. IsReport rows report) (sym (append_assoc earlier slice (joined slices))) told in (
+      fronts (earlier ++ slice) (joined slices) longer.reached,
+      in-slices fronts (earlier ++ slice) slices (Ok report) longer,
+    )
+in-slices fronts earlier (slice ∷ slices) (Err offence) told =
+    elim (either earlier slice (joined slices) offence told) [
+      | inl p ↦ inl p
+      | inr p ↦ inr (
+        fronts (earlier ++ slice) p.front p.is.reached,
+        in-slices fronts (earlier ++ slice) slices (Err offence) p,
+      )
+    ]
+
+-- one answer is told of rows
+pub one-answer : Fronts
+    → ((rows : List Event) (a b : Report) → IsReport rows a → IsReport rows b → a ≡ b)
+    → ((earlier rows : List Event) (a b : Offence) → HasOffence earlier rows a
+    → HasOffence earlier rows b → a ≡ b)
+    → (earlier rows : List Event) (a b : Result Report Offence) → Tells earlier rows a
+    → Tells earlier rows b → a ≡ b
+one-answer fronts reports offences earlier rows (Ok a) (Ok b) p q =
+    ap Ok (reports (earlier ++ rows) a b p q)
+one-answer fronts reports offences earlier rows (Err a) (Err b) p q =
+    ap Err (offences earlier rows a b p q)
+one-answer fronts reports offences earlier rows (Ok a) (Err b) p q =
+    absurd (later fronts earlier q.front rows q.row (record { more = q.rest; is = q.parts })
+    q.is.not_reached p.reached)
+one-answer fronts reports offences earlier rows (Err a) (Ok b) p q =
+    absurd (later fronts earlier p.front rows p.row (record { more = p.rest; is = p.parts })
+    p.is.not_reached q.reached)
