@@ -1,4 +1,4 @@
-use Rattle.std.proofs.Common.{◌≡◌, ◌↔◌, ◌⊎◌, inl, inr, ℕ, Bool, true, false, List, Option, Some, None, IfSome, subst}
+use Rattle.std.proofs.Common.{◌≡◌, ◌↔◌, ◌⊎◌, inl, inr, ℕ, Bool, true, false, List, Option, Some, IfSome, subst}
 use Rattle.std.specs.List.{Contains}
 use Rattle.mdb_msgs.specs.declared.command.Device.{Device}
 use Rattle.mdb_bus.specs.declared.act.Act.{Act}
