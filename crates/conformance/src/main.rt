@@ -1,8 +1,10 @@
 //! Runs the program `mdbcheck` on each worked case of its folder, prints each that doesn't come
 //! out as it is wanted, and at the end how many there are. `data/README` says how a case is
-//! written. Then it gives a recording to the follower in two pieces (`cuts`).
+//! written. Then it gives a recording to the follower in two pieces (`cuts`), and makes calls of the
+//! libraries (`calls`).
 #![tactic(auto)]
 
+mod calls;
 mod cuts;
 
 use std::alloc::{AllocError, Global};
@@ -247,5 +249,6 @@ fn main(rt: HostRuntime) -> io::Result<()> {
         0 => println!(rt; "{cases} cases, each as wanted")?,
         differing => println!(rt; "{cases} cases, and {differing} that differ")?,
     }
-    cuts::run(&rt)
+    cuts::run(&rt)?;
+    calls::run(&rt)
 }

@@ -1,0 +1,349 @@
+//! Calls of the libraries below: blocks, commands, replies, and a check within limits.
+
+use arrayvec::ArrayVec;
+use mdb_blocks::{Answer, Block, BlockFault, seal, unseal};
+use mdb_check::{BYTES_MAX, Outcome, ROWS_MAX, RunFault, check_within};
+use mdb_msgs::{
+    BillCommand, BillMsg, ChangerCommand, ChangerMsg, ChangerSetup, Command, Device, MsgFault,
+    Need, ReaderCommand, ReaderList, ReaderMsg, ReaderUnit, Reply, need_of, read_command,
+    read_reply, write_command, write_reply,
+};
+use mdb_words::Line;
+use std::alloc::Global;
+use std::io;
+
+const COIN_TYPE: Command = Command::Changer(ChangerCommand::CoinType {
+    enable: 7,
+    manual: 7,
+});
+
+const CHANGER_SETUP: Command = Command::Changer(ChangerCommand::Setup);
+
+const CHANGER_POLL: Command = Command::Changer(ChangerCommand::Poll);
+
+const BILL_SETUP: Command = Command::Bill(BillCommand::Setup);
+
+const BILL_POLL: Command = Command::Bill(BillCommand::Poll);
+
+const READER_POLL: Command = Command::Reader(ReaderUnit::First, ReaderCommand::Poll);
+
+const READER_ENABLE: Command = Command::Reader(ReaderUnit::First, ReaderCommand::Enable);
+
+const REQUEST: Command = Command::Reader(
+    ReaderUnit::First,
+    ReaderCommand::VendRequest { price: 10, item: 5 },
+);
+
+const SECOND_REQUEST: Command = Command::Reader(
+    ReaderUnit::Second,
+    ReaderCommand::VendRequest { price: 10, item: 5 },
+);
+
+const REQUEST_BLOCK: [u8; 7] = [0x13, 0x00, 0x00, 0x0A, 0x00, 0x05, 0x22];
+
+const SECOND_REQUEST_BLOCK: [u8; 7] = [0x63, 0x00, 0x00, 0x0A, 0x00, 0x05, 0x72];
+
+/// A changer's RESET and the POLL that tells of it: 8 rows of 93 bytes.
+const RESET_AND_POLL: &[u8] = b"1000,M,108\n2200,M,008\n4200,S,100\n24200,M,10B\n25400,M,00B\n\
+    27400,S,00B\n28600,S,10B\n30600,M,000\n";
+
+/// How many calls there were, and how many of them answered otherwise than wanted.
+#[derive(Clone, Copy, Drop)]
+struct Calls {
+    tried: u64,
+    differing: u64,
+}
+
+impl Calls {
+    /// Counts a call, and prints one that answered otherwise than wanted.
+    fn count(&mut self, rt: &HostRuntime, name: &str, is_as_wanted: bool) -> io::Result<()> {
+        self.tried = self.tried.saturating_add(1);
+        if !is_as_wanted {
+            println!(rt; "{name} {}: otherwise than wanted", self.tried)?;
+            self.differing = self.differing.saturating_add(1);
+        }
+        Ok(())
+    }
+}
+
+/// Whether a block, or the fault instead of one, is the wanted one.
+fn is_block(block: &Result<Block, BlockFault>, wanted: &Result<&[u8], BlockFault>) -> bool {
+    match (block, wanted) {
+        (Ok(block), Ok(bytes)) => block.bytes() == *bytes,
+        (Err(fault), Err(wanted)) => fault == wanted,
+        _ => false,
+    }
+}
+
+/// Blocks have 1 to 35 bytes and their sum.
+fn blocks(rt: &HostRuntime, calls: &mut Calls) -> io::Result<()> {
+    let content = [7; 36];
+    let mut longest = [7; 36];
+    longest[35] = 0xF5;
+    let sealed: [(&[u8], Result<&[u8], BlockFault>); 4] = [
+        (&[], Err(BlockFault::Empty)),
+        (&[0xFF, 0x02], Ok(&[0xFF, 0x02, 0x01])),
+        (&content[..35], Ok(&longest)),
+        (&content, Err(BlockFault::TooLong)),
+    ];
+    for (bytes, wanted) in &sealed {
+        calls.count(rt, "seal", is_block(&seal(bytes), wanted))?;
+    }
+    let unsealed: [(&[u8], Result<&[u8], BlockFault>); 4] = [
+        (&[0x05], Err(BlockFault::Empty)),
+        (&[0x05, 0x05], Ok(&[0x05, 0x05])),
+        (&[0x05, 0x06], Err(BlockFault::BadSum)),
+        (&[0x00; 37], Err(BlockFault::TooLong)),
+    ];
+    for (bytes, wanted) in &unsealed {
+        calls.count(rt, "unseal", is_block(&unseal(bytes), wanted))?;
+    }
+    Ok(())
+}
+
+/// A block marks one word: the controller its first, a peripheral its last.
+fn marks(rt: &HostRuntime, calls: &mut Calls) -> io::Result<()> {
+    let Ok(block) = seal(&[0x0B, 0x01]) else {
+        return calls.count(rt, "marks", false);
+    };
+    let words = [
+        (0x0B, true, false),
+        (0x01, false, false),
+        (0x0C, false, true),
+    ];
+    for (place, (byte, is_first, is_last)) in words.iter().enumerate() {
+        let sent = block.word(Line::Controller, place);
+        let answered = block.word(Line::Peripheral, place);
+        let is_sent = sent.byte() == *byte && sent.marked() == *is_first;
+        let is_answered = answered.byte() == *byte && answered.marked() == *is_last;
+        calls.count(rt, "marks", is_sent && is_answered)?;
+    }
+    let answers = [Answer::Ack, Answer::Nak, Answer::Ret];
+    calls.count(
+        rt,
+        "answers",
+        answers.map(Answer::byte) == [0x00, 0xFF, 0xAA],
+    )?;
+    let read = [0x00, 0xFF, 0xAA, 0x01].map(Answer::of);
+    let [ack, nak, ret] = answers.map(Some);
+    calls.count(rt, "answers", read == [ack, nak, ret, None])
+}
+
+/// The first bytes tell how many a command has.
+fn needs(rt: &HostRuntime, calls: &mut Calls) -> io::Result<()> {
+    let needs: [(&[u8], Need); 12] = [
+        (&[0x13], Need::More),
+        (&[0x13, 0x00], Need::Exactly(7)),
+        (&[0x0F, 0x05], Need::Foreign),
+        (&[0x0F, 0x02], Need::Outside),
+        (&[0x0E], Need::Outside),
+        (&[0x60], Need::Exactly(2)),
+        (&[0x61], Need::More),
+        (&[0x61, 0x02], Need::Outside),
+        (&[0x65], Need::Outside),
+        (&[0x67, 0x00], Need::Exactly(32)),
+        (&[0x67, 0x01], Need::Foreign),
+        (&[0x68], Need::Foreign),
+    ];
+    for (bytes, need) in &needs {
+        calls.count(rt, "need_of", need_of(bytes) == *need)?;
+    }
+    Ok(())
+}
+
+/// What reading the command of a block's bytes answers, or None where they are no block.
+fn command_of(bytes: &[u8]) -> Option<Result<Command, MsgFault>> {
+    Some(read_command(&unseal(bytes).ok()?))
+}
+
+/// Whole commands alone are read, and written as their blocks.
+fn commands(rt: &HostRuntime, calls: &mut Calls) -> io::Result<()> {
+    let read: [(&[u8], Result<Command, MsgFault>); 8] = [
+        (&[0x08, 0x08], Ok(Command::Changer(ChangerCommand::Reset))),
+        (&REQUEST_BLOCK, Ok(REQUEST)),
+        (&[0x08, 0x00, 0x08], Err(MsgFault::Length)),
+        (&[0x0E, 0x0E], Err(MsgFault::Profile)),
+        (&[0x0F, 0x05, 0x14], Err(MsgFault::Profile)),
+        (&SECOND_REQUEST_BLOCK, Ok(SECOND_REQUEST)),
+        (&[0x62, 0x00, 0x62], Err(MsgFault::Length)),
+        (&[0x65, 0x65], Err(MsgFault::Profile)),
+    ];
+    for (bytes, command) in &read {
+        calls.count(rt, "read_command", command_of(bytes) == Some(*command))?;
+    }
+    let written: [(Command, &[u8], Device); 2] = [
+        (REQUEST, &REQUEST_BLOCK, Device::Cashless),
+        (SECOND_REQUEST, &SECOND_REQUEST_BLOCK, Device::Cashless2),
+    ];
+    for (command, bytes, device) in &written {
+        let is_written = write_command(command).bytes() == *bytes;
+        calls.count(
+            rt,
+            "write_command",
+            is_written && command.device() == *device,
+        )?;
+    }
+    Ok(())
+}
+
+/// What reading data bytes as the answer to a command gives, or None where they are no block.
+fn reply_to(command: &Command, data: &[u8]) -> Option<Result<Reply, MsgFault>> {
+    Some(read_reply(command, &seal(data).ok()?))
+}
+
+/// Reading a reply tells the first fault.
+fn replies(rt: &HostRuntime, calls: &mut Calls) -> io::Result<()> {
+    let faults: [(Command, &[u8], MsgFault); 16] = [
+        (CHANGER_POLL, &[0x52], MsgFault::Message),
+        (CHANGER_POLL, &[0x60], MsgFault::Message),
+        (CHANGER_POLL, &[0x00; 17], MsgFault::Length),
+        (CHANGER_POLL, &[0x1B], MsgFault::Profile),
+        (CHANGER_SETUP, &[0x00; 6], MsgFault::Length),
+        (COIN_TYPE, &[0x00; 6], MsgFault::Answer),
+        (COIN_TYPE, &[0x1B], MsgFault::Answer),
+        (BILL_POLL, &[0xB0], MsgFault::Profile),
+        (BILL_POLL, &[0xB0, 0x60], MsgFault::Profile),
+        (BILL_POLL, &[0x60, 0xB0], MsgFault::Message),
+        (BILL_SETUP, &[0x01; 11], MsgFault::Message),
+        (READER_ENABLE, &[0x05, 0x00, 0x0A], MsgFault::Answer),
+        (READER_ENABLE, &[0x05, 0x00, 0x0A, 0x0C], MsgFault::Profile),
+        (READER_POLL, &[0x0C], MsgFault::Profile),
+        (READER_POLL, &[0x02], MsgFault::Message),
+        (READER_POLL, &[0x02; 35], MsgFault::Message),
+    ];
+    for (command, data, fault) in &faults {
+        let is_refused = reply_to(command, data) == Some(Err(*fault));
+        calls.count(rt, "read_reply", is_refused)?;
+    }
+    let bare = ReaderList::new(&[ReaderMsg::Display { time: 5 }], &[0; 29], &[]);
+    let is_bare = match bare {
+        Ok(list) => reply_to(&READER_POLL, &[0x02, 0x05]) == Some(Ok(Reply::Reader(list))),
+        Err(_) => false,
+    };
+    calls.count(rt, "read_reply", is_bare)
+}
+
+/// A changer's SETUP reply with no credits.
+fn changer_setup() -> Reply {
+    Reply::ChangerSetup(ChangerSetup {
+        level: 2,
+        code: 1,
+        scaling: 5,
+        decimals: 2,
+        routing: 7,
+        credits: ArrayVec::new(),
+    })
+}
+
+/// A validator's POLL reply of one message.
+fn bill_poll(message: BillMsg) -> Reply {
+    let mut list = ArrayVec::new();
+    list.push(message);
+    Reply::BillPoll(list)
+}
+
+/// Whether a reply is written as a block of these bytes.
+fn is_written(command: &Command, reply: &Reply, bytes: &[u8]) -> bool {
+    match write_reply(command, reply) {
+        Ok(block) => block.bytes() == bytes,
+        Err(_) => false,
+    }
+}
+
+/// Writing a reply tells the first fault.
+fn written_replies(rt: &HostRuntime, calls: &mut Calls) -> io::Result<()> {
+    let no_message = Reply::ChangerPoll(ArrayVec::new());
+    let faults = [
+        (COIN_TYPE, changer_setup(), MsgFault::Answer),
+        (CHANGER_POLL, no_message, MsgFault::Length),
+        (CHANGER_POLL, bill_poll(BillMsg::Reset), MsgFault::Message),
+        (
+            BILL_POLL,
+            bill_poll(BillMsg::Stacked(16)),
+            MsgFault::Message,
+        ),
+        (
+            BILL_POLL,
+            bill_poll(BillMsg::Status(0x1B)),
+            MsgFault::Message,
+        ),
+    ];
+    for (command, reply, fault) in &faults {
+        let is_refused = write_reply(command, reply).err() == Some(*fault);
+        calls.count(rt, "write_reply", is_refused)?;
+    }
+    let setup = [0x02, 0x00, 0x01, 0x05, 0x02, 0x00, 0x07, 0x11];
+    calls.count(
+        rt,
+        "write_reply",
+        is_written(&CHANGER_SETUP, &changer_setup(), &setup),
+    )?;
+    let mut list = ArrayVec::new();
+    list.push(ChangerMsg::Slugs(31));
+    let slugs = Reply::ChangerPoll(list);
+    calls.count(
+        rt,
+        "write_reply",
+        is_written(&CHANGER_POLL, &slugs, &[0x3F, 0x3F]),
+    )?;
+    match ReaderList::new(&[ReaderMsg::VendDenied], &[0; 29], &[]) {
+        Ok(denied) => {
+            let fault = write_reply(&READER_ENABLE, &Reply::Reader(denied)).err();
+            calls.count(rt, "write_reply", fault == Some(MsgFault::Answer))
+        }
+        Err(_) => calls.count(rt, "write_reply", false),
+    }
+}
+
+/// What a check within limits answers: the rows of a yes, or the fault; None for a no.
+fn within(alloc: Global, text: &[u8], rows: u64, bytes: u64) -> Option<Result<u64, RunFault>> {
+    let mut out = Vec::new(alloc);
+    match check_within(
+        alloc,
+        text,
+        &mut out,
+        rows.min(ROWS_MAX),
+        bytes.min(BYTES_MAX),
+    ) {
+        Ok(Outcome::Yes(report)) => Some(Ok(report.rows)),
+        Ok(Outcome::No(_)) => None,
+        Err(fault) => Some(Err(fault)),
+    }
+}
+
+/// A check ends at the first row or byte that its limits don't allow.
+fn limits(rt: &HostRuntime, calls: &mut Calls) -> io::Result<()> {
+    let checks: [(&[u8], u64, u64, Result<u64, RunFault>); 5] = [
+        (RESET_AND_POLL, 8, BYTES_MAX, Ok(8)),
+        (RESET_AND_POLL, 7, BYTES_MAX, Err(RunFault::TooLong)),
+        (RESET_AND_POLL, ROWS_MAX, 93, Ok(8)),
+        (RESET_AND_POLL, ROWS_MAX, 92, Err(RunFault::Read)),
+        (b"x", 0, BYTES_MAX, Err(RunFault::TooLong)),
+    ];
+    for (text, rows, bytes, wanted) in &checks {
+        let answer = within(rt.alloc(), text, *rows, *bytes);
+        calls.count(rt, "check_within", answer == Some(*wanted))?;
+    }
+    Ok(())
+}
+
+/// Makes the calls, prints each that answers otherwise than wanted, and at the end how many there
+/// are.
+pub fn run(rt: &HostRuntime) -> io::Result<()> {
+    let mut calls = Calls {
+        tried: 0,
+        differing: 0,
+    };
+    blocks(rt, &mut calls)?;
+    marks(rt, &mut calls)?;
+    needs(rt, &mut calls)?;
+    commands(rt, &mut calls)?;
+    replies(rt, &mut calls)?;
+    written_replies(rt, &mut calls)?;
+    limits(rt, &mut calls)?;
+    let tried = calls.tried;
+    match calls.differing {
+        0 => println!(rt; "{tried} calls, each answered as wanted"),
+        differing => println!(rt; "{tried} calls, and {differing} answered otherwise"),
+    }
+}
