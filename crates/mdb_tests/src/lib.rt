@@ -4,11 +4,7 @@
 #![tactic(auto)]
 
 #[cfg(test)]
-mod blocks;
-#[cfg(test)]
 mod checking;
-#[cfg(test)]
-mod commands;
 #[cfg(test)]
 mod events;
 #[cfg(test)]

@@ -3,32 +3,19 @@
 use arrayvec::ArrayVec;
 use mdb_blocks::seal;
 use mdb_msgs::{
-    BillCommand, BillMsg, ChangerCommand, ChangerMsg, ChangerSetup, Command, MsgFault,
-    ReaderCommand, ReaderList, ReaderMsg, ReaderUnit, Reply, read_reply, write_reply,
+    BillCommand, ChangerCommand, ChangerSetup, Command, MsgFault, ReaderCommand, ReaderList,
+    ReaderMsg, ReaderUnit, Reply, read_reply, write_reply,
 };
 
 const CHANGER_SETUP: Command = Command::Changer(ChangerCommand::Setup);
 
 const CHANGER_POLL: Command = Command::Changer(ChangerCommand::Poll);
 
-const COIN_TYPE: Command = Command::Changer(ChangerCommand::CoinType {
-    enable: 7,
-    manual: 7,
-});
-
 const BILL_SETUP: Command = Command::Bill(BillCommand::Setup);
 
 const BILL_POLL: Command = Command::Bill(BillCommand::Poll);
 
 const READER_POLL: Command = Command::Reader(ReaderUnit::First, ReaderCommand::Poll);
-
-const READER_ENABLE: Command = Command::Reader(ReaderUnit::First, ReaderCommand::Enable);
-
-/// What the reading of data bytes answers, without the reply.
-fn fault_of(command: &Command, bytes: &[u8]) -> Option<MsgFault> {
-    let block = seal(bytes).ok()?;
-    read_reply(command, &block).err()
-}
 
 /// Whether data bytes are read, and written again as the same block.
 fn is_kept(command: &Command, bytes: &[u8]) -> bool {
@@ -41,35 +28,6 @@ fn is_kept(command: &Command, bytes: &[u8]) -> bool {
     match write_reply(command, &reply.copy()) {
         Ok(again) => again.bytes() == block.bytes(),
         Err(_) => false,
-    }
-}
-
-#[test]
-fn reading_refuses_the_first_fault(rt: HostRuntime) {
-    let cases: [(&Command, &[u8], MsgFault); 16] = [
-        (&CHANGER_POLL, &[0x52], MsgFault::Message),
-        (&CHANGER_POLL, &[0x60], MsgFault::Message),
-        (&CHANGER_POLL, &[0x00; 17], MsgFault::Length),
-        (&CHANGER_POLL, &[0x1B], MsgFault::Profile),
-        (&CHANGER_SETUP, &[0x00; 6], MsgFault::Length),
-        (&COIN_TYPE, &[0x00; 6], MsgFault::Answer),
-        (&COIN_TYPE, &[0x1B], MsgFault::Answer),
-        (&BILL_POLL, &[0xB0], MsgFault::Profile),
-        (&BILL_POLL, &[0xB0, 0x60], MsgFault::Profile),
-        (&BILL_POLL, &[0x60, 0xB0], MsgFault::Message),
-        (&BILL_SETUP, &[0x01; 11], MsgFault::Message),
-        (&READER_ENABLE, &[0x05, 0x00, 0x0A], MsgFault::Answer),
-        (&READER_ENABLE, &[0x05, 0x00, 0x0A, 0x0C], MsgFault::Profile),
-        (&READER_POLL, &[0x0C], MsgFault::Profile),
-        (&READER_POLL, &[0x02], MsgFault::Message),
-        (&READER_POLL, &[0x02; 35], MsgFault::Message),
-    ];
-    for (command, bytes, fault) in &cases {
-        assert_eq!(rt;
-            fault_of(command, bytes),
-            Some(*fault),
-            "{command:?}, {bytes:?}"
-        );
     }
 }
 
@@ -270,56 +228,4 @@ fn a_list_tells_what_it_was_made_of(rt: HostRuntime) {
     );
     assert_eq!(rt; bare.id(), [0; 29]);
     assert!(rt; bare.text().is_empty());
-}
-
-#[test]
-fn a_display_request_needs_no_text(rt: HostRuntime) {
-    let block = seal(&[0x02, 0x05]).expect(&rt, "a block");
-    let shown = ReaderMsg::Display { time: 5 };
-    let list = list_with(&[shown], &[]).expect(&rt, "a list");
-    assert_eq!(rt; read_reply(&READER_POLL, &block), Ok(Reply::Reader(list)));
-}
-
-/// A validator's POLL answer of one message.
-fn bill_poll(message: BillMsg) -> Reply {
-    let mut list = ArrayVec::new();
-    list.push(message);
-    Reply::BillPoll(list)
-}
-
-#[test]
-fn writing_refuses_the_first_fault(rt: HostRuntime) {
-    let denied = list_with(&[ReaderMsg::VendDenied], &[]).expect(&rt, "a list");
-    let cases = [
-        (&COIN_TYPE, setup_with(&[]), MsgFault::Answer),
-        (
-            &CHANGER_POLL,
-            Reply::ChangerPoll(ArrayVec::new()),
-            MsgFault::Length,
-        ),
-        (&CHANGER_POLL, setup_with(&[0; 16]), MsgFault::Length),
-        (&CHANGER_POLL, bill_poll(BillMsg::Reset), MsgFault::Message),
-        (
-            &BILL_POLL,
-            bill_poll(BillMsg::Stacked(16)),
-            MsgFault::Message,
-        ),
-        (
-            &BILL_POLL,
-            bill_poll(BillMsg::Status(0x1B)),
-            MsgFault::Message,
-        ),
-        (&READER_ENABLE, Reply::Reader(denied), MsgFault::Answer),
-    ];
-    for (command, reply, fault) in &cases {
-        assert_eq!(rt;
-            write_reply(command, reply).err(),
-            Some(*fault),
-            "{command:?}, {reply:?}"
-        );
-    }
-    let slugs = ChangerMsg::Slugs(31);
-    let mut list = ArrayVec::new();
-    list.push(slugs);
-    assert!(rt; write_reply(&CHANGER_POLL, &Reply::ChangerPoll(list)).is_ok());
 }
