@@ -1,7 +1,8 @@
-//! What no contract says: that a call can answer at all, the faults of readers and writers, and the
+//! What no contract says: that a call can answer at all, which faults come before which, and the
 //! program's words.
 
-use super::streams::{CALLS, CUT_SHORT, Counter, POLLS, Pieces, ROWS, Sheet, WRONG_SUM, words_of};
+use super::asserts::{same, same_at};
+use super::streams::{CUT_SHORT, Counter, POLLS, Pieces, ROWS, Sheet, WRONG_SUM, words_of};
 use mdb_check::{
     Account, Blame, Offence, Outcome, Range, Report, Rule, RunFault, check, run, text_of,
 };
@@ -10,7 +11,7 @@ use std::io::{ErrorKind, Write};
 use std::test::Fail;
 
 /// The report on `ROWS`.
-const REPORT: &[u8] = b"verdict yes\nrows 8\n\
+pub(crate) const REPORT: &[u8] = b"verdict yes\nrows 8\n\
 decimals changer - bill - cashless - cashless-2 -\n\
 coins-in device 0..0 controller 0..0 difference 0..0\n\
 bills-in device 0..0 controller 0..0 difference 0..0\n\
@@ -35,8 +36,8 @@ fn rows_of(answer: Result<Outcome, RunFault>) -> Option<u64> {
 #[test]
 fn answers_yes_and_no(rt: HostRuntime) {
     let mut out = Vec::new(rt.alloc());
-    assert_eq!(rt; rows_of(check(rt.alloc(), ROWS, &mut out)), Some(8));
-    assert_eq!(rt; out.as_slice(), REPORT);
+    same(&rt, rows_of(check(rt.alloc(), ROWS, &mut out)), Some(8));
+    same(&rt, out.as_slice(), REPORT);
 
     let mut out = Vec::new(rt.alloc());
     let offence = Offence {
@@ -44,11 +45,12 @@ fn answers_yes_and_no(rt: HostRuntime) {
         rule: Rule::Sum,
         blame: Blame::Changer,
     };
-    assert_eq!(rt;
+    same(
+        &rt,
         check(rt.alloc(), WRONG_SUM, &mut out),
-        Ok(Outcome::No(offence))
+        Ok(Outcome::No(offence)),
     );
-    assert_eq!(rt; out.as_slice(), WRONG_SUM_REPORT);
+    same(&rt, out.as_slice(), WRONG_SUM_REPORT);
 }
 
 /// An account of the ends of its ranges: the device's, the controller's and the difference's.
@@ -88,9 +90,10 @@ sold device 20..29 controller 21..30 difference 22..31\n\
 approved-2 device 30..39 controller 31..40 difference 32..41\n\
 sold-2 device 40..49 controller 41..50 difference 42..51\n\
 silences changer 1 bill 22 cashless 0 cashless-2 4294967296\n";
-    assert_eq!(rt;
+    same(
+        &rt,
         text_of(rt.alloc(), &Outcome::Yes(report))?.as_slice(),
-        text
+        text,
     );
     Ok(())
 }
@@ -107,7 +110,7 @@ fn follows_a_long_recording_to_its_end(rt: HostRuntime) -> Result<(), Fail> {
     }
     let mut out = Vec::new(rt.alloc());
     let answer = check(rt.alloc(), text.as_slice(), &mut out);
-    assert_eq!(rt; rows_of(answer), Some(3 * POLLS));
+    same(&rt, rows_of(answer), Some(3 * POLLS));
     Ok(())
 }
 
@@ -119,55 +122,8 @@ fn refuses_a_bad_row(rt: HostRuntime) {
         row: 1,
         fault: RowFault::BadValue,
     };
-    assert_eq!(rt; check(rt.alloc(), text, &mut out), Err(fault));
+    same(&rt, check(rt.alloc(), text, &mut out), Err(fault));
     assert!(rt; out.is_empty());
-}
-
-#[test]
-fn reads_a_text_in_pieces(rt: HostRuntime) {
-    for most in [1, 2, 7] {
-        let mut out = Vec::new(rt.alloc());
-        let answer = check(rt.alloc(), Pieces::new(ROWS, most), &mut out);
-        assert_eq!(rt; rows_of(answer), Some(8), "{most} bytes at a time");
-        assert_eq!(rt; out.as_slice(), REPORT, "{most} bytes at a time");
-    }
-}
-
-#[test]
-fn a_failed_read_is_told(rt: HostRuntime) {
-    for kind in [ErrorKind::BrokenPipe, ErrorKind::Interrupted] {
-        let mut untouched = false;
-        for failing in 1..CALLS {
-            let mut out = Vec::new(rt.alloc());
-            let mut reader = Pieces::failing(ROWS, 7, failing, kind);
-            let answer = check(rt.alloc(), &mut reader, &mut out);
-            if !reader.has_failed() {
-                assert_eq!(rt; rows_of(answer), Some(8));
-                untouched = true;
-                break;
-            }
-            assert_eq!(rt; answer, Err(RunFault::Read), "at read {failing}");
-            assert!(rt; out.is_empty(), "at read {failing}");
-        }
-        assert!(rt; untouched);
-    }
-}
-
-#[test]
-fn a_failed_write_is_told(rt: HostRuntime) {
-    let mut untouched = false;
-    for failing in 1..CALLS {
-        let mut out = Sheet::failing(rt.alloc(), failing);
-        let answer = check(rt.alloc(), ROWS, &mut out);
-        if !out.has_failed() {
-            assert_eq!(rt; rows_of(answer), Some(8));
-            assert_eq!(rt; out.text.as_slice(), REPORT);
-            untouched = true;
-            break;
-        }
-        assert_eq!(rt; answer, Err(RunFault::Write), "at write {failing}");
-    }
-    assert!(rt; untouched);
 }
 
 #[test]
@@ -178,8 +134,8 @@ fn a_report_is_one_write(rt: HostRuntime) {
             writes: 0,
         };
         assert!(rt; check(rt.alloc(), rows, &mut out).is_ok());
-        assert_eq!(rt; out.text.as_slice(), report);
-        assert_eq!(rt; out.writes, 1);
+        same(&rt, out.text.as_slice(), report);
+        same(&rt, out.writes, 1);
     }
 }
 
@@ -199,7 +155,7 @@ fn texts_of_faults(rt: HostRuntime) -> Result<(), Fail> {
         (RunFault::Write, "the output can't be written"),
         (RunFault::Memory, "out of memory"),
     ] {
-        assert_eq!(rt; format!(in rt.alloc(); "{fault}")?.as_str(), text);
+        same(&rt, format!(in rt.alloc(); "{fault}")?.as_str(), text);
     }
     Ok(())
 }
@@ -210,20 +166,22 @@ fn faults_of_the_program_are_told_on_one_line(rt: HostRuntime) -> Result<(), Fai
     let mut out = Vec::new(rt.alloc());
     let mut err = Vec::new(rt.alloc());
     let reader = Pieces::failing(ROWS, 7, 2, ErrorKind::BrokenPipe);
-    assert_eq!(rt; run(rt.alloc(), words, reader, &mut out, &mut err), 2);
+    same(&rt, run(rt.alloc(), words, reader, &mut out, &mut err), 2);
     assert!(rt; out.is_empty());
-    assert_eq!(rt;
+    same(
+        &rt,
         err.as_slice(),
-        b"mdbcheck: the input can't be read, or has more than 6400000000 bytes\n".as_slice()
+        b"mdbcheck: the input can't be read, or has more than 6400000000 bytes\n".as_slice(),
     );
 
     let words = words_of(rt.alloc(), &["mdbcheck", "check"])?;
     let mut out = Sheet::failing(rt.alloc(), 1);
     let mut err = Vec::new(rt.alloc());
-    assert_eq!(rt; run(rt.alloc(), words, ROWS, &mut out, &mut err), 2);
-    assert_eq!(rt;
+    same(&rt, run(rt.alloc(), words, ROWS, &mut out, &mut err), 2);
+    same(
+        &rt,
         err.as_slice(),
-        b"mdbcheck: the output can't be written\n".as_slice()
+        b"mdbcheck: the output can't be written\n".as_slice(),
     );
     Ok(())
 }
@@ -244,9 +202,10 @@ fn an_offence_ends_the_reading(rt: HostRuntime) {
     for (text, most, failing) in [(short, 8, 3), (AT_ONCE, 80, 3)] {
         let mut out = Vec::new(rt.alloc());
         let mut reader = Pieces::failing(text, most, failing, ErrorKind::BrokenPipe);
-        assert_eq!(rt;
+        same(
+            &rt,
             check(rt.alloc(), &mut reader, &mut out),
-            Ok(Outcome::No(offence))
+            Ok(Outcome::No(offence)),
         );
         assert!(rt; !reader.has_failed());
     }
@@ -261,9 +220,10 @@ fn an_offence_comes_before_a_failed_read(rt: HostRuntime) {
         rule: Rule::Speaker,
         blame: Blame::Other,
     };
-    assert_eq!(rt;
+    same(
+        &rt,
         check(rt.alloc(), &mut reader, &mut out),
-        Ok(Outcome::No(offence))
+        Ok(Outcome::No(offence)),
     );
     assert!(rt; reader.has_failed());
 }
@@ -274,8 +234,12 @@ fn statuses_of_check(rt: HostRuntime) -> Result<(), Fail> {
         let words = words_of(rt.alloc(), &["mdbcheck", "check"])?;
         let mut out = Vec::new(rt.alloc());
         let mut err = Vec::new(rt.alloc());
-        assert_eq!(rt; run(rt.alloc(), words, text, &mut out, &mut err), status);
-        assert_eq!(rt; out.as_slice(), report);
+        same(
+            &rt,
+            run(rt.alloc(), words, text, &mut out, &mut err),
+            status,
+        );
+        same(&rt, out.as_slice(), report);
         assert!(rt; err.is_empty(), "at status {status}");
     }
     Ok(())
@@ -298,13 +262,14 @@ fn bad_rows_are_told(rt: HostRuntime) -> Result<(), Fail> {
         let words = words_of(rt.alloc(), &["mdbcheck", "check"])?;
         let mut out = Vec::new(rt.alloc());
         let mut err = Vec::new(rt.alloc());
-        assert_eq!(rt;
+        same_at(
+            &rt,
+            number,
             run(rt.alloc(), words, *text, &mut out, &mut err),
             2,
-            "{number}"
         );
         assert!(rt; out.is_empty(), "{number}");
-        assert_eq!(rt; err.as_slice(), *line, "{number}");
+        same_at(&rt, number, err.as_slice(), *line);
     }
     Ok(())
 }
@@ -348,13 +313,14 @@ fn refuses_other_words(rt: HostRuntime) -> Result<(), Fail> {
         let mut out = Vec::new(rt.alloc());
         let mut err = Vec::new(rt.alloc());
         let words = words_of(rt.alloc(), *words)?;
-        assert_eq!(rt;
+        same_at(
+            &rt,
+            number,
             run(rt.alloc(), words, ROWS, &mut out, &mut err),
             2,
-            "{number}"
         );
         assert!(rt; out.is_empty(), "{number}");
-        assert_eq!(rt; err.as_slice(), *line, "{number}");
+        same_at(&rt, number, err.as_slice(), *line);
     }
     Ok(())
 }
@@ -367,7 +333,7 @@ fn a_line_that_is_not_taken_changes_no_status(rt: HostRuntime) -> Result<(), Fai
         let mut out = Vec::new(rt.alloc());
         let mut err = Sheet::failing(rt.alloc(), 1);
         let words = words_of(rt.alloc(), words)?;
-        assert_eq!(rt; run(rt.alloc(), words, text, &mut out, &mut err), 2);
+        same(&rt, run(rt.alloc(), words, text, &mut out, &mut err), 2);
         assert!(rt; err.has_failed());
         assert!(rt; out.is_empty());
     }

@@ -1,5 +1,6 @@
 //! Rows, events and the gaps between them.
 
+use super::asserts::{same, same_at};
 use mdb_words::{Event, Line, RowFault, Span, Time, Word, gap_of, is_at_least, is_at_most};
 
 fn read(time: &str, letter: &str, value: &str) -> Result<Event, RowFault> {
@@ -36,15 +37,17 @@ fn rows_are_refused_for_their_first_fault(rt: HostRuntime) {
         ("1", "B", "", RowFault::BadValue),
         ("1", "B", "1000000000", RowFault::BadValue),
     ] {
-        assert_eq!(rt;
+        same_at(
+            &rt,
+            format_args!("at {time},{letter},{value}"),
             read(time, letter, value),
             Err(fault),
-            "at {time},{letter},{value}"
         );
     }
-    assert_eq!(rt;
+    same(
+        &rt,
         Event::read(&["1".as_bytes(), "M".as_bytes()]),
-        Err(RowFault::FieldCount)
+        Err(RowFault::FieldCount),
     );
 }
 
@@ -89,7 +92,7 @@ fn rows_are_read_and_written(rt: HostRuntime) {
         ),
     ] {
         let found = read(time, letter, value).ok();
-        assert_eq!(rt; found, event);
+        same(&rt, &found, &event);
         let is_written = found.is_some_and(|event| event.row_text().as_str() == text);
         assert!(rt; is_written);
     }
@@ -111,7 +114,7 @@ fn gaps_count_from_the_start_of_a_word_and_the_end_of_a_break(rt: HostRuntime) {
         (break_at(0, 100_000), break_at(99_999, 100_000), None),
     ] {
         let found = earlier.and_then(|earlier| later.and_then(|later| gap_of(&earlier, &later)));
-        assert_eq!(rt; found, gap);
+        same(&rt, found, gap);
     }
 }
 

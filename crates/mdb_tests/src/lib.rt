@@ -4,11 +4,19 @@
 #![tactic(auto)]
 
 #[cfg(test)]
+mod asserts;
+#[cfg(test)]
 mod checking;
+#[cfg(test)]
+mod endless;
 #[cfg(test)]
 mod events;
 #[cfg(test)]
+mod faults;
+#[cfg(test)]
 mod limits;
+#[cfg(test)]
+mod recordings;
 #[cfg(test)]
 mod records;
 #[cfg(test)]

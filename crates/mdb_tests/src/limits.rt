@@ -1,5 +1,6 @@
 //! Limits that a caller sets on rows and bytes.
 
+use super::asserts::{same, same_at};
 use super::streams::{ROWS, WRONG_SUM};
 use mdb_check::{
     BYTES_MAX, Blame, Offence, Outcome, ROWS_MAX, Rule, RunFault, check, check_within,
@@ -33,11 +34,11 @@ fn rows_of(answer: Result<Outcome, RunFault>) -> Option<u64> {
 fn as_many_rows_as_are_allowed(rt: HostRuntime) {
     let mut out = Vec::new(rt.alloc());
     let whole = check(rt.alloc(), ROWS, &mut out);
-    assert_eq!(rt; rows_of(whole), Some(8));
-    assert_eq!(rt; within(&rt, ROWS, 9, BYTES_MAX), whole);
-    assert_eq!(rt; within(&rt, ROWS, 8, BYTES_MAX), whole);
-    assert_eq!(rt; within(&rt, ROWS, 7, BYTES_MAX), Err(RunFault::TooLong));
-    assert_eq!(rt; within(&rt, ROWS, 1, BYTES_MAX), Err(RunFault::TooLong));
+    same(&rt, rows_of(whole), Some(8));
+    same(&rt, within(&rt, ROWS, 9, BYTES_MAX), whole);
+    same(&rt, within(&rt, ROWS, 8, BYTES_MAX), whole);
+    same(&rt, within(&rt, ROWS, 7, BYTES_MAX), Err(RunFault::TooLong));
+    same(&rt, within(&rt, ROWS, 1, BYTES_MAX), Err(RunFault::TooLong));
 }
 
 /// What the record past the last allowed one holds is of no matter.
@@ -46,11 +47,11 @@ fn no_rows_at_all(rt: HostRuntime) {
     let texts: [&[u8]; 5] = [b"x", b"1,S,100\n", b"1,M,108\n", b"12,M,200\n", b"\n\n,\n"];
     for (number, text) in texts.iter().enumerate() {
         let answer = within(&rt, *text, 0, BYTES_MAX);
-        assert_eq!(rt; answer, Err(RunFault::TooLong), "{number}");
+        same_at(&rt, number, answer, Err(RunFault::TooLong));
     }
     // Blank lines are no records.
     for text in [b"".as_slice(), b"\n\r\n\n".as_slice()] {
-        assert_eq!(rt; rows_of(within(&rt, text, 0, BYTES_MAX)), Some(0));
+        same(&rt, rows_of(within(&rt, text, 0, BYTES_MAX)), Some(0));
     }
 }
 
@@ -63,10 +64,11 @@ fn the_last_allowed_row_is_judged(rt: HostRuntime) {
         blame: Blame::Changer,
     };
     let no = Ok(Outcome::No(offence));
-    assert_eq!(rt; within(&rt, WRONG_SUM, 7, BYTES_MAX), no);
-    assert_eq!(rt;
+    same(&rt, within(&rt, WRONG_SUM, 7, BYTES_MAX), no);
+    same(
+        &rt,
         within(&rt, WRONG_SUM, 6, BYTES_MAX),
-        Err(RunFault::TooLong)
+        Err(RunFault::TooLong),
     );
 
     let text: &[u8] = b"1000,M,108\n2200,M,008\n12,M,200\n";
@@ -74,8 +76,8 @@ fn the_last_allowed_row_is_judged(rt: HostRuntime) {
         row: 3,
         fault: RowFault::BadValue,
     };
-    assert_eq!(rt; within(&rt, text, 3, BYTES_MAX), Err(fault));
-    assert_eq!(rt; within(&rt, text, 2, BYTES_MAX), Err(RunFault::TooLong));
+    same(&rt, within(&rt, text, 3, BYTES_MAX), Err(fault));
+    same(&rt, within(&rt, text, 2, BYTES_MAX), Err(RunFault::TooLong));
 }
 
 /// Rows are read by batches, and a limit may fall anywhere in one.
@@ -90,11 +92,11 @@ fn limits_of_many_rows(rt: HostRuntime) -> Result<(), Fail> {
     }
     for rows in [1, 127, 128, 129, 255, 256, 257, 298, 299] {
         let answer = within(&rt, text.as_slice(), rows, BYTES_MAX);
-        assert_eq!(rt; answer, Err(RunFault::TooLong), "{rows}");
+        same_at(&rt, rows, answer, Err(RunFault::TooLong));
     }
     for rows in [300, 301, ROWS_MAX] {
         let answer = within(&rt, text.as_slice(), rows, BYTES_MAX);
-        assert_eq!(rt; rows_of(answer), Some(300), "{rows}");
+        same_at(&rt, rows, rows_of(answer), Some(300));
     }
     Ok(())
 }
@@ -102,17 +104,18 @@ fn limits_of_many_rows(rt: HostRuntime) -> Result<(), Fail> {
 #[test]
 fn as_many_bytes_as_are_allowed(rt: HostRuntime) {
     for bytes in [BYTES_MAX, ROWS_BYTES + 1, ROWS_BYTES] {
-        assert_eq!(rt;
+        same_at(
+            &rt,
+            bytes,
             rows_of(within(&rt, ROWS, ROWS_MAX, bytes)),
             Some(8),
-            "{bytes}"
         );
     }
     for bytes in 0..ROWS_BYTES {
         let answer = within(&rt, ROWS, ROWS_MAX, bytes);
-        assert_eq!(rt; answer, Err(RunFault::Read), "{bytes}");
+        same_at(&rt, bytes, answer, Err(RunFault::Read));
     }
-    assert_eq!(rt; rows_of(within(&rt, b"", ROWS_MAX, 0)), Some(0));
+    same(&rt, rows_of(within(&rt, b"", ROWS_MAX, 0)), Some(0));
 }
 
 /// The answer comes first where it stands before the limit.
@@ -124,18 +127,23 @@ fn answers_before_a_limit(rt: HostRuntime) {
         blame: Blame::Other,
     };
     let impossible: &[u8] = b"1,S,100\n2,S,100\n";
-    assert_eq!(rt;
+    same(
+        &rt,
         within(&rt, impossible, ROWS_MAX, 8),
-        Ok(Outcome::No(offence))
+        Ok(Outcome::No(offence)),
     );
-    assert_eq!(rt; within(&rt, impossible, ROWS_MAX, 7), Err(RunFault::Read));
+    same(
+        &rt,
+        within(&rt, impossible, ROWS_MAX, 7),
+        Err(RunFault::Read),
+    );
 
     let no_row: &[u8] = b"x\n2,S,100\n";
     let fault = RunFault::BadRow {
         row: 1,
         fault: RowFault::FieldCount,
     };
-    assert_eq!(rt; within(&rt, no_row, ROWS_MAX, 2), Err(fault));
-    assert_eq!(rt; within(&rt, no_row, 0, 2), Err(RunFault::TooLong));
-    assert_eq!(rt; within(&rt, no_row, 0, 0), Err(RunFault::Read));
+    same(&rt, within(&rt, no_row, ROWS_MAX, 2), Err(fault));
+    same(&rt, within(&rt, no_row, 0, 2), Err(RunFault::TooLong));
+    same(&rt, within(&rt, no_row, 0, 0), Err(RunFault::Read));
 }

@@ -1,5 +1,6 @@
 //! The records of a text under a limit on its bytes.
 
+use super::asserts::same;
 use super::streams::Pieces;
 use mdb_records::{ReadCause, ReadFault, Records};
 use std::alloc::AllocError;
@@ -26,8 +27,8 @@ fn second_fields(
 #[test]
 fn gives_each_row(rt: HostRuntime) -> Result<(), Fail> {
     let (fields, end) = second_fields(&rt, b"1,M\n\n2,\"a,b\",c\r\n3", 99)?;
-    assert_eq!(rt; fields.as_slice(), b"Ma,b-".as_slice());
-    assert_eq!(rt; end, Ok(false));
+    same(&rt, fields.as_slice(), b"Ma,b-".as_slice());
+    same(&rt, end, Ok(false));
     Ok(())
 }
 
@@ -35,10 +36,10 @@ fn gives_each_row(rt: HostRuntime) -> Result<(), Fail> {
 fn a_longer_text_has_no_end(rt: HostRuntime) -> Result<(), Fail> {
     // Eight bytes, and the last row ends with the text.
     let text = b"1,M\n2,NO";
-    assert_eq!(rt; second_fields(&rt, text, 8)?.1, Ok(false));
+    same(&rt, second_fields(&rt, text, 8)?.1, Ok(false));
     let (fields, end) = second_fields(&rt, text, 7)?;
-    assert_eq!(rt; fields.as_slice(), b"M".as_slice());
-    assert_eq!(rt; end, Err(ReadFault::Read));
+    same(&rt, fields.as_slice(), b"M".as_slice());
+    same(&rt, end, Err(ReadFault::Read));
     Ok(())
 }
 
@@ -71,27 +72,31 @@ fn tells_why_a_reading_ended(rt: HostRuntime) {
             (ErrorKind::WouldBlock, ReadCause::WouldBlock),
         ] {
             let reader = Pieces::failing(text, 3, read, kind);
-            assert_eq!(rt; ending(&rt, reader, 8), (Err(ReadFault::Read), cause, true));
+            same(
+                &rt,
+                ending(&rt, reader, 8),
+                (Err(ReadFault::Read), cause, true),
+            );
         }
     }
     let past = (Err(ReadFault::Read), ReadCause::OverLimit, true);
-    assert_eq!(rt; ending(&rt, Pieces::new(text, 3), 7), past);
-    assert_eq!(rt; ending(&rt, Pieces::new(text, 3), 0), past);
-    assert_eq!(rt; ending(&rt, Pieces::new(text, 3), 8).0, Ok(false));
+    same(&rt, ending(&rt, Pieces::new(text, 3), 7), past);
+    same(&rt, ending(&rt, Pieces::new(text, 3), 0), past);
+    same(&rt, ending(&rt, Pieces::new(text, 3), 8).0, Ok(false));
 }
 
 #[test]
 fn gives_the_record_field_by_field(rt: HostRuntime) -> Result<(), Fail> {
     let text = b"1,M,108\n\"2\"\"\",,S;\r\n";
     let mut rows = Records::new(rt.alloc(), text.as_slice(), 99);
-    assert_eq!(rt; rows.advance(), Ok(true));
-    assert_eq!(rt; rows.advance(), Ok(true));
+    same(&rt, rows.advance(), Ok(true));
+    same(&rt, rows.advance(), Ok(true));
     let mut fields = Vec::new(rt.alloc());
     for place in 0..4 {
         fields.extend_from_slice(rows.row().get(place).unwrap_or(b"-"))?;
         fields.push(b'|')?;
     }
-    assert_eq!(rt; fields.as_slice(), b"2\"||S;|-|".as_slice());
+    same(&rt, fields.as_slice(), b"2\"||S;|-|".as_slice());
     Ok(())
 }
 
@@ -106,17 +111,17 @@ fn a_long_text_is_read_to_its_end(rt: HostRuntime) -> Result<(), Fail> {
     let bytes = text.len() as u64;
     let mut rows = Records::new(rt.alloc(), text.as_slice(), bytes);
     for _ in 0..lines {
-        assert_eq!(rt; rows.advance(), Ok(true));
+        same(&rt, rows.advance(), Ok(true));
     }
-    assert_eq!(rt; rows.advance(), Ok(false));
-    assert_eq!(rt; rows.taken(), bytes);
+    same(&rt, rows.advance(), Ok(false));
+    same(&rt, rows.taken(), bytes);
 
     let mut rows = Records::new(rt.alloc(), text.as_slice(), bytes.saturating_sub(1));
     for _ in 1..lines {
-        assert_eq!(rt; rows.advance(), Ok(true));
+        same(&rt, rows.advance(), Ok(true));
     }
-    assert_eq!(rt; rows.advance(), Err(ReadFault::Read));
-    assert_eq!(rt; rows.cause(), ReadCause::OverLimit);
-    assert_eq!(rt; rows.taken(), bytes);
+    same(&rt, rows.advance(), Err(ReadFault::Read));
+    same(&rt, rows.cause(), ReadCause::OverLimit);
+    same(&rt, rows.taken(), bytes);
     Ok(())
 }

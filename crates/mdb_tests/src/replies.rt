@@ -1,5 +1,6 @@
 //! Replies as blocks.
 
+use super::asserts::{same, same_at};
 use arrayvec::ArrayVec;
 use mdb_blocks::seal;
 use mdb_msgs::{
@@ -100,13 +101,21 @@ fn a_shortened_setup_is_another_reply(rt: HostRuntime) {
     full[..7].copy_from_slice(&short);
     let short = seal(&short).expect(&rt, "a block");
     let full = seal(&full).expect(&rt, "a block");
-    assert_eq!(rt; read_reply(&CHANGER_SETUP, &short), Ok(setup_with(&[])));
-    assert_eq!(rt; read_reply(&CHANGER_SETUP, &full), Ok(setup_with(&[0; 16])));
+    same(
+        &rt,
+        &read_reply(&CHANGER_SETUP, &short),
+        &Ok(setup_with(&[])),
+    );
+    same(
+        &rt,
+        &read_reply(&CHANGER_SETUP, &full),
+        &Ok(setup_with(&[0; 16])),
+    );
     assert!(rt; setup_with(&[]) != setup_with(&[0; 16]));
     let written = write_reply(&CHANGER_SETUP, &setup_with(&[])).expect(&rt, "a block");
-    assert_eq!(rt; written.bytes(), short.bytes());
+    same(&rt, written.bytes(), short.bytes());
     let written = write_reply(&CHANGER_SETUP, &setup_with(&[0; 16])).expect(&rt, "a block");
-    assert_eq!(rt; written.bytes(), full.bytes());
+    same(&rt, written.bytes(), full.bytes());
 }
 
 /// A reader's answer of these messages, with a text, if there is one.
@@ -138,10 +147,11 @@ fn a_list_has_1_to_35_bytes(rt: HostRuntime) {
         (&[config; 5], &[]),
     ];
     for (messages, text) in &others {
-        assert_eq!(rt;
+        same_at(
+            &rt,
+            format_args!("{messages:?}, {text:?}"),
             list_with(messages, text).err(),
             Some(MsgFault::Length),
-            "{messages:?}, {text:?}"
         );
     }
     // 1, 35 of one byte, 17 of 2, 30 and 5, 34, 4 of 8 and one of 3
@@ -179,14 +189,15 @@ fn a_list_has_a_display_request_last_and_no_loose_text(rt: HostRuntime) {
         (&[reset; 35], &[65]),
     ];
     for (messages, text) in &others {
-        assert_eq!(rt;
+        same_at(
+            &rt,
+            format_args!("{messages:?}, {text:?}"),
             list_with(messages, text).err(),
             Some(MsgFault::Message),
-            "{messages:?}, {text:?}"
         );
     }
     let loose = ReaderList::new(&[reset], &[1; 29], &[]);
-    assert_eq!(rt; loose.err(), Some(MsgFault::Message));
+    same(&rt, loose.err(), Some(MsgFault::Message));
 }
 
 #[test]
@@ -195,16 +206,17 @@ fn a_list_is_refused_for_its_length_first(rt: HostRuntime) {
     let mut messages = [reset; 35];
     messages[0] = SHOWN;
     // 36 bytes, and a display request in front
-    assert_eq!(rt; list_with(&messages, &[]).err(), Some(MsgFault::Length));
+    same(&rt, list_with(&messages, &[]).err(), Some(MsgFault::Length));
     // 35 bytes
-    assert_eq!(rt;
+    same(
+        &rt,
         list_with(&messages[..34], &[]).err(),
-        Some(MsgFault::Message)
+        Some(MsgFault::Message),
     );
     // no message, and texts of none
-    assert_eq!(rt; list_with(&[], &[65]).err(), Some(MsgFault::Length));
+    same(&rt, list_with(&[], &[65]).err(), Some(MsgFault::Length));
     let loose = ReaderList::new(&[], &[1; 29], &[]);
-    assert_eq!(rt; loose.err(), Some(MsgFault::Length));
+    same(&rt, loose.err(), Some(MsgFault::Length));
 }
 
 #[test]
@@ -218,14 +230,15 @@ fn a_list_tells_what_it_was_made_of(rt: HostRuntime) {
     id[0] = 65;
     id[28] = 66;
     let list = ReaderList::new(&messages, &id, &[67]).expect(&rt, "a list");
-    assert_eq!(rt; list.messages().as_slice(), messages.as_slice());
-    assert_eq!(rt; list.id(), id);
-    assert_eq!(rt; list.text(), [67].as_slice());
+    same(&rt, list.messages().as_slice(), messages.as_slice());
+    same(&rt, list.id(), id);
+    same(&rt, list.text(), [67].as_slice());
     let bare = list_with(&[ReaderMsg::JustReset], &[]).expect(&rt, "a list");
-    assert_eq!(rt;
+    same(
+        &rt,
         bare.messages().as_slice(),
-        [ReaderMsg::JustReset].as_slice()
+        [ReaderMsg::JustReset].as_slice(),
     );
-    assert_eq!(rt; bare.id(), [0; 29]);
+    same(&rt, bare.id(), [0; 29]);
     assert!(rt; bare.text().is_empty());
 }

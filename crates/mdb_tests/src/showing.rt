@@ -1,14 +1,14 @@
-//! What no contract says of `show`: that it can answer at all, and the faults of readers and
-//! writers.
+//! What no contract says of `show`: that it can answer at all, and which faults come before which.
 
-use super::streams::{CALLS, CUT_SHORT, Counter, POLLS, Pieces, ROWS, Sheet, WRONG_SUM, words_of};
+use super::asserts::{same, same_at};
+use super::streams::{CUT_SHORT, Counter, POLLS, Pieces, ROWS, Sheet, WRONG_SUM, words_of};
 use mdb_check::{Blame, LinkFault, Rule, RunFault, run, show};
 use mdb_words::RowFault;
 use std::io::{ErrorKind, Write};
 use std::test::Fail;
 
 /// The acts of `ROWS`.
-const ACTS: &[u8] = b"1-2 ask changer 08 08\n3-3 ack changer\n4-5 ask changer 0B 0B\n\
+pub(crate) const ACTS: &[u8] = b"1-2 ask changer 08 08\n3-3 ack changer\n4-5 ask changer 0B 0B\n\
 6-7 reply changer 0B 0B\n8-8 vmc-ack changer\n";
 
 /// The acts of `WRONG_SUM`, and its fault.
@@ -21,23 +21,19 @@ const WRONG_SUM_FAULT: LinkFault = LinkFault {
     blame: Blame::Changer,
 };
 
-/// Whether these are the first lines of `ACTS`, each of them whole.
-fn are_first_acts(text: &[u8]) -> bool {
-    ACTS.starts_with(text) && matches!(text.last(), None | Some(b'\n'))
-}
-
 #[test]
 fn shows_acts_and_a_fault(rt: HostRuntime) {
     let mut out = Vec::new(rt.alloc());
-    assert_eq!(rt; show(rt.alloc(), ROWS, &mut out), Ok(None));
-    assert_eq!(rt; out.as_slice(), ACTS);
+    same(&rt, show(rt.alloc(), ROWS, &mut out), Ok(None));
+    same(&rt, out.as_slice(), ACTS);
 
     let mut out = Vec::new(rt.alloc());
-    assert_eq!(rt;
+    same(
+        &rt,
         show(rt.alloc(), WRONG_SUM, &mut out),
-        Ok(Some(WRONG_SUM_FAULT))
+        Ok(Some(WRONG_SUM_FAULT)),
     );
-    assert_eq!(rt; out.as_slice(), WRONG_SUM_ACTS);
+    same(&rt, out.as_slice(), WRONG_SUM_ACTS);
 }
 
 #[test]
@@ -50,63 +46,9 @@ fn lines_before_a_bad_row_stand(rt: HostRuntime) -> Result<(), Fail> {
         row: 10,
         fault: RowFault::BadValue,
     };
-    assert_eq!(rt; show(rt.alloc(), text.as_slice(), &mut out), Err(fault));
-    assert_eq!(rt; out.as_slice(), ACTS);
+    same(&rt, show(rt.alloc(), text.as_slice(), &mut out), Err(fault));
+    same(&rt, out.as_slice(), ACTS);
     Ok(())
-}
-
-#[test]
-fn reads_a_text_in_pieces(rt: HostRuntime) {
-    for most in [1, 2, 7] {
-        let mut out = Vec::new(rt.alloc());
-        let answer = show(rt.alloc(), Pieces::new(ROWS, most), &mut out);
-        assert_eq!(rt; answer, Ok(None), "{most} bytes at a time");
-        assert_eq!(rt; out.as_slice(), ACTS, "{most} bytes at a time");
-    }
-}
-
-#[test]
-fn a_failed_read_is_told_and_the_lines_before_it_stand(rt: HostRuntime) {
-    for kind in [ErrorKind::BrokenPipe, ErrorKind::Interrupted] {
-        let mut untouched = false;
-        let mut longest = 0;
-        for failing in 1..CALLS {
-            let mut out = Vec::new(rt.alloc());
-            let mut reader = Pieces::failing(ROWS, 7, failing, kind);
-            let answer = show(rt.alloc(), &mut reader, &mut out);
-            if !reader.has_failed() {
-                assert_eq!(rt; answer, Ok(None));
-                assert_eq!(rt; out.as_slice(), ACTS);
-                untouched = true;
-                break;
-            }
-            assert_eq!(rt; answer, Err(RunFault::Read), "at read {failing}");
-            assert!(rt; are_first_acts(out.as_slice()), "at read {failing}");
-            assert!(rt; longest <= out.len(), "at read {failing}");
-            longest = out.len();
-        }
-        assert!(rt; untouched);
-        // The last row was read when the last read failed.
-        assert_eq!(rt; longest, ACTS.len());
-    }
-}
-
-#[test]
-fn a_failed_write_is_told(rt: HostRuntime) {
-    for rows in [ROWS, WRONG_SUM] {
-        let mut untouched = false;
-        for failing in 1..CALLS {
-            let mut out = Sheet::failing(rt.alloc(), failing);
-            let answer = show(rt.alloc(), rows, &mut out);
-            if !out.has_failed() {
-                assert!(rt; answer.is_ok());
-                untouched = true;
-                break;
-            }
-            assert_eq!(rt; answer, Err(RunFault::Write), "at write {failing}");
-        }
-        assert!(rt; untouched);
-    }
 }
 
 /// The lines of a long recording are written while it is read, in pages, and none is lost between
@@ -127,14 +69,14 @@ fn a_long_recording_is_written_in_pages(rt: HostRuntime) -> Result<(), Fail> {
         text: Vec::new(rt.alloc()),
         writes: 0,
     };
-    assert_eq!(rt; show(rt.alloc(), text.as_slice(), &mut out), Ok(None));
+    same(&rt, show(rt.alloc(), text.as_slice(), &mut out), Ok(None));
     assert!(rt; out.text.as_slice() == wanted.as_slice());
     assert!(rt; 10 < out.writes && out.writes < POLLS);
 
     // What was written before a refused write is the text's first part.
     let mut out = Sheet::failing(rt.alloc(), 10_000);
     let answer = show(rt.alloc(), text.as_slice(), &mut out);
-    assert_eq!(rt; answer, Err(RunFault::Write));
+    same(&rt, answer, Err(RunFault::Write));
     assert!(rt; wanted.starts_with(out.text.as_slice()));
     Ok(())
 }
@@ -147,10 +89,14 @@ fn a_fault_ends_the_reading(rt: HostRuntime) {
         rule: Rule::Speaker,
         blame: Blame::Other,
     };
-    assert_eq!(rt; show(rt.alloc(), &mut reader, &mut out), Ok(Some(fault)));
+    same(
+        &rt,
+        show(rt.alloc(), &mut reader, &mut out),
+        Ok(Some(fault)),
+    );
     assert!(rt; !reader.has_failed());
     let line: &[u8] = b"fault 1 Speaker other\n";
-    assert_eq!(rt; out.as_slice(), line);
+    same(&rt, out.as_slice(), line);
 }
 
 #[test]
@@ -161,7 +107,11 @@ fn a_fault_comes_before_a_failed_read(rt: HostRuntime) {
         rule: Rule::Speaker,
         blame: Blame::Other,
     };
-    assert_eq!(rt; show(rt.alloc(), &mut reader, &mut out), Ok(Some(fault)));
+    same(
+        &rt,
+        show(rt.alloc(), &mut reader, &mut out),
+        Ok(Some(fault)),
+    );
     assert!(rt; reader.has_failed());
 }
 
@@ -179,16 +129,25 @@ fn statuses_of_show(rt: HostRuntime) -> Result<(), Fail> {
         let words = words_of(rt.alloc(), &["mdbcheck", "show"])?;
         let mut out = Vec::new(rt.alloc());
         let mut err = Vec::new(rt.alloc());
-        assert_eq!(rt; run(rt.alloc(), words, text, &mut out, &mut err), status);
-        assert_eq!(rt; out.as_slice(), acts);
-        assert_eq!(rt; err.as_slice(), line, "at status {status}");
+        same(
+            &rt,
+            run(rt.alloc(), words, text, &mut out, &mut err),
+            status,
+        );
+        same(&rt, out.as_slice(), acts);
+        same_at(
+            &rt,
+            format_args!("at status {status}"),
+            err.as_slice(),
+            line,
+        );
     }
 
     let words = words_of(rt.alloc(), &["mdbcheck", "show"])?;
     let mut out = Sheet::failing(rt.alloc(), 1);
     let mut err = Vec::new(rt.alloc());
-    assert_eq!(rt; run(rt.alloc(), words, ROWS, &mut out, &mut err), 2);
+    same(&rt, run(rt.alloc(), words, ROWS, &mut out, &mut err), 2);
     let line: &[u8] = b"mdbcheck: the output can't be written\n";
-    assert_eq!(rt; err.as_slice(), line);
+    same(&rt, err.as_slice(), line);
     Ok(())
 }

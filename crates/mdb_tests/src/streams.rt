@@ -19,7 +19,7 @@ pub(crate) const CUT_SHORT: &[u8] =
 /// The polls of a long recording, each acknowledged: three rows.
 pub(crate) const POLLS: u64 = 50_000;
 
-/// More reads and writes than `check` makes of `ROWS` in small pieces.
+/// More reads and writes than `check` and `show` make of a short recording in small pieces.
 pub(crate) const CALLS: u64 = 1_000;
 
 /// Gives a text in pieces, and fails at one of its reads alone.
@@ -75,6 +75,86 @@ impl<'a> Read for Pieces<'a> {
         let (given, rest) = self.text.split_at(count);
         buf[..count].copy_from_slice(given);
         self.text = rest;
+        Ok(count)
+    }
+}
+
+/// Gives a front, and behind it the same bytes again and again without end, and counts what it
+/// gives.
+#[derive(Drop)]
+pub(crate) struct Endless<'a> {
+    // What is given next.
+    next: &'a [u8],
+    again: &'a [u8],
+    pub(crate) given: u64,
+}
+
+impl<'a> Endless<'a> {
+    pub(crate) fn new(front: &'a [u8], again: &'a [u8]) -> Endless<'a> {
+        Endless {
+            next: front,
+            again,
+            given: 0,
+        }
+    }
+}
+
+impl<'a> Read for Endless<'a> {
+    fn read(&mut self, buf: &mut [u8]) -> io::Result<usize> {
+        if self.next.is_empty() {
+            self.next = self.again;
+        }
+        let count = buf.len().min(self.next.len());
+        let (given, rest) = self.next.split_at(count);
+        buf[..count].copy_from_slice(given);
+        self.next = rest;
+        self.given = self.given.saturating_add(count as u64);
+        Ok(count)
+    }
+}
+
+/// Gives the rows of a controller that polls a changer without end, and counts what it gives.
+#[derive(Drop)]
+pub(crate) struct Polling {
+    polls: u64,
+    // The rows of the poll that is under way, and how much of them was given.
+    rows: Vec<u8>,
+    done: usize,
+    pub(crate) given: u64,
+}
+
+impl Polling {
+    pub(crate) fn new(alloc: Global) -> Polling {
+        Polling {
+            polls: 0,
+            rows: Vec::new(alloc),
+            done: 0,
+            given: 0,
+        }
+    }
+
+    /// Makes the rows of the next poll, which the changer acknowledges.
+    fn poll(&mut self) -> io::Result<()> {
+        self.polls = self.polls.saturating_add(1);
+        let at = self.polls.saturating_mul(20_000);
+        self.done = 0;
+        self.rows.clear();
+        writeln!(self.rows, "{at},M,10B")?;
+        writeln!(self.rows, "{},M,00B", at.saturating_add(1_200))?;
+        writeln!(self.rows, "{},S,100", at.saturating_add(3_200))
+    }
+}
+
+impl Read for Polling {
+    fn read(&mut self, buf: &mut [u8]) -> io::Result<usize> {
+        if self.rows.len() <= self.done {
+            self.poll()?;
+        }
+        let (_, rest) = self.rows.split_at(self.done.min(self.rows.len()));
+        let count = buf.len().min(rest.len());
+        buf[..count].copy_from_slice(&rest[..count]);
+        self.done = self.done.saturating_add(count);
+        self.given = self.given.saturating_add(count as u64);
         Ok(count)
     }
 }
