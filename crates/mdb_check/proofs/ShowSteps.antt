@@ -3,7 +3,7 @@ use Rattle.std.proofs.Common.{arith, refl, ap, sym, subst, ◌∙◌, ◌≡◌,
 use Rattle.std.proofs.lemmas.List.{append-nil, take_all, take_more}
 use Rattle.std.proofs.Math.Seq.{split_at}
 use Rattle.std.specs.Prelude.{IfErr, IfSome, IsErrAnd}
-use Rattle.std.specs.Io.KnownBytes.{Appends}
+use Rattle.std.specs.Io.KnownBytes.{Appends, Keeps, append_known}
 use Rattle.mdb_words.specs.declared.event.Event.{Event}
 use Rattle.mdb_words.specs.declared.row.RowFault.{RowFault}
 use Rattle.mdb_words.specs.Row.{IsRow}
@@ -505,3 +505,23 @@ refused_as remaining start old lines left before now later events progress fault
 refused_as remaining start old lines left before now later events progress fault adds (Err told) is (Some met) =
     let P : RunFault → Type 0 = λ f. IsShownAs met (Err f) in
     subst P (sym is) (shown_as left before later progress.rows events fault (adds before progress.rows progress.shown) met)
+
+-- The page that was empty at first is written out at last.
+
+on_empty : (a b : Option (List ℕ)) (text : List ℕ) → Appends (append_known a []) b text → Appends a b text
+on_empty None b text appends = tt
+on_empty (Some bytes) None text appends = absurd appends
+on_empty (Some bytes) (Some more) text appends = appends ∙ ap (λ l. l ++ text) (append-nil bytes)
+
+kept_appends : (a b c : Option (List ℕ)) (text : List ℕ) → Appends a b text → Keeps b c → Appends a c text
+kept_appends None b c text appends keeps = tt
+kept_appends (Some bytes) None c text appends keeps = absurd appends
+kept_appends (Some bytes) (Some more) None text appends keeps = absurd keeps
+kept_appends (Some bytes) (Some more) (Some same) text appends keeps = keeps ∙ appends
+
+pub written_out : (all : List (List (List ℕ))) (before later : Option (List ℕ)) (page : List ℕ) (now : Option (List ℕ)) (answer : Result (Option LinkFault) RunFault) → page ≡ []
+    → Shows all (append_known before page) now answer → Keeps now later → Shows all before later answer
+written_out all before later page now answer empty shows kept not =
+    let P : List ℕ → Type 0 = λ l. Shows all (append_known before l) now answer in
+    let told = (subst P empty shows) not in
+    (told.0, told.1, kept_appends before now later told.0 (on_empty before now told.0 told.2) kept)

@@ -3,6 +3,7 @@
 #![tactic(auto)]
 
 mod batch;
+mod complaint;
 pub mod laws;
 mod outcome;
 mod page;

@@ -4,12 +4,15 @@ ghost use Rattle.std.specs.Prelude.{◌≡◌, ◌<◌, IfOk, IfSome, map, strin
 ghost use Rattle.mdb_check.specs.Program.{NamesTask, Says, show_status_of, status_of, task_word};
 ghost use Rattle.csv.specs.Reading.{default_config, records, strip_bom};
 
+use super::complaint::complain;
 use super::outcome::{Outcome, RunFault};
-use super::showing::show;
-use super::verdict::check;
+use super::showing::show_records;
+use super::verdict::{BYTES_MAX, check_records, records_of};
 use clap::Command;
 use clap::error::{Error, ErrorKind};
 use mdb_bus::LinkFault;
+use mdb_follow::ROWS_MAX;
+use mdb_records::Records;
 use std::alloc::Global;
 use std::io::{Read, Write};
 
@@ -65,8 +68,16 @@ pub fn run<R: Read + Drop, W: Write, E: Write>(
     ensures silent { result < 2 → err.new ≡ err.old }
 {
     match task_of(alloc, words.as_slice()) {
-        Ok(Task::Check) => finish_check(check(alloc, reader, out), err),
-        Ok(Task::Show) => finish_show(show(alloc, reader, out), err),
+        Ok(Task::Check) => {
+            let mut records = records_of(alloc, reader, BYTES_MAX);
+            let answer = check_records(alloc, &mut records, out, ROWS_MAX);
+            finish_check(alloc, answer, &records, err)
+        }
+        Ok(Task::Show) => {
+            let mut records = records_of(alloc, reader, BYTES_MAX);
+            let answer = show_records(alloc, &mut records, out);
+            finish_show(alloc, answer, &records, err)
+        }
         Err(kind) => refuse(kind, err),
     }
 }
@@ -109,35 +120,43 @@ fn named(words: &[String]) -> Result<Task, ErrorKind>
 }
 
 /// The status of a verdict; a fault is told.
-fn finish_check<E: Write>(answer: Result<Outcome, RunFault>, err: &mut E) -> u8
+fn finish_check<R: Read + Drop, E: Write>(
+    alloc: Global,
+    answer: Result<Outcome, RunFault>,
+    records: &Records<R>,
+    err: &mut E,
+) -> u8
     ensures status { result ≡ status_of answer }
     ensures silent { result < 2 → err.new ≡ err.old }
 {
     match answer {
         Ok(Outcome::Yes(_)) => POSSIBLE,
         Ok(Outcome::No(_)) => IMPOSSIBLE,
-        Err(fault) => tell(fault, err),
+        Err(fault) => {
+            complain(alloc, fault, records, err);
+            NO_VERDICT
+        }
     }
 }
 
 /// The status of what was shown; a fault is told.
-fn finish_show<E: Write>(answer: Result<Option<LinkFault>, RunFault>, err: &mut E) -> u8
+fn finish_show<R: Read + Drop, E: Write>(
+    alloc: Global,
+    answer: Result<Option<LinkFault>, RunFault>,
+    records: &Records<R>,
+    err: &mut E,
+) -> u8
     ensures status { result ≡ show_status_of answer }
     ensures silent { result < 2 → err.new ≡ err.old }
 {
     match answer {
         Ok(None) => POSSIBLE,
         Ok(Some(_)) => IMPOSSIBLE,
-        Err(fault) => tell(fault, err),
+        Err(fault) => {
+            complain(alloc, fault, records, err);
+            NO_VERDICT
+        }
     }
-}
-
-/// Tells why there is no answer.
-fn tell<E: Write>(fault: RunFault, err: &mut E) -> u8
-    ensures { result ≡ NO_VERDICT }
-{
-    let _ = writeln!(err, "mdbcheck: {fault}");
-    NO_VERDICT
 }
 
 /// Tells why a command line is refused.

@@ -174,7 +174,7 @@ fn push_decimal(text: &mut Vec<u8>, number: u64) -> Result<(), AllocError>
 }
 
 /// A digit below 16, from ten on an upper case letter.
-fn digit(digit: u8) -> u8
+pub(crate) fn digit(digit: u8) -> u8
     requires { digit < 16 }
     ensures { result ≡ digit_glyph true digit }
 {

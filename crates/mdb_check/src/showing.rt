@@ -47,8 +47,22 @@ pub fn show<R: Read + Drop, W: Write>(
         BYTES_MAX < length text → result ≢ Ok None) }
 {
     let mut records = records_of(alloc, reader, BYTES_MAX);
+    show_records(alloc, &mut records, writer)
+}
+
+/// Shows the records that are still to come. What they tell of where the reading ended is still to
+/// be asked then.
+pub(crate) fn show_records<R: Read + Drop, W: Write>(
+    alloc: Global,
+    records: &mut Records<R>,
+    writer: &mut W,
+) -> Result<Option<LinkFault>, RunFault>
+    ensures shows { (all : List (List (List ℕ))) → ToCome R.remaining records.old all
+        → Shows all (W.contents writer.old) (W.contents writer.new) result }
+    ensures whole { IsOverLimit R.remaining records.old → result ≢ Ok None }
+{
     let mut page = Page::new(alloc);
-    let answer = show_rows(&mut records, &mut page, writer);
+    let answer = show_rows(records, &mut page, writer);
     if answer != Err(RunFault::Write) {
         page.write_out(writer)?;
     }

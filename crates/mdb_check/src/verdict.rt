@@ -88,7 +88,33 @@ pub fn check_within<R: Read + Drop, W: Write>(
     ensures had_one { IfSome (R.remaining reader) (λ text. result ≡ Err RunFault.Write
         → HasOutcome rows (records default_config (strip_bom text))) }
 {
-    let outcome = verdict_of(alloc, reader, rows, bytes)?;
+    let mut records = records_of(alloc, reader, bytes);
+    check_records(alloc, &mut records, writer, rows)
+}
+
+/// Checks the records that are still to come, at most so many, and writes the text of the verdict.
+/// What the records tell of where the reading ended is still to be asked then.
+pub(crate) fn check_records<R: Read + Drop, W: Write>(
+    alloc: Global,
+    records: &mut Records<R>,
+    writer: &mut W,
+    rows: u64,
+) -> Result<Outcome, RunFault>
+    requires { rows ≤ ROWS_MAX }
+    ensures answer { (all : List (List (List ℕ))) → ToCome R.remaining records.old all
+        → IsAnswer rows all result }
+    ensures headline { (all : List (List (List ℕ))) → ToCome R.remaining records.old all
+        → IfOk result (Headline rows all) }
+    ensures whole { IsOverLimit R.remaining records.old → IsNoYes result }
+    ensures written { IfOk result (λ outcome. Appends (W.contents writer.old)
+        (W.contents writer.new) (report_text outcome)) }
+    ensures nothing_written { IfErr result (λ fault. fault ≢ RunFault.Write
+        → writer.new ≡ writer.old) }
+    ensures had_one { (all : List (List (List ℕ))) → ToCome R.remaining records.old all
+        → result ≡ Err RunFault.Write → HasOutcome rows all }
+{
+    verdicts_say_the_headline();
+    let outcome = verdict_on(records, rows)?;
     let Ok(text) = text_of(alloc, &outcome) else {
         return Err(RunFault::Memory);
     };
@@ -96,26 +122,6 @@ pub fn check_within<R: Read + Drop, W: Write>(
         Ok(()) => Ok(outcome),
         Err(_) => Err(RunFault::Write),
     }
-}
-
-/// The verdict on the text that a reader has left, of at most so many rows and bytes.
-fn verdict_of<R: Read + Drop>(
-    alloc: Global,
-    reader: R,
-    rows: u64,
-    bytes: u64,
-) -> Result<Outcome, RunFault>
-    requires { rows ≤ ROWS_MAX }
-    ensures answer { IfSome (R.remaining reader)
-        (λ text. IsAnswer rows (records default_config (strip_bom text)) result) }
-    ensures headline { IfSome (R.remaining reader)
-        (λ text. IfOk result (Headline rows (records default_config (strip_bom text)))) }
-    ensures whole { IfSome (R.remaining reader) (λ text. bytes < length text → IsNoYes result) }
-    ensures not_write { IfErr result (λ fault. fault ≢ RunFault.Write) }
-{
-    verdicts_say_the_headline();
-    let mut records = records_of(alloc, reader, bytes);
-    verdict_on(&mut records, rows)
 }
 
 /// The records of the text that a reader has left, up to so many bytes and no less.

@@ -1,0 +1,92 @@
+//! What standard error is told where there is no answer.
+
+use super::outcome::RunFault;
+use super::show_text::digit;
+use csv::ByteRecord;
+use mdb_records::{ReadCause, Records};
+use std::alloc::{AllocError, Global};
+use std::io::{Read, Write};
+
+/// About so many bytes of a record that is no row are told.
+const EXCERPT: usize = 48;
+
+/// Writes one line on a fault: at a record that is no row the form that a row has and what stands
+/// there, where the reading failed its cause. The records are those that the fault was met with.
+/// Where the line is refused, nothing more is tried.
+pub(crate) fn complain<R: Read + Drop, E: Write>(
+    alloc: Global,
+    fault: RunFault,
+    records: &Records<R>,
+    err: &mut E,
+) {
+    let _ = match fault {
+        RunFault::BadRow { .. } => complain_of_row(alloc, fault, records.row(), err),
+        RunFault::Read => writeln!(err, "mdbcheck: {}", text_of_cause(records.cause())),
+        _ => writeln!(err, "mdbcheck: {fault}"),
+    };
+}
+
+/// Writes the line on a record that is no row. Without memory it leaves out what stands there.
+fn complain_of_row<E: Write>(
+    alloc: Global,
+    fault: RunFault,
+    row: &ByteRecord,
+    err: &mut E,
+) -> std::io::Result<()> {
+    write!(err, "mdbcheck: {fault}: wanted TIME,LINE,VALUE")?;
+    if let Ok(found) = excerpt(alloc, row) {
+        err.write_all(b", found \"")?;
+        err.write_all(found.as_slice())?;
+        err.write_all(b"\"")?;
+    }
+    err.write_all(b"\n")
+}
+
+/// Why the input can't be read.
+fn text_of_cause(cause: ReadCause) -> &'static str {
+    match cause {
+        ReadCause::Failed => "the input can't be read",
+        ReadCause::WouldBlock => "the input can't be read: it would have to be waited for",
+        ReadCause::OverLimit => "the input has more than 6400000000 bytes",
+    }
+}
+
+/// The first bytes of a record, its fields with commas between them, and `..` where it goes on.
+fn excerpt(alloc: Global, row: &ByteRecord) -> Result<Vec<u8>, AllocError> {
+    let mut text = Vec::new(alloc);
+    for place in 0..row.len() {
+        if place > 0 {
+            text.extend_from_slice(b",")?;
+        }
+        let is_whole = match row.get(place) {
+            Some(field) => push_field(&mut text, field)?,
+            None => true,
+        };
+        if !is_whole || text.len() > EXCERPT {
+            text.extend_from_slice(b"..")?;
+            return Ok(text);
+        }
+    }
+    Ok(text)
+}
+
+/// Appends a field as far as there is room, and says whether that is all of it.
+fn push_field(text: &mut Vec<u8>, field: &[u8]) -> Result<bool, AllocError> {
+    for byte in field {
+        if text.len() >= EXCERPT {
+            return Ok(false);
+        }
+        push_escaped(text, *byte)?;
+    }
+    Ok(true)
+}
+
+/// Appends a byte as it stands between quotes: `"` and `\` behind a `\`, and one that isn't printed
+/// as `\x` and two digits.
+fn push_escaped(text: &mut Vec<u8>, byte: u8) -> Result<(), AllocError> {
+    match byte {
+        b'"' | b'\\' => text.extend_from_slice(&[b'\\', byte]),
+        b' '..=b'~' => text.extend_from_slice(&[byte]),
+        _ => text.extend_from_slice(&[b'\\', b'x', digit(byte / 16), digit(byte % 16)]),
+    }
+}
