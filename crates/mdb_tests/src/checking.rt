@@ -162,17 +162,24 @@ fn texts_of_faults(rt: HostRuntime) -> Result<(), Fail> {
 
 #[test]
 fn faults_of_the_program_are_told_on_one_line(rt: HostRuntime) -> Result<(), Fail> {
-    let words = words_of(rt.alloc(), &["mdbcheck", "check"])?;
-    let mut out = Vec::new(rt.alloc());
-    let mut err = Vec::new(rt.alloc());
-    let reader = Pieces::failing(ROWS, 7, 2, ErrorKind::BrokenPipe);
-    same(&rt, run(rt.alloc(), words, reader, &mut out, &mut err), 2);
-    assert!(rt; out.is_empty());
-    same(
-        &rt,
-        err.as_slice(),
-        b"mdbcheck: the input can't be read, or has more than 6400000000 bytes\n".as_slice(),
-    );
+    for (kind, line) in [
+        (
+            ErrorKind::BrokenPipe,
+            b"mdbcheck: the input can't be read\n".as_slice(),
+        ),
+        (
+            ErrorKind::WouldBlock,
+            b"mdbcheck: the input can't be read: it would have to be waited for\n",
+        ),
+    ] {
+        let words = words_of(rt.alloc(), &["mdbcheck", "check"])?;
+        let mut out = Vec::new(rt.alloc());
+        let mut err = Vec::new(rt.alloc());
+        let reader = Pieces::failing(ROWS, 7, 2, kind);
+        same(&rt, run(rt.alloc(), words, reader, &mut out, &mut err), 2);
+        assert!(rt; out.is_empty());
+        same(&rt, err.as_slice(), line);
+    }
 
     let words = words_of(rt.alloc(), &["mdbcheck", "check"])?;
     let mut out = Sheet::failing(rt.alloc(), 1);
@@ -248,14 +255,45 @@ fn statuses_of_check(rt: HostRuntime) -> Result<(), Fail> {
 /// A record that is no row, with its number and each of the reasons.
 #[test]
 fn bad_rows_are_told(rt: HostRuntime) -> Result<(), Fail> {
-    let cases: [(&[u8], &[u8]); 5] = [
-        (b"12,M\n", b"mdbcheck: row 1: FieldCount\n"),
-        (b"1000,M,108\nx,M,108\n", b"mdbcheck: row 2: BadTime\n"),
-        (b"12,m,108\n", b"mdbcheck: row 1: BadLine\n"),
-        (b"12,M,200\n", b"mdbcheck: row 1: BadValue\n"),
+    let cases: [(&[u8], &str); 9] = [
+        (
+            b"12,M\n",
+            "row 1: FieldCount: wanted TIME,LINE,VALUE, found \"12,M\"",
+        ),
+        (
+            b"1000,M,108\nx,M,108\n",
+            "row 2: BadTime: wanted TIME,LINE,VALUE, found \"x,M,108\"",
+        ),
+        (
+            b"12,m,108\n",
+            "row 1: BadLine: wanted TIME,LINE,VALUE, found \"12,m,108\"",
+        ),
+        (
+            b"12,M,200\n",
+            "row 1: BadValue: wanted TIME,LINE,VALUE, found \"12,M,200\"",
+        ),
         (
             b"1000,M,108\n2200,M,008\n4200,B,x\n",
-            b"mdbcheck: row 3: BadValue\n",
+            "row 3: BadValue: wanted TIME,LINE,VALUE, found \"4200,B,x\"",
+        ),
+        (
+            b"\"a\"\"b\",\\,\x1F~\x7F\n",
+            "row 1: BadTime: wanted TIME,LINE,VALUE, found \"a\\\"b,\\\\,\\x1F~\\x7F\"",
+        ),
+        (
+            b"0123456789012345678901234567890123456789,,1234567\n",
+            "row 1: BadTime: wanted TIME,LINE,VALUE, \
+             found \"0123456789012345678901234567890123456789,,123456..\"",
+        ),
+        (
+            b"0123456789012345678901234567890123456789,,123456\n",
+            "row 1: BadTime: wanted TIME,LINE,VALUE, \
+             found \"0123456789012345678901234567890123456789,,123456\"",
+        ),
+        (
+            b",,,,,,,,,,,,,,,,,,,,,,,,,,,,,,,,,,,,,,,,,,,,,,,,,,,,,,,,\n",
+            "row 1: FieldCount: wanted TIME,LINE,VALUE, \
+             found \",,,,,,,,,,,,,,,,,,,,,,,,,,,,,,,,,,,,,,,,,,,,,,,,,..\"",
         ),
     ];
     for (number, (text, line)) in cases.iter().enumerate() {
@@ -269,7 +307,8 @@ fn bad_rows_are_told(rt: HostRuntime) -> Result<(), Fail> {
             2,
         );
         assert!(rt; out.is_empty(), "{number}");
-        same_at(&rt, number, err.as_slice(), *line);
+        let told = format!(in rt.alloc(); "mdbcheck: {line}\n")?;
+        same_at(&rt, number, err.as_slice(), told.as_bytes());
     }
     Ok(())
 }

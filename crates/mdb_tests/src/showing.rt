@@ -120,10 +120,12 @@ fn statuses_of_show(rt: HostRuntime) -> Result<(), Fail> {
     let bad_row: &[u8] = b"1000,B,100000\n12,M,200\n";
     let told: &[u8] = b"1-1 break 100000\n";
     let silence: &[u8] = b"";
+    let no_value: &[u8] =
+        b"mdbcheck: row 2: BadValue: wanted TIME,LINE,VALUE, found \"12,M,200\"\n";
     let cases = [
         (ROWS, 0, ACTS, silence),
         (WRONG_SUM, 1, WRONG_SUM_ACTS, silence),
-        (bad_row, 2, told, b"mdbcheck: row 2: BadValue\n".as_slice()),
+        (bad_row, 2, told, no_value),
     ];
     for (text, status, acts, line) in cases {
         let words = words_of(rt.alloc(), &["mdbcheck", "show"])?;
