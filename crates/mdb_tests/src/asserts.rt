@@ -1,7 +1,12 @@
-//! Comparisons that end a test where two values differ. They are functions, since a call of one
-//! costs the proof of a test a tenth of what `assert_eq!` costs it.
+//! Comparisons that end a test where something is otherwise than wanted. They are functions, and
+//! tables are constants that tests go over by reference: the proof of a test grows with what stands
+//! in it, and each `assert_eq!` and each entry of a table that a test makes itself cost it seconds.
 
+use super::streams::words_of;
+use mdb_check::{LinkFault, Outcome, RunFault, check, run, show};
+use std::alloc::{AllocError, Global};
 use std::fmt::{Debug, Display};
+use std::io::Read;
 use std::process::Abort;
 
 /// Ends the test where two values differ, and tells both.
@@ -17,4 +22,48 @@ pub(crate) fn same_at<T: PartialEq + Debug + Copy, D: Display + Drop>(
     right: T,
 ) {
     assert_eq!(rt; left, right, "{case}");
+}
+
+/// Ends the test where `check` has another answer, or writes something else.
+pub(crate) fn check_gives<R: Read + Drop, D: Display + Drop>(
+    rt: &impl Abort,
+    alloc: Global,
+    case: D,
+    reader: R,
+    wanted: (Result<Outcome, RunFault>, &[u8]),
+) {
+    let mut out = Vec::new(alloc);
+    let answer = check(alloc, reader, &mut out);
+    same_at(rt, case, (answer, out.as_slice()), wanted);
+}
+
+/// Ends the test where `show` has another answer, or writes something else.
+pub(crate) fn show_gives<R: Read + Drop, D: Display + Drop>(
+    rt: &impl Abort,
+    alloc: Global,
+    case: D,
+    reader: R,
+    wanted: (Result<Option<LinkFault>, RunFault>, &[u8]),
+) {
+    let mut out = Vec::new(alloc);
+    let answer = show(alloc, reader, &mut out);
+    same_at(rt, case, (answer, out.as_slice()), wanted);
+}
+
+/// Ends the test where the program has another status on a command line, or writes something else
+/// to standard output or to standard error.
+pub(crate) fn run_gives<R: Read + Drop>(
+    rt: &impl Abort,
+    alloc: Global,
+    words: &[&str],
+    reader: R,
+    wanted: (u8, &[u8], &[u8]),
+) -> Result<(), AllocError> {
+    let list = words_of(alloc, words)?;
+    let mut out = Vec::new(alloc);
+    let mut err = Vec::new(alloc);
+    let status = run(alloc, list, reader, &mut out, &mut err);
+    let given = (status, out.as_slice(), err.as_slice());
+    same_at(rt, format_args!("{words:?}"), given, wanted);
+    Ok(())
 }

@@ -1,13 +1,13 @@
 //! What no contract says: that a call can answer at all, which faults come before which, and the
 //! program's words.
 
-use super::asserts::{same, same_at};
-use super::streams::{CUT_SHORT, Counter, POLLS, Pieces, ROWS, Sheet, WRONG_SUM, words_of};
+use super::asserts::{check_gives, run_gives, same};
+use super::streams::{CUT_SHORT, Counter, POLLS, Pieces, ROWS, Sheet, WRONG_SUM, polls, words_of};
 use mdb_check::{
     Account, Blame, Offence, Outcome, Range, Report, Rule, RunFault, check, run, text_of,
 };
 use mdb_words::RowFault;
-use std::io::{ErrorKind, Write};
+use std::io::ErrorKind;
 use std::test::Fail;
 
 /// The report on `ROWS`.
@@ -33,24 +33,22 @@ fn rows_of(answer: Result<Outcome, RunFault>) -> Option<u64> {
     }
 }
 
+/// Recordings with a verdict, the program's status, and the report.
+const VERDICTS: [(&[u8], u8, &[u8]); 2] = [(ROWS, 0, REPORT), (WRONG_SUM, 1, WRONG_SUM_REPORT)];
+
 #[test]
 fn answers_yes_and_no(rt: HostRuntime) {
     let mut out = Vec::new(rt.alloc());
     same(&rt, rows_of(check(rt.alloc(), ROWS, &mut out)), Some(8));
     same(&rt, out.as_slice(), REPORT);
 
-    let mut out = Vec::new(rt.alloc());
     let offence = Offence {
         row: 7,
         rule: Rule::Sum,
         blame: Blame::Changer,
     };
-    same(
-        &rt,
-        check(rt.alloc(), WRONG_SUM, &mut out),
-        Ok(Outcome::No(offence)),
-    );
-    same(&rt, out.as_slice(), WRONG_SUM_REPORT);
+    let wanted = (Ok(Outcome::No(offence)), WRONG_SUM_REPORT);
+    check_gives(&rt, rt.alloc(), "a wrong sum", WRONG_SUM, wanted);
 }
 
 /// An account of the ends of its ranges: the device's, the controller's and the difference's.
@@ -101,13 +99,7 @@ silences changer 1 bill 22 cashless 0 cashless-2 4294967296\n";
 /// Nothing but what the byte limit says ends a long recording early.
 #[test]
 fn follows_a_long_recording_to_its_end(rt: HostRuntime) -> Result<(), Fail> {
-    let mut text = Vec::new(rt.alloc());
-    for poll in 1..=POLLS {
-        let at = poll * 20_000;
-        writeln!(text, "{at},M,10B")?;
-        writeln!(text, "{},M,00B", at + 1_200)?;
-        writeln!(text, "{},S,100", at + 3_200)?;
-    }
+    let text = polls(rt.alloc(), POLLS)?;
     let mut out = Vec::new(rt.alloc());
     let answer = check(rt.alloc(), text.as_slice(), &mut out);
     same(&rt, rows_of(answer), Some(3 * POLLS));
@@ -116,80 +108,77 @@ fn follows_a_long_recording_to_its_end(rt: HostRuntime) -> Result<(), Fail> {
 
 #[test]
 fn refuses_a_bad_row(rt: HostRuntime) {
-    let mut out = Vec::new(rt.alloc());
-    let text: &[u8] = b"12,M,200\n";
     let fault = RunFault::BadRow {
         row: 1,
         fault: RowFault::BadValue,
     };
-    same(&rt, check(rt.alloc(), text, &mut out), Err(fault));
-    assert!(rt; out.is_empty());
+    let text: &[u8] = b"12,M,200\n";
+    check_gives(&rt, rt.alloc(), "a bad row", text, (Err(fault), b""));
 }
 
 #[test]
 fn a_report_is_one_write(rt: HostRuntime) {
-    for (rows, report) in [(ROWS, REPORT), (WRONG_SUM, WRONG_SUM_REPORT)] {
+    for (rows, _, report) in &VERDICTS {
         let mut out = Counter {
             text: Vec::new(rt.alloc()),
             writes: 0,
         };
-        assert!(rt; check(rt.alloc(), rows, &mut out).is_ok());
-        same(&rt, out.text.as_slice(), report);
-        same(&rt, out.writes, 1);
+        assert!(rt; check(rt.alloc(), *rows, &mut out).is_ok());
+        same(&rt, (out.text.as_slice(), out.writes), (*report, 1));
     }
 }
 
+/// The texts of faults.
+const FAULTS: [(RunFault, &str); 5] = [
+    (
+        RunFault::BadRow {
+            row: 7,
+            fault: RowFault::BadTime,
+        },
+        "row 7: BadTime",
+    ),
+    (RunFault::TooLong, "more than 100000000 rows"),
+    (
+        RunFault::Read,
+        "the input can't be read, or has more than 6400000000 bytes",
+    ),
+    (RunFault::Write, "the output can't be written"),
+    (RunFault::Memory, "out of memory"),
+];
+
 #[test]
 fn texts_of_faults(rt: HostRuntime) -> Result<(), Fail> {
-    let bad_row = RunFault::BadRow {
-        row: 7,
-        fault: RowFault::BadTime,
-    };
-    for (fault, text) in [
-        (bad_row, "row 7: BadTime"),
-        (RunFault::TooLong, "more than 100000000 rows"),
-        (
-            RunFault::Read,
-            "the input can't be read, or has more than 6400000000 bytes",
-        ),
-        (RunFault::Write, "the output can't be written"),
-        (RunFault::Memory, "out of memory"),
-    ] {
-        same(&rt, format!(in rt.alloc(); "{fault}")?.as_str(), text);
+    for (fault, text) in &FAULTS {
+        same(&rt, format!(in rt.alloc(); "{fault}")?.as_str(), *text);
     }
     Ok(())
 }
 
+/// What is told of a read that failed.
+const FAILED_READS: [(ErrorKind, &[u8]); 2] = [
+    (
+        ErrorKind::BrokenPipe,
+        b"mdbcheck: the input can't be read\n",
+    ),
+    (
+        ErrorKind::WouldBlock,
+        b"mdbcheck: the input can't be read: it would have to be waited for\n",
+    ),
+];
+
 #[test]
 fn faults_of_the_program_are_told_on_one_line(rt: HostRuntime) -> Result<(), Fail> {
-    for (kind, line) in [
-        (
-            ErrorKind::BrokenPipe,
-            b"mdbcheck: the input can't be read\n".as_slice(),
-        ),
-        (
-            ErrorKind::WouldBlock,
-            b"mdbcheck: the input can't be read: it would have to be waited for\n",
-        ),
-    ] {
-        let words = words_of(rt.alloc(), &["mdbcheck", "check"])?;
-        let mut out = Vec::new(rt.alloc());
-        let mut err = Vec::new(rt.alloc());
-        let reader = Pieces::failing(ROWS, 7, 2, kind);
-        same(&rt, run(rt.alloc(), words, reader, &mut out, &mut err), 2);
-        assert!(rt; out.is_empty());
-        same(&rt, err.as_slice(), line);
+    for (kind, line) in &FAILED_READS {
+        let reader = Pieces::failing(ROWS, 7, 2, *kind);
+        run_gives(&rt, rt.alloc(), &CHECK, reader, (2, b"", *line))?;
     }
 
-    let words = words_of(rt.alloc(), &["mdbcheck", "check"])?;
+    let words = words_of(rt.alloc(), &CHECK)?;
     let mut out = Sheet::failing(rt.alloc(), 1);
     let mut err = Vec::new(rt.alloc());
     same(&rt, run(rt.alloc(), words, ROWS, &mut out, &mut err), 2);
-    same(
-        &rt,
-        err.as_slice(),
-        b"mdbcheck: the output can't be written\n".as_slice(),
-    );
+    let line: &[u8] = b"mdbcheck: the output can't be written\n";
+    same(&rt, err.as_slice(), line);
     Ok(())
 }
 
@@ -197,118 +186,97 @@ fn faults_of_the_program_are_told_on_one_line(rt: HostRuntime) -> Result<(), Fai
 const AT_ONCE: &[u8] =
     b"1,S,100\n1,M,000\n2,M,000\n3,M,000\n4,M,000\n5,M,000\n6,M,000\n7,M,000\n8,M,000\n9,M,000\n";
 
+/// The offence of a first row that cannot be.
+const FIRST_ROW: Offence = Offence {
+    row: 1,
+    rule: Rule::Speaker,
+    blame: Blame::Other,
+};
+
+/// The report on it.
+const FIRST_ROW_REPORT: &[u8] = b"verdict no\nrow 1\nrule Speaker\nblame other\n";
+
 #[test]
 fn an_offence_ends_the_reading(rt: HostRuntime) {
-    let offence = Offence {
-        row: 1,
-        rule: Rule::Speaker,
-        blame: Blame::Other,
-    };
+    let wanted = (Ok(Outcome::No(FIRST_ROW)), FIRST_ROW_REPORT);
     // In small pieces, and in one of many rows; a first read asks for one byte.
-    let short = b"1,S,100\nx\nx\nx\nx\n".as_slice();
-    for (text, most, failing) in [(short, 8, 3), (AT_ONCE, 80, 3)] {
-        let mut out = Vec::new(rt.alloc());
-        let mut reader = Pieces::failing(text, most, failing, ErrorKind::BrokenPipe);
-        same(
-            &rt,
-            check(rt.alloc(), &mut reader, &mut out),
-            Ok(Outcome::No(offence)),
-        );
-        assert!(rt; !reader.has_failed());
-    }
+    let mut reader = Pieces::failing(b"1,S,100\nx\nx\nx\nx\n", 8, 3, ErrorKind::BrokenPipe);
+    check_gives(&rt, rt.alloc(), "small pieces", &mut reader, wanted);
+    assert!(rt; !reader.has_failed());
+    let mut reader = Pieces::failing(AT_ONCE, 80, 3, ErrorKind::BrokenPipe);
+    check_gives(&rt, rt.alloc(), "many rows", &mut reader, wanted);
+    assert!(rt; !reader.has_failed());
 }
 
 #[test]
 fn an_offence_comes_before_a_failed_read(rt: HostRuntime) {
-    let mut out = Vec::new(rt.alloc());
+    let wanted = (Ok(Outcome::No(FIRST_ROW)), FIRST_ROW_REPORT);
     let mut reader = Pieces::failing(CUT_SHORT, 100, 3, ErrorKind::BrokenPipe);
-    let offence = Offence {
-        row: 1,
-        rule: Rule::Speaker,
-        blame: Blame::Other,
-    };
-    same(
-        &rt,
-        check(rt.alloc(), &mut reader, &mut out),
-        Ok(Outcome::No(offence)),
-    );
+    check_gives(&rt, rt.alloc(), "a failed read", &mut reader, wanted);
     assert!(rt; reader.has_failed());
 }
 
+/// The command line that asks for a verdict.
+const CHECK: [&str; 2] = ["mdbcheck", "check"];
+
 #[test]
 fn statuses_of_check(rt: HostRuntime) -> Result<(), Fail> {
-    for (text, status, report) in [(ROWS, 0, REPORT), (WRONG_SUM, 1, WRONG_SUM_REPORT)] {
-        let words = words_of(rt.alloc(), &["mdbcheck", "check"])?;
-        let mut out = Vec::new(rt.alloc());
-        let mut err = Vec::new(rt.alloc());
-        same(
-            &rt,
-            run(rt.alloc(), words, text, &mut out, &mut err),
-            status,
-        );
-        same(&rt, out.as_slice(), report);
-        assert!(rt; err.is_empty(), "at status {status}");
+    for (rows, status, report) in &VERDICTS {
+        let wanted: (u8, &[u8], &[u8]) = (*status, *report, b"");
+        run_gives(&rt, rt.alloc(), &CHECK, *rows, wanted)?;
     }
     Ok(())
 }
 
-/// A record that is no row, with its number and each of the reasons.
+/// Texts with a record that is no row, and what is told of it: its number and each of the reasons.
+const BAD_ROWS: [(&[u8], &str); 9] = [
+    (
+        b"12,M\n",
+        "row 1: FieldCount: wanted TIME,LINE,VALUE, found \"12,M\"",
+    ),
+    (
+        b"1000,M,108\nx,M,108\n",
+        "row 2: BadTime: wanted TIME,LINE,VALUE, found \"x,M,108\"",
+    ),
+    (
+        b"12,m,108\n",
+        "row 1: BadLine: wanted TIME,LINE,VALUE, found \"12,m,108\"",
+    ),
+    (
+        b"12,M,200\n",
+        "row 1: BadValue: wanted TIME,LINE,VALUE, found \"12,M,200\"",
+    ),
+    (
+        b"1000,M,108\n2200,M,008\n4200,B,x\n",
+        "row 3: BadValue: wanted TIME,LINE,VALUE, found \"4200,B,x\"",
+    ),
+    (
+        b"\"a\"\"b\",\\,\x1F~\x7F\n",
+        "row 1: BadTime: wanted TIME,LINE,VALUE, found \"a\\\"b,\\\\,\\x1F~\\x7F\"",
+    ),
+    (
+        b"0123456789012345678901234567890123456789,,1234567\n",
+        "row 1: BadTime: wanted TIME,LINE,VALUE, \
+         found \"0123456789012345678901234567890123456789,,123456..\"",
+    ),
+    (
+        b"0123456789012345678901234567890123456789,,123456\n",
+        "row 1: BadTime: wanted TIME,LINE,VALUE, \
+         found \"0123456789012345678901234567890123456789,,123456\"",
+    ),
+    (
+        b",,,,,,,,,,,,,,,,,,,,,,,,,,,,,,,,,,,,,,,,,,,,,,,,,,,,,,,,\n",
+        "row 1: FieldCount: wanted TIME,LINE,VALUE, \
+         found \",,,,,,,,,,,,,,,,,,,,,,,,,,,,,,,,,,,,,,,,,,,,,,,,,..\"",
+    ),
+];
+
 #[test]
 fn bad_rows_are_told(rt: HostRuntime) -> Result<(), Fail> {
-    let cases: [(&[u8], &str); 9] = [
-        (
-            b"12,M\n",
-            "row 1: FieldCount: wanted TIME,LINE,VALUE, found \"12,M\"",
-        ),
-        (
-            b"1000,M,108\nx,M,108\n",
-            "row 2: BadTime: wanted TIME,LINE,VALUE, found \"x,M,108\"",
-        ),
-        (
-            b"12,m,108\n",
-            "row 1: BadLine: wanted TIME,LINE,VALUE, found \"12,m,108\"",
-        ),
-        (
-            b"12,M,200\n",
-            "row 1: BadValue: wanted TIME,LINE,VALUE, found \"12,M,200\"",
-        ),
-        (
-            b"1000,M,108\n2200,M,008\n4200,B,x\n",
-            "row 3: BadValue: wanted TIME,LINE,VALUE, found \"4200,B,x\"",
-        ),
-        (
-            b"\"a\"\"b\",\\,\x1F~\x7F\n",
-            "row 1: BadTime: wanted TIME,LINE,VALUE, found \"a\\\"b,\\\\,\\x1F~\\x7F\"",
-        ),
-        (
-            b"0123456789012345678901234567890123456789,,1234567\n",
-            "row 1: BadTime: wanted TIME,LINE,VALUE, \
-             found \"0123456789012345678901234567890123456789,,123456..\"",
-        ),
-        (
-            b"0123456789012345678901234567890123456789,,123456\n",
-            "row 1: BadTime: wanted TIME,LINE,VALUE, \
-             found \"0123456789012345678901234567890123456789,,123456\"",
-        ),
-        (
-            b",,,,,,,,,,,,,,,,,,,,,,,,,,,,,,,,,,,,,,,,,,,,,,,,,,,,,,,,\n",
-            "row 1: FieldCount: wanted TIME,LINE,VALUE, \
-             found \",,,,,,,,,,,,,,,,,,,,,,,,,,,,,,,,,,,,,,,,,,,,,,,,,..\"",
-        ),
-    ];
-    for (number, (text, line)) in cases.iter().enumerate() {
-        let words = words_of(rt.alloc(), &["mdbcheck", "check"])?;
-        let mut out = Vec::new(rt.alloc());
-        let mut err = Vec::new(rt.alloc());
-        same_at(
-            &rt,
-            number,
-            run(rt.alloc(), words, *text, &mut out, &mut err),
-            2,
-        );
-        assert!(rt; out.is_empty(), "{number}");
+    for (text, line) in &BAD_ROWS {
         let told = format!(in rt.alloc(); "mdbcheck: {line}\n")?;
-        same_at(&rt, number, err.as_slice(), told.as_bytes());
+        let wanted: (u8, &[u8], &[u8]) = (2, b"", told.as_bytes());
+        run_gives(&rt, rt.alloc(), &CHECK, *text, wanted)?;
     }
     Ok(())
 }
@@ -348,26 +316,18 @@ const REFUSED: [(&[&str], &[u8]); 11] = [
 
 #[test]
 fn refuses_other_words(rt: HostRuntime) -> Result<(), Fail> {
-    for (number, (words, line)) in REFUSED.iter().enumerate() {
-        let mut out = Vec::new(rt.alloc());
-        let mut err = Vec::new(rt.alloc());
-        let words = words_of(rt.alloc(), *words)?;
-        same_at(
-            &rt,
-            number,
-            run(rt.alloc(), words, ROWS, &mut out, &mut err),
-            2,
-        );
-        assert!(rt; out.is_empty(), "{number}");
-        same_at(&rt, number, err.as_slice(), *line);
+    for (words, line) in &REFUSED {
+        run_gives(&rt, rt.alloc(), *words, ROWS, (2, b"", *line))?;
     }
     Ok(())
 }
 
+/// Command lines of which a line is told, on a text whose row can't be read.
+const TOLD: [[&str; 2]; 2] = [CHECK, ["mdbcheck", "frobnicate"]];
+
 #[test]
 fn a_line_that_is_not_taken_changes_no_status(rt: HostRuntime) -> Result<(), Fail> {
-    let command_lines: [&[&str]; 2] = [&["mdbcheck", "check"], &["mdbcheck", "frobnicate"]];
-    for words in command_lines {
+    for words in &TOLD {
         let text: &[u8] = b"12,M,200\n";
         let mut out = Vec::new(rt.alloc());
         let mut err = Sheet::failing(rt.alloc(), 1);

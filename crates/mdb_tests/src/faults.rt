@@ -1,11 +1,12 @@
 //! Reads and writes of `check` and `show` that fail, each in turn, and recordings in small pieces.
 
-use super::asserts::{same, same_at};
+use super::asserts::{check_gives, show_gives};
 use super::recordings::{Recording, coin_told_twice, recordings, reset_and_poll};
 use super::streams::{CALLS, Pieces, Sheet};
 use mdb_check::{Outcome, RunFault, check, show};
 use std::alloc::Global;
 use std::io::ErrorKind;
+use std::process::Abort;
 
 /// The most bytes that a read gives: a part of a row, and several rows.
 const PIECES: [usize; 2] = [7, 100];
@@ -143,38 +144,24 @@ fn each_failed_write_is_told(rt: HostRuntime) {
     }
 }
 
+/// Ends the test where `check` or `show` makes something else of a recording, which has a yes, in
+/// pieces of so many bytes.
+fn pieces_give_the_same(rt: &impl Abort, alloc: Global, recording: &Recording, most: usize) {
+    let Recording { name, rows, .. } = *recording;
+    let plain = check(alloc, rows, &mut Vec::new(alloc));
+    assert!(rt; matches!(plain, Ok(Outcome::Yes(_))), "{name}: {plain:?}");
+    let wanted = (plain, recording.report);
+    let case = format_args!("{name}, {most}");
+    check_gives(rt, alloc, case, Pieces::new(rows, most), wanted);
+    let wanted = (Ok(None), recording.acts);
+    let case = format_args!("{name}, {most}");
+    show_gives(rt, alloc, case, Pieces::new(rows, most), wanted);
+}
+
 #[test]
 fn a_text_in_pieces_is_that_text(rt: HostRuntime) {
     for most in [1, 2, 7] {
-        for recording in [coin_told_twice(), reset_and_poll()] {
-            let name = recording.name;
-            let mut out = Vec::new(rt.alloc());
-            let answer = check(rt.alloc(), Pieces::new(recording.rows, most), &mut out);
-            assert!(rt;
-                matches!(answer, Ok(Outcome::Yes(_))),
-                "{name}, {most}: {answer:?}"
-            );
-            same(
-                &rt,
-                answer,
-                check(rt.alloc(), recording.rows, &mut Vec::new(rt.alloc())),
-            );
-            same_at(
-                &rt,
-                format_args!("{name}, {most}"),
-                out.as_slice(),
-                recording.report,
-            );
-
-            let mut out = Vec::new(rt.alloc());
-            let answer = show(rt.alloc(), Pieces::new(recording.rows, most), &mut out);
-            same_at(&rt, format_args!("{name}, {most}"), answer, Ok(None));
-            same_at(
-                &rt,
-                format_args!("{name}, {most}"),
-                out.as_slice(),
-                recording.acts,
-            );
-        }
+        pieces_give_the_same(&rt, rt.alloc(), &coin_told_twice(), most);
+        pieces_give_the_same(&rt, rt.alloc(), &reset_and_poll(), most);
     }
 }

@@ -1,12 +1,11 @@
 //! Limits that a caller sets on rows and bytes.
 
 use super::asserts::{same, same_at};
-use super::streams::{ROWS, WRONG_SUM};
+use super::streams::{ROWS, WRONG_SUM, polls};
 use mdb_check::{
     BYTES_MAX, Blame, Offence, Outcome, ROWS_MAX, Rule, RunFault, check, check_within,
 };
 use mdb_words::RowFault;
-use std::io::Write;
 use std::test::Fail;
 
 /// The polls of a recording of several batches, each acknowledged: three rows.
@@ -41,11 +40,13 @@ fn as_many_rows_as_are_allowed(rt: HostRuntime) {
     same(&rt, within(&rt, ROWS, 1, BYTES_MAX), Err(RunFault::TooLong));
 }
 
+/// Texts of a record, of which none is allowed.
+const ONE_TOO_MANY: [&[u8]; 5] = [b"x", b"1,S,100\n", b"1,M,108\n", b"12,M,200\n", b"\n\n,\n"];
+
 /// What the record past the last allowed one holds is of no matter.
 #[test]
 fn no_rows_at_all(rt: HostRuntime) {
-    let texts: [&[u8]; 5] = [b"x", b"1,S,100\n", b"1,M,108\n", b"12,M,200\n", b"\n\n,\n"];
-    for (number, text) in texts.iter().enumerate() {
+    for (number, text) in ONE_TOO_MANY.iter().enumerate() {
         let answer = within(&rt, *text, 0, BYTES_MAX);
         same_at(&rt, number, answer, Err(RunFault::TooLong));
     }
@@ -83,13 +84,7 @@ fn the_last_allowed_row_is_judged(rt: HostRuntime) {
 /// Rows are read by batches, and a limit may fall anywhere in one.
 #[test]
 fn limits_of_many_rows(rt: HostRuntime) -> Result<(), Fail> {
-    let mut text = Vec::new(rt.alloc());
-    for poll in 1..=LIMITED_POLLS {
-        let at = poll * 20_000;
-        writeln!(text, "{at},M,10B")?;
-        writeln!(text, "{},M,00B", at + 1_200)?;
-        writeln!(text, "{},S,100", at + 3_200)?;
-    }
+    let text = polls(rt.alloc(), LIMITED_POLLS)?;
     for rows in [1, 127, 128, 129, 255, 256, 257, 298, 299] {
         let answer = within(&rt, text.as_slice(), rows, BYTES_MAX);
         same_at(&rt, rows, answer, Err(RunFault::TooLong));

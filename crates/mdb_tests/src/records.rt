@@ -3,9 +3,23 @@
 use super::asserts::same;
 use super::streams::Pieces;
 use mdb_records::{ReadCause, ReadFault, Records};
-use std::alloc::AllocError;
+use std::alloc::{AllocError, Global};
 use std::io::{ErrorKind, Read};
 use std::test::Fail;
+
+/// How many records are still given, up to so many, and how the reading ends.
+pub(crate) fn count_rows<R: Read + Drop>(
+    records: &mut Records<R>,
+    most: u64,
+) -> (u64, Result<bool, ReadFault>) {
+    for number in 0..most {
+        let found = records.advance();
+        if found != Ok(true) {
+            return (number, found);
+        }
+    }
+    (most, records.advance())
+}
 
 // The second fields of the rows of a text under a limit, and how the reading ended.
 fn second_fields(
@@ -61,21 +75,24 @@ fn ending<R: Read + Drop>(
     (Ok(true), rows.cause(), false)
 }
 
+/// What a failed read is told as.
+const CAUSES: [(ErrorKind, ReadCause); 3] = [
+    (ErrorKind::Other, ReadCause::Failed),
+    (ErrorKind::InvalidData, ReadCause::Failed),
+    (ErrorKind::WouldBlock, ReadCause::WouldBlock),
+];
+
 #[test]
 fn tells_why_a_reading_ended(rt: HostRuntime) {
     let text = b"1,M\n2,NO";
     // The fault comes with each read in turn, before the text's end and at it.
     for read in 1..5 {
-        for (kind, cause) in [
-            (ErrorKind::Other, ReadCause::Failed),
-            (ErrorKind::InvalidData, ReadCause::Failed),
-            (ErrorKind::WouldBlock, ReadCause::WouldBlock),
-        ] {
-            let reader = Pieces::failing(text, 3, read, kind);
+        for (kind, cause) in &CAUSES {
+            let reader = Pieces::failing(text, 3, read, *kind);
             same(
                 &rt,
                 ending(&rt, reader, 8),
-                (Err(ReadFault::Read), cause, true),
+                (Err(ReadFault::Read), *cause, true),
             );
         }
     }
@@ -100,27 +117,27 @@ fn gives_the_record_field_by_field(rt: HostRuntime) -> Result<(), Fail> {
     Ok(())
 }
 
-#[test]
-fn a_long_text_is_read_to_its_end(rt: HostRuntime) -> Result<(), Fail> {
-    let lines = 1_500;
-    let mut text = Vec::new(rt.alloc());
+// So many lines of 1,024 bytes.
+fn long_lines(alloc: Global, lines: u64) -> Result<Vec<u8>, AllocError> {
+    let mut text = Vec::new(alloc);
     for _ in 0..lines {
         text.extend_from_slice(&[b'7'; 1_023])?;
         text.push(b'\n')?;
     }
-    let bytes = text.len() as u64;
+    Ok(text)
+}
+
+#[test]
+fn a_long_text_is_read_to_its_end(rt: HostRuntime) -> Result<(), Fail> {
+    let text = long_lines(rt.alloc(), 1_500)?;
+    let bytes = 1_500 * 1_024;
     let mut rows = Records::new(rt.alloc(), text.as_slice(), bytes);
-    for _ in 0..lines {
-        same(&rt, rows.advance(), Ok(true));
-    }
-    same(&rt, rows.advance(), Ok(false));
+    same(&rt, count_rows(&mut rows, 2_000), (1_500, Ok(false)));
     same(&rt, rows.taken(), bytes);
 
-    let mut rows = Records::new(rt.alloc(), text.as_slice(), bytes.saturating_sub(1));
-    for _ in 1..lines {
-        same(&rt, rows.advance(), Ok(true));
-    }
-    same(&rt, rows.advance(), Err(ReadFault::Read));
+    let mut rows = Records::new(rt.alloc(), text.as_slice(), bytes - 1);
+    let end = Err(ReadFault::Read);
+    same(&rt, count_rows(&mut rows, 2_000), (1_499, end));
     same(&rt, rows.cause(), ReadCause::OverLimit);
     same(&rt, rows.taken(), bytes);
     Ok(())

@@ -7,6 +7,7 @@ use mdb_msgs::{
     BillCommand, ChangerCommand, ChangerSetup, Command, MsgFault, ReaderCommand, ReaderList,
     ReaderMsg, ReaderUnit, Reply, read_reply, write_reply,
 };
+use std::process::Abort;
 
 const CHANGER_SETUP: Command = Command::Changer(ChangerCommand::Setup);
 
@@ -32,51 +33,52 @@ fn is_kept(command: &Command, bytes: &[u8]) -> bool {
     }
 }
 
+/// Commands, and data bytes that answer them.
+const ANSWERS: [(&Command, &[u8]); 13] = [
+    (&CHANGER_SETUP, &[0x02, 0x00, 0x01, 0x05, 0x02, 0x00, 0x07]),
+    (
+        &CHANGER_SETUP,
+        &[0x02, 0x18, 0x40, 0x05, 0x02, 0x00, 0x07, 0x01, 0x02, 0xFF],
+    ),
+    (
+        &Command::Changer(ChangerCommand::TubeStatus),
+        &[0x00, 0x01, 0x09, 0x08],
+    ),
+    (
+        &CHANGER_POLL,
+        &[
+            0xF2, 0x07, 0x4F, 0x00, 0x52, 0x09, 0x73, 0x01, 0x21, 0x0B, 0x1A,
+        ],
+    ),
+    (
+        &Command::Changer(ChangerCommand::Identification),
+        &[0x41; 33],
+    ),
+    (
+        &BILL_SETUP,
+        &[1, 0, 1, 0, 0x64, 2, 0, 0xC8, 0, 0, 0xFF, 1, 5],
+    ),
+    (&BILL_POLL, &[0x8F, 0x90, 0xA1, 0xC2, 0x45, 0x06, 0x3F]),
+    (&Command::Bill(BillCommand::Stacker), &[0x80, 0x05]),
+    (&Command::Bill(BillCommand::Identification), &[0x42; 29]),
+    (
+        &Command::Bill(BillCommand::IdentificationWithOptions),
+        &[0x43; 33],
+    ),
+    (
+        &READER_POLL,
+        &[
+            0, 1, 2, 0x18, 0x40, 1, 2, 5, 0, 3, 0, 100, 4, 5, 0, 10, 6, 7, 8, 10, 1, 11, 2, 9, 65,
+        ],
+    ),
+    (&READER_POLL, &[0x09; 30]),
+    (&READER_POLL, &[0x02, 0x05]),
+];
+
 #[test]
 fn what_was_read_is_written_again(rt: HostRuntime) {
-    let cases: [(&Command, &[u8]); 13] = [
-        (&CHANGER_SETUP, &[0x02, 0x00, 0x01, 0x05, 0x02, 0x00, 0x07]),
-        (
-            &CHANGER_SETUP,
-            &[0x02, 0x18, 0x40, 0x05, 0x02, 0x00, 0x07, 0x01, 0x02, 0xFF],
-        ),
-        (
-            &Command::Changer(ChangerCommand::TubeStatus),
-            &[0x00, 0x01, 0x09, 0x08],
-        ),
-        (
-            &CHANGER_POLL,
-            &[
-                0xF2, 0x07, 0x4F, 0x00, 0x52, 0x09, 0x73, 0x01, 0x21, 0x0B, 0x1A,
-            ],
-        ),
-        (
-            &Command::Changer(ChangerCommand::Identification),
-            &[0x41; 33],
-        ),
-        (
-            &BILL_SETUP,
-            &[1, 0, 1, 0, 0x64, 2, 0, 0xC8, 0, 0, 0xFF, 1, 5],
-        ),
-        (&BILL_POLL, &[0x8F, 0x90, 0xA1, 0xC2, 0x45, 0x06, 0x3F]),
-        (&Command::Bill(BillCommand::Stacker), &[0x80, 0x05]),
-        (&Command::Bill(BillCommand::Identification), &[0x42; 29]),
-        (
-            &Command::Bill(BillCommand::IdentificationWithOptions),
-            &[0x43; 33],
-        ),
-        (
-            &READER_POLL,
-            &[
-                0, 1, 2, 0x18, 0x40, 1, 2, 5, 0, 3, 0, 100, 4, 5, 0, 10, 6, 7, 8, 10, 1, 11, 2, 9,
-                65,
-            ],
-        ),
-        (&READER_POLL, &[0x09; 30]),
-        (&READER_POLL, &[0x02, 0x05]),
-    ];
-    for (command, bytes) in &cases {
-        assert!(rt; is_kept(command, bytes), "{command:?}, {bytes:?}");
+    for (command, bytes) in &ANSWERS {
+        assert!(rt; is_kept(*command, *bytes), "{command:?}, {bytes:?}");
     }
 }
 
@@ -125,78 +127,77 @@ fn list_with(messages: &[ReaderMsg], text: &[u8]) -> Result<ReaderList, MsgFault
 
 const SHOWN: ReaderMsg = ReaderMsg::Display { time: 5 };
 
+const RESET: ReaderMsg = ReaderMsg::JustReset;
+
+const ID: ReaderMsg = ReaderMsg::PeripheralId;
+
+const BROKEN: ReaderMsg = ReaderMsg::Malfunction(1);
+
+const CONFIG: ReaderMsg = ReaderMsg::Config {
+    level: 1,
+    code: 0x1840,
+    scale: 1,
+    decimals: 2,
+    response: 5,
+    options: 0,
+};
+
+const APPROVED: ReaderMsg = ReaderMsg::VendApproved { amount: 1 };
+
+/// Lists of no length that an answer has: none, 36 of one byte, 18 of 2, 30 and 6, 36, 5 of 8.
+const NO_LENGTH: [(&[ReaderMsg], &[u8]); 6] = [
+    (&[], &[]),
+    (&[RESET; 36], &[]),
+    (&[BROKEN; 18], &[]),
+    (&[ID, SHOWN], &[65; 4]),
+    (&[SHOWN], &[65; 34]),
+    (&[CONFIG; 5], &[]),
+];
+
+/// Lists of such a length: 1, 35 of one byte, 17 of 2, 30 and 5, 34, 4 of 8 and one of 3.
+const LISTS: [(&[ReaderMsg], &[u8]); 6] = [
+    (&[RESET], &[]),
+    (&[RESET; 35], &[]),
+    (&[BROKEN; 17], &[]),
+    (&[ID, SHOWN], &[65; 3]),
+    (&[SHOWN], &[65; 32]),
+    (&[CONFIG, CONFIG, CONFIG, CONFIG, APPROVED], &[]),
+];
+
+/// Lists with a display request that isn't last, or with a loose text.
+const LOOSE: [(&[ReaderMsg], &[u8]); 6] = [
+    (&[SHOWN, RESET], &[]),
+    (&[SHOWN, SHOWN], &[]),
+    (&[RESET, SHOWN, RESET], &[65]),
+    (&[RESET], &[65]),
+    (&[SHOWN], &[65; 33]),
+    (&[RESET; 35], &[65]),
+];
+
+/// Ends the test where one of these lists isn't refused for a fault.
+fn are_refused(rt: &impl Abort, lists: &[(&[ReaderMsg], &[u8])], fault: MsgFault) {
+    for (messages, text) in lists {
+        let found = list_with(*messages, *text).err();
+        let case = format_args!("{messages:?}, {text:?}");
+        same_at(rt, case, found, Some(fault));
+    }
+}
+
 #[test]
 fn a_list_has_1_to_35_bytes(rt: HostRuntime) {
-    let id = ReaderMsg::PeripheralId;
-    let reset = ReaderMsg::JustReset;
-    let config = ReaderMsg::Config {
-        level: 1,
-        code: 0x1840,
-        scale: 1,
-        decimals: 2,
-        response: 5,
-        options: 0,
-    };
-    // none, 36 of one byte, 18 of 2, 30 and 6, 36, 5 of 8
-    let others: [(&[ReaderMsg], &[u8]); 6] = [
-        (&[], &[]),
-        (&[reset; 36], &[]),
-        (&[ReaderMsg::Malfunction(1); 18], &[]),
-        (&[id, SHOWN], &[65; 4]),
-        (&[SHOWN], &[65; 34]),
-        (&[config; 5], &[]),
-    ];
-    for (messages, text) in &others {
-        same_at(
-            &rt,
-            format_args!("{messages:?}, {text:?}"),
-            list_with(messages, text).err(),
-            Some(MsgFault::Length),
+    are_refused(&rt, &NO_LENGTH, MsgFault::Length);
+    for (messages, text) in &LISTS {
+        assert!(rt;
+            list_with(*messages, *text).is_ok(),
+            "{messages:?}, {text:?}"
         );
-    }
-    // 1, 35 of one byte, 17 of 2, 30 and 5, 34, 4 of 8 and one of 3
-    let lists: [(&[ReaderMsg], &[u8]); 6] = [
-        (&[reset], &[]),
-        (&[reset; 35], &[]),
-        (&[ReaderMsg::Malfunction(1); 17], &[]),
-        (&[id, SHOWN], &[65; 3]),
-        (&[SHOWN], &[65; 32]),
-        (
-            &[
-                config,
-                config,
-                config,
-                config,
-                ReaderMsg::VendApproved { amount: 1 },
-            ],
-            &[],
-        ),
-    ];
-    for (messages, text) in &lists {
-        assert!(rt; list_with(messages, text).is_ok(), "{messages:?}, {text:?}");
     }
 }
 
 #[test]
 fn a_list_has_a_display_request_last_and_no_loose_text(rt: HostRuntime) {
-    let reset = ReaderMsg::JustReset;
-    let others: [(&[ReaderMsg], &[u8]); 6] = [
-        (&[SHOWN, reset], &[]),
-        (&[SHOWN, SHOWN], &[]),
-        (&[reset, SHOWN, reset], &[65]),
-        (&[reset], &[65]),
-        (&[SHOWN], &[65; 33]),
-        (&[reset; 35], &[65]),
-    ];
-    for (messages, text) in &others {
-        same_at(
-            &rt,
-            format_args!("{messages:?}, {text:?}"),
-            list_with(messages, text).err(),
-            Some(MsgFault::Message),
-        );
-    }
-    let loose = ReaderList::new(&[reset], &[1; 29], &[]);
+    are_refused(&rt, &LOOSE, MsgFault::Message);
+    let loose = ReaderList::new(&[RESET], &[1; 29], &[]);
     same(&rt, loose.err(), Some(MsgFault::Message));
 }
 

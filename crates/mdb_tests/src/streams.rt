@@ -113,6 +113,23 @@ impl<'a> Read for Endless<'a> {
     }
 }
 
+/// Adds the rows of one poll of a changer, which it acknowledges.
+fn add_poll(text: &mut Vec<u8>, number: u64) -> io::Result<()> {
+    let at = number.saturating_mul(20_000);
+    writeln!(text, "{at},M,10B")?;
+    writeln!(text, "{},M,00B", at.saturating_add(1_200))?;
+    writeln!(text, "{},S,100", at.saturating_add(3_200))
+}
+
+/// A recording of so many polls.
+pub(crate) fn polls(alloc: Global, count: u64) -> io::Result<Vec<u8>> {
+    let mut text = Vec::new(alloc);
+    for number in 1..=count {
+        add_poll(&mut text, number)?;
+    }
+    Ok(text)
+}
+
 /// Gives the rows of a controller that polls a changer without end, and counts what it gives.
 #[derive(Drop)]
 pub(crate) struct Polling {
@@ -136,12 +153,9 @@ impl Polling {
     /// Makes the rows of the next poll, which the changer acknowledges.
     fn poll(&mut self) -> io::Result<()> {
         self.polls = self.polls.saturating_add(1);
-        let at = self.polls.saturating_mul(20_000);
         self.done = 0;
         self.rows.clear();
-        writeln!(self.rows, "{at},M,10B")?;
-        writeln!(self.rows, "{},M,00B", at.saturating_add(1_200))?;
-        writeln!(self.rows, "{},S,100", at.saturating_add(3_200))
+        add_poll(&mut self.rows, self.polls)
     }
 }
 
