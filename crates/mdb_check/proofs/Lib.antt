@@ -3,6 +3,7 @@ pub mod Fields
 pub mod Headline
 pub mod OneAnswer
 pub mod OneShowing
+pub mod Outputs
 pub mod Reading
 pub mod SameFault
 pub mod ShowSteps

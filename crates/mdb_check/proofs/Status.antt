@@ -1,5 +1,6 @@
 -- What the statuses of the program say.
-use Rattle.std.proofs.Common.{arith, refl, ap, sym, subst, inl, inr, ◌≡◌, ◌≢◌, ℕ, List, Option, Some, None, Result, Ok, Err, IfOk, IfErr, IfSome}
+use Rattle.std.proofs.Common.{arith, refl, ap, sym, subst, inl, inr, ◌≡◌, ◌≢◌, ℕ, List, [], Option, Some, None, Result, Ok, Err, IfOk, IfErr, IfSome}
+use Rattle.std.proofs.lemmas.List.{append-nil}
 use Rattle.std.specs.Prelude.{codes}
 use Rattle.std.specs.Io.KnownBytes.{Appends}
 use Rattle.csv.specs.Reading.{default_config, records, strip_bom}
@@ -11,27 +12,35 @@ use Rattle.mdb_check.specs.declared.outcome.RunFault.{RunFault}
 use Rattle.mdb_check.specs.declared.outcome.RunFault.TheVariants.{Write}
 use Rattle.mdb_check.specs.Program.{NamesTask, Says, SaysChecked, SaysShown, show_status_of, status_of}
 use Rattle.mdb_check.specs.Show.{Shows}
-use Rattle.mdb_check.specs.Text.{report_text}
-use Rattle.mdb_check.specs.Verdict.{HasOutcome, IsAnswer}
+use Rattle.mdb_check.specs.Text.{IsCutReport, report_text}
+use Rattle.mdb_check.specs.Verdict.{IsAnswer}
+use Rattle.mdb_check.specs.Written.{HasTaken}
 
 says_checked : {W : Type 0} (contents : W → Option (List ℕ)) (all : List (List (List ℕ))) (old new : W) (answer : Result Outcome RunFault)
     → IsAnswer ROWS_MAX all answer
     → IfOk answer (λ outcome. Appends (contents old) (contents new) (report_text outcome))
-    → IfErr answer (λ fault. fault ≢ Write → new ≡ old) → (answer ≡ Err Write → HasOutcome ROWS_MAX all)
+    → IfErr answer (λ fault. fault ≢ Write → new ≡ old) → (answer ≡ Err Write → IsCutReport ROWS_MAX all (contents old) (contents new))
     → SaysChecked all (contents old) (contents new) (status_of answer)
-says_checked contents all old new (Ok (Yes report)) is written kept had =
+says_checked contents all old new (Ok (Yes report)) is written kept cut =
     ((λ e. (report, is, written)), (λ e. absurd (omega (arith, e))), (λ e. absurd (omega (arith, e))))
-says_checked contents all old new (Ok (No offence)) is written kept had =
+says_checked contents all old new (Ok (No offence)) is written kept cut =
     ((λ e. absurd (omega (arith, e))), (λ e. (offence, is, written)), (λ e. absurd (omega (arith, e))))
-says_checked contents all old new (Err Write) is written kept had =
-    ((λ e. absurd (omega (arith, e))), (λ e. absurd (omega (arith, e))), (λ e. inr (had refl)))
-says_checked contents all old new (Err fault) is written kept had =
+says_checked contents all old new (Err Write) is written kept cut =
+    ((λ e. absurd (omega (arith, e))), (λ e. absurd (omega (arith, e))), (λ e. inr (cut refl)))
+says_checked contents all old new (Err fault) is written kept cut =
     ((λ e. absurd (omega (arith, e))), (λ e. absurd (omega (arith, e))), (λ e. inl (ap contents (kept (λ same. absurd (cc))))))
 
+-- a text that was written whole is a front of itself
+taken_whole : (before after : Option (List ℕ)) (text : List ℕ) → Appends before after text → HasTaken before after text
+taken_whole before after text written = record { front = text; rest = []; parts = sym (append-nil text); grown = written }
+
 says_shown : (all : List (List (List ℕ))) (before after : Option (List ℕ)) (answer : Result (Option LinkFault) RunFault) → Shows all before after answer → SaysShown all before after (show_status_of answer)
-says_shown all before after (Ok None) shows = ((λ e. shows (λ same. cc)), (λ e. absurd (omega (arith, e))))
-says_shown all before after (Ok (Some fault)) shows = ((λ e. absurd (omega (arith, e))), (λ e. let told = shows (λ same. cc) in (fault, told.0, told.1, told.2)))
-says_shown all before after (Err fault) shows = ((λ e. absurd (omega (arith, e))), (λ e. absurd (omega (arith, e))))
+says_shown all before after (Ok None) (inl shows) = ((λ e. shows), (λ e. absurd (omega (arith, e))), (λ e. absurd (omega (arith, e))))
+says_shown all before after (Ok (Some fault)) (inl shows) = ((λ e. absurd (omega (arith, e))), (λ e. (fault, shows.0, shows.1, shows.2)), (λ e. absurd (omega (arith, e))))
+says_shown all before after (Ok showing) (inr cut) = absurd (cc (cut.0))
+says_shown all before after (Err fault) (inl shows) =
+    ((λ e. absurd (omega (arith, e))), (λ e. absurd (omega (arith, e))), (λ e. record { answer = Err fault; text = shows.0; showing = shows.1; taken = taken_whole before after shows.0 shows.2 }))
+says_shown all before after (Err fault) (inr cut) = ((λ e. absurd (omega (arith, e))), (λ e. absurd (omega (arith, e))), (λ e. cut.1))
 
 -- what the status of a checked text says
 pub ran : {W : Type 0} (contents : W → Option (List ℕ)) (known : Option (List ℕ)) (words : List (List ℕ)) (old new : W) (answer : Result Outcome RunFault) (status : ℕ)
@@ -39,14 +48,14 @@ pub ran : {W : Type 0} (contents : W → Option (List ℕ)) (known : Option (Lis
     → IfSome known (λ text. IsAnswer ROWS_MAX (records default_config (strip_bom text)) answer)
     → IfOk answer (λ outcome. Appends (contents old) (contents new) (report_text outcome))
     → IfErr answer (λ fault. fault ≢ Write → new ≡ old)
-    → IfSome known (λ text. answer ≡ Err Write → HasOutcome ROWS_MAX (records default_config (strip_bom text)))
+    → IfSome known (λ text. answer ≡ Err Write → IsCutReport ROWS_MAX (records default_config (strip_bom text)) (contents old) (contents new))
     → status ≡ status_of answer
     → IfSome known (λ text. Says words (records default_config (strip_bom text)) (contents old) (contents new) status)
-ran contents None words old new answer status names is written kept had same = tt
-ran contents (Some text) words old new answer status names is written kept had same =
+ran contents None words old new answer status names is written kept cut same = tt
+ran contents (Some text) words old new answer status names is written kept cut same =
     let all : List (List (List ℕ)) = records default_config (strip_bom text) in
     let P : ℕ → Type 0 = λ n. SaysChecked all (contents old) (contents new) n in
-    inl (names, subst P (sym same) (says_checked contents all old new answer is written kept had))
+    inl (names, subst P (sym same) (says_checked contents all old new answer is written kept cut))
 
 -- what the status of a text that was shown says
 pub shown : (known : Option (List ℕ)) (words : List (List ℕ)) (before after : Option (List ℕ)) (answer : Result (Option LinkFault) RunFault) (status : ℕ)

@@ -8,3 +8,4 @@ pub mod ShowText
 pub mod ShownFault
 pub mod Text
 pub mod Verdict
+pub mod Written

@@ -5,9 +5,9 @@ use Rattle.mdb_bus.specs.declared.fault.LinkFault.{LinkFault}
 use Rattle.mdb_follow.specs.declared.follower.TheConstants.{ROWS_MAX}
 use Rattle.mdb_follow.specs.declared.offence.Offence.{Offence}
 use Rattle.mdb_follow.specs.declared.report.Report.{Report}
-use Rattle.mdb_check.specs.Show.{IsShownToFault, IsShownWhole}
-use Rattle.mdb_check.specs.Text.{report_text}
-use Rattle.mdb_check.specs.Verdict.{HasOutcome, IsImpossible, IsPossible}
+use Rattle.mdb_check.specs.Show.{IsCutShort, IsShownToFault, IsShownWhole}
+use Rattle.mdb_check.specs.Text.{IsCutReport, report_text}
+use Rattle.mdb_check.specs.Verdict.{IsImpossible, IsPossible}
 use Rattle.mdb_check.specs.declared.outcome.Outcome.{Outcome}
 use Rattle.mdb_check.specs.declared.outcome.Outcome.TheVariants.{Yes, No}
 use Rattle.mdb_check.specs.declared.outcome.RunFault.{RunFault}
@@ -21,22 +21,24 @@ NamesTask (program ∷ []) task = ⊥
 NamesTask [] task = ⊥
 
 -- What the statuses of `check` say of the records of a text, and of the bytes that the writer held
--- before and after. At 2 nothing was written, or the text has a verdict; then nothing is said of
--- the bytes.
+-- before and after. At 2 nothing was written, or the writer failed, and took a front of the text of
+-- the verdict that there is.
 abbrev pub SaysChecked : List (List (List ℕ)) → Option (List ℕ) → Option (List ℕ) → ℕ → Type 0
 SaysChecked records before after status =
     (status ≡ 0 → (report : Report) × IsPossible ROWS_MAX records report
     × Appends before after (report_text (Yes report)))
     × (status ≡ 1 → (offence : Offence) × IsImpossible ROWS_MAX records offence
     × Appends before after (report_text (No offence)))
-    × (status ≡ 2 → (after ≡ before) ⊎ HasOutcome ROWS_MAX records)
+    × (status ≡ 2 → (after ≡ before) ⊎ IsCutReport ROWS_MAX records before after)
 
--- The same of `show`. At 2 nothing is said: the writer may have failed anywhere.
+-- The same of `show`. At 2 a front of a text was written that the records are shown with: its lines
+-- up to the fault, or fewer, where the writer failed.
 abbrev pub SaysShown : List (List (List ℕ)) → Option (List ℕ) → Option (List ℕ) → ℕ → Type 0
 SaysShown records before after status =
     (status ≡ 0 → (text : List ℕ) × IsShownWhole records text × Appends before after text)
     × (status ≡ 1 → (fault : LinkFault) × (text : List ℕ) × IsShownToFault records fault text
     × Appends before after text)
+    × (status ≡ 2 → IsCutShort records before after)
 
 -- What the status of the program says: of words that name neither task, and of others that are
 -- refused, that nothing was written.

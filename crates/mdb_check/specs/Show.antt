@@ -1,5 +1,5 @@
 -- What `show` answers to the records of a text, and what it writes of them.
-use Rattle.std.specs.Prelude.{◌≡◌, ◌≢◌, ◌+◌, ◌<◌, ◌≤◌, ℕ, List, [], ◌∷◌, ◌++◌, length, ⊤, Option, Some, None, Result, Ok, Err}
+use Rattle.std.specs.Prelude.{◌≡◌, ◌⊎◌, ◌+◌, ◌<◌, ◌≤◌, ℕ, List, [], ◌∷◌, ◌++◌, length, ⊤, Option, Some, None, Result, Ok, Err}
 use Rattle.std.specs.Io.KnownBytes.{Appends}
 use Rattle.mdb_words.specs.declared.event.Event.{Event}
 use Rattle.mdb_words.specs.declared.row.RowFault.{RowFault}
@@ -12,6 +12,7 @@ use Rattle.mdb_check.specs.declared.outcome.RunFault.{RunFault}
 use Rattle.mdb_check.specs.declared.outcome.RunFault.TheVariants.{BadRow, TooLong, Read, Write, Memory}
 use Rattle.mdb_check.specs.ShowText.{closed_pieces, fault_line, show_text}
 use Rattle.mdb_check.specs.Verdict.{AreRows}
+use Rattle.mdb_check.specs.Written.{HasTaken}
 
 -- The records up to the rest are rows, and these pieces are their act list.
 pub record AreShown (records : List (List (List ℕ))) (pieces : List Piece)
@@ -74,8 +75,8 @@ pub record IsShownInPart (records : List (List (List ℕ))) (text : List ℕ) : 
   pub shown : AreShown records pieces rest
   pub lines : text ≡ show_text (closed_pieces pieces)
 
--- The answer to the records of a text, and what is written of them. A refused read or memory may
--- come behind any row, and of a refused write nothing is said.
+-- The answer to the records of a text, and the text that is written of them. A refused read or
+-- memory may come behind any row. That the writer failed is none of these answers.
 abbrev pub IsShowing : List (List (List ℕ)) → Result (Option LinkFault) RunFault → List ℕ → Type 0
 IsShowing records (Ok None) text = IsShownWhole records text
 IsShowing records (Ok (Some fault)) text = IsShownToFault records fault text
@@ -85,11 +86,21 @@ IsShowing records (Err Read) text = IsShownInPart records text
 IsShowing records (Err Memory) text = IsShownInPart records text
 IsShowing records (Err Write) text = ⊥
 
--- the same of the bytes that a writer held before and after, but for a refused write
+-- The writer took a front of a text that is written of the records, with whatever answer.
+pub record IsCutShort (records : List (List (List ℕ))) (before after : Option (List ℕ))
+    : Type 0 where
+  pub answer : Result (Option LinkFault) RunFault
+  pub text : List ℕ
+  pub showing : IsShowing records answer text
+  pub taken : HasTaken before after text
+
+-- The same of the bytes that a writer held before and after. It took the text of the answer; or the
+-- answer is that it failed, and it took a front of a text.
 abbrev pub Shows : List (List (List ℕ)) → Option (List ℕ) → Option (List ℕ)
     → Result (Option LinkFault) RunFault → Type 0
 Shows records before after answer =
-    answer ≢ Err Write → (text : List ℕ) × IsShowing records answer text × Appends before after text
+    ((text : List ℕ) × IsShowing records answer text × Appends before after text)
+    ⊎ ((answer ≡ Err Write) × IsCutShort records before after)
 
 -- an answer that the records themselves have: every one but a refused read, write or memory
 abbrev pub IsOwnShowing : Result (Option LinkFault) RunFault → Type 0

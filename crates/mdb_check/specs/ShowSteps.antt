@@ -1,7 +1,7 @@
 -- How the lines of `show` come about, row by row. This file serves private functions and proofs: no
 -- public clause cites it.
-use Rattle.std.specs.Prelude.{◌≡◌, ◌+◌, ◌≤◌, ℕ, List, [], ◌∷◌, ◌++◌, length, ⊤, codes, Option, Some, None, Result, Ok, Err, if◌then◌else◌, nat_lt}
-use Rattle.std.specs.Io.KnownBytes.{Appends, append_known}
+use Rattle.std.specs.Prelude.{◌≡◌, ◌⊎◌, ◌+◌, ◌≤◌, ℕ, List, [], ◌∷◌, ◌++◌, length, ⊤, codes, Option, Some, None, Result, Ok, Err, if◌then◌else◌, nat_lt}
+use Rattle.std.specs.Io.KnownBytes.{Appends}
 use Rattle.mdb_words.specs.declared.event.Event.{Event}
 use Rattle.mdb_bus.specs.declared.act.Act.{Act}
 use Rattle.mdb_bus.specs.declared.act.Act.TheVariants as acts
@@ -16,6 +16,8 @@ use Rattle.mdb_check.specs.declared.outcome.RunFault.{RunFault}
 use Rattle.mdb_check.specs.declared.outcome.RunFault.TheVariants.{BadRow, TooLong, Read, Write, Memory}
 use Rattle.mdb_check.specs.declared.page.Page.{Page}
 use Rattle.mdb_check.specs.declared.showing.Lines.{Lines}
+use Rattle.mdb_check.specs.Show.{IsShowing}
+use Rattle.mdb_check.specs.Written.{HasTaken}
 use Rattle.mdb_check.specs.ShowText.{act_text, closed_pieces, fault_line, rows_line, show_text}
 
 -- the line of a tail, if there is one: of `rows` rows only the first `shown` are in pieces that are
@@ -29,72 +31,109 @@ ended_text shown rows (acts.Break length) =
     cut_text shown rows ++ rows_line (rows + 1) (rows + 1) (act_text (acts.Break length))
 ended_text shown rows act = rows_line (shown + 1) (rows + 1) (act_text act)
 
--- the bytes that a writer holds, and those that are on the page for it
-abbrev pub output : Option (List ℕ) → Page → Option (List ℕ)
-output contents page = append_known contents page.lines.items
+-- What is on its way to a writer: the bytes that it holds, and those that wait on a page.
+pub record Output : Type 0 where
+  pub held : Option (List ℕ)
+  pub waiting : List ℕ
 
--- a line isn't taken: with want of memory nothing has changed, and of a refused write nothing is
--- said
-abbrev pub IsNotTaken : RunFault → Option (List ℕ) → Option (List ℕ) → Type 0
-IsNotTaken (BadRow row fault) before after = ⊥
-IsNotTaken TooLong before after = ⊥
-IsNotTaken Read before after = ⊥
-IsNotTaken Write before after = ⊤
-IsNotTaken Memory before after = after ≡ before
+abbrev pub output : Option (List ℕ) → Page → Output
+output contents page = record { held = contents; waiting = page.lines.items }
+
+-- A text came behind the bytes that waited. Of these and the text the writer took the first, and the
+-- others wait.
+pub record Puts (before after : Output) (text : List ℕ) : Type 0 where
+  pub taken : List ℕ
+  pub parts : before.waiting ++ text ≡ taken ++ after.waiting
+  pub grown : Appends before.held after.held taken
+
+-- The writer failed when it was given the bytes that waited and then a text. It took a front of
+-- these.
+abbrev pub Breaks : Output → Output → List ℕ → Type 0
+Breaks before after text = HasTaken before.held after.held (before.waiting ++ text)
+
+-- a text isn't put there: with want of memory nothing has changed
+abbrev pub IsNotTaken : RunFault → Output → Output → List ℕ → Type 0
+IsNotTaken (BadRow row fault) before after text = ⊥
+IsNotTaken TooLong before after text = ⊥
+IsNotTaken Read before after text = ⊥
+IsNotTaken Write before after text = Breaks before after text
+IsNotTaken Memory before after text = after ≡ before
 
 -- A bus stands for some pieces.
 abbrev pub HasPieces : Bus → Type 0
 HasPieces bus = (pieces : List Piece) × StandsFor bus pieces
 
 -- The rows so far are those of pieces for which the bus stands. The lines of the closed ones, which
--- have the first `shown` rows, are written.
-pub record HasShown (lines : Lines) (before after : Option (List ℕ))
-    (rows : List Event) : Type 0 where
+-- have the first `shown` rows, are on their way.
+pub record HasShown (lines : Lines) (before after : Output) (rows : List Event) : Type 0 where
   pub pieces : List Piece
   pub stands : StandsFor lines.bus pieces
   pub are : events_of pieces ≡ rows
   pub counted : length rows ≡ lines.rows
   pub closed : length (events_of (closed_pieces pieces)) ≡ lines.shown
   pub few : lines.shown ≤ lines.rows
-  pub written : Appends before after (show_text (closed_pieces pieces))
+  pub written : Puts before after (show_text (closed_pieces pieces))
 
--- pieces of earlier rows and of the first of some rows, up to one of these
-pub record LeadTo (earlier rows : List Event) (pieces : List Piece) (row : Event) : Type 0 where
+-- pieces of earlier rows and of the first of some rows
+pub record LeadInto (earlier rows : List Event) (pieces : List Piece) : Type 0 where
   pub front : List Event
   pub rest : List Event
-  pub parts : rows ≡ front ++ row ∷ rest
+  pub parts : rows ≡ front ++ rest
   pub are : events_of pieces ≡ earlier ++ front
   pub in_order : ArePieces pieces
 
--- One of the rows breaks a rule of the link. The lines of the closed pieces before it are written,
--- and its own.
-pub record IsAddedToFault (before after : Option (List ℕ)) (earlier rows : List Event)
-    (fault : LinkFault) : Type 0 where
+-- The text is the lines of the closed pieces of earlier rows and of the first of some rows.
+pub record IsAddedInPart (earlier rows : List Event) (text : List ℕ) : Type 0 where
   pub pieces : List Piece
-  pub row : Event
-  pub lead : LeadTo earlier rows pieces row
-  pub is : IsLinkFault pieces row fault.rule fault.blame
-  pub written : Appends before after (show_text (closed_pieces pieces)
-      ++ fault_line (length (events_of pieces) + 1) fault)
+  pub lead : LeadInto earlier rows pieces
+  pub lines : text ≡ show_text (closed_pieces pieces)
 
--- The lines of the closed pieces before one of the rows are written.
-pub record IsAddedInPart (before after : Option (List ℕ)) (earlier rows : List Event) : Type 0 where
+-- One of some rows breaks a rule of the link. The text is the lines of the closed pieces before it,
+-- and its own.
+pub record IsAddedToFault (earlier rows : List Event) (fault : LinkFault)
+    (text : List ℕ) : Type 0 where
   pub pieces : List Piece
   pub row : Event
-  pub lead : LeadTo earlier rows pieces row
-  pub written : Appends before after (show_text (closed_pieces pieces))
+  pub behind : List Event
+  pub lead : LeadInto earlier rows pieces
+  pub next : lead.rest ≡ row ∷ behind
+  pub is : IsLinkFault pieces row fault.rule fault.blame
+  pub lines : text ≡ show_text (closed_pieces pieces)
+      ++ fault_line (length (events_of pieces) + 1) fault
+
+-- a text that the adding of the lines of some rows may come to
+abbrev pub IsAdded : List Event → List Event → List ℕ → Type 0
+IsAdded earlier rows text =
+    IsAddedInPart earlier rows text
+    ⊎ ((fault : LinkFault) × IsAddedToFault earlier rows fault text)
 
 -- what the adding of the lines of some rows behind earlier ones comes to
-abbrev pub HasAdded : Lines → Option (List ℕ) → Option (List ℕ) → List Event → List Event
+abbrev pub HasAdded : Lines → Output → Output → List Event → List Event
     → Result (Option LinkFault) RunFault → Type 0
 HasAdded lines before after earlier rows (Ok None) = HasShown lines before after (earlier ++ rows)
 HasAdded lines before after earlier rows (Ok (Some fault)) =
-    IsAddedToFault before after earlier rows fault
+    (text : List ℕ) × IsAddedToFault earlier rows fault text × Puts before after text
 HasAdded lines before after earlier rows (Err (BadRow row fault)) = ⊥
 HasAdded lines before after earlier rows (Err TooLong) = ⊥
 HasAdded lines before after earlier rows (Err Read) = ⊥
-HasAdded lines before after earlier rows (Err Write) = ⊤
-HasAdded lines before after earlier rows (Err Memory) = IsAddedInPart before after earlier rows
+HasAdded lines before after earlier rows (Err Write) =
+    (text : List ℕ) × IsAdded earlier rows text × Breaks before after text
+HasAdded lines before after earlier rows (Err Memory) =
+    (text : List ℕ) × IsAddedInPart earlier rows text × Puts before after text
+
+-- The writer failed with a front of a text that is written of the records.
+pub record IsBroken (records : List (List (List ℕ))) (before after : Output) : Type 0 where
+  pub answer : Result (Option LinkFault) RunFault
+  pub text : List ℕ
+  pub showing : IsShowing records answer text
+  pub broken : Breaks before after text
+
+-- what `Shows` says, where some of the text may still be on its way
+abbrev pub PutsShowing : List (List (List ℕ)) → Output → Output
+    → Result (Option LinkFault) RunFault → Type 0
+PutsShowing records before after answer =
+    ((text : List ℕ) × IsShowing records answer text × Puts before after text)
+    ⊎ ((answer ≡ Err Write) × IsBroken records before after)
 
 -- a fault of reading that was met is the answer, or that of a row or a line before it is
 abbrev pub IsShownAs : ReadFault → Result (Option LinkFault) RunFault → Type 0

@@ -1,5 +1,5 @@
 -- The text of an outcome.
-use Rattle.std.specs.Prelude.{ℕ, List, [], ◌∷◌, ◌++◌, Option, Some, None, codes, get_or}
+use Rattle.std.specs.Prelude.{ℕ, List, [], ◌∷◌, ◌++◌, Option, Some, None, Ok, codes, get_or}
 use Rattle.std.specs.Fmt.{decimal, signed_decimal}
 use Rattle.mdb_bus.specs.declared.fault.Rule.{Rule}
 use Rattle.mdb_bus.specs.declared.fault.Rule.TheVariants as rule
@@ -11,6 +11,8 @@ use Rattle.mdb_follow.specs.declared.report.Report.{Report}
 use Rattle.mdb_check.specs.declared.outcome.Outcome.{Outcome}
 use Rattle.mdb_check.specs.declared.outcome.Outcome.TheVariants.{Yes, No}
 use Rattle.mdb_check.specs.Accounts.{Approved, Approved2, BillsIn, CoinsIn, OfController, OfDevice, OfDifference, PaidOut, ReportedAccount, Sold, Sold2, account_of, account_word, range_of, side_word}
+use Rattle.mdb_check.specs.Verdict.{IsAnswer}
+use Rattle.mdb_check.specs.Written.{HasTaken}
 
 -- the word of a rule
 abbrev pub rule_word : Rule → List ℕ
@@ -107,3 +109,10 @@ report_text (No offence) =
     line (codes "verdict no") ++ line (codes "row " ++ decimal offence.row)
     ++ line (codes "rule " ++ rule_word offence.rule)
     ++ line (codes "blame " ++ blame_word offence.blame)
+
+-- The records of a text have a verdict, and a writer took a front of its text.
+pub record IsCutReport (limit : ℕ) (records : List (List (List ℕ)))
+    (before after : Option (List ℕ)) : Type 0 where
+  pub outcome : Outcome
+  pub is : IsAnswer limit records (Ok outcome)
+  pub taken : HasTaken before after (report_text outcome)

@@ -91,10 +91,6 @@ IsOwnAnswer (Err Read) = ⊥
 IsOwnAnswer (Err Write) = ⊥
 IsOwnAnswer (Err Memory) = ⊥
 
--- the records have a verdict
-abbrev pub HasOutcome : ℕ → List (List (List ℕ)) → Type 0
-HasOutcome limit records = (outcome : Outcome) × IsAnswer limit records (Ok outcome)
-
 -- a yes with the report on these rows; this serves a private function
 abbrev pub IsYes : List Event → Outcome → Type 0
 IsYes rows (Yes report) = IsReport rows report

@@ -12,6 +12,7 @@ mod show_text;
 mod showing;
 mod text;
 mod verdict;
+mod writing;
 
 pub use mdb_bus::{Blame, LinkFault, Rule};
 pub use mdb_follow::{Account, Offence, ROWS_MAX, Range, Report};

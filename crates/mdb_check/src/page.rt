@@ -1,16 +1,18 @@
 //! Lines on their way to a writer.
 
-ghost use Rattle.std.specs.Prelude.{◌≡◌, ◌<◌, ◌≤◌, [], OnOk, IfErr, IsOk};
-ghost use Rattle.std.specs.Io.KnownBytes.{Appends, Keeps};
+ghost use Rattle.std.specs.Prelude.{◌≡◌, ◌<◌, ◌≤◌, [], OnOk, IfErr};
+ghost use Rattle.std.specs.Io.KnownBytes.{Appends};
 ghost use Rattle.mdb_bus.specs.Acts.{NamesAReply};
 ghost use Rattle.mdb_follow.specs.declared.follower.TheConstants.{ROWS_MAX};
 ghost use Rattle.mdb_check.specs.ShowText.{fault_line};
-ghost use Rattle.mdb_check.specs.ShowSteps.{IsNotTaken, cut_text, ended_text, output};
+ghost use Rattle.mdb_check.specs.ShowSteps.{IsNotTaken, Puts, cut_text, ended_text, output};
+ghost use Rattle.mdb_check.specs.Written.{HasTaken};
 
 use super::outcome::RunFault;
 use super::show_text::{push_cut, push_ended, push_fault};
+use super::writing::write_text;
 use mdb_bus::{Act, LinkFault};
-use std::alloc::{AllocError, Global};
+use std::alloc::Global;
 use std::io::Write;
 
 /// How long a page may be before it is written out.
@@ -47,14 +49,17 @@ impl Page {
         requires reply { NamesAReply act.now }
         requires shown { shown ≤ rows }
         requires rows { rows < ROWS_MAX }
-        ensures added { OnOk result (Appends (output (W.contents writer.old) self.old)
+        ensures added { OnOk result (Puts (output (W.contents writer.old) self.old)
             (output (W.contents writer.new) self.new) (ended_text shown rows act.now)) }
-        ensures refused { IfErr result (λ fault. IsNotTaken fault
-            (output (W.contents writer.old) self.old) (output (W.contents writer.new) self.new)) }
+        ensures refused { IfErr result (λ refusal. IsNotTaken refusal
+            (output (W.contents writer.old) self.old) (output (W.contents writer.new) self.new)
+            (ended_text shown rows act.now)) }
     {
         self.next.clear();
-        let made = push_ended(&mut self.next, shown, rows, act);
-        self.add(writer, made)
+        match push_ended(&mut self.next, shown, rows, act) {
+            Ok(()) => self.add(writer),
+            Err(_) => Err(RunFault::Memory),
+        }
     }
 
     /// Adds the line of a tail, as `push_cut` says.
@@ -65,14 +70,17 @@ impl Page {
         rows: u64,
     ) -> Result<(), RunFault>
         requires { rows ≤ ROWS_MAX }
-        ensures added { OnOk result (Appends (output (W.contents writer.old) self.old)
+        ensures added { OnOk result (Puts (output (W.contents writer.old) self.old)
             (output (W.contents writer.new) self.new) (cut_text shown rows)) }
-        ensures refused { IfErr result (λ fault. IsNotTaken fault
-            (output (W.contents writer.old) self.old) (output (W.contents writer.new) self.new)) }
+        ensures refused { IfErr result (λ refusal. IsNotTaken refusal
+            (output (W.contents writer.old) self.old) (output (W.contents writer.new) self.new)
+            (cut_text shown rows)) }
     {
         self.next.clear();
-        let made = push_cut(&mut self.next, shown, rows);
-        self.add(writer, made)
+        match push_cut(&mut self.next, shown, rows) {
+            Ok(()) => self.add(writer),
+            Err(_) => Err(RunFault::Memory),
+        }
     }
 
     /// Adds the line of a row that cannot be.
@@ -82,29 +90,28 @@ impl Page {
         row: u64,
         fault: LinkFault,
     ) -> Result<(), RunFault>
-        ensures added { OnOk result (Appends (output (W.contents writer.old) self.old)
+        ensures added { OnOk result (Puts (output (W.contents writer.old) self.old)
             (output (W.contents writer.new) self.new) (fault_line row fault)) }
-        ensures refused { IfErr result (λ fault. IsNotTaken fault
-            (output (W.contents writer.old) self.old) (output (W.contents writer.new) self.new)) }
+        ensures refused { IfErr result (λ refusal. IsNotTaken refusal
+            (output (W.contents writer.old) self.old) (output (W.contents writer.new) self.new)
+            (fault_line row fault)) }
     {
         self.next.clear();
-        let made = push_fault(&mut self.next, row, fault);
-        self.add(writer, made)
+        match push_fault(&mut self.next, row, fault) {
+            Ok(()) => self.add(writer),
+            Err(_) => Err(RunFault::Memory),
+        }
     }
 
-    /// Adds what stands in `next`, if it could be made, and writes the page out when it is long.
-    fn add<W: Write>(
-        &mut self,
-        writer: &mut W,
-        made: Result<(), AllocError>,
-    ) -> Result<(), RunFault>
-        ensures added { OnOk result (Appends (output (W.contents writer.old) self.old)
+    /// Adds what stands in `next`, and writes the page out when it is long.
+    fn add<W: Write>(&mut self, writer: &mut W) -> Result<(), RunFault>
+        ensures added { OnOk result (Puts (output (W.contents writer.old) self.old)
             (output (W.contents writer.new) self.new) self.old.next.items) }
-        ensures made { OnOk result (IsOk made) }
         ensures refused { IfErr result (λ fault. IsNotTaken fault
-            (output (W.contents writer.old) self.old) (output (W.contents writer.new) self.new)) }
+            (output (W.contents writer.old) self.old) (output (W.contents writer.new) self.new)
+            self.old.next.items) }
     {
-        if made.is_err() || self.lines.extend_from_slice(self.next.as_slice()).is_err() {
+        if self.lines.extend_from_slice(self.next.as_slice()).is_err() {
             return Err(RunFault::Memory);
         }
         if self.lines.len() < PAGE {
@@ -116,13 +123,13 @@ impl Page {
     /// Writes the page out, and leaves it empty.
     pub(crate) fn write_out<W: Write>(&mut self, writer: &mut W) -> Result<(), RunFault>
         ensures written { OnOk result
-            (Keeps (output (W.contents writer.old) self.old) (W.contents writer.new)) }
+            (Appends (W.contents writer.old) (W.contents writer.new) self.old.lines.items) }
         ensures empty { OnOk result (self.new.lines.items ≡ []) }
+        ensures front { IfErr result (λ fault.
+            HasTaken (W.contents writer.old) (W.contents writer.new) self.old.lines.items) }
         ensures refused { IfErr result (λ fault. fault ≡ RunFault.Write) }
     {
-        if writer.write_all(self.lines.as_slice()).is_err() {
-            return Err(RunFault::Write);
-        }
+        write_text(writer, self.lines.as_slice())?;
         self.lines.clear();
         Ok(())
     }

@@ -6,7 +6,7 @@ ghost use Rattle.mdb_records.specs.ToCome.{IsOverLimit, ToCome, fault_of};
 ghost use Rattle.mdb_records.specs.declared.ReadFault.{ReadFault};
 ghost use Rattle.mdb_check.specs.declared.verdict.TheConstants.{BYTES_MAX};
 ghost use Rattle.mdb_check.specs.Show.{Shows};
-ghost use Rattle.mdb_check.specs.ShowSteps.{IsShownAs, output};
+ghost use Rattle.mdb_check.specs.ShowSteps.{IsShownAs, PutsShowing, output};
 
 use super::batch::{Batch, Next};
 use super::outcome::RunFault;
@@ -34,7 +34,7 @@ use std::io::{Read, Write};
 /// more than [`BYTES_MAX`] bytes that isn't answered before; `Memory` where
 /// memory was refused. Then the lines of the acts so far were written, and of the tails that a
 /// break cut: at `BadRow` and `TooLong` those of all rows before that record. `Write` where the
-/// writer failed: then nothing is said of how much was written.
+/// writer failed: then it took a front of what is written where it doesn't fail, and nothing else.
 pub fn show<R: Read + Drop, W: Write>(
     alloc: Global,
     reader: R,
@@ -76,7 +76,7 @@ fn show_rows<R: Read + Drop, W: Write>(
     writer: &mut W,
 ) -> Result<Option<LinkFault>, RunFault>
     ensures shows { (all : List (List (List ℕ))) → ToCome R.remaining records.old all
-        → Shows all (output (W.contents writer.old) page.old)
+        → PutsShowing all (output (W.contents writer.old) page.old)
         (output (W.contents writer.new) page.new) result }
     ensures whole { IsOverLimit R.remaining records.old → result ≢ Ok None }
     ensures heard { IfErr result (λ fault. fault ≡ RunFault.Read
@@ -126,10 +126,10 @@ struct Lines {
 }
 
 impl Lines {
-    ghost use Rattle.std.specs.Prelude.{◌≤◌, ◌+◌, [], Option};
+    ghost use Rattle.std.specs.Prelude.{◌≤◌, ◌+◌, []};
     ghost use Rattle.mdb_words.specs.declared.event.Event.{Event};
     ghost use Rattle.mdb_bus.specs.Bus.{StandsFor};
-    ghost use Rattle.mdb_check.specs.ShowSteps.{HasAdded, HasPieces, HasShown};
+    ghost use Rattle.mdb_check.specs.ShowSteps.{HasAdded, HasPieces, HasShown, Output};
 
     /// No lines: before the first row.
     fn new() -> Lines
@@ -156,7 +156,7 @@ impl Lines {
         requires stands { HasPieces self.old.bus }
         requires few { self.old.shown ≤ self.old.rows }
         requires room { self.old.rows + length events.now ≤ ROWS_MAX }
-        ensures { (before : Option (List ℕ)) (earlier : List Event)
+        ensures { (before : Output) (earlier : List Event)
             → HasShown self.old before (output (W.contents writer.old) page.old) earlier
             → HasAdded self.new before (output (W.contents writer.new) page.new) earlier events.now
             result }

@@ -6,8 +6,8 @@ ghost use Rattle.csv.specs.Reading.{default_config, records, strip_bom};
 ghost use Rattle.csv.specs.Records.{field_at, fields_of};
 ghost use Rattle.mdb_records.specs.ToCome.{IsOverLimit, IsUncut, ToCome, fault_of};
 ghost use Rattle.mdb_check.specs.Headline.{Headline};
-ghost use Rattle.mdb_check.specs.Text.{report_text};
-ghost use Rattle.mdb_check.specs.Verdict.{IsAnswer, IsYes, HasMet, HasOutcome, IsNoYes, IsToldAs};
+ghost use Rattle.mdb_check.specs.Text.{IsCutReport, report_text};
+ghost use Rattle.mdb_check.specs.Verdict.{IsAnswer, IsYes, HasMet, IsNoYes, IsToldAs};
 ghost use Rattle.mdb_follow.specs.Follower.{StandsFor};
 ghost use Rattle.mdb_words.specs.declared.event.Event.{Event};
 ghost use Rattle.mdb_words.specs.Row.{Tells};
@@ -16,6 +16,7 @@ use super::batch::{Batch, Next};
 use super::laws::verdicts_say_the_headline;
 use super::outcome::{Outcome, RunFault};
 use super::text::text_of;
+use super::writing::write_text;
 use csv::ByteRecord;
 use mdb_follow::{Follower, ROWS_MAX, laws};
 use mdb_records::Records;
@@ -37,8 +38,8 @@ pub const BYTES_MAX: u64 = 6_400_000_000;
 /// `BadRow` for the first record that is no row, if no row before it is impossible; `TooLong` for a
 /// record past [`ROWS_MAX`]; `Read` where the reader failed, or for an input of more than
 /// [`BYTES_MAX`] bytes that isn't answered before; `Memory` where memory was refused. Nothing has
-/// been written then. `Write` where the writer failed: then nothing is said of how much was
-/// written.
+/// been written then. `Write` where the writer failed: then it took a front of the text of the
+/// verdict that there is, and nothing else.
 pub fn check<R: Read + Drop, W: Write>(
     alloc: Global,
     reader: R,
@@ -53,8 +54,9 @@ pub fn check<R: Read + Drop, W: Write>(
         (W.contents writer.new) (report_text outcome)) }
     ensures nothing_written { IfErr result (λ fault. fault ≢ RunFault.Write
         → writer.new ≡ writer.old) }
-    ensures had_one { IfSome (R.remaining reader) (λ text. result ≡ Err RunFault.Write
-        → HasOutcome ROWS_MAX (records default_config (strip_bom text))) }
+    ensures cut { IfSome (R.remaining reader) (λ text. result ≡ Err RunFault.Write
+        → IsCutReport ROWS_MAX (records default_config (strip_bom text)) (W.contents writer.old)
+        (W.contents writer.new)) }
 {
     check_within(alloc, reader, writer, ROWS_MAX, BYTES_MAX)
 }
@@ -85,8 +87,9 @@ pub fn check_within<R: Read + Drop, W: Write>(
         (W.contents writer.new) (report_text outcome)) }
     ensures nothing_written { IfErr result (λ fault. fault ≢ RunFault.Write
         → writer.new ≡ writer.old) }
-    ensures had_one { IfSome (R.remaining reader) (λ text. result ≡ Err RunFault.Write
-        → HasOutcome rows (records default_config (strip_bom text))) }
+    ensures cut { IfSome (R.remaining reader) (λ text. result ≡ Err RunFault.Write
+        → IsCutReport rows (records default_config (strip_bom text)) (W.contents writer.old)
+        (W.contents writer.new)) }
 {
     let mut records = records_of(alloc, reader, bytes);
     check_records(alloc, &mut records, writer, rows)
@@ -110,18 +113,17 @@ pub(crate) fn check_records<R: Read + Drop, W: Write>(
         (W.contents writer.new) (report_text outcome)) }
     ensures nothing_written { IfErr result (λ fault. fault ≢ RunFault.Write
         → writer.new ≡ writer.old) }
-    ensures had_one { (all : List (List (List ℕ))) → ToCome R.remaining records.old all
-        → result ≡ Err RunFault.Write → HasOutcome rows all }
+    ensures cut { (all : List (List (List ℕ))) → ToCome R.remaining records.old all
+        → result ≡ Err RunFault.Write
+        → IsCutReport rows all (W.contents writer.old) (W.contents writer.new) }
 {
     verdicts_say_the_headline();
     let outcome = verdict_on(records, rows)?;
     let Ok(text) = text_of(alloc, &outcome) else {
         return Err(RunFault::Memory);
     };
-    match writer.write_all(text.as_slice()) {
-        Ok(()) => Ok(outcome),
-        Err(_) => Err(RunFault::Write),
-    }
+    write_text(writer, text.as_slice())?;
+    Ok(outcome)
 }
 
 /// The records of the text that a reader has left, up to so many bytes and no less.

@@ -13,7 +13,7 @@ returns-in-Ok-Check-clause-says g c =
     ran g.W.Write.contents _ _ _ _ _ _ (subst Named c.in-Ok-Check.field-0-is (subst Words c.as_slice.ensures.value c.in-Ok-Check.ensures))
     (IfSome_then _ c.records_of-records.ensures.records (λ text to_come. c.check_records-answer.ensures.answer _ to_come))
     c.check_records-answer.ensures.written c.check_records-answer.ensures.nothing_written
-    (IfSome_then _ c.records_of-records.ensures.records (λ text to_come. c.check_records-answer.ensures.had_one _ to_come)) c.finish_check.ensures.status
+    (IfSome_then _ c.records_of-records.ensures.records (λ text to_come. c.check_records-answer.ensures.cut _ to_come)) c.finish_check.ensures.status
 
 pub returns-in-Ok-Show-clause-says : goal.returns-in-Ok-Show-clause-says
 returns-in-Ok-Show-clause-says g c =

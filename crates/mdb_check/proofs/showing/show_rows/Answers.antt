@@ -20,7 +20,8 @@ loop-lines-init g c = record {
 pub returns-in_err-fault-clause-shows : goal.returns-in_err-fault-clause-shows
 returns-in_err-fault-clause-shows g c all to_come =
     steps.batch_refused g.R.Read.remaining all c.args.records.now c.loop-lines.records c.refill-next.new.records c.loop-lines.lines c.add_all.new.self _ _ _ _ c.refill-next.new.self c.refill-next.result
-    c.loop-lines.invariant.progress to_come c.refill-next.ensures.read c.as_slice.ensures.rows c.in_err-fault.field-0.0 c.in_err-fault.ensures c.from_residual.result c.from_residual.ensures.1
+    c.loop-lines.invariant.progress to_come c.refill-next.ensures.read (omega (arith, c.loop-lines-test.true, batches.fits (ROWS_MAX - c.loop-lines.lines.rows) c.refill-next.new.self c.refill-next.result c.refill-next.ensures.fits))
+    c.as_slice.ensures.rows c.in_err-fault.field-0.0 c.in_err-fault.ensures c.from_residual.result c.from_residual.ensures.1
 
 pub returns-in_err-fault-clause-heard : goal.returns-in_err-fault-clause-heard
 returns-in_err-fault-clause-heard g c =
@@ -68,10 +69,13 @@ add_cut-requires g c =
 
 pub returns-in_err-add_cut-in-End-clause-shows : goal.returns-in_err-add_cut-in-End-clause-shows
 returns-in_err-add_cut-in-End-clause-shows g c all to_come =
+    let counted : c.add_all.new.self.rows ≡ c.loop-lines.lines.rows + length c.refill-next.new.self = steps.more_rows g.R.Read.remaining c.args.records.now c.loop-lines.records c.loop-lines.lines c.add_all.new.self _ _ _ c.refill-next.new.self c.loop-lines.invariant.progress
+    (steps.all_added _ _ _ _ _ _ _ c.as_slice.ensures.rows c.in_default.is c.in_ok-fault.ensures) in
     steps.cut_refused g.R.Read.remaining all c.args.records.now c.refill-next.new.records c.add_all.new.self _ _ _ c.refill-next.result
     (steps.read_on g.R.Read.remaining c.args.records.now c.loop-lines.records c.refill-next.new.records c.loop-lines.lines c.add_all.new.self _ _ _ c.refill-next.new.self c.refill-next.result
     c.loop-lines.invariant.progress c.refill-next.ensures.read (steps.all_added _ _ _ _ _ _ _ c.as_slice.ensures.rows c.in_default.is c.in_ok-fault.ensures))
-    to_come c.in_err-add_cut-in-End.field-0.0 c.in_err-add_cut-in-End.ensures.refused c.from_residual-in_err-add_cut-in-End.result c.from_residual-in_err-add_cut-in-End.ensures.1
+    to_come c.in-End.is (omega (arith, counted, c.loop-lines-test.true, batches.fits (ROWS_MAX - c.loop-lines.lines.rows) c.refill-next.new.self c.refill-next.result c.refill-next.ensures.fits))
+    c.in_err-add_cut-in-End.field-0.0 c.in_err-add_cut-in-End.ensures.refused c.from_residual-in_err-add_cut-in-End.result c.from_residual-in_err-add_cut-in-End.ensures.1
 
 pub returns-in-End-clause-shows : goal.returns-in-End-clause-shows
 returns-in-End-clause-shows g c all to_come =
@@ -112,7 +116,7 @@ returns-in_err-add_cut-in-End-refill-clause-shows g c all to_come =
     steps.cut_refused g.R.Read.remaining all c.args.records.now c.refill.new.records c.loop-lines.lines _ _ _ c.refill.result
     (steps.read_none g.R.Read.remaining c.args.records.now c.loop-lines.records c.refill.new.records c.loop-lines.lines _ _ c.refill.new.self c.refill.result
     c.loop-lines.invariant.progress c.refill.ensures.read c.in-End-refill.is c.refill.ensures.fits)
-    to_come c.in_err-add_cut-in-End-refill.field-0.0 c.in_err-add_cut-in-End-refill.ensures.refused c.from_residual-in_err-add_cut-in-End-refill.result c.from_residual-in_err-add_cut-in-End-refill.ensures.1
+    to_come c.in-End-refill.is c.loop-lines.invariant.few c.in_err-add_cut-in-End-refill.field-0.0 c.in_err-add_cut-in-End-refill.ensures.refused c.from_residual-in_err-add_cut-in-End-refill.result c.from_residual-in_err-add_cut-in-End-refill.ensures.1
 
 pub returns-in_ok-add_cut-in-End-refill-clause-shows : goal.returns-in_ok-add_cut-in-End-refill-clause-shows
 returns-in_ok-add_cut-in-End-refill-clause-shows g c all to_come =

@@ -11,8 +11,9 @@ loop-event-init g c = steps.adds_none c.args.self.now _ c.requires.stands c.requ
 
 pub returns-in_err-add_fault-in-Err : goal.returns-in_err-add_fault-in-Err
 returns-in_err-add_fault-in-Err g c =
-    steps.line_refused c.args.self.now c.loop-event.self _ _ _ _ c.args.events.now c.loop-event.event-index c.event-item.result _ c.loop-event-test.true c.event-item.is
-    c.loop-event.invariant c.in_err-add_fault-in-Err.field-0.0 c.in_err-add_fault-in-Err.ensures.refused c.from_residual.result c.from_residual.ensures.1
+    steps.fault_refused c.args.self.now c.loop-event.self _ _ _ _ c.args.events.now c.loop-event.event-index c.event-item.result _ (c.loop-event.self.rows + 1) c.in-Err.fault
+    c.loop-event-test.true c.event-item.is c.loop-event.invariant refl c.in-Err.ensures.faults
+    c.in_err-add_fault-in-Err.field-0.0 c.in_err-add_fault-in-Err.ensures.refused c.from_residual.result c.from_residual.ensures.1
 
 pub returns-in-Err : goal.returns-in-Err
 returns-in-Err g c =
@@ -27,8 +28,9 @@ add_ended-requires-clause-reply g c =
 
 pub returns-in_err-add_ended : goal.returns-in_err-add_ended
 returns-in_err-add_ended g c =
-    steps.line_refused c.args.self.now c.loop-event.self _ _ _ _ c.args.events.now c.loop-event.event-index c.event-item.result _ c.loop-event-test.true c.event-item.is
-    c.loop-event.invariant c.in_err-add_ended.field-0.0 c.in_err-add_ended.ensures.refused c.from_residual-in_err-add_ended.result c.from_residual-in_err-add_ended.ensures.1
+    let On : Bool → Type 0 = λ ended. (pieces : List Piece) → StandsFor c.loop-event.self.bus pieces → GoesOn c.feed_into.new.self pieces c.event-item.result (ended_act ended c.feed_into.new.act) in
+    steps.act_refused c.args.self.now c.loop-event.self _ c.feed_into.new.self _ _ _ c.args.events.now c.loop-event.event-index c.event-item.result _ c.feed_into.new.act c.loop-event-test.true c.event-item.is
+    c.loop-event.invariant (subst On c.if-ended.true c.in-Ok.ensures.goes_on) c.in_err-add_ended.field-0.0 c.in_err-add_ended.ensures.refused c.from_residual-in_err-add_ended.result c.from_residual-in_err-add_ended.ensures.1
 
 pub loop-event-preserved : goal.loop-event-preserved
 loop-event-preserved g c =
