@@ -1,4 +1,5 @@
 pub mod Batches
+pub mod CommandLine
 pub mod Fields
 pub mod Headline
 pub mod OneAnswer

@@ -1,5 +1,5 @@
 -- What is on its way to a writer.
-use Rattle.std.proofs.Common.{ap, refl, sym, subst, inl, inr, ◌∙◌, ◌≡◌, ◌⊎◌, ℕ, List, [], ◌++◌, Option, Some, None, Result, Ok, Err, append_assoc}
+use Rattle.std.proofs.Common.{ap, sym, subst, inl, inr, ◌∙◌, ◌≡◌, ℕ, List, [], ◌++◌, Option, Some, None, Result, Ok, Err, append_assoc}
 use Rattle.std.proofs.lemmas.List.{append-nil}
 use Rattle.std.specs.Prelude.{IsErrAnd}
 use Rattle.std.specs.Io.KnownBytes.{Appends}

@@ -1,5 +1,6 @@
 pub mod Accounts
 pub mod Batch
+pub mod CommandLine
 pub mod Headline
 pub mod Program
 pub mod Show

@@ -3,6 +3,8 @@
 ghost use Rattle.std.specs.Prelude.{◌≡◌, ◌<◌, ◌≤◌, List, ℕ, None, Some, length};
 ghost use Rattle.mdb_records.specs.declared.ReadFault.{ReadFault};
 ghost use Rattle.mdb_records.specs.ToCome.{IsOverLimit, ToCome, fault_of};
+ghost use Rattle.mdb_words.specs.declared.event.Event.{Event};
+ghost use Rattle.mdb_words.specs.declared.word.Line.{Line};
 ghost use Rattle.mdb_check.specs.Batch.{FitsIn, GoesOnOver, HasRead, IsMet};
 
 use super::verdict::event_of;
@@ -128,8 +130,10 @@ impl Batch {
     }
 }
 
-/// What stands where no row was read yet.
-fn any_row() -> Event {
+/// What stands where no row was read yet: the controller's word 000 at 0.
+fn any_row() -> Event
+    ensures { result ≡ Event.Word 0 Line.Controller 0 }
+{
     let (Some(at), Some(word)) = (Time::new(0), Word::new(0)) else {
         unreachable!()
     };

@@ -1,6 +1,8 @@
 //! The program over its words.
 
-ghost use Rattle.std.specs.Prelude.{◌≡◌, ◌<◌, IfOk, IfSome, map, string_bytes};
+ghost use Rattle.std.specs.Prelude.{◌≡◌, ◌<◌, ℕ, List, [], ◌∷◌, IfErr, IfOk, IfSome, map, string_bytes};
+ghost use Rattle.clap.specs.Words.{FailsBy, fault_of, kind_of};
+ghost use Rattle.mdb_check.specs.CommandLine.{mdbcheck};
 ghost use Rattle.mdb_check.specs.Program.{NamesTask, Says, show_status_of, status_of, task_word};
 ghost use Rattle.csv.specs.Reading.{default_config, records, strip_bom};
 
@@ -92,8 +94,14 @@ fn task_of(alloc: Global, words: &[String]) -> Result<Task, ErrorKind>
     }
 }
 
-/// Whether `clap` takes the words for a command of the program.
-fn accept(alloc: Global, words: &[String]) -> Result<(), Error> {
+/// Whether `clap` takes the words for a command of the program: exactly those without a fault of its
+/// own, if memory suffices. `check` and `show` have none where they stand alone.
+fn accept(alloc: Global, words: &[String]) -> Result<(), Error>
+    ensures faults { FailsBy (fault_of mdbcheck (map string_bytes words.now)) result }
+    ensures alone { IfErr result (λ error. (program : List ℕ) (task : Task)
+        → map string_bytes words.now ≡ program ∷ task_word task ∷ []
+        → kind_of error ≡ ErrorKind.OutOfMemory) }
+{
     let check = Command::new(alloc, "check");
     let show = Command::new(alloc, "show");
     let mdbcheck = Command::new(alloc, "mdbcheck")

@@ -5,9 +5,9 @@
 //! is given is one of the whole text's records, and the end is told only where the whole text ends.
 #![tactic(auto)]
 
-ghost use Rattle.std.specs.Prelude.{◌≡◌, ◌<◌, ◌≤◌, ◌+◌, ◌-◌, ◌^◌, ◌↔◌, ◌⊎◌, min, ℕ, All, List, None, length, true, IfErr, IfOk, OnOk, IfSome, IsSome, IsTrue, Some, Err, if◌then◌else◌};
+ghost use Rattle.std.specs.Prelude.{◌≡◌, ◌<◌, ◌≤◌, ◌+◌, ◌-◌, ◌^◌, ◌↔◌, ◌⊎◌, min, ℕ, All, List, [], None, length, true, IfErr, IfOk, OnOk, IfSome, IsSome, IsTrue, Some, Err, if◌then◌else◌};
 ghost use Rattle.csv.specs.Reading.{default_config, error_kind, is_io, records, stops_reader, strip_bom};
-ghost use Rattle.csv.specs.Records.{fields_of};
+ghost use Rattle.csv.specs.Records.{fields_of, partial_of};
 ghost use Rattle.mdb_records.specs.Cause.{IsBlocked};
 ghost use Rattle.mdb_records.specs.SetUp.{IsSetUp};
 
@@ -177,7 +177,10 @@ impl<R: Read + Drop> Records<R> {
 // A record of no fields, with room for a row. `csv` reads a record from as many bytes at once as
 // there is room for, so one that doesn't fit takes longer. Where memory is refused, there is no
 // room at first, and it is asked for again with the first record.
-fn empty_row(alloc: Global) -> ByteRecord {
+fn empty_row(alloc: Global) -> ByteRecord
+    ensures fields { fields_of result ≡ [] }
+    ensures partial { partial_of result ≡ [] }
+{
     match ByteRecord::with_capacity(alloc, ROW_BYTES, ROW_FIELDS) {
         Ok(row) => row,
         Err(_) => ByteRecord::new(alloc),
