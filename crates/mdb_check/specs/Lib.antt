@@ -1,6 +1,7 @@
 pub mod Accounts
 pub mod Batch
 pub mod CommandLine
+pub mod Complaint
 pub mod Headline
 pub mod Program
 pub mod Show

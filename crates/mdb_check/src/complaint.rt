@@ -1,5 +1,10 @@
 //! What standard error is told where there is no answer.
 
+ghost use Rattle.std.specs.Prelude.{◌≡◌, ◌++◌, codes};
+ghost use Rattle.std.specs.Fmt.{decimal};
+ghost use Rattle.mdb_follow.specs.declared.follower.TheConstants.{ROWS_MAX};
+ghost use Rattle.mdb_check.specs.Complaint.{cause_text};
+
 use super::outcome::RunFault;
 use super::show_text::digit;
 use csv::ByteRecord;
@@ -7,7 +12,8 @@ use mdb_records::{ReadCause, Records};
 use std::alloc::{AllocError, Global};
 use std::io::{Read, Write};
 
-/// About so many bytes of a record that is no row are told.
+/// So many bytes of a record that is no row are told, or a few more where the last is told as `\x`
+/// and two digits.
 const EXCERPT: usize = 48;
 
 /// Writes one line on a fault: at a record that is no row the form that a row has and what stands
@@ -21,8 +27,9 @@ pub(crate) fn complain<R: Read + Drop, E: Write>(
 ) {
     let _ = match fault {
         RunFault::BadRow { .. } => complain_of_row(alloc, fault, records.row(), err),
+        RunFault::TooLong => writeln!(err, "mdbcheck: {}", text_of_excess()),
         RunFault::Read => writeln!(err, "mdbcheck: {}", text_of_cause(records.cause())),
-        _ => writeln!(err, "mdbcheck: {fault}"),
+        RunFault::Write | RunFault::Memory => writeln!(err, "mdbcheck: {fault}"),
     };
 }
 
@@ -42,8 +49,17 @@ fn complain_of_row<E: Write>(
     err.write_all(b"\n")
 }
 
+/// That there are more rows than the program reads.
+fn text_of_excess() -> &'static str
+    ensures { result.now ≡ codes "more than " ++ decimal ROWS_MAX ++ codes " rows" }
+{
+    "more than 100000000 rows"
+}
+
 /// Why the input can't be read.
-fn text_of_cause(cause: ReadCause) -> &'static str {
+fn text_of_cause(cause: ReadCause) -> &'static str
+    ensures { result.now ≡ cause_text cause }
+{
     match cause {
         ReadCause::Failed => "the input can't be read",
         ReadCause::WouldBlock => "the input can't be read: it would have to be waited for",
@@ -55,14 +71,8 @@ fn text_of_cause(cause: ReadCause) -> &'static str {
 fn excerpt(alloc: Global, row: &ByteRecord) -> Result<Vec<u8>, AllocError> {
     let mut text = Vec::new(alloc);
     for place in 0..row.len() {
-        if place > 0 {
-            text.extend_from_slice(b",")?;
-        }
-        let is_whole = match row.get(place) {
-            Some(field) => push_field(&mut text, field)?,
-            None => true,
-        };
-        if !is_whole || text.len() > EXCERPT {
+        let is_parted = place == 0 || push_front(&mut text, b",")?;
+        if !is_parted || !push_front(&mut text, row.get(place).unwrap_or(&[]))? {
             text.extend_from_slice(b"..")?;
             return Ok(text);
         }
@@ -70,9 +80,9 @@ fn excerpt(alloc: Global, row: &ByteRecord) -> Result<Vec<u8>, AllocError> {
     Ok(text)
 }
 
-/// Appends a field as far as there is room, and says whether that is all of it.
-fn push_field(text: &mut Vec<u8>, field: &[u8]) -> Result<bool, AllocError> {
-    for byte in field {
+/// Appends bytes as far as there is room, and says whether these are all of them.
+fn push_front(text: &mut Vec<u8>, bytes: &[u8]) -> Result<bool, AllocError> {
+    for byte in bytes {
         if text.len() >= EXCERPT {
             return Ok(false);
         }

@@ -28,11 +28,11 @@ pub enum RunFault {
         /// What is wrong with it.
         fault: RowFault,
     },
-    /// The transcript has more than 100,000,000 rows.
-    #[error("more than 100000000 rows")]
+    /// The transcript has more rows than it may have.
+    #[error("more rows than are allowed")]
     TooLong,
-    /// The reader failed, or the input has more than 6,400,000,000 bytes.
-    #[error("the input can't be read, or has more than 6400000000 bytes")]
+    /// The reader failed, or the input has more bytes than it may have.
+    #[error("the input can't be read, or has more bytes than are allowed")]
     Read,
     /// The writer failed.
     #[error("the output can't be written")]

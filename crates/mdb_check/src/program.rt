@@ -4,12 +4,14 @@ ghost use Rattle.std.specs.Prelude.{◌≡◌, ◌<◌, ℕ, List, [], ◌∷◌
 ghost use Rattle.clap.specs.Words.{FailsBy, fault_of, kind_of};
 ghost use Rattle.mdb_check.specs.CommandLine.{mdbcheck};
 ghost use Rattle.mdb_check.specs.Program.{NamesTask, Says, show_status_of, status_of, task_word};
+ghost use Rattle.mdb_check.specs.declared.verdict.TheConstants.{BYTES_MAX};
+ghost use Rattle.mdb_records.specs.ToCome.{ToCome, limit_of};
 ghost use Rattle.csv.specs.Reading.{default_config, records, strip_bom};
 
 use super::complaint::complain;
 use super::outcome::{Outcome, RunFault};
 use super::showing::show_records;
-use super::verdict::{BYTES_MAX, check_records, records_of};
+use super::verdict::{BYTES_MAX, check_records};
 use clap::Command;
 use clap::error::{Error, ErrorKind};
 use mdb_bus::LinkFault;
@@ -71,17 +73,26 @@ pub fn run<R: Read + Drop, W: Write, E: Write>(
 {
     match task_of(alloc, words.as_slice()) {
         Ok(Task::Check) => {
-            let mut records = records_of(alloc, reader, BYTES_MAX);
+            let mut records = input_of(alloc, reader);
             let answer = check_records(alloc, &mut records, out, ROWS_MAX);
             finish_check(alloc, answer, &records, err)
         }
         Ok(Task::Show) => {
-            let mut records = records_of(alloc, reader, BYTES_MAX);
+            let mut records = input_of(alloc, reader);
             let answer = show_records(alloc, &mut records, out);
             finish_show(alloc, answer, &records, err)
         }
         Err(kind) => refuse(kind, err),
     }
+}
+
+/// The records of the text that the reader has left, of which at most [`BYTES_MAX`] bytes are read.
+fn input_of<R: Read + Drop>(alloc: Global, reader: R) -> Records<R>
+    ensures records { IfSome (R.remaining reader) (λ text.
+        ToCome R.remaining result (records default_config (strip_bom text))) }
+    ensures limit { limit_of result ≡ BYTES_MAX }
+{
+    Records::new(alloc, reader, BYTES_MAX)
 }
 
 /// What the words ask for, or in which way they are no command of the program.

@@ -137,10 +137,10 @@ const FAULTS: [(RunFault, &str); 5] = [
         },
         "row 7: BadTime",
     ),
-    (RunFault::TooLong, "more than 100000000 rows"),
+    (RunFault::TooLong, "more rows than are allowed"),
     (
         RunFault::Read,
-        "the input can't be read, or has more than 6400000000 bytes",
+        "the input can't be read, or has more bytes than are allowed",
     ),
     (RunFault::Write, "the output can't be written"),
     (RunFault::Memory, "out of memory"),
@@ -229,7 +229,7 @@ fn statuses_of_check(rt: HostRuntime) -> Result<(), Fail> {
 }
 
 /// Texts with a record that is no row, and what is told of it: its number and each of the reasons.
-const BAD_ROWS: [(&[u8], &str); 9] = [
+const BAD_ROWS: [(&[u8], &str); 12] = [
     (
         b"12,M\n",
         "row 1: FieldCount: wanted TIME,LINE,VALUE, found \"12,M\"",
@@ -267,7 +267,22 @@ const BAD_ROWS: [(&[u8], &str); 9] = [
     (
         b",,,,,,,,,,,,,,,,,,,,,,,,,,,,,,,,,,,,,,,,,,,,,,,,,,,,,,,,\n",
         "row 1: FieldCount: wanted TIME,LINE,VALUE, \
-         found \",,,,,,,,,,,,,,,,,,,,,,,,,,,,,,,,,,,,,,,,,,,,,,,,,..\"",
+         found \",,,,,,,,,,,,,,,,,,,,,,,,,,,,,,,,,,,,,,,,,,,,,,,,..\"",
+    ),
+    (
+        b",,,,,,,,,,,,,,,,,,,,,,,,,,,,,,,,,,,,,,,,,,,,,,,,\n",
+        "row 1: FieldCount: wanted TIME,LINE,VALUE, \
+         found \",,,,,,,,,,,,,,,,,,,,,,,,,,,,,,,,,,,,,,,,,,,,,,,,\"",
+    ),
+    (
+        b"0123456789012345678901234567890123456789,,12345\x7F\n",
+        "row 1: BadTime: wanted TIME,LINE,VALUE, \
+         found \"0123456789012345678901234567890123456789,,12345\\x7F\"",
+    ),
+    (
+        b"0123456789012345678901234567890123456789,1234567,\n",
+        "row 1: BadTime: wanted TIME,LINE,VALUE, \
+         found \"0123456789012345678901234567890123456789,1234567..\"",
     ),
 ];
 
