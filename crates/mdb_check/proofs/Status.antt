@@ -1,5 +1,5 @@
 -- What the statuses of the program say.
-use Rattle.std.proofs.Common.{arith, refl, ap, sym, subst, inl, inr, ◌≡◌, ◌≢◌, ℕ, List, [], Option, Some, None, Result, Ok, Err, IfOk, IfErr, IfSome}
+use Rattle.std.proofs.Common.{arith, refl, ap, sym, subst, inl, inr, ◌≡◌, ◌≢◌, ℕ, List, [], Option, Some, None, Result, Ok, Err, IfOk, IfErr, IfSome, length, ◌<◌}
 use Rattle.std.proofs.lemmas.List.{append-nil}
 use Rattle.std.specs.Prelude.{codes}
 use Rattle.std.specs.Io.KnownBytes.{Appends}
@@ -13,7 +13,7 @@ use Rattle.mdb_check.specs.declared.outcome.RunFault.TheVariants.{Write}
 use Rattle.mdb_check.specs.Program.{NamesTask, Says, SaysChecked, SaysShown, show_status_of, status_of}
 use Rattle.mdb_check.specs.Show.{Shows}
 use Rattle.mdb_check.specs.Text.{IsCutReport, report_text}
-use Rattle.mdb_check.specs.Verdict.{IsAnswer}
+use Rattle.mdb_check.specs.Verdict.{IsAnswer, IsNoYes}
 use Rattle.mdb_check.specs.Written.{HasTaken}
 
 says_checked : {W : Type 0} (contents : W → Option (List ℕ)) (all : List (List (List ℕ))) (old new : W) (answer : Result Outcome RunFault)
@@ -41,6 +41,23 @@ says_shown all before after (Ok showing) (inr cut) = absurd (cc (cut.0))
 says_shown all before after (Err fault) (inl shows) =
     ((λ e. absurd (omega (arith, e))), (λ e. absurd (omega (arith, e))), (λ e. record { answer = Err fault; text = shows.0; showing = shows.1; taken = taken_whole before after shows.0 shows.2 }))
 says_shown all before after (Err fault) (inr cut) = ((λ e. absurd (omega (arith, e))), (λ e. absurd (omega (arith, e))), (λ e. cut.1))
+
+-- a text that isn't one of a yes has another status, and so has one that isn't shown whole
+pub not_yes : (answer : Result Outcome RunFault) → IsNoYes answer → status_of answer ≢ 0
+not_yes (Ok (Yes report)) refused = absurd refused
+not_yes (Ok (No offence)) _ = λ e. absurd (omega (arith, e))
+not_yes (Err fault) _ = λ e. absurd (omega (arith, e))
+
+pub not_whole : (answer : Result (Option LinkFault) RunFault) → answer ≢ Ok None → show_status_of answer ≢ 0
+not_whole (Ok None) other = absurd (other refl)
+not_whole (Ok (Some fault)) _ = λ e. absurd (omega (arith, e))
+not_whole (Err fault) _ = λ e. absurd (omega (arith, e))
+
+-- where a text is longer than the limit, the status is not 0
+pub too_long : {Over : Type 0} (known : Option (List ℕ)) (limit status : ℕ) → IfSome known (λ text. limit < length text → Over) → (Over → status ≢ 0)
+    → IfSome known (λ text. limit < length text → status ≢ 0)
+too_long None limit status over other = tt
+too_long (Some text) limit status over other = λ long. other (over long)
 
 -- what the status of a checked text says
 pub ran : {W : Type 0} (contents : W → Option (List ℕ)) (known : Option (List ℕ)) (words : List (List ℕ)) (old new : W) (answer : Result Outcome RunFault) (status : ℕ)

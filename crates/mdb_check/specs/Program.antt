@@ -20,6 +20,10 @@ NamesTask (program ∷ word ∷ others) task = word ≡ task
 NamesTask (program ∷ []) task = ⊥
 NamesTask [] task = ⊥
 
+-- they name either task
+abbrev pub NameATask : List (List ℕ) → Type 0
+NameATask words = NamesTask words (codes "check") ⊎ NamesTask words (codes "show")
+
 -- What the statuses of `check` say of the records of a text, and of the bytes that the writer held
 -- before and after. At 2 nothing was written, or the writer failed, and took a front of the text of
 -- the verdict that there is.

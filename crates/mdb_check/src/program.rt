@@ -1,11 +1,11 @@
 //! The program over its words.
 
-ghost use Rattle.std.specs.Prelude.{◌≡◌, ◌<◌, ℕ, List, [], ◌∷◌, IfErr, IfOk, IfSome, map, string_bytes};
+ghost use Rattle.std.specs.Prelude.{◌≡◌, ◌≢◌, ◌<◌, ◌⊎◌, ℕ, List, [], ◌∷◌, IfErr, IfOk, IfSome, length, map, string_bytes};
 ghost use Rattle.clap.specs.Words.{FailsBy, fault_of, kind_of};
 ghost use Rattle.mdb_check.specs.CommandLine.{mdbcheck};
-ghost use Rattle.mdb_check.specs.Program.{NamesTask, Says, show_status_of, status_of, task_word};
+ghost use Rattle.mdb_check.specs.Program.{NameATask, NamesTask, Says, show_status_of, status_of, task_word};
 ghost use Rattle.mdb_check.specs.declared.verdict.TheConstants.{BYTES_MAX};
-ghost use Rattle.mdb_records.specs.ToCome.{ToCome, limit_of};
+ghost use Rattle.mdb_records.specs.ToCome.{IsOverLimit, ToCome, limit_of};
 ghost use Rattle.csv.specs.Reading.{default_config, records, strip_bom};
 
 use super::complaint::complain;
@@ -69,6 +69,10 @@ pub fn run<R: Read + Drop, W: Write, E: Write>(
     ensures says { IfSome (R.remaining reader) (λ text. Says (map string_bytes words.items)
         (records default_config (strip_bom text)) (W.contents out.old) (W.contents out.new)
         result) }
+    ensures named { NameATask (map string_bytes words.items)
+        ⊎ ((result ≡ NO_VERDICT) × (out.new ≡ out.old)) }
+    ensures whole { IfSome (R.remaining reader) (λ text. BYTES_MAX < length text
+        → result ≢ POSSIBLE) }
     ensures silent { result < 2 → err.new ≡ err.old }
 {
     match task_of(alloc, words.as_slice()) {
@@ -90,6 +94,8 @@ pub fn run<R: Read + Drop, W: Write, E: Write>(
 fn input_of<R: Read + Drop>(alloc: Global, reader: R) -> Records<R>
     ensures records { IfSome (R.remaining reader) (λ text.
         ToCome R.remaining result (records default_config (strip_bom text))) }
+    ensures over { IfSome (R.remaining reader) (λ text.
+        BYTES_MAX < length text → IsOverLimit R.remaining result) }
     ensures limit { limit_of result ≡ BYTES_MAX }
 {
     Records::new(alloc, reader, BYTES_MAX)

@@ -1,9 +1,9 @@
-use Rattle.std.proofs.Common.{Global, List, refl, subst}
+use Rattle.std.proofs.Common.{Global, List, refl, subst, sym, ◌∙◌}
 use Rattle.std.proofs.lemmas.Option.{IfSome_then}
 use Rattle.std.specs.Prelude.{String, map, string_bytes}
 use Rattle.mdb_check.specs.Program.{NamesTask, task_word}
 use Rattle.mdb_check.specs.declared.program.Task.{Task}
-use Rattle.mdb_check.proofs.Status.{not_run, ran, shown}
+use Rattle.mdb_check.proofs.Status.{not_run, not_whole, not_yes, ran, shown, too_long}
 use Rattle.mdb_check.proofs.program.run.Goals as goal
 
 pub returns-in-Ok-Check-clause-says : goal.returns-in-Ok-Check-clause-says
@@ -24,3 +24,11 @@ returns-in-Ok-Show-clause-says g c =
 
 pub returns-clause-says : goal.returns-clause-says
 returns-clause-says g c = not_run _ _ _ _ _ c.refuse.ensures refl
+
+pub returns-in-Ok-Check-clause-whole : goal.returns-in-Ok-Check-clause-whole
+returns-in-Ok-Check-clause-whole g c =
+    too_long _ _ _ c.input_of-records.ensures.over (λ over yes. not_yes _ (c.check_records-answer.ensures.whole over) (sym c.finish_check.ensures.status ∙ yes))
+
+pub returns-in-Ok-Show-clause-whole : goal.returns-in-Ok-Show-clause-whole
+returns-in-Ok-Show-clause-whole g c =
+    too_long _ _ _ c.input_of-records-in-Ok-Show.ensures.over (λ over whole. not_whole _ (c.show_records-answer.ensures.whole over) (sym c.finish_show.ensures.status ∙ whole))
