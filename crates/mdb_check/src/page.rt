@@ -1,6 +1,6 @@
 //! Lines on their way to a writer.
 
-ghost use Rattle.std.specs.Prelude.{◌≡◌, ◌<◌, ◌≤◌, [], OnOk, IfErr};
+ghost use Rattle.std.specs.Prelude.{◌≡◌, ◌<◌, ◌≤◌, [], OnOk, IfErr, length};
 ghost use Rattle.std.specs.Io.KnownBytes.{Appends};
 ghost use Rattle.mdb_bus.specs.Acts.{NamesAReply};
 ghost use Rattle.mdb_follow.specs.declared.follower.TheConstants.{ROWS_MAX};
@@ -107,6 +107,7 @@ impl Page {
     fn add<W: Write>(&mut self, writer: &mut W) -> Result<(), RunFault>
         ensures added { OnOk result (Puts (output (W.contents writer.old) self.old)
             (output (W.contents writer.new) self.new) self.old.next.items) }
+        ensures short { OnOk result (length self.new.lines.items < 8192) }
         ensures refused { IfErr result (λ fault. IsNotTaken fault
             (output (W.contents writer.old) self.old) (output (W.contents writer.new) self.new)
             self.old.next.items) }
