@@ -95,9 +95,24 @@ fn changer_command(content: &[u8]) -> Result<ChangerCommand, MsgFault>
             manual: number(*manual_high, *manual_low),
         }),
         [0x0D, coins] => Ok(ChangerCommand::Dispense(*coins)),
-        [0x0F, 0x00] => Ok(ChangerCommand::Identification),
-        [0x0F, 0x01, a, b, c, d] => Ok(ChangerCommand::Features([*a, *b, *c, *d])),
-        [0x08..=0x0D, ..] | [0x0F, 0x00..=0x01, ..] => Err(MsgFault::Length),
+        [0x08..=0x0D, ..] => Err(MsgFault::Length),
+        [0x0F, ..] => changer_expansion(content),
+        _ => Err(MsgFault::Profile),
+    }
+}
+
+/// An expansion command to the coin changer.
+fn changer_expansion(content: &[u8]) -> Result<ChangerCommand, MsgFault>
+    requires some { 0 < length content.now }
+    requires expansion { slice_index content.now 0 ≡ 0x0F }
+    ensures command { IfOk result (λ command.
+        HasChangerFields command × (content.now ≡ changer_bytes command)) }
+    ensures fault { IfErr result (IsCommandFault (block_of content.now)) }
+{
+    match content {
+        [_, 0x00] => Ok(ChangerCommand::Identification),
+        [_, 0x01, a, b, c, d] => Ok(ChangerCommand::Features([*a, *b, *c, *d])),
+        [_, 0x00..=0x01, ..] => Err(MsgFault::Length),
         _ => Err(MsgFault::Profile),
     }
 }
@@ -122,10 +137,24 @@ fn bill_command(content: &[u8]) -> Result<BillCommand, MsgFault>
         }),
         [0x35, order] => Ok(BillCommand::Escrow(*order)),
         [0x36] => Ok(BillCommand::Stacker),
-        [0x37, 0x00] => Ok(BillCommand::Identification),
-        [0x37, 0x01, a, b, c, d] => Ok(BillCommand::Features([*a, *b, *c, *d])),
-        [0x37, 0x02] => Ok(BillCommand::IdentificationWithOptions),
-        [0x30..=0x36, ..] | [0x37, 0x00..=0x02, ..] => Err(MsgFault::Length),
+        [0x30..=0x36, ..] => Err(MsgFault::Length),
+        _ => bill_expansion(content),
+    }
+}
+
+/// An expansion command to the bill validator.
+fn bill_expansion(content: &[u8]) -> Result<BillCommand, MsgFault>
+    requires some { 0 < length content.now }
+    requires expansion { slice_index content.now 0 ≡ 0x37 }
+    ensures command { IfOk result (λ command.
+        HasBillFields command × (content.now ≡ bill_bytes command)) }
+    ensures fault { IfErr result (IsCommandFault (block_of content.now)) }
+{
+    match content {
+        [_, 0x00] => Ok(BillCommand::Identification),
+        [_, 0x01, a, b, c, d] => Ok(BillCommand::Features([*a, *b, *c, *d])),
+        [_, 0x02] => Ok(BillCommand::IdentificationWithOptions),
+        [_, 0x00..=0x02, ..] => Err(MsgFault::Length),
         _ => Err(MsgFault::Profile),
     }
 }
@@ -144,42 +173,81 @@ fn reader_command(address: u8, content: &[u8]) -> Result<ReaderCommand, MsgFault
 {
     match (content[0] - address, &content[1..]) {
         (0, []) => Ok(ReaderCommand::Reset),
-        (1, [0x00, level, columns, rows, display]) => Ok(ReaderCommand::SetupConfig {
-            level: *level,
-            columns: *columns,
-            rows: *rows,
-            display: *display,
-        }),
-        (1, [0x01, maximum_high, maximum_low, minimum_high, minimum_low]) => Ok(
-            ReaderCommand::SetupPrices {
-                maximum: number(*maximum_high, *maximum_low),
-                minimum: number(*minimum_high, *minimum_low),
-            },
-        ),
+        (1, _) => setup_command(address, content),
         (2, []) => Ok(ReaderCommand::Poll),
-        (3, [0x00, price_high, price_low, item_high, item_low]) => Ok(ReaderCommand::VendRequest {
-            price: number(*price_high, *price_low),
-            item: number(*item_high, *item_low),
-        }),
-        (3, [0x01]) => Ok(ReaderCommand::VendCancel),
-        (3, [0x02, item_high, item_low]) => Ok(ReaderCommand::VendSuccess {
-            item: number(*item_high, *item_low),
-        }),
-        (3, [0x03]) => Ok(ReaderCommand::VendFailure),
-        (3, [0x04]) => Ok(ReaderCommand::SessionComplete),
-        (3, [0x05, price_high, price_low, item_high, item_low]) => Ok(ReaderCommand::CashSale {
-            price: number(*price_high, *price_low),
-            item: number(*item_high, *item_low),
-        }),
+        (3, _) => vend_command(address, content),
         (4, [0x00]) => Ok(ReaderCommand::Disable),
         (4, [0x01]) => Ok(ReaderCommand::Enable),
         (4, [0x02]) => Ok(ReaderCommand::Cancel),
         (7, [0x00, identity @ ..]) => identity_of(identity)
             .map(ReaderCommand::RequestId)
             .ok_or(MsgFault::Length),
-        (0 | 2, _) | (1, [0x00..=0x01, ..]) | (3, [0x00..=0x05, ..]) | (4, [0x00..=0x02, ..]) => {
-            Err(MsgFault::Length)
+        (0 | 2, _) | (4, [0x00..=0x02, ..]) => Err(MsgFault::Length),
+        _ => Err(MsgFault::Profile),
+    }
+}
+
+/// A SETUP command to the cashless reader at an address.
+fn setup_command(address: u8, content: &[u8]) -> Result<ReaderCommand, MsgFault>
+    requires address { 0x08 ≤ address }
+    requires some { 0 < length content.now }
+    requires setup { slice_index content.now 0 ≡ address + 1 }
+    ensures command { IfOk result (λ command.
+        HasReaderFields command × (content.now ≡ reader_bytes address command)) }
+    ensures fault { IfErr result (IsRefused
+        (reader_need 1 (slice_get (block_of content.now) 1)) (length content.now + 1)) }
+{
+    match content {
+        [_, 0x00, level, columns, rows, display] => Ok(ReaderCommand::SetupConfig {
+            level: *level,
+            columns: *columns,
+            rows: *rows,
+            display: *display,
+        }),
+        [
+            _,
+            0x01,
+            maximum_high,
+            maximum_low,
+            minimum_high,
+            minimum_low,
+        ] => {
+            Ok(ReaderCommand::SetupPrices {
+                maximum: number(*maximum_high, *maximum_low),
+                minimum: number(*minimum_high, *minimum_low),
+            })
         }
+        [_, 0x00..=0x01, ..] => Err(MsgFault::Length),
+        _ => Err(MsgFault::Profile),
+    }
+}
+
+/// A VEND command to the cashless reader at an address.
+fn vend_command(address: u8, content: &[u8]) -> Result<ReaderCommand, MsgFault>
+    requires address { 0x08 ≤ address }
+    requires some { 0 < length content.now }
+    requires vend { slice_index content.now 0 ≡ address + 3 }
+    ensures command { IfOk result (λ command.
+        HasReaderFields command × (content.now ≡ reader_bytes address command)) }
+    ensures fault { IfErr result (IsRefused
+        (reader_need 3 (slice_get (block_of content.now) 1)) (length content.now + 1)) }
+{
+    match content {
+        [_, 0x00, price_high, price_low, item_high, item_low] => Ok(ReaderCommand::VendRequest {
+            price: number(*price_high, *price_low),
+            item: number(*item_high, *item_low),
+        }),
+        [_, 0x01] => Ok(ReaderCommand::VendCancel),
+        [_, 0x02, item_high, item_low] => Ok(ReaderCommand::VendSuccess {
+            item: number(*item_high, *item_low),
+        }),
+        [_, 0x03] => Ok(ReaderCommand::VendFailure),
+        [_, 0x04] => Ok(ReaderCommand::SessionComplete),
+        [_, 0x05, price_high, price_low, item_high, item_low] => Ok(ReaderCommand::CashSale {
+            price: number(*price_high, *price_low),
+            item: number(*item_high, *item_low),
+        }),
+        [_, 0x00..=0x05, ..] => Err(MsgFault::Length),
         _ => Err(MsgFault::Profile),
     }
 }
