@@ -1,11 +1,12 @@
 //! Comparisons that end a test where something is otherwise than wanted. They are functions, and
-//! tables are constants that tests go over by reference: the proof of a test grows with what stands
-//! in it, and each `assert_eq!` and each entry of a table that a test makes itself cost it seconds.
+//! tables are statics that tests go over by reference: the proof of a test grows with what stands
+//! in it, and each `assert_eq!`, and each entry of a table that is a constant or made in the test,
+//! cost it seconds.
 
 use super::streams::words_of;
 use mdb_check::{LinkFault, Outcome, RunFault, check, run, show};
-use std::alloc::{AllocError, Global};
-use std::fmt::{Debug, Display};
+use std::alloc::Global;
+use std::fmt::Debug;
 use std::io::Read;
 use std::process::Abort;
 
@@ -15,20 +16,20 @@ pub(crate) fn same<T: PartialEq + Debug + Copy>(rt: &impl Abort, left: T, right:
 }
 
 /// The same of one case of many, which is told too.
-pub(crate) fn same_at<T: PartialEq + Debug + Copy, D: Display + Drop>(
+pub(crate) fn same_at<T: PartialEq + Debug + Copy, C: Debug + Copy>(
     rt: &impl Abort,
-    case: D,
+    case: C,
     left: T,
     right: T,
 ) {
-    assert_eq!(rt; left, right, "{case}");
+    assert_eq!(rt; left, right, "{case:?}");
 }
 
 /// Ends the test where `check` has another answer, or writes something else.
-pub(crate) fn check_gives<R: Read + Drop, D: Display + Drop>(
+pub(crate) fn check_gives<R: Read + Drop>(
     rt: &impl Abort,
     alloc: Global,
-    case: D,
+    case: &str,
     reader: R,
     wanted: (Result<Outcome, RunFault>, &[u8]),
 ) {
@@ -38,10 +39,10 @@ pub(crate) fn check_gives<R: Read + Drop, D: Display + Drop>(
 }
 
 /// Ends the test where `show` has another answer, or writes something else.
-pub(crate) fn show_gives<R: Read + Drop, D: Display + Drop>(
+pub(crate) fn show_gives<R: Read + Drop>(
     rt: &impl Abort,
     alloc: Global,
-    case: D,
+    case: &str,
     reader: R,
     wanted: (Result<Option<LinkFault>, RunFault>, &[u8]),
 ) {
@@ -58,12 +59,10 @@ pub(crate) fn run_gives<R: Read + Drop>(
     words: &[&str],
     reader: R,
     wanted: (u8, &[u8], &[u8]),
-) -> Result<(), AllocError> {
-    let list = words_of(alloc, words)?;
+) {
+    let list = words_of(alloc, words).expect(rt, "memory");
     let mut out = Vec::new(alloc);
     let mut err = Vec::new(alloc);
     let status = run(alloc, list, reader, &mut out, &mut err);
-    let given = (status, out.as_slice(), err.as_slice());
-    same_at(rt, format_args!("{words:?}"), given, wanted);
-    Ok(())
+    same_at(rt, words, (status, out.as_slice(), err.as_slice()), wanted);
 }

@@ -3,7 +3,7 @@
 use super::asserts::{check_gives, same, same_at};
 use super::recordings::{Recording, coin_not_told_again};
 use super::records::count_rows;
-use super::streams::{Endless, Polling};
+use super::streams::{Pieces, Polling};
 use mdb_check::{
     BYTES_MAX, Blame, LinkFault, Offence, Outcome, ROWS_MAX, Rule, RunFault, check_within, show,
 };
@@ -14,7 +14,7 @@ use std::process::Abort;
 
 /// Texts without an end, by a front and what comes after it again and again: rows, a line without
 /// an end, blank lines, a quoted field that isn't closed, and fields without an end.
-const TEXTS: [(&[u8], &[u8]); 5] = [
+static TEXTS: [(&[u8], &[u8]); 5] = [
     (b"", b"1,M,108\n"),
     (b"", b"1"),
     (b"1000,M,108\n", b"\n"),
@@ -27,27 +27,30 @@ fn takes_one_more(rt: &impl Abort, given: u64, limit: u64) {
     assert!(rt; given <= limit.saturating_add(1), "{limit} bytes: {given}");
 }
 
+/// Ends the test where a limit doesn't end a reader without an end by a fault. Answers how many
+/// rows it has given.
+fn rows_up_to<R: Read + Drop>(rt: &impl Abort, alloc: Global, reader: R, limit: u64) -> u64 {
+    let (rows, end) = count_rows(&mut Records::new(alloc, reader, limit), limit);
+    same_at(rt, limit, end, Err(ReadFault::Read));
+    rows
+}
+
 /// Ends the test where a limit doesn't end a text without an end by a fault, or where more is taken
 /// of it than one byte after the limit.
 fn ends_a_text(rt: &impl Abort, alloc: Global, text: &(&[u8], &[u8]), limit: u64) {
     let (front, again) = *text;
-    let mut reader = Endless::new(front, again);
-    let (_, end) = count_rows(&mut Records::new(alloc, &mut reader, limit), limit);
-    let case = format_args!("{front:?}, {again:?}, {limit} bytes");
-    same_at(rt, case, end, Err(ReadFault::Read));
+    let mut reader = Pieces::endless(front, again);
+    rows_up_to(rt, alloc, &mut reader, limit);
     takes_one_more(rt, reader.given, limit);
 }
 
 /// The same of polls without an end, of which about as many rows are given as the limit has.
 fn ends_polls(rt: &impl Abort, alloc: Global, limit: u64) {
     let mut reader = Polling::new(alloc);
-    let (rows, end) = count_rows(&mut Records::new(alloc, &mut reader, limit), limit);
-    same_at(rt, limit, end, Err(ReadFault::Read));
+    let rows = rows_up_to(rt, alloc, &mut reader, limit);
     takes_one_more(rt, reader.given, limit);
-    assert!(rt;
-        limit / 15 <= rows && rows <= limit / 12,
-        "{limit} bytes: {rows} rows"
-    );
+    let is_about = limit / 15 <= rows && rows <= limit / 12;
+    assert!(rt; is_about, "{limit} bytes: {rows} rows");
 }
 
 #[test]
@@ -60,34 +63,41 @@ fn a_limit_ends_an_endless_text(rt: HostRuntime) {
     }
 }
 
+/// The offence of the recording whose coin isn't told again.
+const NOT_TOLD_AGAIN: Offence = Offence {
+    row: 38,
+    rule: Rule::Changer,
+    blame: Blame::Changer,
+};
+
+/// What may come after that recording without an end.
+static AGAIN: [&[u8]; 3] = [b"1,M,108\n", b"1", b"\n"];
+
 /// A row that can't be ends the reading of a text without an end, and none of what comes after it
 /// is taken.
 #[test]
 fn a_row_that_cannot_be_ends_an_endless_text(rt: HostRuntime) {
     let Recording { rows, report, .. } = coin_not_told_again();
-    let offence = Offence {
-        row: 38,
-        rule: Rule::Changer,
-        blame: Blame::Changer,
-    };
-    for again in [b"1,M,108\n".as_slice(), b"1", b"\n"] {
-        let mut reader = Endless::new(rows, again);
-        let wanted = (Ok(Outcome::No(offence)), report);
+    for again in &AGAIN {
+        let mut reader = Pieces::endless(rows, *again);
+        let wanted = (Ok(Outcome::No(NOT_TOLD_AGAIN)), report);
         check_gives(&rt, rt.alloc(), "endless", &mut reader, wanted);
         same(&rt, reader.given, rows.len() as u64);
     }
 }
 
+/// The fault of rows without an end after that recording.
+const OUT_OF_ORDER: LinkFault = LinkFault {
+    rule: Rule::Order,
+    blame: Blame::Controller,
+};
+
 /// A link fault does so too, and little of what comes after it is taken.
 #[test]
 fn a_link_fault_ends_an_endless_text(rt: HostRuntime) {
-    let mut reader = Endless::new(coin_not_told_again().rows, b"1,M,108\n");
-    let fault = LinkFault {
-        rule: Rule::Order,
-        blame: Blame::Controller,
-    };
+    let mut reader = Pieces::endless(coin_not_told_again().rows, b"1,M,108\n");
     let answer = show(rt.alloc(), &mut reader, &mut Vec::new(rt.alloc()));
-    same(&rt, answer, Ok(Some(fault)));
+    same(&rt, answer, Ok(Some(OUT_OF_ORDER)));
     assert!(rt; reader.given < 1_000_000, "{}", reader.given);
 }
 
@@ -101,41 +111,33 @@ fn fails_within<R: Read + Drop>(
     fault: RunFault,
 ) {
     let mut out = Vec::new(alloc);
-    let answer = check_within(
-        alloc,
-        reader,
-        &mut out,
-        rows.min(ROWS_MAX),
-        bytes.min(BYTES_MAX),
-    );
-    let case = format_args!("{rows} rows, {bytes} bytes");
-    same_at(rt, case, (answer, out.len()), (Err(fault), 0));
+    let most = bytes.min(BYTES_MAX);
+    let answer = check_within(alloc, reader, &mut out, rows.min(ROWS_MAX), most);
+    same_at(rt, (rows, bytes), (answer, out.len()), (Err(fault), 0));
+}
+
+/// Ends the test where more is taken of polls without an end than a byte after a limit.
+fn bytes_end_polls(rt: &impl Abort, alloc: Global, limit: u64) {
+    let mut polls = Polling::new(alloc);
+    fails_within(rt, alloc, &mut polls, (100_000, limit), RunFault::Read);
+    takes_one_more(rt, polls.given, limit);
+}
+
+/// The same of a row, and what comes after it again and again.
+fn bytes_end_a_text(rt: &impl Abort, alloc: Global, again: &[u8], limit: u64) {
+    let mut reader = Pieces::endless(b"1000,M,108\n", again);
+    fails_within(rt, alloc, &mut reader, (100_000, limit), RunFault::Read);
+    takes_one_more(rt, reader.given, limit);
 }
 
 /// Of a recording without an end no more than a byte after a limit on its bytes is taken.
 #[test]
 fn bytes_end_an_endless_recording(rt: HostRuntime) {
     for limit in [0, 1, 64, 9_999] {
-        let mut polls = Polling::new(rt.alloc());
-        fails_within(
-            &rt,
-            rt.alloc(),
-            &mut polls,
-            (100_000, limit),
-            RunFault::Read,
-        );
-        takes_one_more(&rt, polls.given, limit);
-        for again in [b"1".as_slice(), b"\n", b","] {
-            let mut reader = Endless::new(b"1000,M,108\n", again);
-            fails_within(
-                &rt,
-                rt.alloc(),
-                &mut reader,
-                (100_000, limit),
-                RunFault::Read,
-            );
-            takes_one_more(&rt, reader.given, limit);
-        }
+        bytes_end_polls(&rt, rt.alloc(), limit);
+        bytes_end_a_text(&rt, rt.alloc(), b"1", limit);
+        bytes_end_a_text(&rt, rt.alloc(), b"\n", limit);
+        bytes_end_a_text(&rt, rt.alloc(), b",", limit);
     }
 }
 

@@ -1,6 +1,5 @@
 //! Reads and writes of `check` and `show` that fail, each in turn, and recordings in small pieces.
 
-use super::asserts::{check_gives, show_gives};
 use super::recordings::{Recording, coin_told_twice, recordings, reset_and_poll};
 use super::streams::{CALLS, Pieces, Sheet};
 use mdb_check::{Outcome, RunFault, check, show};
@@ -8,154 +7,164 @@ use std::alloc::Global;
 use std::io::ErrorKind;
 use std::process::Abort;
 
-/// The most bytes that a read gives: a part of a row, and several rows.
-const PIECES: [usize; 2] = [7, 100];
-
-/// Lets the first read of `check` fail, then the second, and so on up to the run in which none is
-/// left to fail, and answers how many failed. Each has to be told, with nothing written, and the
-/// last run is as any other; else the number of the first run that is otherwise.
-fn fail_reads_of_check(
-    alloc: Global,
-    recording: &Recording,
-    most: usize,
-    kind: ErrorKind,
-) -> Result<u64, u64> {
-    let plain = check(alloc, recording.rows, &mut Vec::new(alloc));
-    if plain.is_err() {
-        return Err(0);
-    }
-    for nth in 1..CALLS {
-        let mut out = Vec::new(alloc);
-        let mut reader = Pieces::failing(recording.rows, most, nth, kind);
-        let answer = check(alloc, &mut reader, &mut out);
-        if reader.has_failed() {
-            if answer != Err(RunFault::Read) || !out.is_empty() {
-                return Err(nth);
-            }
-        } else if answer != plain || out.as_slice() != recording.report {
-            return Err(nth);
-        } else {
-            return Ok(nth - 1);
-        }
-    }
-    Err(CALLS)
+/// What is run.
+#[derive(Clone, Copy, PartialEq, Debug)]
+enum Task {
+    Check,
+    Show,
 }
 
-/// The same of `show`, which has then written the lines of the acts so far, each of them whole, and
-/// all of them where the last read fails.
-fn fail_reads_of_show(
-    alloc: Global,
-    recording: &Recording,
-    most: usize,
-    kind: ErrorKind,
-) -> Result<u64, u64> {
+/// Which of its calls fail: reads that give so many bytes at most, for this reason, or writes.
+#[derive(Clone, Copy)]
+enum Calls {
+    Reads(usize, ErrorKind),
+    Writes,
+}
+
+/// How a run ended: the fault, if there was one, and whether the answer is that of a plain run.
+#[derive(Clone, Copy)]
+struct Ended {
+    fault: Option<RunFault>,
+    is_plain: bool,
+}
+
+/// The answer of `check` to a recording in pieces, on a sheet.
+fn check_ends(alloc: Global, rows: &[u8], reader: &mut Pieces, out: &mut Sheet) -> Ended {
+    let plain = check(alloc, rows, &mut Vec::new(alloc));
+    let answer = check(alloc, reader, out);
+    Ended {
+        fault: answer.err(),
+        is_plain: plain.is_ok() && answer == plain,
+    }
+}
+
+/// The same of `show`.
+fn show_ends(alloc: Global, reader: &mut Pieces, out: &mut Sheet) -> Ended {
+    let answer = show(alloc, reader, out);
+    Ended {
+        fault: answer.err(),
+        is_plain: answer == Ok(None),
+    }
+}
+
+/// Whether a failed call was told, and what stands on the sheet is a front of what is wanted there:
+/// where a read of `check` fails nothing, and where one of `show` fails whole lines.
+fn is_told(task: Task, calls: Calls, fault: Option<RunFault>, text: &[u8], wanted: &[u8]) -> bool {
+    let is_front = match (calls, task) {
+        (Calls::Writes, _) => true,
+        (_, Task::Check) => text.is_empty(),
+        (_, Task::Show) => matches!(text.last(), None | Some(b'\n')),
+    };
+    let told = match calls {
+        Calls::Reads(..) => RunFault::Read,
+        Calls::Writes => RunFault::Write,
+    };
+    fault == Some(told) && is_front && wanted.starts_with(text)
+}
+
+/// What a run came to.
+#[derive(Clone, Copy)]
+struct Ran {
+    has_failed: bool,
+    is_as_wanted: bool,
+    written: usize,
+}
+
+/// Lets the call of this number fail, if there are so many.
+fn fail_one(alloc: Global, recording: &Recording, task: Task, calls: Calls, number: u64) -> Ran {
+    let rows = recording.rows;
+    let (mut reader, mut out) = match calls {
+        Calls::Reads(most, kind) => (
+            Pieces::failing(rows, most, number, kind),
+            Sheet::whole(alloc),
+        ),
+        Calls::Writes => (Pieces::new(rows, usize::MAX), Sheet::failing(alloc, number)),
+    };
+    let (ended, wanted) = match task {
+        Task::Check => (
+            check_ends(alloc, rows, &mut reader, &mut out),
+            recording.report,
+        ),
+        Task::Show => (show_ends(alloc, &mut reader, &mut out), recording.acts),
+    };
+    let has_failed = reader.has_failed() || out.has_failed();
+    let text = out.text.as_slice();
+    Ran {
+        has_failed,
+        is_as_wanted: if has_failed {
+            is_told(task, calls, ended.fault, text, wanted)
+        } else {
+            ended.is_plain && text == wanted
+        },
+        written: text.len(),
+    }
+}
+
+/// Lets the first call fail, then the second, and so on up to the run in which none is left to fail.
+/// Each has to be told, after which no less stands written than after the one before it, and the
+/// last run is as any other. Where the last read of `show` fails, all lines are written. Answers how
+/// many failed, or the number of the first run that is otherwise.
+fn fail_each(alloc: Global, recording: &Recording, task: Task, calls: Calls) -> Result<u64, u64> {
     let mut longest = 0;
-    for nth in 1..CALLS {
-        let mut out = Vec::new(alloc);
-        let mut reader = Pieces::failing(recording.rows, most, nth, kind);
-        let answer = show(alloc, &mut reader, &mut out);
-        let is_front = recording.acts.starts_with(out.as_slice());
-        let is_whole = matches!(out.last(), None | Some(b'\n'));
-        if reader.has_failed() {
-            if answer != Err(RunFault::Read) || !is_front || !is_whole || out.len() < longest {
-                return Err(nth);
-            }
-            longest = out.len();
-        } else if answer != Ok(None) || out.as_slice() != recording.acts || out.len() != longest {
-            return Err(nth);
-        } else {
-            return Ok(nth - 1);
+    for number in 1..CALLS {
+        let ran = fail_one(alloc, recording, task, calls, number);
+        if !ran.is_as_wanted || ran.written < longest {
+            return Err(number);
         }
+        if !ran.has_failed {
+            let is_whole = ran.written == longest;
+            let is_read_of_show = task == Task::Show && matches!(calls, Calls::Reads(..));
+            return if is_whole || !is_read_of_show {
+                Ok(number - 1)
+            } else {
+                Err(number)
+            };
+        }
+        longest = ran.written;
     }
     Err(CALLS)
 }
 
-/// The same of the writes of `check`, which has then written a front of the report.
-fn fail_writes_of_check(alloc: Global, recording: &Recording) -> Result<u64, u64> {
-    let plain = check(alloc, recording.rows, &mut Vec::new(alloc));
-    if plain.is_err() {
-        return Err(0);
+/// Ends the test where a call isn't told, or none fails.
+fn are_told(rt: &impl Abort, alloc: Global, recording: &Recording, calls: Calls) {
+    for task in [Task::Check, Task::Show] {
+        let failed = fail_each(alloc, recording, task, calls);
+        assert!(rt;
+            matches!(failed, Ok(1..)),
+            "{task:?} {}: {failed:?}",
+            recording.name
+        );
     }
-    for nth in 1..CALLS {
-        let mut out = Sheet::failing(alloc, nth);
-        let answer = check(alloc, recording.rows, &mut out);
-        let written = out.text.as_slice();
-        if out.has_failed() {
-            if answer != Err(RunFault::Write) || !recording.report.starts_with(written) {
-                return Err(nth);
-            }
-        } else if answer != plain || written != recording.report {
-            return Err(nth);
-        } else {
-            return Ok(nth - 1);
-        }
-    }
-    Err(CALLS)
 }
 
-/// The same of the writes of `show`, which has then written a front of the lines.
-fn fail_writes_of_show(alloc: Global, recording: &Recording) -> Result<u64, u64> {
-    for nth in 1..CALLS {
-        let mut out = Sheet::failing(alloc, nth);
-        let answer = show(alloc, recording.rows, &mut out);
-        let written = out.text.as_slice();
-        if out.has_failed() {
-            if answer != Err(RunFault::Write) || !recording.acts.starts_with(written) {
-                return Err(nth);
-            }
-        } else if answer != Ok(None) || written != recording.acts {
-            return Err(nth);
-        } else {
-            return Ok(nth - 1);
-        }
-    }
-    Err(CALLS)
-}
+/// The reads that fail: of a part of a row, and of several rows.
+static FAILING: [Calls; 5] = [
+    Calls::Reads(7, ErrorKind::BrokenPipe),
+    Calls::Reads(7, ErrorKind::Interrupted),
+    Calls::Reads(100, ErrorKind::BrokenPipe),
+    Calls::Reads(100, ErrorKind::Interrupted),
+    Calls::Writes,
+];
 
 #[test]
-fn each_failed_read_is_told(rt: HostRuntime) {
+fn each_failed_read_and_write_is_told(rt: HostRuntime) {
     for recording in &recordings() {
-        let name = recording.name;
-        for most in PIECES {
-            for kind in [ErrorKind::BrokenPipe, ErrorKind::Interrupted] {
-                let failed = fail_reads_of_check(rt.alloc(), recording, most, kind);
-                assert!(rt;
-                    matches!(failed, Ok(1..)),
-                    "check {name}, {most}: {failed:?}"
-                );
-                let failed = fail_reads_of_show(rt.alloc(), recording, most, kind);
-                assert!(rt;
-                    matches!(failed, Ok(1..)),
-                    "show {name}, {most}: {failed:?}"
-                );
-            }
+        for calls in &FAILING {
+            are_told(&rt, rt.alloc(), recording, *calls);
         }
-    }
-}
-
-#[test]
-fn each_failed_write_is_told(rt: HostRuntime) {
-    for recording in &recordings() {
-        let name = recording.name;
-        let failed = fail_writes_of_check(rt.alloc(), recording);
-        assert!(rt; matches!(failed, Ok(1..)), "check {name}: {failed:?}");
-        let failed = fail_writes_of_show(rt.alloc(), recording);
-        assert!(rt; matches!(failed, Ok(1..)), "show {name}: {failed:?}");
     }
 }
 
 /// Ends the test where `check` or `show` makes something else of a recording, which has a yes, in
 /// pieces of so many bytes.
 fn pieces_give_the_same(rt: &impl Abort, alloc: Global, recording: &Recording, most: usize) {
-    let Recording { name, rows, .. } = *recording;
-    let plain = check(alloc, rows, &mut Vec::new(alloc));
-    assert!(rt; matches!(plain, Ok(Outcome::Yes(_))), "{name}: {plain:?}");
-    let wanted = (plain, recording.report);
-    let case = format_args!("{name}, {most}");
-    check_gives(rt, alloc, case, Pieces::new(rows, most), wanted);
-    let wanted = (Ok(None), recording.acts);
-    let case = format_args!("{name}, {most}");
-    show_gives(rt, alloc, case, Pieces::new(rows, most), wanted);
+    let plain = check(alloc, recording.rows, &mut Vec::new(alloc));
+    assert!(rt; matches!(plain, Ok(Outcome::Yes(_))), "{}", recording.name);
+    let calls = Calls::Reads(most, ErrorKind::Other);
+    for task in [Task::Check, Task::Show] {
+        let ran = fail_one(alloc, recording, task, calls, 0);
+        assert!(rt; ran.is_as_wanted, "{task:?} {}, {most}", recording.name);
+    }
 }
 
 #[test]

@@ -16,6 +16,8 @@ mod faults;
 #[cfg(test)]
 mod limits;
 #[cfg(test)]
+mod program;
+#[cfg(test)]
 mod recordings;
 #[cfg(test)]
 mod records;

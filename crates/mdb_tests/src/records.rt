@@ -5,7 +5,7 @@ use super::streams::Pieces;
 use mdb_records::{ReadCause, ReadFault, Records};
 use std::alloc::{AllocError, Global};
 use std::io::{ErrorKind, Read};
-use std::test::Fail;
+use std::process::Abort;
 
 /// How many records are still given, up to so many, and how the reading ends.
 pub(crate) fn count_rows<R: Read + Drop>(
@@ -21,103 +21,119 @@ pub(crate) fn count_rows<R: Read + Drop>(
     (most, records.advance())
 }
 
-// The second fields of the rows of a text under a limit, and how the reading ended.
-fn second_fields(
-    rt: &HostRuntime,
-    text: &[u8],
-    limit: u64,
-) -> Result<(Vec<u8>, Result<bool, ReadFault>), AllocError> {
-    let mut fields = Vec::new(rt.alloc());
-    let mut rows = Records::new(rt.alloc(), text, limit);
-    for _ in 0..text.len() {
-        match rows.advance() {
-            Ok(true) => fields.extend_from_slice(rows.row().get(1).unwrap_or(b"-"))?,
-            end => return Ok((fields, end)),
-        }
-    }
-    Ok((fields, rows.advance()))
+/// More records than a text of these tests has.
+const ROWS: u64 = 100;
+
+/// Adds the second field of a record, or a hyphen where it has none.
+fn add_second(rt: &impl Abort, fields: &mut Vec<u8>, records: &Records<&[u8]>) {
+    let field = records.row().get(1).unwrap_or(b"-");
+    fields.extend_from_slice(field).expect(rt, "memory");
 }
 
-#[test]
-fn gives_each_row(rt: HostRuntime) -> Result<(), Fail> {
-    let (fields, end) = second_fields(&rt, b"1,M\n\n2,\"a,b\",c\r\n3", 99)?;
-    same(&rt, fields.as_slice(), b"Ma,b-".as_slice());
-    same(&rt, end, Ok(false));
-    Ok(())
-}
-
-#[test]
-fn a_longer_text_has_no_end(rt: HostRuntime) -> Result<(), Fail> {
-    // Eight bytes, and the last row ends with the text.
-    let text = b"1,M\n2,NO";
-    same(&rt, second_fields(&rt, text, 8)?.1, Ok(false));
-    let (fields, end) = second_fields(&rt, text, 7)?;
-    same(&rt, fields.as_slice(), b"M".as_slice());
-    same(&rt, end, Err(ReadFault::Read));
-    Ok(())
-}
-
-// How a reading ended, why, and whether a further call says the same.
-fn ending<R: Read + Drop>(
-    rt: &HostRuntime,
-    reader: R,
-    limit: u64,
-) -> (Result<bool, ReadFault>, ReadCause, bool) {
-    let mut rows = Records::new(rt.alloc(), reader, limit);
-    for _ in 0..100 {
-        let end = rows.advance();
+/// Adds the second fields of the records that are still given, and answers how the reading ends.
+fn add_seconds(
+    rt: &impl Abort,
+    fields: &mut Vec<u8>,
+    records: &mut Records<&[u8]>,
+) -> Result<bool, ReadFault> {
+    for _ in 0..ROWS {
+        let end = records.advance();
         if end != Ok(true) {
-            let cause = rows.cause();
-            let again = rows.advance();
-            return (end, cause, again == end && rows.cause() == cause);
+            return end;
         }
+        add_second(rt, fields, records);
     }
-    (Ok(true), rows.cause(), false)
+    records.advance()
 }
+
+/// Texts with limits on their bytes, the second fields of the records that are given under these,
+/// and how the reading ends.
+static SECOND_FIELDS: [(&[u8], u64, &[u8], Result<bool, ReadFault>); 3] = [
+    (b"1,M\n\n2,\"a,b\",c\r\n3", 99, b"Ma,b-", Ok(false)),
+    // Eight bytes, and the last row ends with the text.
+    (b"1,M\n2,NO", 8, b"MNO", Ok(false)),
+    (b"1,M\n2,NO", 7, b"M", Err(ReadFault::Read)),
+];
+
+#[test]
+fn gives_each_row_and_no_end_of_a_longer_text(rt: HostRuntime) {
+    for (text, limit, wanted, end) in &SECOND_FIELDS {
+        let mut fields = Vec::new(rt.alloc());
+        let mut records = Records::new(rt.alloc(), *text, *limit);
+        same(&rt, add_seconds(&rt, &mut fields, &mut records), *end);
+        same(&rt, fields.as_slice(), *wanted);
+    }
+}
+
+/// How a reading ends, why, and whether a further call says the same.
+fn ending(alloc: Global, reader: Pieces, limit: u64) -> (Result<bool, ReadFault>, ReadCause, bool) {
+    ending_of(&mut Records::new(alloc, reader, limit))
+}
+
+fn ending_of(records: &mut Records<Pieces>) -> (Result<bool, ReadFault>, ReadCause, bool) {
+    let (_, end) = count_rows(records, ROWS);
+    let cause = records.cause();
+    let again = records.advance();
+    (end, cause, again == end && records.cause() == cause)
+}
+
+/// A text of eight bytes, which is read in pieces of three.
+const EIGHT_BYTES: &[u8] = b"1,M\n2,NO";
 
 /// What a failed read is told as.
-const CAUSES: [(ErrorKind, ReadCause); 3] = [
+static CAUSES: [(ErrorKind, ReadCause); 3] = [
     (ErrorKind::Other, ReadCause::Failed),
     (ErrorKind::InvalidData, ReadCause::Failed),
     (ErrorKind::WouldBlock, ReadCause::WouldBlock),
 ];
 
+/// The limits that the text is longer than.
+static TOO_LOW: [u64; 2] = [7, 0];
+
 #[test]
 fn tells_why_a_reading_ended(rt: HostRuntime) {
-    let text = b"1,M\n2,NO";
     // The fault comes with each read in turn, before the text's end and at it.
     for read in 1..5 {
         for (kind, cause) in &CAUSES {
-            let reader = Pieces::failing(text, 3, read, *kind);
-            same(
-                &rt,
-                ending(&rt, reader, 8),
-                (Err(ReadFault::Read), *cause, true),
-            );
+            let reader = Pieces::failing(EIGHT_BYTES, 3, read, *kind);
+            let wanted = (Err(ReadFault::Read), *cause, true);
+            same(&rt, ending(rt.alloc(), reader, 8), wanted);
         }
     }
-    let past = (Err(ReadFault::Read), ReadCause::OverLimit, true);
-    same(&rt, ending(&rt, Pieces::new(text, 3), 7), past);
-    same(&rt, ending(&rt, Pieces::new(text, 3), 0), past);
-    same(&rt, ending(&rt, Pieces::new(text, 3), 8).0, Ok(false));
+    for limit in TOO_LOW {
+        let found = ending(rt.alloc(), Pieces::new(EIGHT_BYTES, 3), limit);
+        same(
+            &rt,
+            found,
+            (Err(ReadFault::Read), ReadCause::OverLimit, true),
+        );
+    }
+    same(
+        &rt,
+        ending(rt.alloc(), Pieces::new(EIGHT_BYTES, 3), 8).0,
+        Ok(false),
+    );
+}
+
+/// Two records, and the fields of the second, with none after them.
+const TWO_RECORDS: &[u8] = b"1,M,108\n\"2\"\"\",,S;\r\n";
+
+static FIELDS: [Option<&[u8]>; 4] = [Some(b"2\""), Some(b""), Some(b"S;"), None];
+
+fn gives_fields(rt: &impl Abort, records: &mut Records<&[u8]>) {
+    same(rt, records.advance(), Ok(true));
+    same(rt, records.advance(), Ok(true));
+    for (place, field) in FIELDS.iter().enumerate() {
+        same(rt, records.row().get(place), *field);
+    }
 }
 
 #[test]
-fn gives_the_record_field_by_field(rt: HostRuntime) -> Result<(), Fail> {
-    let text = b"1,M,108\n\"2\"\"\",,S;\r\n";
-    let mut rows = Records::new(rt.alloc(), text.as_slice(), 99);
-    same(&rt, rows.advance(), Ok(true));
-    same(&rt, rows.advance(), Ok(true));
-    let mut fields = Vec::new(rt.alloc());
-    for place in 0..4 {
-        fields.extend_from_slice(rows.row().get(place).unwrap_or(b"-"))?;
-        fields.push(b'|')?;
-    }
-    same(&rt, fields.as_slice(), b"2\"||S;|-|".as_slice());
-    Ok(())
+fn gives_the_record_field_by_field(rt: HostRuntime) {
+    gives_fields(&rt, &mut Records::new(rt.alloc(), TWO_RECORDS, 99));
 }
 
-// So many lines of 1,024 bytes.
+/// So many lines of 1,024 bytes.
 fn long_lines(alloc: Global, lines: u64) -> Result<Vec<u8>, AllocError> {
     let mut text = Vec::new(alloc);
     for _ in 0..lines {
@@ -127,18 +143,30 @@ fn long_lines(alloc: Global, lines: u64) -> Result<Vec<u8>, AllocError> {
     Ok(text)
 }
 
-#[test]
-fn a_long_text_is_read_to_its_end(rt: HostRuntime) -> Result<(), Fail> {
-    let text = long_lines(rt.alloc(), 1_500)?;
-    let bytes = 1_500 * 1_024;
-    let mut rows = Records::new(rt.alloc(), text.as_slice(), bytes);
-    same(&rt, count_rows(&mut rows, 2_000), (1_500, Ok(false)));
-    same(&rt, rows.taken(), bytes);
+/// The bytes of 1,500 long lines.
+const LONG_BYTES: u64 = 1_500 * 1_024;
 
-    let mut rows = Records::new(rt.alloc(), text.as_slice(), bytes - 1);
-    let end = Err(ReadFault::Read);
-    same(&rt, count_rows(&mut rows, 2_000), (1_499, end));
-    same(&rt, rows.cause(), ReadCause::OverLimit);
-    same(&rt, rows.taken(), bytes);
-    Ok(())
+/// Ends the test where other than so many records are given, or not all bytes are taken.
+fn is_counted(
+    rt: &impl Abort,
+    records: &mut Records<&[u8]>,
+    wanted: (u64, Result<bool, ReadFault>),
+) {
+    same(rt, count_rows(records, 2_000), wanted);
+    same(rt, records.taken(), LONG_BYTES);
+}
+
+/// Ends the test where the limit isn't told as what ends the reading of a text with a byte too many.
+fn is_over_limit(rt: &impl Abort, records: &mut Records<&[u8]>) {
+    is_counted(rt, records, (1_499, Err(ReadFault::Read)));
+    same(rt, records.cause(), ReadCause::OverLimit);
+}
+
+#[test]
+fn a_long_text_is_read_to_its_end(rt: HostRuntime) {
+    let text = long_lines(rt.alloc(), 1_500).expect(&rt, "memory");
+    let text = text.as_slice();
+    let whole = (1_500, Ok(false));
+    is_counted(&rt, &mut Records::new(rt.alloc(), text, LONG_BYTES), whole);
+    is_over_limit(&rt, &mut Records::new(rt.alloc(), text, LONG_BYTES - 1));
 }

@@ -34,7 +34,7 @@ fn is_kept(command: &Command, bytes: &[u8]) -> bool {
 }
 
 /// Commands, and data bytes that answer them.
-const ANSWERS: [(&Command, &[u8]); 13] = [
+static ANSWERS: [(&Command, &[u8]); 13] = [
     (&CHANGER_SETUP, &[0x02, 0x00, 0x01, 0x05, 0x02, 0x00, 0x07]),
     (
         &CHANGER_SETUP,
@@ -78,7 +78,7 @@ const ANSWERS: [(&Command, &[u8]); 13] = [
 #[test]
 fn what_was_read_is_written_again(rt: HostRuntime) {
     for (command, bytes) in &ANSWERS {
-        assert!(rt; is_kept(*command, *bytes), "{command:?}, {bytes:?}");
+        same_at(&rt, (*command, *bytes), is_kept(*command, *bytes), true);
     }
 }
 
@@ -96,28 +96,28 @@ fn setup_with(credits: &[u8]) -> Reply {
     })
 }
 
+/// Ends the test where data bytes aren't read as a SETUP with these credits, or it isn't written as
+/// their block.
+fn is_setup(rt: &impl Abort, data: &[u8], credits: &[u8]) {
+    let block = seal(data).expect(rt, "a block");
+    let setup = setup_with(credits);
+    let written = write_reply(&CHANGER_SETUP, &setup).expect(rt, "a block");
+    same(rt, written.bytes(), block.bytes());
+    same(rt, &read_reply(&CHANGER_SETUP, &block), &Ok(setup));
+}
+
+/// Data bytes of a SETUP without credits, and of one whose credits are all 0.
+static SHORT: [u8; 7] = [2, 0, 1, 5, 2, 0, 7];
+
+static FULL: [u8; 23] = [
+    2, 0, 1, 5, 2, 0, 7, 0, 0, 0, 0, 0, 0, 0, 0, 0, 0, 0, 0, 0, 0, 0, 0,
+];
+
 #[test]
 fn a_shortened_setup_is_another_reply(rt: HostRuntime) {
-    let short = [2, 0, 1, 5, 2, 0, 7];
-    let mut full = [0; 23];
-    full[..7].copy_from_slice(&short);
-    let short = seal(&short).expect(&rt, "a block");
-    let full = seal(&full).expect(&rt, "a block");
-    same(
-        &rt,
-        &read_reply(&CHANGER_SETUP, &short),
-        &Ok(setup_with(&[])),
-    );
-    same(
-        &rt,
-        &read_reply(&CHANGER_SETUP, &full),
-        &Ok(setup_with(&[0; 16])),
-    );
+    is_setup(&rt, &SHORT, &[]);
+    is_setup(&rt, &FULL, &[0; 16]);
     assert!(rt; setup_with(&[]) != setup_with(&[0; 16]));
-    let written = write_reply(&CHANGER_SETUP, &setup_with(&[])).expect(&rt, "a block");
-    same(&rt, written.bytes(), short.bytes());
-    let written = write_reply(&CHANGER_SETUP, &setup_with(&[0; 16])).expect(&rt, "a block");
-    same(&rt, written.bytes(), full.bytes());
 }
 
 /// A reader's answer of these messages, with a text, if there is one.
@@ -145,7 +145,7 @@ const CONFIG: ReaderMsg = ReaderMsg::Config {
 const APPROVED: ReaderMsg = ReaderMsg::VendApproved { amount: 1 };
 
 /// Lists of no length that an answer has: none, 36 of one byte, 18 of 2, 30 and 6, 36, 5 of 8.
-const NO_LENGTH: [(&[ReaderMsg], &[u8]); 6] = [
+static NO_LENGTH: [(&[ReaderMsg], &[u8]); 6] = [
     (&[], &[]),
     (&[RESET; 36], &[]),
     (&[BROKEN; 18], &[]),
@@ -155,7 +155,7 @@ const NO_LENGTH: [(&[ReaderMsg], &[u8]); 6] = [
 ];
 
 /// Lists of such a length: 1, 35 of one byte, 17 of 2, 30 and 5, 34, 4 of 8 and one of 3.
-const LISTS: [(&[ReaderMsg], &[u8]); 6] = [
+static LISTS: [(&[ReaderMsg], &[u8]); 6] = [
     (&[RESET], &[]),
     (&[RESET; 35], &[]),
     (&[BROKEN; 17], &[]),
@@ -165,7 +165,7 @@ const LISTS: [(&[ReaderMsg], &[u8]); 6] = [
 ];
 
 /// Lists with a display request that isn't last, or with a loose text.
-const LOOSE: [(&[ReaderMsg], &[u8]); 6] = [
+static LOOSE: [(&[ReaderMsg], &[u8]); 6] = [
     (&[SHOWN, RESET], &[]),
     (&[SHOWN, SHOWN], &[]),
     (&[RESET, SHOWN, RESET], &[65]),
@@ -174,72 +174,56 @@ const LOOSE: [(&[ReaderMsg], &[u8]); 6] = [
     (&[RESET; 35], &[65]),
 ];
 
-/// Ends the test where one of these lists isn't refused for a fault.
-fn are_refused(rt: &impl Abort, lists: &[(&[ReaderMsg], &[u8])], fault: MsgFault) {
+/// Ends the test where one of these lists isn't refused for a fault, or isn't taken where that is
+/// none.
+fn have_fault(rt: &impl Abort, lists: &[(&[ReaderMsg], &[u8])], fault: Option<MsgFault>) {
     for (messages, text) in lists {
         let found = list_with(*messages, *text).err();
-        let case = format_args!("{messages:?}, {text:?}");
-        same_at(rt, case, found, Some(fault));
+        same_at(rt, (*messages, *text), found, fault);
     }
 }
 
 #[test]
 fn a_list_has_1_to_35_bytes(rt: HostRuntime) {
-    are_refused(&rt, &NO_LENGTH, MsgFault::Length);
-    for (messages, text) in &LISTS {
-        assert!(rt;
-            list_with(*messages, *text).is_ok(),
-            "{messages:?}, {text:?}"
-        );
-    }
+    have_fault(&rt, &NO_LENGTH, Some(MsgFault::Length));
+    have_fault(&rt, &LISTS, None);
 }
 
 #[test]
 fn a_list_has_a_display_request_last_and_no_loose_text(rt: HostRuntime) {
-    are_refused(&rt, &LOOSE, MsgFault::Message);
+    have_fault(&rt, &LOOSE, Some(MsgFault::Message));
     let loose = ReaderList::new(&[RESET], &[1; 29], &[]);
     same(&rt, loose.err(), Some(MsgFault::Message));
 }
 
 #[test]
 fn a_list_is_refused_for_its_length_first(rt: HostRuntime) {
-    let reset = ReaderMsg::JustReset;
-    let mut messages = [reset; 35];
+    let mut messages = [RESET; 35];
     messages[0] = SHOWN;
     // 36 bytes, and a display request in front
     same(&rt, list_with(&messages, &[]).err(), Some(MsgFault::Length));
     // 35 bytes
-    same(
-        &rt,
-        list_with(&messages[..34], &[]).err(),
-        Some(MsgFault::Message),
-    );
+    let found = list_with(&messages[..34], &[]).err();
+    same(&rt, found, Some(MsgFault::Message));
     // no message, and texts of none
     same(&rt, list_with(&[], &[65]).err(), Some(MsgFault::Length));
     let loose = ReaderList::new(&[], &[1; 29], &[]);
     same(&rt, loose.err(), Some(MsgFault::Length));
 }
 
+/// Ends the test where a list tells something else than what it was made of.
+fn tells(rt: &impl Abort, messages: &[ReaderMsg], id: &[u8; 29], text: &[u8]) {
+    let list = ReaderList::new(messages, id, text).expect(rt, "a list");
+    same(rt, list.messages().as_slice(), messages);
+    same(rt, &list.id(), id);
+    same(rt, list.text(), text);
+}
+
 #[test]
 fn a_list_tells_what_it_was_made_of(rt: HostRuntime) {
-    let messages = [
-        ReaderMsg::Malfunction(7),
-        ReaderMsg::PeripheralId,
-        ReaderMsg::Display { time: 5 },
-    ];
     let mut id = [0; 29];
     id[0] = 65;
     id[28] = 66;
-    let list = ReaderList::new(&messages, &id, &[67]).expect(&rt, "a list");
-    same(&rt, list.messages().as_slice(), messages.as_slice());
-    same(&rt, list.id(), id);
-    same(&rt, list.text(), [67].as_slice());
-    let bare = list_with(&[ReaderMsg::JustReset], &[]).expect(&rt, "a list");
-    same(
-        &rt,
-        bare.messages().as_slice(),
-        [ReaderMsg::JustReset].as_slice(),
-    );
-    same(&rt, bare.id(), [0; 29]);
-    assert!(rt; bare.text().is_empty());
+    tells(&rt, &[ReaderMsg::Malfunction(7), ID, SHOWN], &id, &[67]);
+    tells(&rt, &[RESET], &[0; 29], &[]);
 }

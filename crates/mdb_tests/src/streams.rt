@@ -13,8 +13,20 @@ pub(crate) const WRONG_SUM: &[u8] =
     b"1000,M,108\n2200,M,008\n4200,S,100\n24200,M,10B\n25400,M,00B\n27400,S,00B\n28600,S,10C\n";
 
 /// A row that cannot be, and the front of a record that isn't read whole at once.
-pub(crate) const CUT_SHORT: &[u8] =
+const CUT_SHORT: &[u8] =
     b"1,S,100\n22222222222222222222222222222222222222222222222222222222222222222222222222222222";
+
+/// Ten rows of eight bytes, the first of them one that cannot be.
+const AT_ONCE: &[u8] =
+    b"1,S,100\n1,M,000\n2,M,000\n3,M,000\n4,M,000\n5,M,000\n6,M,000\n7,M,000\n8,M,000\n9,M,000\n";
+
+/// Texts whose first row cannot be, the most bytes that a read gives of them, and whether the third
+/// read, which fails, is made. A first read asks for one byte.
+pub(crate) static ENDED: [(&str, &[u8], usize, bool); 3] = [
+    ("small pieces", b"1,S,100\nx\nx\nx\nx\n", 8, false),
+    ("many rows", AT_ONCE, 80, false),
+    ("a failed read", CUT_SHORT, 100, true),
+];
 
 /// The polls of a long recording, each acknowledged: three rows.
 pub(crate) const POLLS: u64 = 50_000;
@@ -22,27 +34,26 @@ pub(crate) const POLLS: u64 = 50_000;
 /// More reads and writes than `check` and `show` make of a short recording in small pieces.
 pub(crate) const CALLS: u64 = 1_000;
 
-/// Gives a text in pieces, and fails at one of its reads alone.
+/// Gives a text in pieces, and behind it what comes again and again without an end, if anything
+/// does. It counts what it gives, and fails at one of its reads alone.
 #[derive(Drop)]
 pub(crate) struct Pieces<'a> {
-    text: &'a [u8],
+    // What is given next.
+    next: &'a [u8],
+    // What is given again and again behind that; nothing: the text ends.
+    again: &'a [u8],
     // The most bytes that a read gives.
     most: usize,
     reads: u64,
     // The number of the read that fails, from 1; 0 for none.
     failing: u64,
     kind: ErrorKind,
+    pub(crate) given: u64,
 }
 
 impl<'a> Pieces<'a> {
     pub(crate) fn new(text: &'a [u8], most: usize) -> Pieces<'a> {
-        Pieces {
-            text,
-            most,
-            reads: 0,
-            failing: 0,
-            kind: ErrorKind::Other,
-        }
+        Pieces::failing(text, most, 0, ErrorKind::Other)
     }
 
     pub(crate) fn failing(
@@ -52,11 +63,26 @@ impl<'a> Pieces<'a> {
         kind: ErrorKind,
     ) -> Pieces<'a> {
         Pieces {
-            text,
+            next: text,
+            again: b"",
             most,
             reads: 0,
             failing,
             kind,
+            given: 0,
+        }
+    }
+
+    /// A front, and behind it the same bytes without an end, as many as a read asks for.
+    pub(crate) fn endless(front: &'a [u8], again: &'a [u8]) -> Pieces<'a> {
+        Pieces {
+            next: front,
+            again,
+            most: usize::MAX,
+            reads: 0,
+            failing: 0,
+            kind: ErrorKind::Other,
+            given: 0,
         }
     }
 
@@ -71,40 +97,10 @@ impl<'a> Read for Pieces<'a> {
         if self.reads == self.failing {
             return Err(io::Error::from(self.kind));
         }
-        let count = self.most.min(buf.len()).min(self.text.len());
-        let (given, rest) = self.text.split_at(count);
-        buf[..count].copy_from_slice(given);
-        self.text = rest;
-        Ok(count)
-    }
-}
-
-/// Gives a front, and behind it the same bytes again and again without end, and counts what it
-/// gives.
-#[derive(Drop)]
-pub(crate) struct Endless<'a> {
-    // What is given next.
-    next: &'a [u8],
-    again: &'a [u8],
-    pub(crate) given: u64,
-}
-
-impl<'a> Endless<'a> {
-    pub(crate) fn new(front: &'a [u8], again: &'a [u8]) -> Endless<'a> {
-        Endless {
-            next: front,
-            again,
-            given: 0,
-        }
-    }
-}
-
-impl<'a> Read for Endless<'a> {
-    fn read(&mut self, buf: &mut [u8]) -> io::Result<usize> {
         if self.next.is_empty() {
             self.next = self.again;
         }
-        let count = buf.len().min(self.next.len());
+        let count = self.most.min(buf.len()).min(self.next.len());
         let (given, rest) = self.next.split_at(count);
         buf[..count].copy_from_slice(given);
         self.next = rest;
@@ -116,9 +112,9 @@ impl<'a> Read for Endless<'a> {
 /// Adds the rows of one poll of a changer, which it acknowledges.
 fn add_poll(text: &mut Vec<u8>, number: u64) -> io::Result<()> {
     let at = number.saturating_mul(20_000);
-    writeln!(text, "{at},M,10B")?;
-    writeln!(text, "{},M,00B", at.saturating_add(1_200))?;
-    writeln!(text, "{},S,100", at.saturating_add(3_200))
+    let second = at.saturating_add(1_200);
+    let answer = at.saturating_add(3_200);
+    write!(text, "{at},M,10B\n{second},M,00B\n{answer},S,100\n")
 }
 
 /// A recording of so many polls.
@@ -173,21 +169,35 @@ impl Read for Polling {
     }
 }
 
-/// Keeps what is written, a few bytes at a time, and fails at one of its writes alone.
+/// Keeps what is written, counts the writes, and fails at one of them alone.
 #[derive(Drop)]
 pub(crate) struct Sheet {
     pub(crate) text: Vec<u8>,
-    writes: u64,
+    // The most bytes that a write takes.
+    most: usize,
+    pub(crate) writes: u64,
     // The number of the write that fails, from 1; 0 for none.
     failing: u64,
 }
 
 impl Sheet {
+    /// One that takes a few bytes at a time.
     pub(crate) fn failing(alloc: Global, failing: u64) -> Sheet {
         Sheet {
             text: Vec::new(alloc),
+            most: 3,
             writes: 0,
             failing,
+        }
+    }
+
+    /// One that takes what is written whole.
+    pub(crate) fn whole(alloc: Global) -> Sheet {
+        Sheet {
+            text: Vec::new(alloc),
+            most: usize::MAX,
+            writes: 0,
+            failing: 0,
         }
     }
 
@@ -202,28 +212,9 @@ impl Write for Sheet {
         if self.writes == self.failing {
             return Err(io::Error::from(ErrorKind::BrokenPipe));
         }
-        let count = buf.len().min(3);
+        let count = buf.len().min(self.most);
         self.text.extend_from_slice(&buf[..count])?;
         Ok(count)
-    }
-
-    fn flush(&mut self) -> io::Result<()> {
-        Ok(())
-    }
-}
-
-/// Takes what is written whole, and counts the writes.
-#[derive(Drop)]
-pub(crate) struct Counter {
-    pub(crate) text: Vec<u8>,
-    pub(crate) writes: u64,
-}
-
-impl Write for Counter {
-    fn write(&mut self, buf: &[u8]) -> io::Result<usize> {
-        self.writes = self.writes.saturating_add(1);
-        self.text.extend_from_slice(buf)?;
-        Ok(buf.len())
     }
 
     fn flush(&mut self) -> io::Result<()> {
