@@ -75,78 +75,106 @@ fn is_block(block: &Result<Block, BlockFault>, wanted: &Result<&[u8], BlockFault
     }
 }
 
+/// Bytes with a block or the fault instead of one.
+type Sealed = (&'static [u8], Result<&'static [u8], BlockFault>);
+
+/// The most bytes that a block carries, that block, and one byte more.
+const CONTENT: &[u8] = &[7; 35];
+
+const LONGEST: &[u8] = &[
+    7, 7, 7, 7, 7, 7, 7, 7, 7, 7, 7, 7, 7, 7, 7, 7, 7, 7, 7, 7, 7, 7, 7, 7, 7, 7, 7, 7, 7, 7, 7, 7,
+    7, 7, 7, 0xF5,
+];
+
+const TOO_MUCH: &[u8] = &[7; 36];
+
+static SEALED: [Sealed; 4] = [
+    (&[], Err(BlockFault::Empty)),
+    (&[0xFF, 0x02], Ok(&[0xFF, 0x02, 0x01])),
+    (CONTENT, Ok(LONGEST)),
+    (TOO_MUCH, Err(BlockFault::TooLong)),
+];
+
+static UNSEALED: [Sealed; 4] = [
+    (&[0x05], Err(BlockFault::Empty)),
+    (&[0x05, 0x05], Ok(&[0x05, 0x05])),
+    (&[0x05, 0x06], Err(BlockFault::BadSum)),
+    (&[0x00; 37], Err(BlockFault::TooLong)),
+];
+
 /// Blocks have 1 to 35 bytes and their sum.
 fn blocks(rt: &HostRuntime, calls: &mut Calls) -> io::Result<()> {
-    let content = [7; 36];
-    let mut longest = [7; 36];
-    longest[35] = 0xF5;
-    let sealed: [(&[u8], Result<&[u8], BlockFault>); 4] = [
-        (&[], Err(BlockFault::Empty)),
-        (&[0xFF, 0x02], Ok(&[0xFF, 0x02, 0x01])),
-        (&content[..35], Ok(&longest)),
-        (&content, Err(BlockFault::TooLong)),
-    ];
-    for (bytes, wanted) in &sealed {
-        calls.count(rt, "seal", is_block(&seal(bytes), wanted))?;
+    for (bytes, wanted) in &SEALED {
+        calls.count(rt, "seal", is_block(&seal(*bytes), wanted))?;
     }
-    let unsealed: [(&[u8], Result<&[u8], BlockFault>); 4] = [
-        (&[0x05], Err(BlockFault::Empty)),
-        (&[0x05, 0x05], Ok(&[0x05, 0x05])),
-        (&[0x05, 0x06], Err(BlockFault::BadSum)),
-        (&[0x00; 37], Err(BlockFault::TooLong)),
-    ];
-    for (bytes, wanted) in &unsealed {
-        calls.count(rt, "unseal", is_block(&unseal(bytes), wanted))?;
+    for (bytes, wanted) in &UNSEALED {
+        calls.count(rt, "unseal", is_block(&unseal(*bytes), wanted))?;
     }
     Ok(())
 }
+
+/// The bytes of a block of two, each with whether the controller marks it, and a peripheral.
+static MARKS: [(u8, bool, bool); 3] = [
+    (0x0B, true, false),
+    (0x01, false, false),
+    (0x0C, false, true),
+];
 
 /// A block marks one word: the controller its first, a peripheral its last.
 fn marks(rt: &HostRuntime, calls: &mut Calls) -> io::Result<()> {
     let Ok(block) = seal(&[0x0B, 0x01]) else {
         return calls.count(rt, "marks", false);
     };
-    let words = [
-        (0x0B, true, false),
-        (0x01, false, false),
-        (0x0C, false, true),
-    ];
-    for (place, (byte, is_first, is_last)) in words.iter().enumerate() {
+    for (place, (byte, is_first, is_last)) in MARKS.iter().enumerate() {
         let sent = block.word(Line::Controller, place);
         let answered = block.word(Line::Peripheral, place);
         let is_sent = sent.byte() == *byte && sent.marked() == *is_first;
         let is_answered = answered.byte() == *byte && answered.marked() == *is_last;
         calls.count(rt, "marks", is_sent && is_answered)?;
     }
-    let answers = [Answer::Ack, Answer::Nak, Answer::Ret];
-    calls.count(
-        rt,
-        "answers",
-        answers.map(Answer::byte) == [0x00, 0xFF, 0xAA],
-    )?;
-    let read = [0x00, 0xFF, 0xAA, 0x01].map(Answer::of);
-    let [ack, nak, ret] = answers.map(Some);
-    calls.count(rt, "answers", read == [ack, nak, ret, None])
+    Ok(())
 }
+
+/// Bytes of single words, each with the answer that it is, if it is one.
+static ANSWERS: [(u8, Option<Answer>); 4] = [
+    (0x00, Some(Answer::Ack)),
+    (0xFF, Some(Answer::Nak)),
+    (0xAA, Some(Answer::Ret)),
+    (0x01, None),
+];
+
+/// Single words are read as answers, and answers have their bytes.
+fn answers(rt: &HostRuntime, calls: &mut Calls) -> io::Result<()> {
+    let mut are_read = true;
+    let mut are_written = true;
+    for (byte, answer) in &ANSWERS {
+        are_read = are_read && Answer::of(*byte) == *answer;
+        are_written = are_written && answer.is_none_or(|answer| answer.byte() == *byte);
+    }
+    calls.count(rt, "answers", are_written)?;
+    calls.count(rt, "answers", are_read)
+}
+
+/// First bytes of commands, and how many bytes these need.
+static NEEDS: [(&[u8], Need); 12] = [
+    (&[0x13], Need::More),
+    (&[0x13, 0x00], Need::Exactly(7)),
+    (&[0x0F, 0x05], Need::Foreign),
+    (&[0x0F, 0x02], Need::Outside),
+    (&[0x0E], Need::Outside),
+    (&[0x60], Need::Exactly(2)),
+    (&[0x61], Need::More),
+    (&[0x61, 0x02], Need::Outside),
+    (&[0x65], Need::Outside),
+    (&[0x67, 0x00], Need::Exactly(32)),
+    (&[0x67, 0x01], Need::Foreign),
+    (&[0x68], Need::Foreign),
+];
 
 /// The first bytes tell how many a command has.
 fn needs(rt: &HostRuntime, calls: &mut Calls) -> io::Result<()> {
-    let needs: [(&[u8], Need); 12] = [
-        (&[0x13], Need::More),
-        (&[0x13, 0x00], Need::Exactly(7)),
-        (&[0x0F, 0x05], Need::Foreign),
-        (&[0x0F, 0x02], Need::Outside),
-        (&[0x0E], Need::Outside),
-        (&[0x60], Need::Exactly(2)),
-        (&[0x61], Need::More),
-        (&[0x61, 0x02], Need::Outside),
-        (&[0x65], Need::Outside),
-        (&[0x67, 0x00], Need::Exactly(32)),
-        (&[0x67, 0x01], Need::Foreign),
-        (&[0x68], Need::Foreign),
-    ];
-    for (bytes, need) in &needs {
-        calls.count(rt, "need_of", need_of(bytes) == *need)?;
+    for (bytes, need) in &NEEDS {
+        calls.count(rt, "need_of", need_of(*bytes) == *need)?;
     }
     Ok(())
 }
@@ -156,32 +184,33 @@ fn command_of(bytes: &[u8]) -> Option<Result<Command, MsgFault>> {
     Some(read_command(&unseal(bytes).ok()?))
 }
 
+/// Blocks, and what reading a command of each answers.
+static READ: [(&[u8], Result<Command, MsgFault>); 8] = [
+    (&[0x08, 0x08], Ok(Command::Changer(ChangerCommand::Reset))),
+    (&REQUEST_BLOCK, Ok(REQUEST)),
+    (&[0x08, 0x00, 0x08], Err(MsgFault::Length)),
+    (&[0x0E, 0x0E], Err(MsgFault::Profile)),
+    (&[0x0F, 0x05, 0x14], Err(MsgFault::Profile)),
+    (&SECOND_REQUEST_BLOCK, Ok(SECOND_REQUEST)),
+    (&[0x62, 0x00, 0x62], Err(MsgFault::Length)),
+    (&[0x65, 0x65], Err(MsgFault::Profile)),
+];
+
+/// Commands, the blocks that they are written as, and their devices.
+static WRITTEN: [(Command, &[u8], Device); 2] = [
+    (REQUEST, &REQUEST_BLOCK, Device::Cashless),
+    (SECOND_REQUEST, &SECOND_REQUEST_BLOCK, Device::Cashless2),
+];
+
 /// Whole commands alone are read, and written as their blocks.
 fn commands(rt: &HostRuntime, calls: &mut Calls) -> io::Result<()> {
-    let read: [(&[u8], Result<Command, MsgFault>); 8] = [
-        (&[0x08, 0x08], Ok(Command::Changer(ChangerCommand::Reset))),
-        (&REQUEST_BLOCK, Ok(REQUEST)),
-        (&[0x08, 0x00, 0x08], Err(MsgFault::Length)),
-        (&[0x0E, 0x0E], Err(MsgFault::Profile)),
-        (&[0x0F, 0x05, 0x14], Err(MsgFault::Profile)),
-        (&SECOND_REQUEST_BLOCK, Ok(SECOND_REQUEST)),
-        (&[0x62, 0x00, 0x62], Err(MsgFault::Length)),
-        (&[0x65, 0x65], Err(MsgFault::Profile)),
-    ];
-    for (bytes, command) in &read {
-        calls.count(rt, "read_command", command_of(bytes) == Some(*command))?;
+    for (bytes, command) in &READ {
+        calls.count(rt, "read_command", command_of(*bytes) == Some(*command))?;
     }
-    let written: [(Command, &[u8], Device); 2] = [
-        (REQUEST, &REQUEST_BLOCK, Device::Cashless),
-        (SECOND_REQUEST, &SECOND_REQUEST_BLOCK, Device::Cashless2),
-    ];
-    for (command, bytes, device) in &written {
+    for (command, bytes, device) in &WRITTEN {
         let is_written = write_command(command).bytes() == *bytes;
-        calls.count(
-            rt,
-            "write_command",
-            is_written && command.device() == *device,
-        )?;
+        let is_device = command.device() == *device;
+        calls.count(rt, "write_command", is_written && is_device)?;
     }
     Ok(())
 }
@@ -191,36 +220,42 @@ fn reply_to(command: &Command, data: &[u8]) -> Option<Result<Reply, MsgFault>> {
     Some(read_reply(command, &seal(data).ok()?))
 }
 
-/// Reading a reply tells the first fault.
-fn replies(rt: &HostRuntime, calls: &mut Calls) -> io::Result<()> {
-    let faults: [(Command, &[u8], MsgFault); 16] = [
-        (CHANGER_POLL, &[0x52], MsgFault::Message),
-        (CHANGER_POLL, &[0x60], MsgFault::Message),
-        (CHANGER_POLL, &[0x00; 17], MsgFault::Length),
-        (CHANGER_POLL, &[0x1B], MsgFault::Profile),
-        (CHANGER_SETUP, &[0x00; 6], MsgFault::Length),
-        (COIN_TYPE, &[0x00; 6], MsgFault::Answer),
-        (COIN_TYPE, &[0x1B], MsgFault::Answer),
-        (BILL_POLL, &[0xB0], MsgFault::Profile),
-        (BILL_POLL, &[0xB0, 0x60], MsgFault::Profile),
-        (BILL_POLL, &[0x60, 0xB0], MsgFault::Message),
-        (BILL_SETUP, &[0x01; 11], MsgFault::Message),
-        (READER_ENABLE, &[0x05, 0x00, 0x0A], MsgFault::Answer),
-        (READER_ENABLE, &[0x05, 0x00, 0x0A, 0x0C], MsgFault::Profile),
-        (READER_POLL, &[0x0C], MsgFault::Profile),
-        (READER_POLL, &[0x02], MsgFault::Message),
-        (READER_POLL, &[0x02; 35], MsgFault::Message),
-    ];
-    for (command, data, fault) in &faults {
-        let is_refused = reply_to(command, data) == Some(Err(*fault));
-        calls.count(rt, "read_reply", is_refused)?;
-    }
+/// Commands, data bytes that answer none of them rightly, and the faults.
+static FAULTS: [(Command, &[u8], MsgFault); 16] = [
+    (CHANGER_POLL, &[0x52], MsgFault::Message),
+    (CHANGER_POLL, &[0x60], MsgFault::Message),
+    (CHANGER_POLL, &[0x00; 17], MsgFault::Length),
+    (CHANGER_POLL, &[0x1B], MsgFault::Profile),
+    (CHANGER_SETUP, &[0x00; 6], MsgFault::Length),
+    (COIN_TYPE, &[0x00; 6], MsgFault::Answer),
+    (COIN_TYPE, &[0x1B], MsgFault::Answer),
+    (BILL_POLL, &[0xB0], MsgFault::Profile),
+    (BILL_POLL, &[0xB0, 0x60], MsgFault::Profile),
+    (BILL_POLL, &[0x60, 0xB0], MsgFault::Message),
+    (BILL_SETUP, &[0x01; 11], MsgFault::Message),
+    (READER_ENABLE, &[0x05, 0x00, 0x0A], MsgFault::Answer),
+    (READER_ENABLE, &[0x05, 0x00, 0x0A, 0x0C], MsgFault::Profile),
+    (READER_POLL, &[0x0C], MsgFault::Profile),
+    (READER_POLL, &[0x02], MsgFault::Message),
+    (READER_POLL, &[0x02; 35], MsgFault::Message),
+];
+
+/// Whether a display request without a text is read as it stands.
+fn is_bare_request_read() -> bool {
     let bare = ReaderList::new(&[ReaderMsg::Display { time: 5 }], &[0; 29], &[]);
-    let is_bare = match bare {
+    match bare {
         Ok(list) => reply_to(&READER_POLL, &[0x02, 0x05]) == Some(Ok(Reply::Reader(list))),
         Err(_) => false,
-    };
-    calls.count(rt, "read_reply", is_bare)
+    }
+}
+
+/// Reading a reply tells the first fault.
+fn replies(rt: &HostRuntime, calls: &mut Calls) -> io::Result<()> {
+    for (command, data, fault) in &FAULTS {
+        let is_refused = reply_to(command, *data) == Some(Err(*fault));
+        calls.count(rt, "read_reply", is_refused)?;
+    }
+    calls.count(rt, "read_reply", is_bare_request_read())
 }
 
 /// A changer's SETUP reply with no credits.
@@ -242,6 +277,11 @@ fn bill_poll(message: BillMsg) -> Reply {
     Reply::BillPoll(list)
 }
 
+/// Whether writing a reply is refused for a fault.
+fn is_refused(command: &Command, reply: &Reply, fault: MsgFault) -> bool {
+    write_reply(command, reply).err() == Some(fault)
+}
+
 /// Whether a reply is written as a block of these bytes.
 fn is_written(command: &Command, reply: &Reply, bytes: &[u8]) -> bool {
     match write_reply(command, reply) {
@@ -250,49 +290,55 @@ fn is_written(command: &Command, reply: &Reply, bytes: &[u8]) -> bool {
     }
 }
 
-/// Writing a reply tells the first fault.
-fn written_replies(rt: &HostRuntime, calls: &mut Calls) -> io::Result<()> {
-    let no_message = Reply::ChangerPoll(ArrayVec::new());
-    let faults = [
-        (COIN_TYPE, changer_setup(), MsgFault::Answer),
-        (CHANGER_POLL, no_message, MsgFault::Length),
-        (CHANGER_POLL, bill_poll(BillMsg::Reset), MsgFault::Message),
-        (
-            BILL_POLL,
-            bill_poll(BillMsg::Stacked(16)),
-            MsgFault::Message,
-        ),
-        (
-            BILL_POLL,
-            bill_poll(BillMsg::Status(0x1B)),
-            MsgFault::Message,
-        ),
-    ];
-    for (command, reply, fault) in &faults {
-        let is_refused = write_reply(command, reply).err() == Some(*fault);
-        calls.count(rt, "write_reply", is_refused)?;
-    }
-    let setup = [0x02, 0x00, 0x01, 0x05, 0x02, 0x00, 0x07, 0x11];
-    calls.count(
-        rt,
-        "write_reply",
-        is_written(&CHANGER_SETUP, &changer_setup(), &setup),
-    )?;
+/// A changer's POLL reply of a message, or of none.
+fn changer_poll(message: Option<ChangerMsg>) -> Reply {
     let mut list = ArrayVec::new();
-    list.push(ChangerMsg::Slugs(31));
-    let slugs = Reply::ChangerPoll(list);
+    if let Some(message) = message {
+        list.push(message);
+    }
+    Reply::ChangerPoll(list)
+}
+
+/// Whether VEND DENIED as the answer to READER ENABLE is refused.
+fn is_denied_refused() -> bool {
+    match ReaderList::new(&[ReaderMsg::VendDenied], &[0; 29], &[]) {
+        Ok(denied) => is_refused(&READER_ENABLE, &Reply::Reader(denied), MsgFault::Answer),
+        Err(_) => false,
+    }
+}
+
+/// Messages of a validator whose numbers are out of range.
+static OUT_OF_RANGE: [BillMsg; 2] = [BillMsg::Stacked(16), BillMsg::Status(0x1B)];
+
+/// Writing a reply tells the first fault.
+fn refused_replies(rt: &HostRuntime, calls: &mut Calls) -> io::Result<()> {
+    let name = "write_reply";
+    let setup = is_refused(&COIN_TYPE, &changer_setup(), MsgFault::Answer);
+    calls.count(rt, name, setup)?;
+    let empty = is_refused(&CHANGER_POLL, &changer_poll(None), MsgFault::Length);
+    calls.count(rt, name, empty)?;
+    let other = bill_poll(BillMsg::Reset);
     calls.count(
         rt,
-        "write_reply",
-        is_written(&CHANGER_POLL, &slugs, &[0x3F, 0x3F]),
+        name,
+        is_refused(&CHANGER_POLL, &other, MsgFault::Message),
     )?;
-    match ReaderList::new(&[ReaderMsg::VendDenied], &[0; 29], &[]) {
-        Ok(denied) => {
-            let fault = write_reply(&READER_ENABLE, &Reply::Reader(denied)).err();
-            calls.count(rt, "write_reply", fault == Some(MsgFault::Answer))
-        }
-        Err(_) => calls.count(rt, "write_reply", false),
+    for message in &OUT_OF_RANGE {
+        let reply = bill_poll(*message);
+        calls.count(rt, name, is_refused(&BILL_POLL, &reply, MsgFault::Message))?;
     }
+    Ok(())
+}
+
+/// Other replies are written as their blocks.
+fn written_replies(rt: &HostRuntime, calls: &mut Calls) -> io::Result<()> {
+    let setup = [0x02, 0x00, 0x01, 0x05, 0x02, 0x00, 0x07, 0x11];
+    let is_setup = is_written(&CHANGER_SETUP, &changer_setup(), &setup);
+    calls.count(rt, "write_reply", is_setup)?;
+    let slugs = changer_poll(Some(ChangerMsg::Slugs(31)));
+    let are_slugs = is_written(&CHANGER_POLL, &slugs, &[0x3F, 0x3F]);
+    calls.count(rt, "write_reply", are_slugs)?;
+    calls.count(rt, "write_reply", is_denied_refused())
 }
 
 /// What a check within limits answers: the rows of a yes, or the fault; None for a no.
@@ -311,16 +357,18 @@ fn within(alloc: Global, text: &[u8], rows: u64, bytes: u64) -> Option<Result<u6
     }
 }
 
+/// Texts, limits on their rows and bytes, and what a check within these answers.
+static CHECKS: [(&[u8], u64, u64, Result<u64, RunFault>); 5] = [
+    (RESET_AND_POLL, 8, BYTES_MAX, Ok(8)),
+    (RESET_AND_POLL, 7, BYTES_MAX, Err(RunFault::TooLong)),
+    (RESET_AND_POLL, ROWS_MAX, 93, Ok(8)),
+    (RESET_AND_POLL, ROWS_MAX, 92, Err(RunFault::Read)),
+    (b"x", 0, BYTES_MAX, Err(RunFault::TooLong)),
+];
+
 /// A check ends at the first row or byte that its limits don't allow.
 fn limits(rt: &HostRuntime, calls: &mut Calls) -> io::Result<()> {
-    let checks: [(&[u8], u64, u64, Result<u64, RunFault>); 5] = [
-        (RESET_AND_POLL, 8, BYTES_MAX, Ok(8)),
-        (RESET_AND_POLL, 7, BYTES_MAX, Err(RunFault::TooLong)),
-        (RESET_AND_POLL, ROWS_MAX, 93, Ok(8)),
-        (RESET_AND_POLL, ROWS_MAX, 92, Err(RunFault::Read)),
-        (b"x", 0, BYTES_MAX, Err(RunFault::TooLong)),
-    ];
-    for (text, rows, bytes, wanted) in &checks {
+    for (text, rows, bytes, wanted) in &CHECKS {
         let answer = within(rt.alloc(), text, *rows, *bytes);
         calls.count(rt, "check_within", answer == Some(*wanted))?;
     }
@@ -336,9 +384,11 @@ pub fn run(rt: &HostRuntime) -> io::Result<()> {
     };
     blocks(rt, &mut calls)?;
     marks(rt, &mut calls)?;
+    answers(rt, &mut calls)?;
     needs(rt, &mut calls)?;
     commands(rt, &mut calls)?;
     replies(rt, &mut calls)?;
+    refused_replies(rt, &mut calls)?;
     written_replies(rt, &mut calls)?;
     limits(rt, &mut calls)?;
     let tried = calls.tried;

@@ -9,7 +9,7 @@ use std::io;
 /// A changer that is ready tells of a coin. The controller refuses that data block, so the changer
 /// holds the coin, and must not answer the next POLL by ACK alone. Acts stand in lines, and single
 /// blanks part their rows.
-const ACTS: [&str; 16] = [
+static ACTS: [&str; 16] = [
     "1000,M,108 2200,M,008",
     "4200,S,100",
     "24200,M,10B 25400,M,00B",
@@ -38,19 +38,28 @@ const WANTED: Offence = Offence {
 /// How many rows it has to accept.
 const ACCEPTED: u64 = 37;
 
-/// The events of the recording. A row that is none is left out.
+/// The event of a row, if it is one.
+fn event_of(row: &str) -> Option<Event> {
+    let (time, rest) = row.split_once(',')?;
+    let (line, value) = rest.split_once(',')?;
+    Event::read(&[time.as_bytes(), line.as_bytes(), value.as_bytes()]).ok()
+}
+
+/// Adds the events of an act. A row that is none is left out.
+fn add_events(events: &mut Vec<Event>, act: &str) -> Result<(), AllocError> {
+    for row in act.split(' ') {
+        if let Some(event) = event_of(row) {
+            events.push(event)?;
+        }
+    }
+    Ok(())
+}
+
+/// The events of the recording.
 fn events(alloc: Global) -> Result<Vec<Event>, AllocError> {
     let mut events = Vec::new(alloc);
-    for act in ACTS {
-        for row in act.split(' ') {
-            let mut fields = Vec::new(alloc);
-            for field in row.split(',') {
-                fields.push(field.as_bytes())?;
-            }
-            if let Ok(event) = Event::read(fields.as_slice()) {
-                events.push(event)?;
-            }
-        }
+    for act in &ACTS {
+        add_events(&mut events, *act)?;
     }
     Ok(events)
 }
@@ -80,22 +89,28 @@ fn is_as_wanted(front: &[Event], rest: &[Event]) -> bool {
     is_front_wanted && is_rest_wanted && is_kept && is_report_wanted
 }
 
-/// Cuts the recording behind each of its rows, prints each cut that comes out otherwise than
-/// wanted, and at the end how many there are.
-pub fn run(rt: &HostRuntime) -> io::Result<()> {
-    let events = events(rt.alloc())?;
-    let events = events.as_slice();
-    let rows = events.len();
+/// Cuts a recording behind each of its rows, prints each cut that comes out otherwise than wanted,
+/// and answers how many these are.
+fn cut_each(rt: &HostRuntime, events: &[Event]) -> io::Result<usize> {
     let mut differing: usize = 0;
-    for cut in 1..=rows {
+    for cut in 1..=events.len() {
         let (front, rest) = events.split_at(cut);
         if !is_as_wanted(front, rest) {
             println!(rt; "cut behind row {cut}: otherwise than wanted")?;
             differing = differing.saturating_add(1);
         }
     }
-    match differing {
+    Ok(differing)
+}
+
+/// Cuts the recording, and prints how many rows it has, and how many cuts differ.
+pub fn run(rt: &HostRuntime) -> io::Result<()> {
+    let events = events(rt.alloc())?;
+    let rows = events.len();
+    match cut_each(rt, events.as_slice())? {
         0 => println!(rt; "a recording cut in two at each of its {rows} rows, each as wanted"),
-        _ => println!(rt; "a recording cut in two at its {rows} rows, and {differing} that differ"),
+        differing => {
+            println!(rt; "a recording cut in two at its {rows} rows, and {differing} that differ")
+        }
     }
 }

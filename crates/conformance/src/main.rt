@@ -12,7 +12,7 @@ use std::io::Write;
 use std::{fs, io};
 
 /// The files of cases, one for each subject.
-const FILES: [&str; 16] = [
+static FILES: [&str; 16] = [
     "rows.cases",
     "times.cases",
     "commands.cases",
@@ -31,17 +31,20 @@ const FILES: [&str; 16] = [
     "least.cases",
 ];
 
+/// What stands in front of each case of a file, and of its name.
+const NEXT_CASE: &str = "\ncase ";
+
 /// A transcript, and what the program has to make of it.
 #[derive(Drop)]
-struct Case {
-    name: String,
-    // The words behind the program's name; `check` where the case has none.
-    words: Vec<String>,
+struct Case<'a> {
+    name: &'a str,
+    // The words behind the program's name, parted by single blanks.
+    words: &'a str,
     transcript: Vec<u8>,
     // The time of the last row that a line of `rows` or `again` has added; 0 before it.
     time: u64,
     // The exit status, as it is written.
-    status: String,
+    status: &'a str,
     // Standard output and standard error, whole.
     out: String,
     err: String,
@@ -54,33 +57,45 @@ struct Tally {
     differing: u64,
 }
 
-impl Case {
+impl<'a> Case<'a> {
     /// A case of which only the name is known.
-    fn named(alloc: Global, name: &str) -> Result<Case, AllocError> {
-        Ok(Case {
-            name: String::from_str(alloc, name)?,
-            words: Vec::new(alloc),
+    fn named(alloc: Global, name: &'a str) -> Case<'a> {
+        Case {
+            name,
+            words: "check",
             transcript: Vec::new(alloc),
             time: 0,
-            status: String::new(alloc),
+            status: "",
             out: String::new(alloc),
             err: String::new(alloc),
-        })
+        }
     }
 
     /// Takes a further line of the case, and answers whether it is one.
-    fn take(&mut self, alloc: Global, line: &str) -> Result<bool, AllocError> {
-        match line.split_once(' ') {
-            Some(("why", _)) => {}
-            Some(("words", words)) => add_words(alloc, &mut self.words, words)?,
-            Some(("rows", rows)) => self.add_rows(rows)?,
-            Some(("again", rows)) => return self.add_again(alloc, rows),
-            Some(("text", text)) => add_text(&mut self.transcript, text.as_bytes())?,
-            Some(("status", status)) => self.status.push_str(status)?,
-            Some(("out", line)) => add_line(&mut self.out, line)?,
-            Some(("err", line)) => add_line(&mut self.err, line)?,
-            _ => return Ok(false),
+    fn take(&mut self, line: &'a str) -> io::Result<bool> {
+        let Some((word, rest)) = line.split_once(' ') else {
+            return Ok(says_nothing(line));
+        };
+        match word {
+            "again" => return self.add_again(rest),
+            "words" => self.words = rest,
+            "status" => self.status = rest,
+            "why" => {}
+            _ => return self.add(word, rest),
         }
+        Ok(true)
+    }
+
+    /// Adds what stands behind the first word of a line, and answers whether it is such a line.
+    fn add(&mut self, word: &str, rest: &str) -> io::Result<bool> {
+        let added = match word {
+            "rows" => self.add_rows(rest),
+            "text" => add_text(&mut self.transcript, rest.as_bytes()),
+            "out" => add_line(&mut self.out, rest),
+            "err" => add_line(&mut self.err, rest),
+            _ => return Ok(word.starts_with('#')),
+        };
+        added?;
         Ok(true)
     }
 
@@ -98,74 +113,73 @@ impl Case {
 
     /// Adds the rows of a line so many times as it says, each so long behind the row before it,
     /// and answers whether the line has that form.
-    fn add_again(&mut self, alloc: Global, line: &str) -> Result<bool, AllocError> {
-        let Some((times, rows)) = line.split_once(' ') else {
+    fn add_again(&mut self, line: &str) -> io::Result<bool> {
+        let Some((times, rows)) = split_times(line) else {
             return Ok(false);
         };
-        let Ok(times) = times.parse::<u32>() else {
-            return Ok(false);
-        };
-        let mut steps = Vec::new(alloc);
-        for row in rows.split(' ') {
-            let Some(step) = split_time(row) else {
-                return Ok(false);
-            };
-            steps.push(step)?;
-        }
         for _ in 0..times {
-            for (gap, rest) in &steps {
-                self.time = self.time.saturating_add(*gap);
-                let row = format!(in alloc; "{},{rest}\n", self.time)?;
-                self.transcript.extend_from_slice(row.as_str().as_bytes())?;
-            }
+            self.add_steps(rows)?;
         }
         Ok(true)
     }
 
+    /// Adds rows, each so long behind the row before it as the number in front of it says.
+    fn add_steps(&mut self, rows: &str) -> io::Result<()> {
+        for row in rows.split(' ') {
+            if let Some((gap, rest)) = split_time(row) {
+                self.time = self.time.saturating_add(gap);
+                writeln!(self.transcript, "{},{rest}", self.time)?;
+            }
+        }
+        Ok(())
+    }
+
     /// Runs the case, and answers whether it came out as wanted. Where it didn't, what came is
     /// printed.
-    fn run(self, rt: &HostRuntime) -> io::Result<bool> {
-        let words = command_line(rt.alloc(), self.words.as_slice())?;
+    fn run(&self, rt: &HostRuntime) -> io::Result<bool> {
+        let words = command_line(rt.alloc(), self.words)?;
         let mut out = Vec::new(rt.alloc());
         let mut err = Vec::new(rt.alloc());
         let transcript = self.transcript.as_slice();
         let status = mdb_check::run(rt.alloc(), words, transcript, &mut out, &mut err);
-        let is_wanted = status.to_string(rt.alloc())?.as_str() == self.status.as_str()
-            && out.as_slice() == self.out.as_str().as_bytes()
-            && err.as_slice() == self.err.as_str().as_bytes();
+        self.judge(rt, status, out.as_slice(), err.as_slice())
+    }
+
+    /// Answers whether this is what the case wants, and prints it where it isn't.
+    fn judge(&self, rt: &HostRuntime, status: u8, out: &[u8], err: &[u8]) -> io::Result<bool> {
+        let is_wanted = self.status.parse().ok() == Some(status)
+            && out == self.out.as_str().as_bytes()
+            && err == self.err.as_str().as_bytes();
         if !is_wanted {
-            let name = self.name.as_str();
-            println!(rt; "{name}: status {status}")?;
-            io::writer(rt).write_all(out.as_slice())?;
-            io::writer(rt).write_all(err.as_slice())?;
+            println!(rt; "{}: status {status}", self.name)?;
+            io::writer(rt).write_all(out)?;
+            io::writer(rt).write_all(err)?;
         }
         Ok(is_wanted)
     }
 }
 
 impl Tally {
-    /// Counts a case, if there is one, after running it.
-    fn count(&mut self, rt: &HostRuntime, case: Option<Case>) -> io::Result<()> {
-        if let Some(case) = case {
-            self.cases = self.cases.saturating_add(1);
-            if !case.run(rt)? {
-                self.differing = self.differing.saturating_add(1);
-            }
+    /// Counts a case after it was run.
+    fn count(&mut self, is_wanted: bool) {
+        self.cases = self.cases.saturating_add(1);
+        if !is_wanted {
+            self.differing = self.differing.saturating_add(1);
         }
-        Ok(())
+    }
+
+    /// Prints a line that is none of a case, and counts it.
+    fn tell(&mut self, rt: &HostRuntime, file: &str, line: &str) -> io::Result<()> {
+        self.differing = self.differing.saturating_add(1);
+        println!(rt; "{file}: no line of a case: {line}")
     }
 }
 
-/// The words of the command line: the program's name, and these or `check`.
-fn command_line(alloc: Global, words: &[String]) -> Result<Vec<String>, AllocError> {
+/// The words of the command line: the program's name, and these.
+fn command_line(alloc: Global, words: &str) -> Result<Vec<String>, AllocError> {
     let mut line = Vec::new(alloc);
-    line.push(String::from_str(alloc, "mdbcheck")?)?;
-    if words.is_empty() {
-        line.push(String::from_str(alloc, "check")?)?;
-    }
-    for word in words {
-        line.push(word.clone()?)?;
-    }
+    add_words(alloc, &mut line, "mdbcheck")?;
+    add_words(alloc, &mut line, words)?;
     Ok(line)
 }
 
@@ -181,6 +195,20 @@ fn add_words(alloc: Global, words: &mut Vec<String>, line: &str) -> Result<(), A
         words.push(String::from_str(alloc, word)?)?;
     }
     Ok(())
+}
+
+/// Whether a line without a blank, or in front of the cases, says nothing.
+fn says_nothing(line: &str) -> bool {
+    line.is_empty() || line.starts_with('#')
+}
+
+/// The number in front of rows, where each of these has a number in front.
+fn split_times(line: &str) -> Option<(u32, &str)> {
+    let (times, rows) = line.split_once(' ')?;
+    for row in rows.split(' ') {
+        split_time(row)?;
+    }
+    Some((times.parse::<u32>().ok()?, rows))
 }
 
 /// The number in front of a row, which is its time or the time from the row before it, and what
@@ -214,41 +242,55 @@ fn add_text(transcript: &mut Vec<u8>, line: &[u8]) -> Result<(), AllocError> {
     Ok(())
 }
 
-/// Runs the cases of a file.
-fn run_file(rt: &HostRuntime, file: &str, tally: &mut Tally) -> io::Result<()> {
-    let text = fs::read_to_string(rt, file)?;
-    let mut case: Option<Case> = None;
-    for line in text.as_str().split('\n') {
-        if let Some(("case", name)) = line.split_once(' ') {
-            tally.count(rt, case.take())?;
-            case = Some(Case::named(rt.alloc(), name)?);
-        } else if !line.is_empty() && !line.starts_with('#') {
-            let is_known = match &mut case {
-                Some(case) => case.take(rt.alloc(), line)?,
-                None => false,
-            };
-            if !is_known {
-                println!(rt; "{file}: no line of a case: {line}")?;
-                tally.differing = tally.differing.saturating_add(1);
-            }
+/// Runs a case: its name, and its lines.
+fn run_case(rt: &HostRuntime, file: &str, text: &str, tally: &mut Tally) -> io::Result<()> {
+    let (name, lines) = text.split_once('\n').unwrap_or((text, ""));
+    let mut case = Case::named(rt.alloc(), name);
+    for line in lines.split('\n') {
+        if !case.take(line)? {
+            tally.tell(rt, file, line)?;
         }
     }
-    tally.count(rt, case)
+    tally.count(case.run(rt)?);
+    Ok(())
 }
 
-fn main(rt: HostRuntime) -> io::Result<()> {
+/// Runs the cases of a file, which has one at least, and in front of which no line says anything.
+fn run_file(rt: &HostRuntime, file: &str, tally: &mut Tally) -> io::Result<()> {
+    let text = fs::read_to_string(rt, file)?;
+    let (head, cases) = text
+        .as_str()
+        .split_once(NEXT_CASE)
+        .unwrap_or((text.as_str(), ""));
+    for line in head.split('\n') {
+        if !says_nothing(line) {
+            tally.tell(rt, file, line)?;
+        }
+    }
+    for case in cases.split(NEXT_CASE) {
+        run_case(rt, file, case, tally)?;
+    }
+    Ok(())
+}
+
+/// Runs the cases of all files, and prints how many there are.
+fn run_files(rt: &HostRuntime) -> io::Result<()> {
     let mut tally = Tally {
         cases: 0,
         differing: 0,
     };
-    for file in FILES {
-        run_file(&rt, file, &mut tally)?;
+    for file in &FILES {
+        run_file(rt, *file, &mut tally)?;
     }
     let cases = tally.cases;
     match tally.differing {
-        0 => println!(rt; "{cases} cases, each as wanted")?,
-        differing => println!(rt; "{cases} cases, and {differing} that differ")?,
+        0 => println!(rt; "{cases} cases, each as wanted"),
+        differing => println!(rt; "{cases} cases, and {differing} that differ"),
     }
+}
+
+fn main(rt: HostRuntime) -> io::Result<()> {
+    run_files(&rt)?;
     cuts::run(&rt)?;
     calls::run(&rt)
 }
