@@ -16,7 +16,7 @@ use Rattle.mdb_check.specs.Accounts.{AccountSide, Approved, Approved2, BillsIn, 
 use Rattle.mdb_check.specs.Headline.{AreFirstRows, HasApprovedSales, HasBounds, HaveRun, Headline, NamesFirstRow}
 use Rattle.mdb_check.specs.Verdict.{AreRows, IsAnswer, IsImpossible, IsPossible}
 use Rattle.mdb_check.proofs.OneAnswer.{row_one}
-use Rattle.mdb_check.proofs.Reading.{rows_push}
+use Rattle.mdb_check.proofs.Rows.{rows_push}
 
 -- what the law of the first rows of reached rows says
 abbrev pub FrontsAreReached : Type 0

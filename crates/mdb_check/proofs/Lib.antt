@@ -1,13 +1,16 @@
 pub mod Batches
 pub mod CommandLine
+pub mod Endings
 pub mod Fields
 pub mod Headline
 pub mod OneAnswer
 pub mod OneShowing
 pub mod Outputs
-pub mod Reading
+pub mod Rows
 pub mod SameFault
 pub mod ShowSteps
+pub mod Showings
 pub mod ShowTexts
 pub mod Status
 pub mod Texts
+pub mod Verdicts

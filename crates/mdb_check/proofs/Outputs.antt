@@ -5,7 +5,7 @@ use Rattle.std.specs.Prelude.{IsErrAnd}
 use Rattle.std.specs.Io.KnownBytes.{Appends}
 use Rattle.mdb_bus.specs.declared.fault.LinkFault.{LinkFault}
 use Rattle.mdb_check.specs.Show.{IsCutShort, IsShowing, Shows}
-use Rattle.mdb_check.specs.ShowSteps.{Breaks, Output, Puts, PutsShowing}
+use Rattle.mdb_check.specs.ShowSteps.{Breaks, Output, Puts, PutsShowing, begun}
 use Rattle.mdb_check.specs.Written.{HasTaken}
 use Rattle.mdb_check.specs.declared.outcome.RunFault.{RunFault}
 use Rattle.mdb_check.specs.declared.outcome.RunFault.TheVariants.{Write}
@@ -42,40 +42,38 @@ break_both before now later first second one two = record {
   grown = appended before.held now.held later.held one.taken two.front one.grown two.grown;
 }
 
--- The page that was empty at the start is written out at last.
-pub written_out : (all : List (List (List ℕ))) (before later : Option (List ℕ)) (page : List ℕ) (now : Output) (answer : Result (Option LinkFault) RunFault) → page ≡ []
-    → PutsShowing all (record { held = before; waiting = page }) now answer → (answer ≡ Err Write → ⊥) → Appends now.held later now.waiting → Shows all before later answer
-written_out all before later page now answer empty (inl showing) not written =
+-- The page is written out at last.
+pub written_out : (all : List (List (List ℕ))) (before later : Option (List ℕ)) (now : Output) (answer : Result (Option LinkFault) RunFault)
+    → PutsShowing all (begun before) now answer → (answer ≡ Err Write → ⊥) → Appends now.held later now.waiting → Shows all before later answer
+written_out all before later now answer (inl showing) not written =
     let P : List ℕ → Type 0 = λ text. Appends before later text in
-    let same : showing.2.taken ++ now.waiting ≡ showing.0 = sym showing.2.parts ∙ ap (λ l. l ++ showing.0) empty in
-    inl (showing.0, showing.1, subst P same (appended before now.held later showing.2.taken now.waiting showing.2.grown written))
-written_out all before later page now answer empty (inr broken) not written = absurd (not broken.0)
+    inl (showing.0, showing.1, subst P (sym showing.2.parts) (appended before now.held later showing.2.taken now.waiting showing.2.grown written))
+written_out all before later now answer (inr broken) not written = absurd (not broken.0)
 
 -- the writer fails at the page
-pub page_broken : (all : List (List (List ℕ))) (before later : Option (List ℕ)) (page : List ℕ) (now : Output) (answer : Result (Option LinkFault) RunFault) → page ≡ []
-    → PutsShowing all (record { held = before; waiting = page }) now answer → (answer ≡ Err Write → ⊥) → HasTaken now.held later now.waiting → IsCutShort all before later
-page_broken all before later page now answer empty (inl showing) not taken = record {
+pub page_broken : (all : List (List (List ℕ))) (before later : Option (List ℕ)) (now : Output) (answer : Result (Option LinkFault) RunFault)
+    → PutsShowing all (begun before) now answer → (answer ≡ Err Write → ⊥) → HasTaken now.held later now.waiting → IsCutShort all before later
+page_broken all before later now answer (inl showing) not taken = record {
   answer = answer;
   text = showing.0;
   showing = showing.1;
   taken = record {
     front = showing.2.taken ++ taken.front;
     rest = taken.rest;
-    parts = ap (λ l. l ++ showing.0) (sym empty) ∙ (showing.2.parts ∙ (ap (λ l. showing.2.taken ++ l) taken.parts ∙ sym (append_assoc showing.2.taken taken.front taken.rest)));
+    parts = showing.2.parts ∙ (ap (λ l. showing.2.taken ++ l) taken.parts ∙ sym (append_assoc showing.2.taken taken.front taken.rest));
     grown = appended before now.held later showing.2.taken taken.front showing.2.grown taken.grown;
   };
 }
-page_broken all before later page now answer empty (inr broken) not taken = absurd (not broken.0)
+page_broken all before later now answer (inr broken) not taken = absurd (not broken.0)
 
 -- it has failed before
-pub rows_broken : (all : List (List (List ℕ))) (before : Option (List ℕ)) (page : List ℕ) (now : Output) (answer : Result (Option LinkFault) RunFault) → page ≡ []
-    → PutsShowing all (record { held = before; waiting = page }) now answer → answer ≡ Err Write → Shows all before now.held answer
-rows_broken all before page now answer empty (inl showing) is =
+pub rows_broken : (all : List (List (List ℕ))) (before : Option (List ℕ)) (now : Output) (answer : Result (Option LinkFault) RunFault)
+    → PutsShowing all (begun before) now answer → answer ≡ Err Write → Shows all before now.held answer
+rows_broken all before now answer (inl showing) is =
     let P : Result (Option LinkFault) RunFault → Type 0 = λ a. IsShowing all a showing.0 in
     absurd (subst P is showing.1)
-rows_broken all before page now answer empty (inr broken) is =
-    let P : List ℕ → Type 0 = λ waiting. HasTaken before now.held (waiting ++ broken.1.text) in
-    inr (is, record { answer = broken.1.answer; text = broken.1.text; showing = broken.1.showing; taken = subst P empty broken.1.broken })
+rows_broken all before now answer (inr broken) is =
+    inr (is, record { answer = broken.1.answer; text = broken.1.text; showing = broken.1.showing; taken = broken.1.broken })
 
 -- That is the answer then, handed on by `?`.
 pub cut_short : (all : List (List (List ℕ))) (before later : Option (List ℕ)) (fault : RunFault) (answer : Result (Option LinkFault) RunFault) → IsErrAnd answer (λ told. told ≡ fault)

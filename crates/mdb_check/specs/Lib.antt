@@ -2,6 +2,7 @@ pub mod Accounts
 pub mod Batch
 pub mod CommandLine
 pub mod Complaint
+pub mod Ending
 pub mod Headline
 pub mod Program
 pub mod Show

@@ -39,6 +39,10 @@ pub record Output : Type 0 where
 abbrev pub output : Option (List ℕ) → Page → Output
 output contents page = record { held = contents; waiting = page.lines.items }
 
+-- before the first row nothing waits
+abbrev pub begun : Option (List ℕ) → Output
+begun contents = record { held = contents; waiting = [] }
+
 -- A text came behind the bytes that waited. Of these and the text the writer took the first, and the
 -- others wait.
 pub record Puts (before after : Output) (text : List ℕ) : Type 0 where
@@ -120,6 +124,14 @@ HasAdded lines before after earlier rows (Err Write) =
     (text : List ℕ) × IsAdded earlier rows text × Breaks before after text
 HasAdded lines before after earlier rows (Err Memory) =
     (text : List ℕ) × IsAddedInPart earlier rows text × Puts before after text
+
+-- the same where one of the rows was stopped at
+abbrev pub HasStopped : Lines → Output → Output → List Event → List Event
+    → Result LinkFault RunFault → Type 0
+HasStopped lines before after earlier rows (Ok fault) =
+    HasAdded lines before after earlier rows (Ok (Some fault))
+HasStopped lines before after earlier rows (Err fault) =
+    HasAdded lines before after earlier rows (Err fault)
 
 -- The writer failed with a front of a text that is written of the records.
 pub record IsBroken (records : List (List (List ℕ))) (before after : Output) : Type 0 where

@@ -1,13 +1,15 @@
 //! Rows that are read before they are followed.
 
 ghost use Rattle.std.specs.Prelude.{◌≡◌, ◌<◌, ◌≤◌, List, ℕ, None, Some, length};
+ghost use Rattle.csv.specs.Records.{field_at, fields_of};
 ghost use Rattle.mdb_records.specs.declared.ReadFault.{ReadFault};
 ghost use Rattle.mdb_records.specs.ToCome.{IsOverLimit, ToCome, fault_of};
 ghost use Rattle.mdb_words.specs.declared.event.Event.{Event};
 ghost use Rattle.mdb_words.specs.declared.word.Line.{Line};
+ghost use Rattle.mdb_words.specs.Row.{Tells};
 ghost use Rattle.mdb_check.specs.Batch.{FitsIn, GoesOnOver, HasRead, IsMet};
 
-use super::verdict::event_of;
+use csv::ByteRecord;
 use mdb_records::{ReadFault, Records};
 use mdb_words::{Event, Line, RowFault, Time, Word};
 use std::io::Read;
@@ -141,5 +143,27 @@ fn any_row() -> Event
         at,
         line: Line::Controller,
         word,
+    }
+}
+
+/// The event of a record.
+#[inline(always)]
+fn event_of(row: &ByteRecord) -> Result<Event, RowFault>
+    ensures { Tells result (fields_of row.now) }
+{
+    if row.len() != 3 {
+        return Err(RowFault::FieldCount);
+    }
+    Event::read(&[field(row, 0), field(row, 1), field(row, 2)])
+}
+
+/// A field of a record.
+fn field(row: &ByteRecord, i: usize) -> &[u8]
+    requires { i < length (fields_of row.now) }
+    ensures { field_at (fields_of row.now) i ≡ Some result.now }
+{
+    match row.get(i) {
+        Some(field) => field,
+        None => unreachable!(),
     }
 }

@@ -8,6 +8,7 @@ pub mod laws;
 mod outcome;
 mod page;
 mod program;
+mod reading;
 mod show_text;
 mod showing;
 mod text;

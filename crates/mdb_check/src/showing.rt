@@ -1,16 +1,16 @@
 //! The acts of a transcript.
 
-ghost use Rattle.std.specs.Prelude.{◌≡◌, ◌≢◌, ◌<◌, List, ℕ, Err, IfErr, IfSome, None, Ok, Some, length};
+ghost use Rattle.std.specs.Prelude.{◌≡◌, ◌≢◌, ◌<◌, List, [], ℕ, Err, IfErr, IfSome, None, Ok, Some, length};
 ghost use Rattle.csv.specs.Reading.{default_config, records, strip_bom};
 ghost use Rattle.mdb_records.specs.ToCome.{IsOverLimit, ToCome, fault_of};
 ghost use Rattle.mdb_records.specs.declared.ReadFault.{ReadFault};
 ghost use Rattle.mdb_check.specs.declared.verdict.TheConstants.{BYTES_MAX};
 ghost use Rattle.mdb_check.specs.Show.{Shows};
-ghost use Rattle.mdb_check.specs.ShowSteps.{IsShownAs, PutsShowing, output};
+ghost use Rattle.mdb_check.specs.ShowSteps.{HasShown, IsShownAs, PutsShowing, begun, output};
 
-use super::batch::{Batch, Next};
 use super::outcome::RunFault;
 use super::page::Page;
+use super::reading::{TakeRows, read_rows};
 use super::verdict::{BYTES_MAX, records_of};
 use mdb_bus::{Act, Bus, LinkFault, laws};
 use mdb_follow::ROWS_MAX;
@@ -61,57 +61,86 @@ pub(crate) fn show_records<R: Read + Drop, W: Write>(
         → Shows all (W.contents writer.old) (W.contents writer.new) result }
     ensures whole { IsOverLimit R.remaining records.old → result ≢ Ok None }
 {
-    let mut page = Page::new(alloc);
-    let answer = show_rows(records, &mut page, writer);
+    let mut showing = Showing::new(alloc);
+    let answer = show_rows(records, &mut showing, writer);
     if answer != Err(RunFault::Write) {
-        page.write_out(writer)?;
+        showing.page.write_out(writer)?;
     }
     answer
 }
 
-/// Shows the records that are still to come.
+/// Shows the records that are still to come, behind none.
 fn show_rows<R: Read + Drop, W: Write>(
     records: &mut Records<R>,
-    page: &mut Page,
+    showing: &mut Showing,
     writer: &mut W,
 ) -> Result<Option<LinkFault>, RunFault>
+    requires { HasShown showing.old.lines (begun (W.contents writer.old))
+        (output (W.contents writer.old) showing.old.page) [] }
     ensures shows { (all : List (List (List ℕ))) → ToCome R.remaining records.old all
-        → PutsShowing all (output (W.contents writer.old) page.old)
-        (output (W.contents writer.new) page.new) result }
+        → PutsShowing all (begun (W.contents writer.old))
+        (output (W.contents writer.new) showing.new.page) result }
     ensures whole { IsOverLimit R.remaining records.old → result ≢ Ok None }
     ensures heard { IfErr result (λ fault. fault ≡ RunFault.Read
         → fault_of records.new ≡ Some ReadFault.Read) }
     ensures met { fault_of records.old ≡ None → IfSome (fault_of records.new)
         (λ fault. IsShownAs fault result) }
 {
-    let mut lines = Lines::new();
-    let mut batch = Batch::new();
-    while lines.rows < ROWS_MAX {
-        let next = batch.refill(records, ROWS_MAX - lines.rows);
-        if let Some(fault) = lines.add_all(batch.as_slice(), page, writer)? {
-            return Ok(Some(fault));
-        }
-        match next {
-            Next::More => {}
-            Next::End => {
-                page.add_cut(writer, lines.shown, lines.rows)?;
-                return Ok(None);
-            }
-            Next::BadRow(fault) => return Err(RunFault::BadRow {
-                row: lines.rows + 1,
-                fault,
-            }),
-            Next::Failed(fault) => return Err(RunFault::from(fault)),
+    if let Some(stop) = read_rows(records, showing, writer, ROWS_MAX)? {
+        return Ok(Some(stop?));
+    }
+    let Showing { lines, page } = showing;
+    page.add_cut(writer, lines.shown, lines.rows)?;
+    Ok(None)
+}
+
+/// Rows that are shown: how far their lines have come, and those that wait for the writer.
+#[derive(Drop)]
+struct Showing {
+    lines: Lines,
+    page: Page,
+}
+
+impl Showing {
+    ghost use Rattle.std.specs.Prelude.{[], Option};
+    ghost use Rattle.mdb_check.specs.ShowSteps.{HasShown, begun, output};
+
+    /// Before the first row.
+    fn new(alloc: Global) -> Showing
+        ensures { (contents : Option (List ℕ))
+            → HasShown result.lines (begun contents) (output contents result.page) [] }
+    {
+        Showing {
+            lines: Lines::new(),
+            page: Page::new(alloc),
         }
     }
-    match batch.refill(records, 1) {
-        Next::End => {
-            page.add_cut(writer, lines.shown, lines.rows)?;
-            Ok(None)
-        }
-        Next::Failed(fault) => Err(RunFault::from(fault)),
-        Next::More | Next::BadRow(_) => Err(RunFault::TooLong),
+}
+
+/// It stops at the first row that breaks a rule of the link, or where a line can't be added.
+impl<W: Write> TakeRows<W> for Showing {
+    ghost use Rattle.std.proofs.Common.{sym};
+    ghost use Rattle.mdb_check.specs.ShowSteps.{HasShown, HasStopped, begun, output};
+
+    type Stop = Result<LinkFault, RunFault>;
+
+    ghost count = { λ showing. showing.lines.rows };
+
+    ghost has = { λ showing before after rows. HasShown showing.lines (begun (W.contents before))
+        (output (W.contents after) showing.page) rows };
+
+    ghost stops = { λ showing before after. HasStopped showing.lines (begun (W.contents before))
+        (output (W.contents after) showing.page) };
+
+    fn rows(&self) -> u64 {
+        self.lines.rows
     }
+
+    fn take_all(&mut self, writer: &mut W, rows: &[Event]) -> Option<Result<LinkFault, RunFault>> {
+        self.lines.add_all(rows, &mut self.page, writer).transpose()
+    }
+
+    ghost counts = { λ showing before after rows has. sym has.counted };
 }
 
 /// How far the lines of the rows have come.

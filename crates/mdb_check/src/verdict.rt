@@ -3,24 +3,23 @@
 ghost use Rattle.std.specs.Prelude.{◌≡◌, ◌≢◌, ◌<◌, ◌≤◌, List, ℕ, IfOk, IfErr, IfSome, None, Ok, Err, length};
 ghost use Rattle.std.specs.Io.KnownBytes.{Appends};
 ghost use Rattle.csv.specs.Reading.{default_config, records, strip_bom};
-ghost use Rattle.csv.specs.Records.{field_at, fields_of};
 ghost use Rattle.mdb_records.specs.ToCome.{IsOverLimit, IsUncut, ToCome, fault_of};
 ghost use Rattle.mdb_check.specs.Headline.{Headline};
 ghost use Rattle.mdb_check.specs.Text.{IsCutReport, report_text};
 ghost use Rattle.mdb_check.specs.Verdict.{IsAnswer, IsYes, HasMet, IsNoYes, IsToldAs};
-ghost use Rattle.mdb_follow.specs.Follower.{StandsFor};
+ghost use Rattle.mdb_check.specs.Ending.{HasFollowed};
+ghost use Rattle.mdb_follow.specs.Follower.{StandsFor, rows_of};
+ghost use Rattle.mdb_follow.specs.Offences.{HasOffence};
 ghost use Rattle.mdb_words.specs.declared.event.Event.{Event};
-ghost use Rattle.mdb_words.specs.Row.{Tells};
 
-use super::batch::{Batch, Next};
 use super::laws::verdicts_say_the_headline;
 use super::outcome::{Outcome, RunFault};
+use super::reading::{TakeRows, read_rows};
 use super::text::text_of;
 use super::writing::write_text;
-use csv::ByteRecord;
-use mdb_follow::{Follower, ROWS_MAX, laws};
+use mdb_follow::{Follower, Offence, ROWS_MAX, laws};
 use mdb_records::Records;
-use mdb_words::{Event, RowFault};
+use mdb_words::Event;
 use std::alloc::Global;
 use std::io::{Read, Write};
 
@@ -153,27 +152,31 @@ fn verdict_on<R: Read + Drop>(records: &mut Records<R>, rows: u64) -> Result<Out
     laws::followers_stand_for_reached_rows();
     laws::sales_follow_their_approvals();
     let mut follower = Follower::new();
-    let mut batch = Batch::new();
-    while follower.rows() < rows {
-        let next = batch.refill(records, rows - follower.rows());
-        if let Err(offence) = follower.feed_all(batch.as_slice()) {
-            return Ok(Outcome::No(offence));
-        }
-        match next {
-            Next::More => {}
-            Next::End => return Ok(outcome_of(&follower)),
-            Next::BadRow(fault) => return Err(RunFault::BadRow {
-                row: follower.rows() + 1,
-                fault,
-            }),
-            Next::Failed(fault) => return Err(RunFault::from(fault)),
-        }
+    match read_rows(records, &mut follower, &mut (), rows)? {
+        None => Ok(outcome_of(&follower)),
+        Some(offence) => Ok(Outcome::No(offence)),
     }
-    match batch.refill(records, 1) {
-        Next::End => Ok(outcome_of(&follower)),
-        Next::Failed(fault) => Err(RunFault::from(fault)),
-        Next::More | Next::BadRow(_) => Err(RunFault::TooLong),
+}
+
+/// A follower stops at the first row that cannot be, and tells nothing before.
+impl TakeRows<()> for Follower {
+    type Stop = Offence;
+
+    ghost count = { rows_of };
+
+    ghost has = { λ follower before after. HasFollowed follower };
+
+    ghost stops = { λ follower before after. HasOffence };
+
+    fn rows(&self) -> u64 {
+        Follower::rows(self)
     }
+
+    fn take_all(&mut self, _out: &mut (), rows: &[Event]) -> Option<Offence> {
+        self.feed_all(rows).err()
+    }
+
+    ghost counts = { λ follower before after rows has. has.counted };
 }
 
 /// What the rows that a follower has taken come to.
@@ -183,27 +186,5 @@ fn outcome_of(follower: &Follower) -> Outcome
     match follower.report() {
         Ok(report) => Outcome::Yes(report),
         Err(offence) => Outcome::No(offence),
-    }
-}
-
-/// The event of a record.
-#[inline(always)]
-pub(crate) fn event_of(row: &ByteRecord) -> Result<Event, RowFault>
-    ensures { Tells result (fields_of row.now) }
-{
-    if row.len() != 3 {
-        return Err(RowFault::FieldCount);
-    }
-    Event::read(&[field(row, 0), field(row, 1), field(row, 2)])
-}
-
-/// A field of a record.
-fn field(row: &ByteRecord, i: usize) -> &[u8]
-    requires { i < length (fields_of row.now) }
-    ensures { field_at (fields_of row.now) i ≡ Some result.now }
-{
-    match row.get(i) {
-        Some(field) => field,
-        None => unreachable!(),
     }
 }

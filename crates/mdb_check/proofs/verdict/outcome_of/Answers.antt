@@ -1,4 +1,4 @@
-use Rattle.mdb_check.proofs.Reading.{not_refused}
+use Rattle.mdb_check.proofs.Rows.{not_refused}
 use Rattle.mdb_check.proofs.verdict.outcome_of.Goals as goal
 
 pub returns-in-Err : goal.returns-in-Err

@@ -1,9 +1,9 @@
 use Rattle.std.proofs.Common.{◌∙◌, sym, subst, List, ℕ, [], ◌∷◌, ◌≡◌, length}
 use Rattle.mdb_words.specs.Row.{Tells}
 use Rattle.mdb_check.proofs.Fields.{three_fields}
-use Rattle.mdb_check.proofs.Reading.{tells}
+use Rattle.mdb_check.proofs.Rows.{tells}
 use Rattle.csv.specs.Records.{fields_of}
-use Rattle.mdb_check.proofs.verdict.event_of.Goals as goal
+use Rattle.mdb_check.proofs.batch.event_of.Goals as goal
 
 pub returns : goal.returns
 returns c =

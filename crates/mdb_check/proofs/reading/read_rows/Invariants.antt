@@ -1,0 +1,18 @@
+use Rattle.std.proofs.Common.{None, ◌≡◌, ◌≤◌, ◌-◌}
+use Rattle.mdb_records.specs.ToCome.{IsOverLimit, fault_of}
+use Rattle.mdb_check.specs.declared.batch.Next.TheVariants as next
+use Rattle.mdb_check.proofs.Endings.{Progress}
+use Rattle.mdb_check.proofs.reading.read_rows.Given as goal
+
+-- the rows so far are taken, and the rest of the records is to come; a text that is too long still is
+abbrev pub invariant-loop-batch : goal.invariant-loop-batch
+invariant-loop-batch g l = record {
+  progress : Progress g.R.Read.remaining (g.T.TakeRows.has l.taker l.fn.out l.out) l.fn.records l.records next.More;
+  over : IsOverLimit g.R.Read.remaining l.fn.records → IsOverLimit g.R.Read.remaining l.records;
+  met : fault_of l.fn.records ≡ None → fault_of l.records ≡ None;
+  few : g.T.TakeRows.count l.taker ≤ l.fn.limit;
+}
+
+-- the rows that may still come
+abbrev pub decreases-loop-batch : goal.decreases-loop-batch
+decreases-loop-batch g l = l.fn.limit - g.T.TakeRows.count l.taker
