@@ -1,9 +1,8 @@
 -- How far the reading of rows has come, and how it ends.
-use Rattle.std.proofs.Common.{arith, refl, ap, sym, subst, ◌∙◌, ◌≡◌, ◌+◌, ◌-◌, ◌<◌, ◌≤◌, ◌⊎◌, inl, inr, ℕ, List, [], ◌∷◌, ◌++◌, Bool, true, false, Option, Some, None, Result, Ok, Err, length, length-append, append_assoc}
+use Rattle.std.proofs.Common.{arith, refl, ap, sym, subst, ◌∙◌, ◌≡◌, ◌+◌, ◌≤◌, ◌⊎◌, inl, inr, ℕ, List, [], ◌++◌, Bool, true, false, Option, Some, None, Result, Ok, Err, length, length-append, append_assoc}
 use Rattle.std.specs.Prelude.{IsErrAnd}
 use Rattle.mdb_words.specs.declared.event.Event.{Event}
 use Rattle.mdb_words.specs.declared.row.RowFault.{RowFault}
-use Rattle.mdb_records.specs.declared.ReadFault.{ReadFault}
 use Rattle.mdb_records.specs.declared.ReadFault.TheVariants as reading
 use Rattle.mdb_records.specs.declared.Records.{Records}
 use Rattle.mdb_records.specs.ToCome.{ToCome}
@@ -12,8 +11,7 @@ use Rattle.mdb_check.specs.declared.batch.Next.TheVariants as next
 use Rattle.mdb_check.specs.declared.outcome.RunFault.{RunFault}
 use Rattle.mdb_check.specs.declared.outcome.RunFault.TheVariants.{BadRow, TooLong, Read, Write, Memory}
 use Rattle.mdb_check.specs.Batch.{FitsIn, HasRead}
-use Rattle.mdb_check.specs.Ending.{AreRead, EndsBehind, HasEnded, HasFirst, HasTaken, IsStopped, IsTakenWhole, goes_on_by}
-use Rattle.mdb_check.specs.Verdict.{AreRows, run_fault_of}
+use Rattle.mdb_check.specs.Ending.{EndsBehind, HasEnded, HasFirst, HasTaken, IsStopped, IsTakenWhole, goes_on_by}
 use Rattle.mdb_check.proofs.Rows.{empty, first_row, no_rows, rows_append}
 
 -- The first of the records are rows, which were taken, and this is what comes behind them.

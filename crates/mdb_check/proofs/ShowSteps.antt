@@ -2,10 +2,8 @@
 use Rattle.std.proofs.Common.{arith, refl, ap, sym, subst, inl, inr, ◌∙◌, ◌≡◌, ◌+◌, ◌<◌, ◌≤◌, ℕ, List, [], ◌∷◌, ◌++◌, Option, Some, None, Result, Ok, Err, length, length-append, append_assoc, take, drop, get_or, add-one, take-append-drop}
 use Rattle.std.proofs.lemmas.List.{append-nil, take_all, take_more}
 use Rattle.std.proofs.Math.Seq.{drop-cons}
-use Rattle.std.specs.Prelude.{IfErr, IfSome, IsErrAnd}
+use Rattle.std.specs.Prelude.{IsErrAnd}
 use Rattle.mdb_words.specs.declared.event.Event.{Event}
-use Rattle.mdb_words.specs.declared.row.RowFault.{RowFault}
-use Rattle.mdb_words.specs.Row.{IsRow}
 use Rattle.mdb_bus.specs.declared.act.Act.{Act}
 use Rattle.mdb_bus.specs.declared.bus.Bus.{Bus}
 use Rattle.mdb_bus.specs.declared.fault.LinkFault.{LinkFault}
@@ -13,23 +11,13 @@ use Rattle.mdb_bus.specs.Acts.{NamesAReply}
 use Rattle.mdb_bus.specs.ActLists.{Piece, Whole, ArePieces, events_of, piece_events}
 use Rattle.mdb_bus.specs.Bus.{GoesOn, StandsFor}
 use Rattle.mdb_bus.specs.LinkFaults.{IsLinkFault}
-use Rattle.mdb_records.specs.declared.ReadFault.{ReadFault}
-use Rattle.mdb_records.specs.declared.ReadFault.TheVariants as reading
-use Rattle.mdb_records.specs.declared.Records.{Records}
-use Rattle.mdb_records.specs.ToCome.{ToCome}
-use Rattle.mdb_follow.specs.declared.follower.TheConstants.{ROWS_MAX}
-use Rattle.mdb_check.specs.declared.batch.Next.{Next}
-use Rattle.mdb_check.specs.declared.batch.Next.TheVariants as next
 use Rattle.mdb_check.specs.declared.outcome.RunFault.{RunFault}
 use Rattle.mdb_check.specs.declared.outcome.RunFault.TheVariants.{BadRow, TooLong, Read, Write, Memory}
 use Rattle.mdb_check.specs.declared.showing.Lines.{Lines}
-use Rattle.mdb_check.specs.Batch.{FitsIn, HasRead}
-use Rattle.mdb_check.specs.Show.{AreShown, IsShowing, IsShownInPart, IsShownToFault, IsShownWhole}
-use Rattle.mdb_check.specs.ShowSteps.{HasAdded, HasPieces, HasShown, IsAdded, IsAddedInPart, IsAddedToFault, IsNotTaken, IsShownAs, LeadInto, Output, Puts, PutsShowing, cut_text, ended_text}
+use Rattle.mdb_check.specs.ShowSteps.{HasAdded, HasPieces, HasShown, IsAdded, IsAddedToFault, IsNotTaken, LeadInto, Output, Puts, ended_text}
 use Rattle.mdb_check.specs.ShowText.{closed_pieces, fault_line, show_text}
-use Rattle.mdb_check.specs.Verdict.{AreRows, run_fault_of}
-use Rattle.mdb_check.proofs.ShowTexts.{all_shown, ends_act, goes_on_closed, whole_of}
-use Rattle.mdb_check.proofs.Outputs.{break_both, put_both, put_none}
+use Rattle.mdb_check.proofs.ShowTexts.{ends_act, goes_on_closed, whole_of}
+use Rattle.mdb_check.proofs.Outputs.{break_both, put_both}
 
 -- The lines of some rows.
 

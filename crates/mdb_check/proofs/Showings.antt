@@ -1,10 +1,10 @@
 -- What the showing is, by how the reading of rows ended.
-use Rattle.std.proofs.Common.{arith, refl, ap, sym, subst, inl, inr, ◌∙◌, ◌≡◌, ◌+◌, ◌<◌, ◌≤◌, ℕ, List, [], ◌∷◌, ◌++◌, Option, Some, None, Result, Ok, Err, length, length-append, append_assoc}
+use Rattle.std.proofs.Common.{arith, refl, ap, sym, subst, inl, inr, ◌∙◌, ◌≡◌, ◌+◌, ◌≤◌, ℕ, List, [], ◌∷◌, ◌++◌, Option, Some, None, Result, Ok, Err, length, length-append, append_assoc}
 use Rattle.std.specs.Prelude.{IsErrAnd}
 use Rattle.std.specs.Result.{result_transpose}
 use Rattle.mdb_words.specs.declared.event.Event.{Event}
 use Rattle.mdb_bus.specs.declared.fault.LinkFault.{LinkFault}
-use Rattle.mdb_bus.specs.ActLists.{Piece, events_of}
+use Rattle.mdb_bus.specs.ActLists.{events_of}
 use Rattle.mdb_bus.specs.Bus.{StandsFor}
 use Rattle.mdb_follow.specs.declared.follower.TheConstants.{ROWS_MAX}
 use Rattle.mdb_check.specs.declared.outcome.RunFault.{RunFault}
@@ -94,12 +94,15 @@ untaken all lines before now later ended TooLong not_taken = absurd not_taken
 untaken all lines before now later ended Read not_taken = absurd not_taken
 untaken all lines before now later ended Write not_taken =
     let text : List ℕ = show_text (closed_pieces ended.has.pieces) in
-    inr (refl, record {
-      answer = Ok None;
-      text = text ++ cut_text lines.shown lines.rows;
-      showing = whole_showing all lines before now ended;
-      broken = break_both before now later text (cut_text lines.shown lines.rows) ended.has.written not_taken;
-    })
+    inr (
+      refl,
+      record {
+        answer = Ok None;
+        text = text ++ cut_text lines.shown lines.rows;
+        showing = whole_showing all lines before now ended;
+        broken = break_both before now later text (cut_text lines.shown lines.rows) ended.has.written not_taken;
+      },
+    )
 untaken all lines before now later ended Memory not_taken =
     let P : Output → Type 0 = λ bytes. PutsShowing all before bytes (Err Memory) in
     let shown : AreShown all ended.has.pieces [] = shown_of all ended.rows [] lines before now ended.has ended.read in

@@ -1,5 +1,5 @@
 -- What the verdict is, by how the reading of rows ended.
-use Rattle.std.proofs.Common.{arith, ap, sym, subst, ◌∙◌, ◌≡◌, ◌+◌, ◌<◌, ◌≤◌, ℕ, List, [], ◌∷◌, ◌++◌, Option, Some, None, Result, Ok, Err, length, length-append, append_assoc}
+use Rattle.std.proofs.Common.{arith, ap, sym, subst, ◌∙◌, ◌≡◌, ◌+◌, ℕ, List, ◌∷◌, ◌++◌, Option, Result, Ok, Err, length, length-append, append_assoc}
 use Rattle.std.proofs.lemmas.List.{append-nil}
 use Rattle.std.specs.Prelude.{IfErr, IfOk, IsErrAnd}
 use Rattle.std.specs.Result.{result_err}
@@ -15,7 +15,7 @@ use Rattle.mdb_check.specs.declared.outcome.Outcome.TheVariants.{Yes, No}
 use Rattle.mdb_check.specs.declared.outcome.RunFault.{RunFault}
 use Rattle.mdb_check.specs.declared.outcome.RunFault.TheVariants.{BadRow, TooLong, Read, Write, Memory}
 use Rattle.mdb_check.specs.Ending.{AreRead, HasEnded, HasFollowed, HasTaken, IsStopped, IsTakenWhole}
-use Rattle.mdb_check.specs.Verdict.{AreRows, IsAnswer, IsImpossible, IsYes, LeadUpTo}
+use Rattle.mdb_check.specs.Verdict.{AreRows, IsAnswer, IsImpossible, IsYes}
 use Rattle.mdb_check.proofs.Rows.{IsReadUpTo, read_up_to}
 
 -- what a follower stands for is reached

@@ -1,4 +1,4 @@
-use Rattle.std.proofs.Common.{arith, subst, ◌∙◌, ◌≡◌, ◌-◌, List}
+use Rattle.std.proofs.Common.{arith, subst, ◌∙◌, ◌≡◌, ◌-◌}
 use Rattle.mdb_check.specs.declared.batch.Next.TheVariants as next
 use Rattle.mdb_check.specs.Batch.{GoesOnOver, IsMet}
 use Rattle.mdb_records.specs.ToCome.{fault_of}
@@ -37,8 +37,15 @@ returns-then-not-branch-clause-ended g c all to_come =
     (g.met.T.TakeRows.counts c.loop-batch.taker c.args.out.now c.loop-batch.out) (g.met.T.TakeRows.counts c.take_all.new.self c.args.out.now c.take_all.new.out) in
     endings.whole g.R.Read.remaining (g.T.TakeRows.has c.take_all.new.self c.args.out.now c.take_all.new.out) c.args.limit all c.args.records.now c.refill-next.new.records c.refill-next.result behind.progress to_come
     (endings.is_end c.refill-next.result c.rows-in-loop-batch-2.result c.goes_on.result c.in_ok-goes_on.field-0 c.goes_on.ensures c.in_ok-goes_on.was c.if-not-branch.true)
-    (omega (arith, c.loop-batch-test.true, c.rows.ensures, c.rows-in-loop-batch.ensures, behind.counted, behind.number,
-    fits (c.args.limit - c.rows-in-loop-batch.result) c.refill-next.new.self c.refill-next.result c.refill-next.ensures.fits))
+    (omega (
+      arith,
+      c.loop-batch-test.true,
+      c.rows.ensures,
+      c.rows-in-loop-batch.ensures,
+      behind.counted,
+      behind.number,
+      fits (c.args.limit - c.rows-in-loop-batch.result) c.refill-next.new.self c.refill-next.result c.refill-next.ensures.fits,
+    ))
 
 pub loop-batch-preserved : goal.loop-batch-preserved
 loop-batch-preserved g c =
@@ -52,8 +59,14 @@ loop-batch-preserved g c =
       progress = subst (λ n. Progress g.R.Read.remaining (g.T.TakeRows.has c.take_all.new.self c.args.out.now c.take_all.new.out) c.args.records.now c.refill-next.new.records n) more behind.progress;
       over = λ over. subst (λ n. GoesOnOver g.R.Read.remaining c.refill-next.new.records n) more (c.refill-next.ensures.over (c.loop-batch.invariant.over over));
       met = λ none. subst (λ n. IsMet n (fault_of c.refill-next.new.records)) more (c.refill-next.ensures.met (c.loop-batch.invariant.met none));
-      few = omega (arith, c.loop-batch-test.true, c.rows.ensures, c.rows-in-loop-batch.ensures, behind.counted,
-          fits (c.args.limit - c.rows-in-loop-batch.result) c.refill-next.new.self c.refill-next.result c.refill-next.ensures.fits);
+      few = omega (
+        arith,
+        c.loop-batch-test.true,
+        c.rows.ensures,
+        c.rows-in-loop-batch.ensures,
+        behind.counted,
+        fits (c.args.limit - c.rows-in-loop-batch.result) c.refill-next.new.self c.refill-next.result c.refill-next.ensures.fits,
+      );
     }
 
 pub returns-in_err-end_behind-clause-ended : goal.returns-in_err-end_behind-clause-ended

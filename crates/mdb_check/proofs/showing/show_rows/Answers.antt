@@ -1,4 +1,4 @@
-use Rattle.std.proofs.Common.{subst, Some, Ok, Option, Result}
+use Rattle.std.proofs.Common.{subst, Ok, Option, Result}
 use Rattle.mdb_bus.specs.declared.fault.LinkFault.{LinkFault}
 use Rattle.mdb_follow.specs.declared.follower.TheConstants.{ROWS_MAX}
 use Rattle.mdb_check.specs.declared.outcome.RunFault.{RunFault}

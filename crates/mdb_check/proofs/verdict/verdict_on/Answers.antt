@@ -1,4 +1,4 @@
-use Rattle.std.proofs.Common.{◌∙◌, subst, ◌≡◌, List, Some, None, Ok, Err, Option, Result}
+use Rattle.std.proofs.Common.{subst, Ok, Option, Result}
 use Rattle.mdb_follow.specs.declared.offence.Offence.{Offence}
 use Rattle.mdb_follow.specs.Offences.{HasOffence}
 use Rattle.mdb_check.specs.declared.outcome.RunFault.{RunFault}
