@@ -17,7 +17,7 @@ use std::io::Read;
 /// goes to an `O`.
 pub(crate) trait TakeRows<O> {
     /// Why it stops at a row.
-    type Stop;
+    type Stop: Drop;
 
     /// How many rows it has taken.
     ghost count: { Self → ℕ };
