@@ -3,11 +3,10 @@
 //! in it, and each `assert_eq!`, and each entry of a table that is a constant or made in the test,
 //! cost it seconds.
 
-use super::streams::words_of;
+use super::streams::{Pieces, words_of};
 use mdb_check::{LinkFault, Outcome, RunFault, check, run, show};
 use std::alloc::Global;
 use std::fmt::Debug;
-use std::io::Read;
 use std::process::Abort;
 
 /// Ends the test where two values differ, and tells both.
@@ -26,11 +25,11 @@ pub(crate) fn same_at<T: PartialEq + Debug + Copy, C: Debug + Copy>(
 }
 
 /// Ends the test where `check` has another answer, or writes something else.
-pub(crate) fn check_gives<R: Read + Drop>(
+pub(crate) fn check_gives(
     rt: &impl Abort,
     alloc: Global,
     case: &str,
-    reader: R,
+    reader: &mut Pieces,
     wanted: (Result<Outcome, RunFault>, &[u8]),
 ) {
     let mut out = Vec::new(alloc);
@@ -39,11 +38,11 @@ pub(crate) fn check_gives<R: Read + Drop>(
 }
 
 /// Ends the test where `show` has another answer, or writes something else.
-pub(crate) fn show_gives<R: Read + Drop>(
+pub(crate) fn show_gives(
     rt: &impl Abort,
     alloc: Global,
     case: &str,
-    reader: R,
+    reader: &mut Pieces,
     wanted: (Result<Option<LinkFault>, RunFault>, &[u8]),
 ) {
     let mut out = Vec::new(alloc);
@@ -53,11 +52,11 @@ pub(crate) fn show_gives<R: Read + Drop>(
 
 /// Ends the test where the program has another status on a command line, or writes something else
 /// to standard output or to standard error.
-pub(crate) fn run_gives<R: Read + Drop>(
+pub(crate) fn run_gives(
     rt: &impl Abort,
     alloc: Global,
-    words: &[&str],
-    reader: R,
+    words: &str,
+    reader: &mut Pieces,
     wanted: (u8, &[u8], &[u8]),
 ) {
     let list = words_of(alloc, words).expect(rt, "memory");

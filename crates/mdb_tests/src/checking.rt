@@ -21,11 +21,15 @@ silences changer 0 bill 0 cashless 0 cashless-2 0\n";
 /// The report on `WRONG_SUM`.
 pub(crate) const WRONG_SUM_REPORT: &[u8] = b"verdict no\nrow 7\nrule Sum\nblame changer\n";
 
-/// The number of rows of a yes.
-pub(crate) fn rows_of(answer: Result<Outcome, RunFault>) -> Option<u64> {
+/// An answer: the number of rows of a yes, none for a no, or the fault.
+pub(crate) type Counted = Result<Option<u64>, RunFault>;
+
+/// An answer without the rest of its report or offence.
+pub(crate) fn counted(answer: Result<Outcome, RunFault>) -> Counted {
     match answer {
-        Ok(Outcome::Yes(report)) => Some(report.rows),
-        _ => None,
+        Ok(Outcome::Yes(report)) => Ok(Some(report.rows)),
+        Ok(Outcome::No(_)) => Ok(None),
+        Err(fault) => Err(fault),
     }
 }
 
@@ -61,12 +65,11 @@ static ENDS: [(&str, &[u8], Result<Offence, RunFault>, &[u8]); 2] = [
 ];
 
 #[test]
-fn answers_yes_and_no_and_refuses_a_bad_row(rt: HostRuntime) {
-    let mut out = Vec::new(rt.alloc());
-    same(&rt, rows_of(check(rt.alloc(), ROWS, &mut out)), Some(8));
-    same(&rt, out.as_slice(), REPORT);
+fn answers_no_and_refuses_a_bad_row(rt: HostRuntime) {
     for (case, text, end, report) in &ENDS {
-        check_gives(&rt, rt.alloc(), *case, *text, (ended(end), *report));
+        let mut reader = Pieces::new(*text, usize::MAX);
+        let wanted = (ended(end), *report);
+        check_gives(&rt, rt.alloc(), *case, &mut reader, wanted);
     }
 }
 
@@ -131,17 +134,20 @@ fn follows_a_long_recording_to_its_end(rt: HostRuntime) {
     let text = polls(rt.alloc(), POLLS).expect(&rt, "memory");
     let mut out = Vec::new(rt.alloc());
     let answer = check(rt.alloc(), text.as_slice(), &mut out);
-    same(&rt, rows_of(answer), Some(3 * POLLS));
+    same(&rt, counted(answer), Ok(Some(3 * POLLS)));
 }
 
-/// Recordings with a verdict, and the reports.
-static VERDICTS: [(&[u8], &[u8]); 2] = [(ROWS, REPORT), (WRONG_SUM, WRONG_SUM_REPORT)];
+/// Recordings with a verdict, the rows of the yes, and the reports.
+static VERDICTS: [(&[u8], Option<u64>, &[u8]); 2] = [
+    (ROWS, Some(8), REPORT),
+    (WRONG_SUM, None, WRONG_SUM_REPORT),
+];
 
 #[test]
-fn a_report_is_one_write(rt: HostRuntime) {
-    for (rows, report) in &VERDICTS {
+fn answers_yes_and_no_by_a_report_in_one_write(rt: HostRuntime) {
+    for (text, rows, report) in &VERDICTS {
         let mut out = Sheet::whole(rt.alloc());
-        assert!(rt; check(rt.alloc(), *rows, &mut out).is_ok());
+        same(&rt, counted(check(rt.alloc(), *text, &mut out)), Ok(*rows));
         same(&rt, (out.text.as_slice(), out.writes), (*report, 1));
     }
 }

@@ -1,5 +1,6 @@
 //! Reads and writes of `check` and `show` that fail, each in turn, and recordings in small pieces.
 
+use super::asserts::same_at;
 use super::recordings::{Recording, coin_told_twice, recordings, reset_and_poll};
 use super::streams::{CALLS, Pieces, Sheet};
 use mdb_check::{Outcome, RunFault, check, show};
@@ -7,8 +8,8 @@ use std::alloc::Global;
 use std::io::ErrorKind;
 use std::process::Abort;
 
-/// What is run.
-#[derive(Clone, Copy, PartialEq, Debug)]
+/// A command of the program.
+#[derive(Clone, Copy, PartialEq)]
 enum Task {
     Check,
     Show,
@@ -125,15 +126,15 @@ fn fail_each(alloc: Global, recording: &Recording, task: Task, calls: Calls) -> 
     Err(CALLS)
 }
 
+/// What is run.
+static TASKS: [Task; 2] = [Task::Check, Task::Show];
+
 /// Ends the test where a call isn't told, or none fails.
 fn are_told(rt: &impl Abort, alloc: Global, recording: &Recording, calls: Calls) {
-    for task in [Task::Check, Task::Show] {
-        let failed = fail_each(alloc, recording, task, calls);
-        assert!(rt;
-            matches!(failed, Ok(1..)),
-            "{task:?} {}: {failed:?}",
-            recording.name
-        );
+    for task in &TASKS {
+        let failed = fail_each(alloc, recording, *task, calls);
+        let is_well = matches!(failed, Ok(1..));
+        same_at(rt, (recording.name, failed), is_well, true);
     }
 }
 
@@ -155,15 +156,25 @@ fn each_failed_read_and_write_is_told(rt: HostRuntime) {
     }
 }
 
+/// Whether a recording has a yes.
+fn is_yes(alloc: Global, rows: &[u8]) -> bool {
+    let answer = check(alloc, rows, &mut Vec::new(alloc));
+    matches!(answer, Ok(Outcome::Yes(_)))
+}
+
 /// Ends the test where `check` or `show` makes something else of a recording, which has a yes, in
 /// pieces of so many bytes.
 fn pieces_give_the_same(rt: &impl Abort, alloc: Global, recording: &Recording, most: usize) {
-    let plain = check(alloc, recording.rows, &mut Vec::new(alloc));
-    assert!(rt; matches!(plain, Ok(Outcome::Yes(_))), "{}", recording.name);
-    let calls = Calls::Reads(most, ErrorKind::Other);
-    for task in [Task::Check, Task::Show] {
-        let ran = fail_one(alloc, recording, task, calls, 0);
-        assert!(rt; ran.is_as_wanted, "{task:?} {}, {most}", recording.name);
+    same_at(rt, recording.name, is_yes(alloc, recording.rows), true);
+    for task in &TASKS {
+        let ran = fail_one(
+            alloc,
+            recording,
+            *task,
+            Calls::Reads(most, ErrorKind::Other),
+            0,
+        );
+        same_at(rt, (recording.name, most), ran.is_as_wanted, true);
     }
 }
 

@@ -1,7 +1,7 @@
 //! Limits that a caller sets on rows and bytes.
 
 use super::asserts::{same, same_at};
-use super::checking::{ended, rows_of};
+use super::checking::{Counted, counted, ended};
 use super::streams::{ROWS, WRONG_SUM, polls};
 use mdb_check::{
     BYTES_MAX, Blame, Offence, Outcome, ROWS_MAX, Rule, RunFault, check, check_within,
@@ -39,7 +39,7 @@ static YES: [(&[u8], u64, u64, u64); 8] = [
 fn as_many_rows_and_bytes_as_are_allowed(rt: HostRuntime) {
     for (text, rows, bytes, wanted) in &YES {
         let answer = within(rt.alloc(), *text, *rows, *bytes);
-        same_at(&rt, (*rows, *bytes), rows_of(answer), Some(*wanted));
+        same_at(&rt, (*rows, *bytes), counted(answer), Ok(Some(*wanted)));
         same(
             &rt,
             answer,
@@ -114,17 +114,29 @@ fn what_comes_first_ends_the_reading(rt: HostRuntime) {
     }
 }
 
-/// Rows are read by batches, and a limit may fall anywhere in one.
+/// Limits on the rows of these polls, and what is answered within each: rows are read by batches, and
+/// a limit may fall anywhere in one.
+static BATCHES: [(u64, Counted); 12] = [
+    (1, Err(RunFault::TooLong)),
+    (127, Err(RunFault::TooLong)),
+    (128, Err(RunFault::TooLong)),
+    (129, Err(RunFault::TooLong)),
+    (255, Err(RunFault::TooLong)),
+    (256, Err(RunFault::TooLong)),
+    (257, Err(RunFault::TooLong)),
+    (298, Err(RunFault::TooLong)),
+    (299, Err(RunFault::TooLong)),
+    (300, Ok(Some(300))),
+    (301, Ok(Some(300))),
+    (ROWS_MAX, Ok(Some(300))),
+];
+
 #[test]
 fn limits_of_many_rows(rt: HostRuntime) {
     let text = polls(rt.alloc(), LIMITED_POLLS).expect(&rt, "memory");
-    for rows in [1, 127, 128, 129, 255, 256, 257, 298, 299] {
-        let answer = within(rt.alloc(), text.as_slice(), rows, BYTES_MAX);
-        same_at(&rt, rows, answer, Err(RunFault::TooLong));
-    }
-    for rows in [300, 301, ROWS_MAX] {
-        let answer = within(rt.alloc(), text.as_slice(), rows, BYTES_MAX);
-        same_at(&rt, rows, rows_of(answer), Some(300));
+    for (rows, wanted) in &BATCHES {
+        let answer = within(rt.alloc(), text.as_slice(), *rows, BYTES_MAX);
+        same_at(&rt, *rows, counted(answer), *wanted);
     }
 }
 

@@ -1,7 +1,7 @@
 //! The program's command lines: statuses, what is written, and what is told of faults and of other
 //! words.
 
-use super::asserts::{run_gives, same, same_at};
+use super::asserts::{run_gives, same_at};
 use super::checking::{REPORT, WRONG_SUM_REPORT};
 use super::showing::{ACTS, WRONG_SUM_ACTS};
 use super::streams::{Pieces, ROWS, Sheet, WRONG_SUM, words_of};
@@ -13,16 +13,16 @@ use std::process::Abort;
 /// A command line, the text that it is about, and the status, standard output and standard error
 /// that are wanted.
 type Run = (
-    &'static [&'static str],
+    &'static str,
     &'static [u8],
     (u8, &'static [u8], &'static [u8]),
 );
 
 /// The command line that asks for a verdict.
-const CHECK: [&str; 2] = ["mdbcheck", "check"];
+const CHECK: &str = "mdbcheck check";
 
 /// The command line that asks for the acts.
-const SHOW: [&str; 2] = ["mdbcheck", "show"];
+const SHOW: &str = "mdbcheck show";
 
 /// What is told of a command line that asks for help.
 const USAGE: &[u8] = b"usage: mdbcheck check|show < TRANSCRIPT\n";
@@ -45,13 +45,13 @@ const VERSION: &[u8] = b"mdbcheck 0.1.0\n";
 /// Runs of the program.
 static RUNS: [Run; 28] = [
     // Recordings with a verdict.
-    (&CHECK, ROWS, (0, REPORT, b"")),
-    (&CHECK, WRONG_SUM, (1, WRONG_SUM_REPORT, b"")),
+    (CHECK, ROWS, (0, REPORT, b"")),
+    (CHECK, WRONG_SUM, (1, WRONG_SUM_REPORT, b"")),
     // Recordings that are shown.
-    (&SHOW, ROWS, (0, ACTS, b"")),
-    (&SHOW, WRONG_SUM, (1, WRONG_SUM_ACTS, b"")),
+    (SHOW, ROWS, (0, ACTS, b"")),
+    (SHOW, WRONG_SUM, (1, WRONG_SUM_ACTS, b"")),
     (
-        &SHOW,
+        SHOW,
         b"1000,B,100000\n12,M,200\n",
         (
             2,
@@ -61,7 +61,7 @@ static RUNS: [Run; 28] = [
     ),
     // Texts with a record that is no row, of which its number and each of the reasons is told.
     (
-        &CHECK,
+        CHECK,
         b"12,M\n",
         (
             2,
@@ -70,7 +70,7 @@ static RUNS: [Run; 28] = [
         ),
     ),
     (
-        &CHECK,
+        CHECK,
         b"1000,M,108\nx,M,108\n",
         (
             2,
@@ -79,7 +79,7 @@ static RUNS: [Run; 28] = [
         ),
     ),
     (
-        &CHECK,
+        CHECK,
         b"12,m,108\n",
         (
             2,
@@ -88,7 +88,7 @@ static RUNS: [Run; 28] = [
         ),
     ),
     (
-        &CHECK,
+        CHECK,
         b"12,M,200\n",
         (
             2,
@@ -98,7 +98,7 @@ static RUNS: [Run; 28] = [
         ),
     ),
     (
-        &CHECK,
+        CHECK,
         b"1000,M,108\n2200,M,008\n4200,B,x\n",
         (
             2,
@@ -108,7 +108,7 @@ static RUNS: [Run; 28] = [
         ),
     ),
     (
-        &CHECK,
+        CHECK,
         b"\"a\"\"b\",\\,\x1F~\x7F\n",
         (
             2,
@@ -118,7 +118,7 @@ static RUNS: [Run; 28] = [
         ),
     ),
     (
-        &CHECK,
+        CHECK,
         b"0123456789012345678901234567890123456789,,1234567\n",
         (
             2,
@@ -128,7 +128,7 @@ static RUNS: [Run; 28] = [
         ),
     ),
     (
-        &CHECK,
+        CHECK,
         b"0123456789012345678901234567890123456789,,123456\n",
         (
             2,
@@ -138,7 +138,7 @@ static RUNS: [Run; 28] = [
         ),
     ),
     (
-        &CHECK,
+        CHECK,
         b",,,,,,,,,,,,,,,,,,,,,,,,,,,,,,,,,,,,,,,,,,,,,,,,,,,,,,,,\n",
         (
             2,
@@ -148,7 +148,7 @@ static RUNS: [Run; 28] = [
         ),
     ),
     (
-        &CHECK,
+        CHECK,
         b",,,,,,,,,,,,,,,,,,,,,,,,,,,,,,,,,,,,,,,,,,,,,,,,\n",
         (
             2,
@@ -158,7 +158,7 @@ static RUNS: [Run; 28] = [
         ),
     ),
     (
-        &CHECK,
+        CHECK,
         b"0123456789012345678901234567890123456789,,12345\x7F\n",
         (
             2,
@@ -168,7 +168,7 @@ static RUNS: [Run; 28] = [
         ),
     ),
     (
-        &CHECK,
+        CHECK,
         b"0123456789012345678901234567890123456789,1234567,\n",
         (
             2,
@@ -178,23 +178,24 @@ static RUNS: [Run; 28] = [
         ),
     ),
     // Command lines that ask for no verdict, each with its line on standard error.
-    (&[], ROWS, (2, b"", NO_COMMAND)),
-    (&["mdbcheck"], ROWS, (2, b"", NO_COMMAND)),
-    (&["mdbcheck", "frobnicate"], ROWS, (2, b"", UNKNOWN)),
-    (&["mdbcheck", "check", "extra"], ROWS, (2, b"", UNEXPECTED)),
-    (&["mdbcheck", "check", "--all"], ROWS, (2, b"", UNEXPECTED)),
-    (&["mdbcheck", "--help"], ROWS, (2, b"", USAGE)),
-    (&["mdbcheck", "help"], ROWS, (2, b"", USAGE)),
-    (&["mdbcheck", "--version"], ROWS, (2, b"", VERSION)),
-    (&["mdbcheck", "check", "--help"], ROWS, (2, b"", USAGE)),
-    (&["mdbcheck", "show", "extra"], ROWS, (2, b"", UNEXPECTED)),
-    (&["mdbcheck", "show", "--help"], ROWS, (2, b"", USAGE)),
+    ("", ROWS, (2, b"", NO_COMMAND)),
+    ("mdbcheck", ROWS, (2, b"", NO_COMMAND)),
+    ("mdbcheck frobnicate", ROWS, (2, b"", UNKNOWN)),
+    ("mdbcheck check extra", ROWS, (2, b"", UNEXPECTED)),
+    ("mdbcheck check --all", ROWS, (2, b"", UNEXPECTED)),
+    ("mdbcheck --help", ROWS, (2, b"", USAGE)),
+    ("mdbcheck help", ROWS, (2, b"", USAGE)),
+    ("mdbcheck --version", ROWS, (2, b"", VERSION)),
+    ("mdbcheck check --help", ROWS, (2, b"", USAGE)),
+    ("mdbcheck show extra", ROWS, (2, b"", UNEXPECTED)),
+    ("mdbcheck show --help", ROWS, (2, b"", USAGE)),
 ];
 
 #[test]
 fn runs_have_their_status_and_their_texts(rt: HostRuntime) {
     for (words, text, wanted) in &RUNS {
-        run_gives(&rt, rt.alloc(), *words, *text, *wanted);
+        let mut reader = Pieces::new(*text, usize::MAX);
+        run_gives(&rt, rt.alloc(), *words, &mut reader, *wanted);
     }
 }
 
@@ -213,8 +214,8 @@ static FAILED_READS: [(ErrorKind, &[u8]); 2] = [
 #[test]
 fn failed_reads_are_told_on_one_line(rt: HostRuntime) {
     for (kind, line) in &FAILED_READS {
-        let reader = Pieces::failing(ROWS, 7, 2, *kind);
-        run_gives(&rt, rt.alloc(), &CHECK, reader, (2, b"", *line));
+        let mut reader = Pieces::failing(ROWS, 7, 2, *kind);
+        run_gives(&rt, rt.alloc(), CHECK, &mut reader, (2, b"", *line));
     }
 }
 
@@ -226,11 +227,11 @@ const BAD_ROW: &[u8] = b"12,M,200\n";
 
 /// Command lines and texts, whether the first write to standard output fails, or that to standard
 /// error, and what is told.
-static FAILED_WRITES: [(&[&str], &[u8], bool, &[u8]); 4] = [
-    (&CHECK, ROWS, true, NOT_WRITTEN),
-    (&SHOW, ROWS, true, NOT_WRITTEN),
-    (&CHECK, BAD_ROW, false, b""),
-    (&["mdbcheck", "frobnicate"], BAD_ROW, false, b""),
+static FAILED_WRITES: [(&str, &[u8], bool, &[u8]); 4] = [
+    (CHECK, ROWS, true, NOT_WRITTEN),
+    (SHOW, ROWS, true, NOT_WRITTEN),
+    (CHECK, BAD_ROW, false, b""),
+    ("mdbcheck frobnicate", BAD_ROW, false, b""),
 ];
 
 /// Ends the test where a run whose output, or whose line, isn't taken has another status than 2, or
@@ -238,18 +239,19 @@ static FAILED_WRITES: [(&[&str], &[u8], bool, &[u8]); 4] = [
 fn fails_to_write(
     rt: &impl Abort,
     alloc: Global,
-    words: &[&str],
+    words: &str,
     text: &[u8],
     (is_output, told): (bool, &[u8]),
 ) {
     let list = words_of(alloc, words).expect(rt, "memory");
     let mut out = Sheet::failing(alloc, u64::from(is_output));
     let mut err = Sheet::failing(alloc, u64::from(!is_output));
-    same_at(rt, words, run(alloc, list, text, &mut out, &mut err), 2);
+    let status = run(alloc, list, text, &mut out, &mut err);
     let failed = (out.has_failed(), err.has_failed());
-    same_at(rt, words, failed, (is_output, !is_output));
-    assert!(rt; out.text.is_empty());
-    same(rt, err.text.as_slice(), told);
+    same_at(rt, words, (status, failed), (2, (is_output, !is_output)));
+    let nothing: &[u8] = b"";
+    let written = (out.text.as_slice(), err.text.as_slice());
+    same_at(rt, words, written, (nothing, told));
 }
 
 #[test]

@@ -66,11 +66,7 @@ fn gives_each_row_and_no_end_of_a_longer_text(rt: HostRuntime) {
 }
 
 /// How a reading ends, why, and whether a further call says the same.
-fn ending(alloc: Global, reader: Pieces, limit: u64) -> (Result<bool, ReadFault>, ReadCause, bool) {
-    ending_of(&mut Records::new(alloc, reader, limit))
-}
-
-fn ending_of(records: &mut Records<Pieces>) -> (Result<bool, ReadFault>, ReadCause, bool) {
+fn ending(records: &mut Records<Pieces>) -> (Result<bool, ReadFault>, ReadCause, bool) {
     let (_, end) = count_rows(records, ROWS);
     let cause = records.cause();
     let again = records.advance();
@@ -90,29 +86,29 @@ static CAUSES: [(ErrorKind, ReadCause); 3] = [
 /// The limits that the text is longer than.
 static TOO_LOW: [u64; 2] = [7, 0];
 
+/// Ends the test where the reading of the text under a limit ends otherwise than by a fault, for
+/// another reason, or another time otherwise.
+fn fails_by(rt: &impl Abort, alloc: Global, reader: Pieces, limit: u64, cause: ReadCause) {
+    let found = ending(&mut Records::new(alloc, reader, limit));
+    same(rt, found, (Err(ReadFault::Read), cause, true));
+}
+
 #[test]
 fn tells_why_a_reading_ended(rt: HostRuntime) {
     // The fault comes with each read in turn, before the text's end and at it.
     for read in 1..5 {
         for (kind, cause) in &CAUSES {
             let reader = Pieces::failing(EIGHT_BYTES, 3, read, *kind);
-            let wanted = (Err(ReadFault::Read), *cause, true);
-            same(&rt, ending(rt.alloc(), reader, 8), wanted);
+            fails_by(&rt, rt.alloc(), reader, 8, *cause);
         }
     }
-    for limit in TOO_LOW {
-        let found = ending(rt.alloc(), Pieces::new(EIGHT_BYTES, 3), limit);
-        same(
-            &rt,
-            found,
-            (Err(ReadFault::Read), ReadCause::OverLimit, true),
-        );
+    for limit in &TOO_LOW {
+        let reader = Pieces::new(EIGHT_BYTES, 3);
+        fails_by(&rt, rt.alloc(), reader, *limit, ReadCause::OverLimit);
     }
-    same(
-        &rt,
-        ending(rt.alloc(), Pieces::new(EIGHT_BYTES, 3), 8).0,
-        Ok(false),
-    );
+    let reader = Pieces::new(EIGHT_BYTES, 3);
+    let (_, end) = count_rows(&mut Records::new(rt.alloc(), reader, 8), ROWS);
+    same(&rt, end, Ok(false));
 }
 
 /// Two records, and the fields of the second, with none after them.
@@ -146,27 +142,26 @@ fn long_lines(alloc: Global, lines: u64) -> Result<Vec<u8>, AllocError> {
 /// The bytes of 1,500 long lines.
 const LONG_BYTES: u64 = 1_500 * 1_024;
 
-/// Ends the test where other than so many records are given, or not all bytes are taken.
+/// Ends the test where other than so many records of a text are given under a limit on its bytes, or
+/// not all bytes of 1,500 long lines are taken. Answers why the reading ended.
 fn is_counted(
     rt: &impl Abort,
-    records: &mut Records<&[u8]>,
+    alloc: Global,
+    (text, limit): (&[u8], u64),
     wanted: (u64, Result<bool, ReadFault>),
-) {
-    same(rt, count_rows(records, 2_000), wanted);
+) -> ReadCause {
+    let mut records = Records::new(alloc, text, limit);
+    same(rt, count_rows(&mut records, 2_000), wanted);
     same(rt, records.taken(), LONG_BYTES);
-}
-
-/// Ends the test where the limit isn't told as what ends the reading of a text with a byte too many.
-fn is_over_limit(rt: &impl Abort, records: &mut Records<&[u8]>) {
-    is_counted(rt, records, (1_499, Err(ReadFault::Read)));
-    same(rt, records.cause(), ReadCause::OverLimit);
+    records.cause()
 }
 
 #[test]
 fn a_long_text_is_read_to_its_end(rt: HostRuntime) {
     let text = long_lines(rt.alloc(), 1_500).expect(&rt, "memory");
     let text = text.as_slice();
-    let whole = (1_500, Ok(false));
-    is_counted(&rt, &mut Records::new(rt.alloc(), text, LONG_BYTES), whole);
-    is_over_limit(&rt, &mut Records::new(rt.alloc(), text, LONG_BYTES - 1));
+    is_counted(&rt, rt.alloc(), (text, LONG_BYTES), (1_500, Ok(false)));
+    let end = (1_499, Err(ReadFault::Read));
+    let cause = is_counted(&rt, rt.alloc(), (text, LONG_BYTES - 1), end);
+    same(&rt, cause, ReadCause::OverLimit);
 }

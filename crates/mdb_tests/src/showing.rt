@@ -7,6 +7,7 @@ use mdb_words::RowFault;
 use std::alloc::Global;
 use std::io;
 use std::io::{ErrorKind, Write};
+use std::process::Abort;
 
 /// The acts of `ROWS`.
 pub(crate) const ACTS: &[u8] = b"1-2 ask changer 08 08\n3-3 ack changer\n4-5 ask changer 0B 0B\n\
@@ -46,7 +47,8 @@ static SHOWN: [(&str, &[u8], Result<Option<LinkFault>, RunFault>, &[u8]); 3] = [
 #[test]
 fn shows_acts_and_a_fault(rt: HostRuntime) {
     for (case, text, answer, lines) in &SHOWN {
-        show_gives(&rt, rt.alloc(), *case, *text, (*answer, *lines));
+        let mut reader = Pieces::new(*text, usize::MAX);
+        show_gives(&rt, rt.alloc(), *case, &mut reader, (*answer, *lines));
     }
 }
 
@@ -68,27 +70,29 @@ fn acts_of_polls(alloc: Global, count: u64) -> io::Result<Vec<u8>> {
     Ok(lines)
 }
 
-/// The lines of a long recording are written while it is read, in pages, and none is lost between
-/// them.
-#[test]
-fn a_long_recording_is_written_in_pages(rt: HostRuntime) {
-    let text = polls(rt.alloc(), POLLS).expect(&rt, "memory");
-    let wanted = acts_of_polls(rt.alloc(), POLLS).expect(&rt, "memory");
-    let mut out = Sheet::whole(rt.alloc());
-    same(&rt, show(rt.alloc(), text.as_slice(), &mut out), Ok(None));
-    assert!(rt; out.text.as_slice() == wanted.as_slice());
+/// Ends the test where the lines of a long recording aren't written while it is read, in pages, or
+/// one is lost between them.
+fn is_written_in_pages(rt: &impl Abort, alloc: Global, text: &[u8], wanted: &[u8]) {
+    let mut out = Sheet::whole(alloc);
+    same(rt, show(alloc, text, &mut out), Ok(None));
+    assert!(rt; out.text.as_slice() == wanted);
     assert!(rt; 10 < out.writes && out.writes < POLLS);
 }
 
-/// What was written before a refused write is the text's first part.
+/// Ends the test where a refused write doesn't end the showing, or what was written before it isn't
+/// the first part of the lines.
+fn ends_by_a_refused_write(rt: &impl Abort, alloc: Global, text: &[u8], wanted: &[u8]) {
+    let mut out = Sheet::failing(alloc, 10_000);
+    same(rt, show(alloc, text, &mut out), Err(RunFault::Write));
+    assert!(rt; wanted.starts_with(out.text.as_slice()));
+}
+
 #[test]
-fn a_refused_write_ends_a_long_recording(rt: HostRuntime) {
+fn a_long_recording_is_written_up_to_a_refused_write(rt: HostRuntime) {
     let text = polls(rt.alloc(), POLLS).expect(&rt, "memory");
     let wanted = acts_of_polls(rt.alloc(), POLLS).expect(&rt, "memory");
-    let mut out = Sheet::failing(rt.alloc(), 10_000);
-    let answer = show(rt.alloc(), text.as_slice(), &mut out);
-    same(&rt, answer, Err(RunFault::Write));
-    assert!(rt; wanted.starts_with(out.text.as_slice()));
+    is_written_in_pages(&rt, rt.alloc(), text.as_slice(), wanted.as_slice());
+    ends_by_a_refused_write(&rt, rt.alloc(), text.as_slice(), wanted.as_slice());
 }
 
 /// The fault of a first row that cannot be.

@@ -222,10 +222,10 @@ impl Write for Sheet {
     }
 }
 
-/// The words of a command line.
-pub(crate) fn words_of(alloc: Global, words: &[&str]) -> Result<Vec<String>, AllocError> {
+/// The words of a command line, which blanks part.
+pub(crate) fn words_of(alloc: Global, line: &str) -> Result<Vec<String>, AllocError> {
     let mut list = Vec::new(alloc);
-    for word in words {
+    for word in line.split_whitespace() {
         list.push(String::from_str(alloc, word)?)?;
     }
     Ok(list)
