@@ -118,20 +118,24 @@ impl<'a> Case<'a> {
             return Ok(false);
         };
         for _ in 0..times {
-            self.add_steps(rows)?;
+            if !self.add_steps(rows)? {
+                return Ok(false);
+            }
         }
         Ok(true)
     }
 
-    /// Adds rows, each so long behind the row before it as the number in front of it says.
-    fn add_steps(&mut self, rows: &str) -> io::Result<()> {
+    /// Adds rows, each so long behind the row before it as the number in front of it says, and
+    /// answers whether each has one.
+    fn add_steps(&mut self, rows: &str) -> io::Result<bool> {
         for row in rows.split(' ') {
-            if let Some((gap, rest)) = split_time(row) {
-                self.time = self.time.saturating_add(gap);
-                writeln!(self.transcript, "{},{rest}", self.time)?;
-            }
+            let Some((gap, rest)) = split_time(row) else {
+                return Ok(false);
+            };
+            self.time = self.time.saturating_add(gap);
+            writeln!(self.transcript, "{},{rest}", self.time)?;
         }
-        Ok(())
+        Ok(true)
     }
 
     /// Runs the case, and answers whether it came out as wanted. Where it didn't, what came is
@@ -152,11 +156,16 @@ impl<'a> Case<'a> {
             && err == self.err.as_str().as_bytes();
         if !is_wanted {
             println!(rt; "{}: status {status}", self.name)?;
-            io::writer(rt).write_all(out)?;
-            io::writer(rt).write_all(err)?;
+            print_both(rt, out, err)?;
         }
         Ok(is_wanted)
     }
+}
+
+/// Prints what a case that differs has written.
+fn print_both(rt: &HostRuntime, out: &[u8], err: &[u8]) -> io::Result<()> {
+    io::writer(rt).write_all(out)?;
+    io::writer(rt).write_all(err)
 }
 
 impl Tally {
@@ -202,12 +211,9 @@ fn says_nothing(line: &str) -> bool {
     line.is_empty() || line.starts_with('#')
 }
 
-/// The number in front of rows, where each of these has a number in front.
+/// The number in front of rows, and these.
 fn split_times(line: &str) -> Option<(u32, &str)> {
     let (times, rows) = line.split_once(' ')?;
-    for row in rows.split(' ') {
-        split_time(row)?;
-    }
     Some((times.parse::<u32>().ok()?, rows))
 }
 
@@ -246,27 +252,42 @@ fn add_text(transcript: &mut Vec<u8>, line: &[u8]) -> Result<(), AllocError> {
 fn run_case(rt: &HostRuntime, file: &str, text: &str, tally: &mut Tally) -> io::Result<()> {
     let (name, lines) = text.split_once('\n').unwrap_or((text, ""));
     let mut case = Case::named(rt.alloc(), name);
+    take_lines(rt, file, &mut case, lines, tally)?;
+    tally.count(case.run(rt)?);
+    Ok(())
+}
+
+/// Gives lines to a case, and prints each that it doesn't take.
+fn take_lines<'a>(
+    rt: &HostRuntime,
+    file: &str,
+    case: &mut Case<'a>,
+    lines: &'a str,
+    tally: &mut Tally,
+) -> io::Result<()> {
     for line in lines.split('\n') {
         if !case.take(line)? {
             tally.tell(rt, file, line)?;
         }
     }
-    tally.count(case.run(rt)?);
     Ok(())
 }
 
-/// Runs the cases of a file, which has one at least, and in front of which no line says anything.
-fn run_file(rt: &HostRuntime, file: &str, tally: &mut Tally) -> io::Result<()> {
-    let text = fs::read_to_string(rt, file)?;
-    let (head, cases) = text
-        .as_str()
-        .split_once(NEXT_CASE)
-        .unwrap_or((text.as_str(), ""));
-    for line in head.split('\n') {
+/// Prints each line in front of the cases of a file that says something.
+fn skip_lines(rt: &HostRuntime, file: &str, lines: &str, tally: &mut Tally) -> io::Result<()> {
+    for line in lines.split('\n') {
         if !says_nothing(line) {
             tally.tell(rt, file, line)?;
         }
     }
+    Ok(())
+}
+
+/// Runs the cases of a file's text, which has one at least, and in front of which no line says
+/// anything.
+fn run_text(rt: &HostRuntime, file: &str, text: &str, tally: &mut Tally) -> io::Result<()> {
+    let (head, cases) = text.split_once(NEXT_CASE).unwrap_or((text, ""));
+    skip_lines(rt, file, head, tally)?;
     for case in cases.split(NEXT_CASE) {
         run_case(rt, file, case, tally)?;
     }
@@ -280,7 +301,8 @@ fn run_files(rt: &HostRuntime) -> io::Result<()> {
         differing: 0,
     };
     for file in &FILES {
-        run_file(rt, *file, &mut tally)?;
+        let text = fs::read_to_string(rt, *file)?;
+        run_text(rt, *file, text.as_str(), &mut tally)?;
     }
     let cases = tally.cases;
     match tally.differing {
