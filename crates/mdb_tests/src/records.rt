@@ -55,13 +55,23 @@ static SECOND_FIELDS: [(&[u8], u64, &[u8], Result<bool, ReadFault>); 3] = [
     (b"1,M\n2,NO", 7, b"M", Err(ReadFault::Read)),
 ];
 
+/// Ends the test where a text under a limit has other second fields, or ends otherwise.
+fn gives_seconds(
+    rt: &impl Abort,
+    records: &mut Records<&[u8]>,
+    alloc: Global,
+    wanted: (&[u8], Result<bool, ReadFault>),
+) {
+    let mut fields = Vec::new(alloc);
+    let end = add_seconds(rt, &mut fields, records);
+    same(rt, (fields.as_slice(), end), wanted);
+}
+
 #[test]
 fn gives_each_row_and_no_end_of_a_longer_text(rt: HostRuntime) {
     for (text, limit, wanted, end) in &SECOND_FIELDS {
-        let mut fields = Vec::new(rt.alloc());
-        let mut records = Records::new(rt.alloc(), *text, *limit);
-        same(&rt, add_seconds(&rt, &mut fields, &mut records), *end);
-        same(&rt, fields.as_slice(), *wanted);
+        let records = &mut Records::new(rt.alloc(), *text, *limit);
+        gives_seconds(&rt, records, rt.alloc(), (*wanted, *end));
     }
 }
 
@@ -93,19 +103,28 @@ fn fails_by(rt: &impl Abort, alloc: Global, reader: Pieces, limit: u64, cause: R
     same(rt, found, (Err(ReadFault::Read), cause, true));
 }
 
+/// The same of a text of which this read fails, for each of the reasons.
+fn fails_at(rt: &impl Abort, alloc: Global, read: u64) {
+    for (kind, cause) in &CAUSES {
+        let reader = Pieces::failing(EIGHT_BYTES, 3, read, *kind);
+        fails_by(rt, alloc, reader, 8, *cause);
+    }
+}
+
 #[test]
 fn tells_why_a_reading_ended(rt: HostRuntime) {
     // The fault comes with each read in turn, before the text's end and at it.
     for read in 1..5 {
-        for (kind, cause) in &CAUSES {
-            let reader = Pieces::failing(EIGHT_BYTES, 3, read, *kind);
-            fails_by(&rt, rt.alloc(), reader, 8, *cause);
-        }
+        fails_at(&rt, rt.alloc(), read);
     }
     for limit in &TOO_LOW {
         let reader = Pieces::new(EIGHT_BYTES, 3);
         fails_by(&rt, rt.alloc(), reader, *limit, ReadCause::OverLimit);
     }
+}
+
+#[test]
+fn a_text_of_as_many_bytes_as_its_limit_ends(rt: HostRuntime) {
     let reader = Pieces::new(EIGHT_BYTES, 3);
     let (_, end) = count_rows(&mut Records::new(rt.alloc(), reader, 8), ROWS);
     same(&rt, end, Ok(false));
