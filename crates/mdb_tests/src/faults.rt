@@ -101,10 +101,10 @@ fn fail_one(alloc: Global, recording: &Recording, task: Task, calls: Calls, numb
     }
 }
 
-/// Lets the first call fail, then the second, and so on up to the run in which none is left to fail.
-/// Each has to be told, after which no less stands written than after the one before it, and the
-/// last run is as any other. Where the last read of `show` fails, all lines are written. Answers how
-/// many failed, or the number of the first run that is otherwise.
+/// Lets the first call fail, then the second, and so on up to the run in which none is left to
+/// fail. Each has to be told, after which no less stands written than after the one before it, and
+/// the last run is as any other. Where the last read of `show` fails, all lines are written.
+/// Answers how many failed, or the number of the first run that is otherwise.
 fn fail_each(alloc: Global, recording: &Recording, task: Task, calls: Calls) -> Result<u64, u64> {
     let mut longest = 0;
     for number in 1..CALLS {

@@ -114,8 +114,8 @@ fn what_comes_first_ends_the_reading(rt: HostRuntime) {
     }
 }
 
-/// Limits on the rows of these polls, and what is answered within each: rows are read by batches, and
-/// a limit may fall anywhere in one.
+/// Limits on the rows of these polls, and what is answered within each: rows are read by batches,
+/// and a limit may fall anywhere in one.
 static BATCHES: [(u64, Counted); 12] = [
     (1, Err(RunFault::TooLong)),
     (127, Err(RunFault::TooLong)),

@@ -161,8 +161,8 @@ fn long_lines(alloc: Global, lines: u64) -> Result<Vec<u8>, AllocError> {
 /// The bytes of 1,500 long lines.
 const LONG_BYTES: u64 = 1_500 * 1_024;
 
-/// Ends the test where other than so many records of a text are given under a limit on its bytes, or
-/// not all bytes of 1,500 long lines are taken. Answers why the reading ended.
+/// Ends the test where other than so many records of a text are given under a limit on its bytes,
+/// or not all bytes of 1,500 long lines are taken. Answers why the reading ended.
 fn is_counted(
     rt: &impl Abort,
     alloc: Global,
