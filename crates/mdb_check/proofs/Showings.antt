@@ -3,6 +3,7 @@ use Rattle.std.proofs.Common.{arith, refl, ap, sym, subst, inl, inr, ◌∙◌, 
 use Rattle.std.specs.Prelude.{IsErrAnd}
 use Rattle.std.specs.Result.{result_transpose}
 use Rattle.mdb_words.specs.declared.event.Event.{Event}
+use Rattle.mdb_words.specs.Row.{IsRefusal, IsRow}
 use Rattle.mdb_bus.specs.declared.fault.LinkFault.{LinkFault}
 use Rattle.mdb_bus.specs.ActLists.{events_of}
 use Rattle.mdb_bus.specs.Bus.{StandsFor}
@@ -17,7 +18,7 @@ use Rattle.mdb_check.specs.ShowSteps.{HasAdded, HasShown, HasStopped, IsAdded, I
 use Rattle.mdb_check.specs.ShowText.{closed_pieces, show_text}
 use Rattle.mdb_check.specs.Verdict.{AreRows}
 use Rattle.mdb_check.proofs.Outputs.{break_both, put_both, put_none}
-use Rattle.mdb_check.proofs.Rows.{IsReadBefore, IsReadUpTo, read_before, read_up_to}
+use Rattle.mdb_check.proofs.Rows.{IsReadBefore, IsReadUpTo, are_rows, read_before, read_up_to}
 use Rattle.mdb_check.proofs.ShowTexts.{all_shown}
 
 -- before the first row
@@ -49,18 +50,18 @@ added lines before after earlier rows (Err fault) stop is adds =
     subst P (sym is) adds
 
 -- the pieces of the rows that were read
-shown_of : (all : List (List (List ℕ))) (rows : List Event) (rest : List (List (List ℕ))) (lines : Lines) (before now : Output) (has : HasShown lines before now rows) → AreRead all rows rest
+shown_of : (all : List (List (List ℕ))) (rows : List Event) (rest : List (List (List ℕ))) (lines : Lines) (before now : Output) (has : HasShown lines before now rows) → AreRead IsRow all rows rest
     → AreShown all has.pieces rest
 shown_of all rows rest lines before now has read =
     let P : List Event → Type 0 = λ l. AreRows read.done l in
-    record { done = read.done; split = read.split; told = subst P (sym has.are) read.told; in_order = has.stands.in_order }
+    record { done = read.done; split = read.split; told = subst P (sym has.are) (are_rows read.done rows read.told); in_order = has.stands.in_order }
 
 -- so many rows
 count_of : (rows : List Event) (lines : Lines) (before now : Output) (has : HasShown lines before now rows) → length (events_of has.pieces) ≡ length rows
 count_of rows lines before now has = ap length has.are
 
 -- all records are shown, with the line of a tail
-whole_showing : (all : List (List (List ℕ))) (lines : Lines) (before now : Output) (ended : IsTakenWhole (HasShown lines before now) ROWS_MAX all)
+whole_showing : (all : List (List (List ℕ))) (lines : Lines) (before now : Output) (ended : IsTakenWhole IsRow (HasShown lines before now) ROWS_MAX all)
     → IsShownWhole all (show_text (closed_pieces ended.has.pieces) ++ cut_text lines.shown lines.rows)
 whole_showing all lines before now ended =
     let has : HasShown lines before now ended.rows = ended.has in
@@ -76,7 +77,7 @@ whole_showing all lines before now ended =
     }
 
 -- the text ends
-pub whole : (all : List (List (List ℕ))) (lines : Lines) (before now later : Output) → IsTakenWhole (HasShown lines before now) ROWS_MAX all → Puts now later (cut_text lines.shown lines.rows)
+pub whole : (all : List (List (List ℕ))) (lines : Lines) (before now later : Output) → IsTakenWhole IsRow (HasShown lines before now) ROWS_MAX all → Puts now later (cut_text lines.shown lines.rows)
     → PutsShowing all before later (Ok None)
 whole all lines before now later ended cut =
     let lines_text : List ℕ = show_text (closed_pieces ended.has.pieces) in
@@ -87,7 +88,7 @@ whole all lines before now later ended cut =
     )
 
 -- the line of a tail isn't put there
-untaken : (all : List (List (List ℕ))) (lines : Lines) (before now later : Output) → IsTakenWhole (HasShown lines before now) ROWS_MAX all
+untaken : (all : List (List (List ℕ))) (lines : Lines) (before now later : Output) → IsTakenWhole IsRow (HasShown lines before now) ROWS_MAX all
     → (fault : RunFault) → IsNotTaken fault now later (cut_text lines.shown lines.rows) → PutsShowing all before later (Err fault)
 untaken all lines before now later ended (BadRow row fault) not_taken = absurd not_taken
 untaken all lines before now later ended TooLong not_taken = absurd not_taken
@@ -109,7 +110,7 @@ untaken all lines before now later ended Memory not_taken =
     subst P (sym not_taken)
     (inl (show_text (closed_pieces ended.has.pieces), record { pieces = ended.has.pieces; rest = []; shown = shown; lines = refl }, ended.has.written))
 
-pub cut_refused : (all : List (List (List ℕ))) (lines : Lines) (before now later : Output) → IsTakenWhole (HasShown lines before now) ROWS_MAX all
+pub cut_refused : (all : List (List (List ℕ))) (lines : Lines) (before now later : Output) → IsTakenWhole IsRow (HasShown lines before now) ROWS_MAX all
     → (fault : RunFault) → IsNotTaken fault now later (cut_text lines.shown lines.rows)
     → (answer : Result (Option LinkFault) RunFault) → IsErrAnd answer (λ told. told ≡ fault) → PutsShowing all before later answer
 cut_refused all lines before now later ended fault not_taken (Ok showing) told_is = absurd told_is
@@ -119,7 +120,7 @@ cut_refused all lines before now later ended fault not_taken (Err told) told_is 
 
 -- a record isn't taken, or can't be read
 refused_by : (all : List (List (List ℕ))) (lines : Lines) (before now : Output) (fault : RunFault)
-    → HasEnded (HasShown lines before now) (HasStopped lines before now) ROWS_MAX all (Err fault) → PutsShowing all before now (Err fault)
+    → HasEnded IsRow IsRefusal (HasShown lines before now) (HasStopped lines before now) ROWS_MAX all (Err fault) → PutsShowing all before now (Err fault)
 refused_by all lines before now (BadRow row fault) ended =
     let has : HasShown lines before now ended.rows = ended.has in
     let counted : length (events_of has.pieces) ≡ length ended.rows = count_of ended.rows lines before now has in inl (
@@ -158,7 +159,7 @@ refused_by all lines before now Memory ended =
 refused_by all lines before now Write ended = absurd ended
 
 pub refused : (all : List (List (List ℕ))) (lines : Lines) (before now : Output) (fault : RunFault)
-    → HasEnded (HasShown lines before now) (HasStopped lines before now) ROWS_MAX all (Err fault)
+    → HasEnded IsRow IsRefusal (HasShown lines before now) (HasStopped lines before now) ROWS_MAX all (Err fault)
     → (answer : Result (Option LinkFault) RunFault) → IsErrAnd answer (λ told. told ≡ fault) → PutsShowing all before now answer
 refused all lines before now fault ended (Ok showing) told_is = absurd told_is
 refused all lines before now fault ended (Err told) told_is =
@@ -168,21 +169,21 @@ refused all lines before now fault ended (Err told) told_is =
 -- Where they end at one of the later rows.
 
 -- the pieces up to a row that breaks a rule of the link, and its text, are of the records
-fault_showing : (all : List (List (List ℕ))) (earlier later : List Event) (rest : List (List (List ℕ))) → AreRead all (earlier ++ later) rest → length (earlier ++ later) ≤ ROWS_MAX
+fault_showing : (all : List (List (List ℕ))) (earlier later : List Event) (rest : List (List (List ℕ))) → AreRead IsRow all (earlier ++ later) rest → length (earlier ++ later) ≤ ROWS_MAX
     → (fault : LinkFault) (text : List ℕ) → IsAddedToFault earlier later fault text → IsShownToFault all fault text
 fault_showing all earlier later rest read few fault text added =
     let lead : LeadInto earlier later added.pieces = added.lead in
     let parts : earlier ++ later ≡ (earlier ++ lead.front) ++ added.row ∷ added.behind =
     ap (λ l. earlier ++ l) (lead.parts ∙ ap (λ l. lead.front ++ l) added.next) ∙ sym (append_assoc earlier lead.front (added.row ∷ added.behind)) in
-    let P : List Event → Type 0 = λ l. AreRead all l rest in
-    let up_to : IsReadUpTo all (earlier ++ lead.front) added.row = read_up_to all (earlier ++ lead.front) added.row added.behind rest (subst P parts read) in
+    let P : List Event → Type 0 = λ l. AreRead IsRow all l rest in
+    let up_to : IsReadUpTo IsRow all (earlier ++ lead.front) added.row = read_up_to IsRow all (earlier ++ lead.front) added.row added.behind rest (subst P parts read) in
     let counted : length (earlier ++ later) ≡ length (earlier ++ lead.front) + length (added.row ∷ added.behind) = ap length parts ∙ length-append (earlier ++ lead.front) (added.row ∷ added.behind) in
     let Q : List Event → Type 0 = λ l. AreRows up_to.read.done l in
     record {
       pieces = added.pieces;
       fields = up_to.fields;
       rest = up_to.rest;
-      shown = record { done = up_to.read.done; split = up_to.read.split; told = subst Q (sym lead.are) up_to.read.told; in_order = lead.in_order };
+      shown = record { done = up_to.read.done; split = up_to.read.split; told = subst Q (sym lead.are) (are_rows up_to.read.done (earlier ++ lead.front) up_to.read.told); in_order = lead.in_order };
       few = omega (arith, counted, ap length lead.are, few);
       row = added.row;
       row_told = up_to.told;
@@ -191,36 +192,36 @@ fault_showing all earlier later rest read few fault text added =
     }
 
 -- and so are those of some of the rows
-part_showing : (all : List (List (List ℕ))) (earlier later : List Event) (rest : List (List (List ℕ))) → AreRead all (earlier ++ later) rest → (text : List ℕ) → IsAddedInPart earlier later text → IsShownInPart all text
+part_showing : (all : List (List (List ℕ))) (earlier later : List Event) (rest : List (List (List ℕ))) → AreRead IsRow all (earlier ++ later) rest → (text : List ℕ) → IsAddedInPart earlier later text → IsShownInPart all text
 part_showing all earlier later rest read text added =
     let lead : LeadInto earlier later added.pieces = added.lead in
     let parts : earlier ++ later ≡ (earlier ++ lead.front) ++ lead.rest = ap (λ l. earlier ++ l) lead.parts ∙ sym (append_assoc earlier lead.front lead.rest) in
-    let P : List Event → Type 0 = λ l. AreRead all l rest in
-    let before : IsReadBefore all (earlier ++ lead.front) lead.rest = read_before all (earlier ++ lead.front) lead.rest rest (subst P parts read) in
+    let P : List Event → Type 0 = λ l. AreRead IsRow all l rest in
+    let before : IsReadBefore IsRow all (earlier ++ lead.front) lead.rest = read_before IsRow all (earlier ++ lead.front) lead.rest rest (subst P parts read) in
     let Q : List Event → Type 0 = λ l. AreRows before.read.done l in
     record {
       pieces = added.pieces;
       rest = before.after ++ before.rest;
-      shown = record { done = before.read.done; split = before.read.split; told = subst Q (sym lead.are) before.read.told; in_order = lead.in_order };
+      shown = record { done = before.read.done; split = before.read.split; told = subst Q (sym lead.are) (are_rows before.read.done (earlier ++ lead.front) before.read.told); in_order = lead.in_order };
       lines = added.lines;
     }
 
 -- a text that these rows may come to is one of the records
-showing_of : (all : List (List (List ℕ))) (earlier later : List Event) (rest : List (List (List ℕ))) → AreRead all (earlier ++ later) rest → length (earlier ++ later) ≤ ROWS_MAX
+showing_of : (all : List (List (List ℕ))) (earlier later : List Event) (rest : List (List (List ℕ))) → AreRead IsRow all (earlier ++ later) rest → length (earlier ++ later) ≤ ROWS_MAX
     → (text : List ℕ) → IsAdded earlier later text → (answer : Result (Option LinkFault) RunFault) × IsShowing all answer text
 showing_of all earlier later rest read few text (inl part) = (Err Memory, part_showing all earlier later rest read text part)
 showing_of all earlier later rest read few text (inr to_fault) = (Ok (Some to_fault.0), fault_showing all earlier later rest read few to_fault.0 text to_fault.1)
 
 -- a row breaks a rule of the link
 pub at_fault : (all : List (List (List ℕ))) (lines : Lines) (before after : Output) (fault : LinkFault)
-    → IsStopped (λ earlier later. HasStopped lines before after earlier later (Ok fault)) ROWS_MAX all → PutsShowing all before after (Ok (Some fault))
+    → IsStopped IsRow (λ earlier later. HasStopped lines before after earlier later (Ok fault)) ROWS_MAX all → PutsShowing all before after (Ok (Some fault))
 at_fault all lines before after fault ended =
     let added : (text : List ℕ) × IsAddedToFault ended.earlier ended.later fault text × Puts before after text = ended.stops in
     inl (added.0, fault_showing all ended.earlier ended.later ended.rest ended.read ended.few fault added.0 added.1, added.2)
 
 -- a line isn't taken
 untaken_by : (all : List (List (List ℕ))) (lines : Lines) (before after : Output) (fault : RunFault)
-    → IsStopped (λ earlier later. HasStopped lines before after earlier later (Err fault)) ROWS_MAX all → PutsShowing all before after (Err fault)
+    → IsStopped IsRow (λ earlier later. HasStopped lines before after earlier later (Err fault)) ROWS_MAX all → PutsShowing all before after (Err fault)
 untaken_by all lines before after (BadRow row fault) ended = absurd ended.stops
 untaken_by all lines before after TooLong ended = absurd ended.stops
 untaken_by all lines before after Read ended = absurd ended.stops
@@ -231,7 +232,7 @@ untaken_by all lines before after Memory ended =
     inl (ended.stops.0, part_showing all ended.earlier ended.later ended.rest ended.read ended.stops.0 ended.stops.1, ended.stops.2)
 
 pub line_untaken : (all : List (List (List ℕ))) (lines : Lines) (before after : Output) (fault : RunFault)
-    → IsStopped (λ earlier later. HasStopped lines before after earlier later (Err fault)) ROWS_MAX all
+    → IsStopped IsRow (λ earlier later. HasStopped lines before after earlier later (Err fault)) ROWS_MAX all
     → (answer : Result (Option LinkFault) RunFault) → IsErrAnd answer (λ told. told ≡ fault) → PutsShowing all before after answer
 line_untaken all lines before after fault ended (Ok showing) is = absurd is
 line_untaken all lines before after fault ended (Err told) is =

@@ -4,6 +4,7 @@ use Rattle.std.proofs.lemmas.List.{append-nil}
 use Rattle.std.specs.Prelude.{IfErr, IfOk, IsErrAnd}
 use Rattle.std.specs.Result.{result_err}
 use Rattle.mdb_words.specs.declared.event.Event.{Event}
+use Rattle.mdb_words.specs.Row.{IsRefusal, IsRow}
 use Rattle.mdb_follow.specs.declared.follower.Follower.{Follower}
 use Rattle.mdb_follow.specs.declared.offence.Offence.{Offence}
 use Rattle.mdb_follow.specs.Follower.{StandsFor, rows_of}
@@ -16,7 +17,7 @@ use Rattle.mdb_check.specs.declared.outcome.RunFault.{RunFault}
 use Rattle.mdb_check.specs.declared.outcome.RunFault.TheVariants.{BadRow, TooLong, Read, Write, Memory}
 use Rattle.mdb_check.specs.Ending.{AreRead, HasEnded, HasFollowed, HasTaken, IsStopped, IsTakenWhole}
 use Rattle.mdb_check.specs.Verdict.{AreRows, IsAnswer, IsImpossible, IsYes}
-use Rattle.mdb_check.proofs.Rows.{IsReadUpTo, read_up_to}
+use Rattle.mdb_check.proofs.Rows.{IsReadUpTo, are_rows, read_up_to}
 
 -- what a follower stands for is reached
 abbrev pub Reaches : Type 0
@@ -34,7 +35,7 @@ followed old new rows (Err offence) stop is reached counted offends earlier has 
     subst P (sym is) (offends earlier has.stands)
 
 -- the text ends
-pub whole : ((rows : List Event) → SalesFollowApprovals rows) → (limit : ℕ) (all : List (List (List ℕ))) (follower : Follower) → IsTakenWhole (HasFollowed follower) limit all
+pub whole : ((rows : List Event) → SalesFollowApprovals rows) → (limit : ℕ) (all : List (List (List ℕ))) (follower : Follower) → IsTakenWhole IsRow (HasFollowed follower) limit all
     → (outcome : Outcome) → ((rows : List Event) → StandsFor follower rows → IsYes rows outcome) → IsAnswer limit all (Ok outcome)
 whole sales limit all follower ended outcome tells_yes = told outcome (tells_yes ended.rows ended.has.stands)
   where
@@ -44,7 +45,7 @@ whole sales limit all follower ended outcome tells_yes = told outcome (tells_yes
     told : (outcome : Outcome) → IsYes ended.rows outcome → IsAnswer limit all (Ok outcome)
     told (Yes report) is_report = record {
       rows = ended.rows;
-      told = subst Told (sym (append-nil ended.read.done) ∙ sym ended.read.split) ended.read.told;
+      told = subst Told (sym (append-nil ended.read.done) ∙ sym ended.read.split) (are_rows ended.read.done ended.rows ended.read.told);
       few = ended.few;
       is = is_report;
       sales = sales ended.rows;
@@ -52,19 +53,19 @@ whole sales limit all follower ended outcome tells_yes = told outcome (tells_yes
     told (No offence) never = absurd never
 
 -- a row cannot be
-pub impossible : (limit : ℕ) (all : List (List (List ℕ))) (offence : Offence) → IsStopped (λ earlier rows. HasOffence earlier rows offence) limit all → IsImpossible limit all offence
+pub impossible : (limit : ℕ) (all : List (List (List ℕ))) (offence : Offence) → IsStopped IsRow (λ earlier rows. HasOffence earlier rows offence) limit all → IsImpossible limit all offence
 impossible limit all offence ended =
     let has : HasOffence ended.earlier ended.later offence = ended.stops in
     let parts : ended.earlier ++ ended.later ≡ (ended.earlier ++ has.front) ++ has.row ∷ has.rest =
     ap (λ l. ended.earlier ++ l) has.parts ∙ sym (append_assoc ended.earlier has.front (has.row ∷ has.rest)) in
-    let Read : List Event → Type 0 = λ l. AreRead all l ended.rest in
-    let up_to : IsReadUpTo all (ended.earlier ++ has.front) has.row = read_up_to all (ended.earlier ++ has.front) has.row has.rest ended.rest (subst Read parts ended.read) in
+    let Read : List Event → Type 0 = λ l. AreRead IsRow all l ended.rest in
+    let up_to : IsReadUpTo IsRow all (ended.earlier ++ has.front) has.row = read_up_to IsRow all (ended.earlier ++ has.front) has.row has.rest ended.rest (subst Read parts ended.read) in
     let counted : length (ended.earlier ++ ended.later) ≡ length (ended.earlier ++ has.front) + length (has.row ∷ has.rest) = ap length parts ∙ length-append (ended.earlier ++ has.front) (has.row ∷ has.rest) in
     record {
       rows = ended.earlier ++ has.front;
       row = has.row;
       fields = up_to.fields;
-      stops = record { done = up_to.read.done; rest = up_to.rest; split = up_to.read.split; told = up_to.read.told; possible = has.is.reached };
+      stops = record { done = up_to.read.done; rest = up_to.rest; split = up_to.read.split; told = are_rows up_to.read.done (ended.earlier ++ has.front) up_to.read.told; possible = has.is.reached };
       told = up_to.told;
       few = omega (arith, counted, ended.few);
       is = has.is;
@@ -72,11 +73,11 @@ impossible limit all offence ended =
 
 -- a record isn't taken, or can't be read
 refused_by : {Stop : Type 0} → Reaches → (limit : ℕ) (all : List (List (List ℕ))) (follower : Follower) (Stops : List Event → List Event → Stop → Type 0) (fault : RunFault)
-    → HasEnded (HasFollowed follower) Stops limit all (Err fault) → IsAnswer limit all (Err fault)
+    → HasEnded IsRow IsRefusal (HasFollowed follower) Stops limit all (Err fault) → IsAnswer limit all (Err fault)
 refused_by reaches limit all follower Stops (BadRow row fault) ended = record {
   rows = ended.rows;
   fields = ended.fields;
-  stops = record { done = ended.read.done; rest = ended.rest; split = ended.read.split; told = ended.read.told; possible = reaches follower ended.rows ended.has.stands };
+  stops = record { done = ended.read.done; rest = ended.rest; split = ended.read.split; told = are_rows ended.read.done ended.rows ended.read.told; possible = reaches follower ended.rows ended.has.stands };
   few = ended.few;
   number = ended.number;
   refused = ended.refused;
@@ -84,7 +85,7 @@ refused_by reaches limit all follower Stops (BadRow row fault) ended = record {
 refused_by reaches limit all follower Stops TooLong ended = record {
   rows = ended.rows;
   fields = ended.fields;
-  stops = record { done = ended.read.done; rest = ended.rest; split = ended.read.split; told = ended.read.told; possible = reaches follower ended.rows ended.has.stands };
+  stops = record { done = ended.read.done; rest = ended.rest; split = ended.read.split; told = are_rows ended.read.done ended.rows ended.read.told; possible = reaches follower ended.rows ended.has.stands };
   full = ended.full;
 }
 refused_by reaches limit all follower Stops Read ended = tt
@@ -92,7 +93,7 @@ refused_by reaches limit all follower Stops Write ended = tt
 refused_by reaches limit all follower Stops Memory ended = tt
 
 pub refused : {Stop : Type 0} → Reaches → (limit : ℕ) (all : List (List (List ℕ))) (follower : Follower) (Stops : List Event → List Event → Stop → Type 0) (fault : RunFault)
-    → HasEnded (HasFollowed follower) Stops limit all (Err fault) → (answer : Result Outcome RunFault) → IsErrAnd answer (λ other. other ≡ fault) → IsAnswer limit all answer
+    → HasEnded IsRow IsRefusal (HasFollowed follower) Stops limit all (Err fault) → (answer : Result Outcome RunFault) → IsErrAnd answer (λ other. other ≡ fault) → IsAnswer limit all answer
 refused reaches limit all follower Stops fault ended (Ok outcome) handed = absurd handed
 refused reaches limit all follower Stops fault ended (Err other) handed =
     let P : RunFault → Type 0 = λ f. IsAnswer limit all (Err f) in

@@ -1,8 +1,10 @@
 -- How a reading of rows ends. This file serves private functions.
+--
+-- `Is` says which fields are which row, `Refuses` why they are none. `Has` says which rows were
+-- taken, `Stops` that one of some rows behind earlier ones was stopped at.
 use Rattle.std.specs.Prelude.{◌≡◌, ◌+◌, ◌<◌, ◌≤◌, ℕ, List, [], ◌∷◌, ◌++◌, length, ⊤, Bool, true, false, Option, Some, None, Result, Ok, Err}
 use Rattle.mdb_words.specs.declared.event.Event.{Event}
 use Rattle.mdb_words.specs.declared.row.RowFault.{RowFault}
-use Rattle.mdb_words.specs.Row.{IsRefusal}
 use Rattle.mdb_records.specs.declared.ReadFault.{ReadFault}
 use Rattle.mdb_records.specs.declared.ReadFault.TheVariants as reading
 use Rattle.mdb_follow.specs.declared.follower.Follower.{Follower}
@@ -11,17 +13,18 @@ use Rattle.mdb_check.specs.declared.batch.Next.{Next}
 use Rattle.mdb_check.specs.declared.batch.Next.TheVariants as next
 use Rattle.mdb_check.specs.declared.outcome.RunFault.{RunFault}
 use Rattle.mdb_check.specs.declared.outcome.RunFault.TheVariants.{BadRow, TooLong, Read, Write, Memory}
-use Rattle.mdb_check.specs.Verdict.{AreRows, run_fault_of}
+use Rattle.mdb_check.specs.Batch.{AreAll}
+use Rattle.mdb_check.specs.Verdict.{run_fault_of}
 
 -- the later rows were taken behind the earlier ones, or one of them was stopped at
-abbrev pub HasTaken : {Stop : Type 0} → (List Event → Type 0)
-    → (List Event → List Event → Stop → Type 0) → List Event → List Event → Option Stop → Type 0
+abbrev pub HasTaken : {Row Stop : Type 0} → (List Row → Type 0)
+    → (List Row → List Row → Stop → Type 0) → List Row → List Row → Option Stop → Type 0
 HasTaken Has Stops earlier later None = Has (earlier ++ later)
 HasTaken Has Stops earlier later (Some stop) = Stops earlier later stop
 
 -- it was stopped at some row
-abbrev pub IsStop : {Stop : Type 0} → (List Event → List Event → Stop → Type 0) → Stop → Type 0
-IsStop Stops stop = (earlier later : List Event) × Stops earlier later stop
+abbrev pub IsStop : {Row Stop : Type 0} → (List Row → List Row → Stop → Type 0) → Stop → Type 0
+IsStop {Row = Row} Stops stop = (earlier later : List Row) × Stops earlier later stop
 
 -- a follower has taken these rows
 pub record HasFollowed (follower : Follower) (rows : List Event) : Type 0 where
@@ -29,74 +32,78 @@ pub record HasFollowed (follower : Follower) (rows : List Event) : Type 0 where
   pub counted : rows_of follower ≡ length rows
 
 -- The first of the records are these rows, and the rest stands behind them.
-pub record AreRead (records : List (List (List ℕ))) (rows : List Event)
-    (rest : List (List (List ℕ))) : Type 0 where
+pub record AreRead {Row : Type 0} (Is : List (List ℕ) → Row → Type 0)
+    (records : List (List (List ℕ))) (rows : List Row) (rest : List (List (List ℕ)))
+    : Type 0 where
   pub done : List (List (List ℕ))
   pub split : records ≡ done ++ rest
-  pub told : AreRows done rows
+  pub told : AreAll Is done rows
 
 -- All records are rows, which were taken.
-pub record IsTakenWhole (Has : List Event → Type 0) (limit : ℕ)
-    (records : List (List (List ℕ))) : Type 0 where
-  pub rows : List Event
-  pub read : AreRead records rows []
+pub record IsTakenWhole {Row : Type 0} (Is : List (List ℕ) → Row → Type 0)
+    (Has : List Row → Type 0) (limit : ℕ) (records : List (List (List ℕ))) : Type 0 where
+  pub rows : List Row
+  pub read : AreRead Is records rows []
   pub few : length rows ≤ limit
   pub has : Has rows
 
 -- One of the later rows was stopped at.
-pub record IsStopped (Stops : List Event → List Event → Type 0) (limit : ℕ)
-    (records : List (List (List ℕ))) : Type 0 where
-  pub earlier : List Event
-  pub later : List Event
+pub record IsStopped {Row : Type 0} (Is : List (List ℕ) → Row → Type 0)
+    (Stops : List Row → List Row → Type 0) (limit : ℕ) (records : List (List (List ℕ)))
+    : Type 0 where
+  pub earlier : List Row
+  pub later : List Row
   pub rest : List (List (List ℕ))
-  pub read : AreRead records (earlier ++ later) rest
+  pub read : AreRead Is records (earlier ++ later) rest
   pub few : length (earlier ++ later) ≤ limit
   pub stops : Stops earlier later
 
 -- The record behind the rows that were taken is no row.
-pub record IsTakenToBadRow (Has : List Event → Type 0) (limit : ℕ)
+pub record IsTakenToBadRow {Row : Type 0} (Is : List (List ℕ) → Row → Type 0)
+    (Refuses : List (List ℕ) → RowFault → Type 0) (Has : List Row → Type 0) (limit : ℕ)
     (records : List (List (List ℕ))) (row : ℕ) (fault : RowFault) : Type 0 where
-  pub rows : List Event
+  pub rows : List Row
   pub fields : List (List ℕ)
   pub rest : List (List (List ℕ))
-  pub read : AreRead records rows (fields ∷ rest)
+  pub read : AreRead Is records rows (fields ∷ rest)
   pub few : length rows < limit
   pub number : row ≡ length rows + 1
-  pub refused : IsRefusal fields fault
+  pub refused : Refuses fields fault
   pub has : Has rows
 
 -- There is a record behind as many rows as there may be, which were taken.
-pub record IsTakenToLimit (Has : List Event → Type 0) (limit : ℕ)
-    (records : List (List (List ℕ))) : Type 0 where
-  pub rows : List Event
+pub record IsTakenToLimit {Row : Type 0} (Is : List (List ℕ) → Row → Type 0)
+    (Has : List Row → Type 0) (limit : ℕ) (records : List (List (List ℕ))) : Type 0 where
+  pub rows : List Row
   pub fields : List (List ℕ)
   pub rest : List (List (List ℕ))
-  pub read : AreRead records rows (fields ∷ rest)
+  pub read : AreRead Is records rows (fields ∷ rest)
   pub full : length rows ≡ limit
   pub has : Has rows
 
 -- Some first records are rows, which were taken.
-pub record IsTakenInPart (Has : List Event → Type 0) (records : List (List (List ℕ)))
-    : Type 0 where
-  pub rows : List Event
+pub record IsTakenInPart {Row : Type 0} (Is : List (List ℕ) → Row → Type 0)
+    (Has : List Row → Type 0) (records : List (List (List ℕ))) : Type 0 where
+  pub rows : List Row
   pub rest : List (List (List ℕ))
-  pub read : AreRead records rows rest
+  pub read : AreRead Is records rows rest
   pub has : Has rows
 
 -- what the reading of records came to: at the end of the text, at a row that was stopped at, at a
 -- record that isn't taken, and where a record can't be read
-abbrev pub HasEnded : {Stop : Type 0} → (List Event → Type 0)
-    → (List Event → List Event → Stop → Type 0) → ℕ → List (List (List ℕ))
+abbrev pub HasEnded : {Row Stop : Type 0} → (List (List ℕ) → Row → Type 0)
+    → (List (List ℕ) → RowFault → Type 0) → (List Row → Type 0)
+    → (List Row → List Row → Stop → Type 0) → ℕ → List (List (List ℕ))
     → Result (Option Stop) RunFault → Type 0
-HasEnded Has Stops limit records (Ok None) = IsTakenWhole Has limit records
-HasEnded Has Stops limit records (Ok (Some stop)) =
-    IsStopped (λ earlier later. Stops earlier later stop) limit records
-HasEnded Has Stops limit records (Err (BadRow row fault)) =
-    IsTakenToBadRow Has limit records row fault
-HasEnded Has Stops limit records (Err TooLong) = IsTakenToLimit Has limit records
-HasEnded Has Stops limit records (Err Read) = IsTakenInPart Has records
-HasEnded Has Stops limit records (Err Memory) = IsTakenInPart Has records
-HasEnded Has Stops limit records (Err Write) = ⊥
+HasEnded Is Refuses Has Stops limit records (Ok None) = IsTakenWhole Is Has limit records
+HasEnded Is Refuses Has Stops limit records (Ok (Some stop)) =
+    IsStopped Is (λ earlier later. Stops earlier later stop) limit records
+HasEnded Is Refuses Has Stops limit records (Err (BadRow row fault)) =
+    IsTakenToBadRow Is Refuses Has limit records row fault
+HasEnded Is Refuses Has Stops limit records (Err TooLong) = IsTakenToLimit Is Has limit records
+HasEnded Is Refuses Has Stops limit records (Err Read) = IsTakenInPart Is Has records
+HasEnded Is Refuses Has Stops limit records (Err Memory) = IsTakenInPart Is Has records
+HasEnded Is Refuses Has Stops limit records (Err Write) = ⊥
 
 -- a fault of reading is one that the reading of records has met, and no writer fails
 abbrev pub IsHeard : Option ReadFault → RunFault → Type 0

@@ -1,17 +1,13 @@
 //! Rows that are read before they are followed.
 
 ghost use Rattle.std.specs.Prelude.{◌≡◌, ◌<◌, ◌≤◌, List, ℕ, None, Some, length};
-ghost use Rattle.csv.specs.Records.{field_at, fields_of};
 ghost use Rattle.mdb_records.specs.declared.ReadFault.{ReadFault};
 ghost use Rattle.mdb_records.specs.ToCome.{IsOverLimit, ToCome, fault_of};
-ghost use Rattle.mdb_words.specs.declared.event.Event.{Event};
-ghost use Rattle.mdb_words.specs.declared.word.Line.{Line};
-ghost use Rattle.mdb_words.specs.Row.{Tells};
 ghost use Rattle.mdb_check.specs.Batch.{FitsIn, GoesOnOver, HasRead, IsMet};
 
-use csv::ByteRecord;
+use super::row::FromRecord;
 use mdb_records::{ReadFault, Records};
-use mdb_words::{Event, Line, RowFault, Time, Word};
+use mdb_words::RowFault;
 use std::io::Read;
 use std::marker::Model;
 
@@ -34,37 +30,36 @@ pub(crate) enum Next {
     Failed(ReadFault),
 }
 
-/// Rows that were read, and are followed next.
+/// Rows that were read, and are taken next.
 ///
 /// Reading and following take turns by batches, since a processor does many rows of the same work
 /// in less time than one row of each in turn. A clause sees the rows as a list.
 #[derive(Drop)]
-pub(crate) struct Batch {
-    rows: [Event; BATCH],
+pub(crate) struct Batch<I> {
+    rows: [I; BATCH],
     count: usize,
 }
 
-impl Model for Batch {
+impl<I> Model for Batch<I> {
     ghost use Rattle.std.specs.Prelude.{List, ◌≡◌, ◌≤◌, length, take};
-    ghost use Rattle.mdb_words.specs.declared.event.Event.{Event};
     ghost use Rattle.mdb_check.specs.declared.batch.TheConstants.{BATCH};
 
-    ghost Value = { List Event };
+    ghost Value = { List I };
 
     ghost view = { λ b. take b.count b.rows };
 
     ghost invariant = { λ b. (b.count ≤ BATCH) × (length b.rows ≡ BATCH) };
 }
 
-impl Batch {
+impl<I: FromRecord> Batch<I> {
     ghost use Rattle.std.specs.Prelude.{[], ◌∷◌, ◌++◌};
 
     /// No rows.
-    pub(crate) fn new() -> Batch
+    pub(crate) fn new() -> Batch<I>
         ensures { result ≡ [] }
     {
         Batch {
-            rows: [any_row(); BATCH],
+            rows: [I::blank(); BATCH],
             count: 0,
         }
     }
@@ -77,7 +72,7 @@ impl Batch {
     }
 
     /// Adds the next row.
-    fn push(&mut self, row: Event)
+    fn push(&mut self, row: I)
         requires { length self.old < BATCH }
         ensures { self.new ≡ self.old ++ row ∷ [] }
     {
@@ -86,7 +81,7 @@ impl Batch {
     }
 
     /// The rows.
-    pub(crate) fn as_slice(&self) -> &[Event]
+    pub(crate) fn as_slice(&self) -> &[I]
         ensures rows { result.now ≡ self.now }
         ensures few { length self.now ≤ BATCH }
     {
@@ -103,7 +98,7 @@ impl Batch {
     pub(crate) fn refill<R: Read + Drop>(&mut self, records: &mut Records<R>, room: u64) -> Next
         requires { 0 < room }
         ensures read { (all : List (List (List ℕ))) → ToCome R.remaining records.old all
-            → HasRead R.remaining all records.new self.new result }
+            → HasRead I.is I.refuses R.remaining all records.new self.new result }
         ensures over { IsOverLimit R.remaining records.old
             → GoesOnOver R.remaining records.new result }
         ensures met { fault_of records.old ≡ None → IsMet result (fault_of records.new) }
@@ -120,8 +115,8 @@ impl Batch {
             if !found {
                 return Next::End;
             }
-            match event_of(records.row()) {
-                Ok(event) => self.push(event),
+            match I::of(records.row()) {
+                Ok(row) => self.push(row),
                 Err(fault) => return Next::BadRow(fault),
             }
             if records.bytes_ahead() < ROW_BYTES {
@@ -129,41 +124,5 @@ impl Batch {
             }
         }
         Next::More
-    }
-}
-
-/// What stands where no row was read yet: the controller's word 000 at 0.
-fn any_row() -> Event
-    ensures { result ≡ Event.Word 0 Line.Controller 0 }
-{
-    let (Some(at), Some(word)) = (Time::new(0), Word::new(0)) else {
-        unreachable!()
-    };
-    Event::Word {
-        at,
-        line: Line::Controller,
-        word,
-    }
-}
-
-/// The event of a record.
-#[inline(always)]
-fn event_of(row: &ByteRecord) -> Result<Event, RowFault>
-    ensures { Tells result (fields_of row.now) }
-{
-    if row.len() != 3 {
-        return Err(RowFault::FieldCount);
-    }
-    Event::read(&[field(row, 0), field(row, 1), field(row, 2)])
-}
-
-/// A field of a record.
-fn field(row: &ByteRecord, i: usize) -> &[u8]
-    requires { i < length (fields_of row.now) }
-    ensures { field_at (fields_of row.now) i ≡ Some result.now }
-{
-    match row.get(i) {
-        Some(field) => field,
-        None => unreachable!(),
     }
 }

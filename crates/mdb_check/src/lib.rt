@@ -9,6 +9,7 @@ mod outcome;
 mod page;
 mod program;
 mod reading;
+mod row;
 mod show_text;
 mod showing;
 mod text;

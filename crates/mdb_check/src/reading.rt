@@ -1,53 +1,57 @@
 //! The reading of rows, batch by batch, for what takes them.
 
-ghost use Rattle.std.specs.Prelude.{◌≡◌, ◌+◌, ◌≤◌, ◌≢◌, List, ℕ, [], IfErr, IfOk, IfSome, IsErr, IsErrOf, None, Ok, Option, length};
+ghost use Rattle.std.specs.Prelude.{◌≡◌, ◌+◌, ◌^◌, ◌<◌, ◌≤◌, ◌≢◌, List, ℕ, [], IfErr, IfOk, IfSome, IsErr, IsErrOf, None, Ok, Option, length};
 ghost use Rattle.mdb_records.specs.ToCome.{IsOverLimit, ToCome, fault_of};
-ghost use Rattle.mdb_words.specs.declared.event.Event.{Event};
 ghost use Rattle.mdb_check.specs.Ending.{EndsBehind, HasEnded, HasTaken, IsHeard, IsStop, IsToldEnd, goes_on_by};
 ghost use Rattle.mdb_check.specs.Verdict.{run_fault_of};
 
 use super::batch::{Batch, Next};
 use super::outcome::RunFault;
-use mdb_follow::ROWS_MAX;
+use super::row::FromRecord;
 use mdb_records::Records;
-use mdb_words::Event;
 use std::io::Read;
 
 /// What takes rows as they are read, until it stops at one of them. What it tells of them meanwhile
 /// goes to an `O`.
 pub(crate) trait TakeRows<O> {
+    /// What it takes a record for.
+    type Row: FromRecord;
+
     /// Why it stops at a row.
     type Stop: Drop;
+
+    /// The most rows that it may be given.
+    ghost most: { ℕ };
 
     /// How many rows it has taken.
     ghost count: { Self → ℕ };
 
     /// It has taken these rows and no others. What it tells to was in the first state before them,
     /// and is in the second.
-    ghost has: { Self → O → O → List Event → Type 0 };
+    ghost has: { Self → O → O → List Self.Row → Type 0 };
 
     /// Behind the earlier rows it has stopped at one of the later ones.
-    ghost stops: { Self → O → O → List Event → List Event → Self.Stop → Type 0 };
+    ghost stops: { Self → O → O → List Self.Row → List Self.Row → Self.Stop → Type 0 };
 
     /// How many rows it has taken.
     fn rows(&self) -> u64
         ensures { result ≡ count self.now };
 
     /// Takes the next rows, or tells why it stops at one of them.
-    fn take_all(&mut self, out: &mut O, rows: &[Event]) -> Option<Self::Stop>
-        requires begun { (before : O) × (earlier : List Event) × has self.old before out.old earlier }
-        requires room { count self.old + length rows.now ≤ ROWS_MAX }
-        ensures { (before : O) (earlier : List Event) → has self.old before out.old earlier
+    fn take_all(&mut self, out: &mut O, rows: &[Self::Row]) -> Option<Self::Stop>
+        requires begun { (before : O) × (earlier : List Self.Row) × has self.old before out.old earlier }
+        requires room { count self.old + length rows.now ≤ most }
+        ensures { (before : O) (earlier : List Self.Row) → has self.old before out.old earlier
             → HasTaken (has self.new before out.new) (stops self.new before out.new) earlier
             rows.now result };
 
     /// Which rows it has taken tells how many.
-    ghost counts: { (taker : Self) (before after : O) (rows : List Event)
+    ghost counts: { (taker : Self) (before after : O) (rows : List Self.Row)
         → has taker before after rows → count taker ≡ length rows };
 }
 
-/// Reads the rows that are still to come, at most so many, and has them taken. Answers why that
-/// stopped at a row, or nothing at the end of the text.
+/// Reads the rows that are still to come, at most so many, into a batch, and has them taken. Answers
+/// why that stopped at a row, or nothing at the end of the text.
 ///
 /// # Errors
 ///
@@ -56,15 +60,17 @@ pub(crate) trait TakeRows<O> {
 /// all taken.
 pub(crate) fn read_rows<R: Read + Drop, O, T: TakeRows<O>>(
     records: &mut Records<R>,
+    batch: &mut Batch<T::Row>,
     taker: &mut T,
     out: &mut O,
     limit: u64,
 ) -> Result<Option<T::Stop>, RunFault>
     requires begun { T.has taker.old out.old out.old [] }
-    requires limit { limit ≤ ROWS_MAX }
+    requires limit { limit ≤ T.most }
+    requires small { limit < 2 ^ 63 }
     ensures ended { (all : List (List (List ℕ))) → ToCome R.remaining records.old all
-        → HasEnded (T.has taker.new out.old out.new) (T.stops taker.new out.old out.new) limit all
-        result }
+        → HasEnded T.Row.is T.Row.refuses (T.has taker.new out.old out.new)
+        (T.stops taker.new out.old out.new) limit all result }
     ensures whole { IsOverLimit R.remaining records.old → result ≢ Ok None }
     ensures few { result ≡ Ok None → T.count taker.new ≤ limit }
     ensures stopped { IfOk result (λ stop. IfSome stop
@@ -73,7 +79,6 @@ pub(crate) fn read_rows<R: Read + Drop, O, T: TakeRows<O>>(
     ensures met { fault_of records.old ≡ None → IfSome (fault_of records.new)
         (λ fault. IsToldEnd fault result) }
 {
-    let mut batch = Batch::new();
     while taker.rows() < limit {
         let next = batch.refill(records, limit - taker.rows());
         if let Some(stop) = taker.take_all(out, batch.as_slice()) {
@@ -83,13 +88,13 @@ pub(crate) fn read_rows<R: Read + Drop, O, T: TakeRows<O>>(
             return Ok(None);
         }
     }
-    end_behind(records, &mut batch)?;
+    end_behind(records, batch)?;
     Ok(None)
 }
 
 /// Whether rows may come behind so many of them, of which the last is followed by this.
 fn goes_on(next: Next, rows: u64) -> Result<bool, RunFault>
-    requires { rows ≤ ROWS_MAX }
+    requires { rows < 2 ^ 63 }
     ensures { result ≡ goes_on_by next rows }
 {
     match next {
@@ -104,7 +109,10 @@ fn goes_on(next: Next, rows: u64) -> Result<bool, RunFault>
 }
 
 /// Refuses a record behind as many rows as there may be, whatever it holds.
-fn end_behind<R: Read + Drop>(records: &mut Records<R>, batch: &mut Batch) -> Result<(), RunFault>
+fn end_behind<R: Read + Drop, I: FromRecord>(
+    records: &mut Records<R>,
+    batch: &mut Batch<I>,
+) -> Result<(), RunFault>
     ensures ends { (rest : List (List (List ℕ))) → ToCome R.remaining records.old rest
         → EndsBehind rest result }
     ensures over { IsOverLimit R.remaining records.old → IsErr result }

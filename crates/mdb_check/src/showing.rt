@@ -8,6 +8,7 @@ ghost use Rattle.mdb_check.specs.declared.verdict.TheConstants.{BYTES_MAX};
 ghost use Rattle.mdb_check.specs.Show.{Shows};
 ghost use Rattle.mdb_check.specs.ShowSteps.{HasShown, IsShownAs, PutsShowing, begun, output};
 
+use super::batch::Batch;
 use super::outcome::RunFault;
 use super::page::Page;
 use super::reading::{TakeRows, read_rows};
@@ -86,7 +87,7 @@ fn show_rows<R: Read + Drop, W: Write>(
     ensures met { fault_of records.old ≡ None → IfSome (fault_of records.new)
         (λ fault. IsShownAs fault result) }
 {
-    if let Some(stop) = read_rows(records, showing, writer, ROWS_MAX)? {
+    if let Some(stop) = read_rows(records, &mut Batch::new(), showing, writer, ROWS_MAX)? {
         return Ok(Some(stop?));
     }
     let Showing { lines, page } = showing;
@@ -120,9 +121,14 @@ impl Showing {
 /// It stops at the first row that breaks a rule of the link, or where a line can't be added.
 impl<W: Write> TakeRows<W> for Showing {
     ghost use Rattle.std.proofs.Common.{sym};
+    ghost use Rattle.mdb_follow.specs.declared.follower.TheConstants.{ROWS_MAX};
     ghost use Rattle.mdb_check.specs.ShowSteps.{HasShown, HasStopped, begun, output};
 
+    type Row = Event;
+
     type Stop = Result<LinkFault, RunFault>;
+
+    ghost most = { ROWS_MAX };
 
     ghost count = { λ showing. showing.lines.rows };
 

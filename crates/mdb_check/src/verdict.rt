@@ -12,6 +12,7 @@ ghost use Rattle.mdb_follow.specs.Follower.{StandsFor, rows_of};
 ghost use Rattle.mdb_follow.specs.Offences.{HasOffence};
 ghost use Rattle.mdb_words.specs.declared.event.Event.{Event};
 
+use super::batch::Batch;
 use super::laws::verdicts_say_the_headline;
 use super::outcome::{Outcome, RunFault};
 use super::reading::{TakeRows, read_rows};
@@ -152,7 +153,7 @@ fn verdict_on<R: Read + Drop>(records: &mut Records<R>, rows: u64) -> Result<Out
     laws::followers_stand_for_reached_rows();
     laws::sales_follow_their_approvals();
     let mut follower = Follower::new();
-    match read_rows(records, &mut follower, &mut (), rows)? {
+    match read_rows(records, &mut Batch::new(), &mut follower, &mut (), rows)? {
         None => Ok(outcome_of(&follower)),
         Some(offence) => Ok(Outcome::No(offence)),
     }
@@ -160,7 +161,13 @@ fn verdict_on<R: Read + Drop>(records: &mut Records<R>, rows: u64) -> Result<Out
 
 /// A follower stops at the first row that cannot be, and tells nothing before.
 impl TakeRows<()> for Follower {
+    ghost use Rattle.mdb_follow.specs.declared.follower.TheConstants.{ROWS_MAX};
+
+    type Row = Event;
+
     type Stop = Offence;
+
+    ghost most = { ROWS_MAX };
 
     ghost count = { rows_of };
 

@@ -2,6 +2,7 @@ use Rattle.std.proofs.Common.{subst, Ok, Option, Result}
 use Rattle.mdb_bus.specs.declared.fault.LinkFault.{LinkFault}
 use Rattle.mdb_follow.specs.declared.follower.TheConstants.{ROWS_MAX}
 use Rattle.mdb_check.specs.declared.outcome.RunFault.{RunFault}
+use Rattle.mdb_words.specs.Row.{IsRefusal, IsRow}
 use Rattle.mdb_check.specs.Ending.{HasEnded, IsStopped}
 use Rattle.mdb_check.specs.ShowSteps.{HasShown, HasStopped, begun, output}
 use Rattle.mdb_check.proofs.Showings as showings
@@ -12,7 +13,7 @@ returns-in_err-stop-clause-shows g c all to_come =
     let lines = c.read_rows.new.taker.lines in
     let before = begun (g.W.Write.contents c.args.writer.now) in
     let now = output (g.W.Write.contents c.read_rows.new.out) c.read_rows.new.taker.page in
-    let Ended : Result (Option (Result LinkFault RunFault)) RunFault → Type 0 = λ r. HasEnded (HasShown lines before now) (HasStopped lines before now) ROWS_MAX all r in
+    let Ended : Result (Option (Result LinkFault RunFault)) RunFault → Type 0 = λ r. HasEnded IsRow IsRefusal (HasShown lines before now) (HasStopped lines before now) ROWS_MAX all r in
     showings.refused all lines before now c.in_err-stop.field-0.0 (subst Ended c.in_err-stop.was (c.read_rows.ensures.ended all to_come)) c.from_residual.result c.from_residual.ensures.1
 
 pub returns-in_err-stop-2-clause-shows : goal.returns-in_err-stop-2-clause-shows
@@ -20,8 +21,8 @@ returns-in_err-stop-2-clause-shows g c all to_come =
     let lines = c.read_rows.new.taker.lines in
     let before = begun (g.W.Write.contents c.args.writer.now) in
     let now = output (g.W.Write.contents c.read_rows.new.out) c.read_rows.new.taker.page in
-    let Ended : Option (Result LinkFault RunFault) → Type 0 = λ stop. HasEnded (HasShown lines before now) (HasStopped lines before now) ROWS_MAX all (Ok stop) in
-    let Stopped : Result LinkFault RunFault → Type 0 = λ stop. IsStopped (λ earlier later. HasStopped lines before now earlier later stop) ROWS_MAX all in
+    let Ended : Option (Result LinkFault RunFault) → Type 0 = λ stop. HasEnded IsRow IsRefusal (HasShown lines before now) (HasStopped lines before now) ROWS_MAX all (Ok stop) in
+    let Stopped : Result LinkFault RunFault → Type 0 = λ stop. IsStopped IsRow (λ earlier later. HasStopped lines before now earlier later stop) ROWS_MAX all in
     showings.line_untaken all lines before now c.in_err-stop-2.field-0.0 (subst Stopped c.in_err-stop-2.was (subst Ended c.in-Some.is (c.in_ok-stop.ensures.ended all to_come)))
     c.from_residual-in_err-stop-2.result c.from_residual-in_err-stop-2.ensures.1
 
@@ -30,8 +31,8 @@ returns-in-Some-clause-shows g c all to_come =
     let lines = c.read_rows.new.taker.lines in
     let before = begun (g.W.Write.contents c.args.writer.now) in
     let now = output (g.W.Write.contents c.read_rows.new.out) c.read_rows.new.taker.page in
-    let Ended : Option (Result LinkFault RunFault) → Type 0 = λ stop. HasEnded (HasShown lines before now) (HasStopped lines before now) ROWS_MAX all (Ok stop) in
-    let Stopped : Result LinkFault RunFault → Type 0 = λ stop. IsStopped (λ earlier later. HasStopped lines before now earlier later stop) ROWS_MAX all in
+    let Ended : Option (Result LinkFault RunFault) → Type 0 = λ stop. HasEnded IsRow IsRefusal (HasShown lines before now) (HasStopped lines before now) ROWS_MAX all (Ok stop) in
+    let Stopped : Result LinkFault RunFault → Type 0 = λ stop. IsStopped IsRow (λ earlier later. HasStopped lines before now earlier later stop) ROWS_MAX all in
     showings.at_fault all lines before now c.in_ok-stop-2.field-0 (subst Stopped c.in_ok-stop-2.was (subst Ended c.in-Some.is (c.in_ok-stop.ensures.ended all to_come)))
 
 pub returns-in_err-add_cut-clause-shows : goal.returns-in_err-add_cut-clause-shows
@@ -39,7 +40,7 @@ returns-in_err-add_cut-clause-shows g c all to_come =
     let lines = c.read_rows.new.taker.lines in
     let before = begun (g.W.Write.contents c.args.writer.now) in
     let now = output (g.W.Write.contents c.read_rows.new.out) c.read_rows.new.taker.page in
-    let Ended : Option (Result LinkFault RunFault) → Type 0 = λ stop. HasEnded (HasShown lines before now) (HasStopped lines before now) ROWS_MAX all (Ok stop) in
+    let Ended : Option (Result LinkFault RunFault) → Type 0 = λ stop. HasEnded IsRow IsRefusal (HasShown lines before now) (HasStopped lines before now) ROWS_MAX all (Ok stop) in
     showings.cut_refused all lines before now (output (g.W.Write.contents c.add_cut.new.writer) c.add_cut.new.self) (subst Ended c.in_default.is (c.in_ok-stop.ensures.ended all to_come))
     c.in_err-add_cut.field-0.0 c.in_err-add_cut.ensures.refused c.from_residual-in_err-add_cut.result c.from_residual-in_err-add_cut.ensures.1
 
@@ -48,5 +49,5 @@ returns-clause-shows g c all to_come =
     let lines = c.read_rows.new.taker.lines in
     let before = begun (g.W.Write.contents c.args.writer.now) in
     let now = output (g.W.Write.contents c.read_rows.new.out) c.read_rows.new.taker.page in
-    let Ended : Option (Result LinkFault RunFault) → Type 0 = λ stop. HasEnded (HasShown lines before now) (HasStopped lines before now) ROWS_MAX all (Ok stop) in
+    let Ended : Option (Result LinkFault RunFault) → Type 0 = λ stop. HasEnded IsRow IsRefusal (HasShown lines before now) (HasStopped lines before now) ROWS_MAX all (Ok stop) in
     showings.whole all lines before now (output (g.W.Write.contents c.add_cut.new.writer) c.add_cut.new.self) (subst Ended c.in_default.is (c.in_ok-stop.ensures.ended all to_come)) c.in_ok-add_cut.ensures.added
