@@ -1,5 +1,5 @@
 -- Records that are rows.
-use Rattle.std.proofs.Common.{arith, refl, ap, ◌∙◌, ◌≡◌, ◌<◌, ℕ, List, [], ◌∷◌, ◌++◌, Result, Ok, Err, length, append_assoc, IsOk}
+use Rattle.std.proofs.Common.{arith, refl, ap, ◌∙◌, ◌≡◌, ◌+◌, ◌<◌, ℕ, List, [], ◌∷◌, ◌++◌, Result, Ok, Err, length, length-append, append_assoc, IsOk}
 use Rattle.mdb_words.specs.declared.event.Event.{Event}
 use Rattle.mdb_words.specs.Row.{IsRow}
 use Rattle.mdb_check.specs.Batch.{AreAll}
@@ -32,6 +32,10 @@ all_push Is [] [] fields row told is = (is, tt)
 all_push Is (r ∷ records) (e ∷ rows) fields row told is = (told.0, all_push Is records rows fields row told.1 is)
 all_push Is [] (e ∷ rows) fields row told is = absurd told
 all_push Is (r ∷ records) [] fields row told is = absurd told
+
+-- so many are there then
+pub one_longer : {Row : Type 0} (rows longer : List Row) (row : Row) → longer ≡ rows ++ row ∷ [] → length longer ≡ length rows + 1
+one_longer rows longer row are = ap length are ∙ length-append rows (row ∷ [])
 
 -- rows behind rows
 pub all_append : {Row : Type 0} (Is : List (List ℕ) → Row → Type 0) (one : List (List (List ℕ))) (first : List Row) (other : List (List (List ℕ))) (second : List Row) → AreAll Is one first → AreAll Is other second

@@ -35,31 +35,31 @@ pub(crate) enum Next {
 /// Reading and following take turns by batches, since a processor does many rows of the same work
 /// in less time than one row of each in turn. A clause sees the rows as a list.
 #[derive(Drop)]
-pub(crate) struct Batch<I> {
-    rows: [I; BATCH],
+pub(crate) struct Batch<T> {
+    rows: [T; BATCH],
     count: usize,
 }
 
-impl<I> Model for Batch<I> {
+impl<T> Model for Batch<T> {
     ghost use Rattle.std.specs.Prelude.{List, ◌≡◌, ◌≤◌, length, take};
     ghost use Rattle.mdb_check.specs.declared.batch.TheConstants.{BATCH};
 
-    ghost Value = { List I };
+    ghost Value = { List T };
 
     ghost view = { λ b. take b.count b.rows };
 
     ghost invariant = { λ b. (b.count ≤ BATCH) × (length b.rows ≡ BATCH) };
 }
 
-impl<I: FromRecord> Batch<I> {
+impl<T: FromRecord> Batch<T> {
     ghost use Rattle.std.specs.Prelude.{[], ◌∷◌, ◌++◌};
 
     /// No rows.
-    pub(crate) fn new() -> Batch<I>
+    pub(crate) fn new() -> Batch<T>
         ensures { result ≡ [] }
     {
         Batch {
-            rows: [I::blank(); BATCH],
+            rows: [T::blank(); BATCH],
             count: 0,
         }
     }
@@ -72,7 +72,7 @@ impl<I: FromRecord> Batch<I> {
     }
 
     /// Adds the next row.
-    fn push(&mut self, row: I)
+    fn push(&mut self, row: T)
         requires { length self.old < BATCH }
         ensures { self.new ≡ self.old ++ row ∷ [] }
     {
@@ -81,7 +81,7 @@ impl<I: FromRecord> Batch<I> {
     }
 
     /// The rows.
-    pub(crate) fn as_slice(&self) -> &[I]
+    pub(crate) fn as_slice(&self) -> &[T]
         ensures rows { result.now ≡ self.now }
         ensures few { length self.now ≤ BATCH }
     {
@@ -98,7 +98,7 @@ impl<I: FromRecord> Batch<I> {
     pub(crate) fn refill<R: Read + Drop>(&mut self, records: &mut Records<R>, room: u64) -> Next
         requires { 0 < room }
         ensures read { (all : List (List (List ℕ))) → ToCome R.remaining records.old all
-            → HasRead I.is I.refuses R.remaining all records.new self.new result }
+            → HasRead T.is T.refuses R.remaining all records.new self.new result }
         ensures over { IsOverLimit R.remaining records.old
             → GoesOnOver R.remaining records.new result }
         ensures met { fault_of records.old ≡ None → IsMet result (fault_of records.new) }
@@ -115,7 +115,7 @@ impl<I: FromRecord> Batch<I> {
             if !found {
                 return Next::End;
             }
-            match I::of(records.row()) {
+            match T::of(records.row()) {
                 Ok(row) => self.push(row),
                 Err(fault) => return Next::BadRow(fault),
             }

@@ -1,7 +1,7 @@
 //! The program over its words.
 
 ghost use Rattle.std.specs.Prelude.{◌≡◌, ◌≢◌, ◌<◌, ◌⊎◌, ℕ, List, [], ◌∷◌, IfErr, IfOk, IfSome, length, map, string_bytes};
-ghost use Rattle.clap.specs.Words.{FailsBy, fault_of, kind_of};
+ghost use Rattle.clap.specs.Words.{FailsBy, app_of, fault_of, kind_of};
 ghost use Rattle.mdb_check.specs.CommandLine.{mdbcheck};
 ghost use Rattle.mdb_check.specs.Program.{NameATask, NamesTask, Says, show_status_of, status_of, task_word};
 ghost use Rattle.mdb_check.specs.declared.verdict.TheConstants.{BYTES_MAX};
@@ -17,7 +17,7 @@ use clap::error::{Error, ErrorKind};
 use mdb_bus::LinkFault;
 use mdb_follow::ROWS_MAX;
 use mdb_records::Records;
-use std::alloc::Global;
+use std::alloc::{AllocError, Global};
 use std::io::{Read, Write};
 
 /// The line that says how the program is called.
@@ -119,15 +119,21 @@ fn accept(alloc: Global, words: &[String]) -> Result<(), Error>
         → map string_bytes words.now ≡ program ∷ task_word task ∷ []
         → kind_of error ≡ ErrorKind.OutOfMemory) }
 {
+    command(alloc)?.try_get_matches_from(words)?;
+    Ok(())
+}
+
+/// The program's command, as `clap` has it.
+fn command<'a>(alloc: Global) -> Result<Command<'a>, AllocError>
+    ensures { IfOk result (λ command. app_of command ≡ mdbcheck) }
+{
     let check = Command::new(alloc, "check");
     let show = Command::new(alloc, "show");
-    let mdbcheck = Command::new(alloc, "mdbcheck")
+    Command::new(alloc, "mdbcheck")
         .version(VERSION)
         .subcommand_required(true)
         .subcommand(check)?
-        .subcommand(show)?;
-    mdbcheck.try_get_matches_from(words)?;
-    Ok(())
+        .subcommand(show)
 }
 
 /// The task that the word behind the program's name is.

@@ -109,9 +109,9 @@ fn goes_on(next: Next, rows: u64) -> Result<bool, RunFault>
 }
 
 /// Refuses a record behind as many rows as there may be, whatever it holds.
-fn end_behind<R: Read + Drop, I: FromRecord>(
+fn end_behind<R: Read + Drop, T: FromRecord>(
     records: &mut Records<R>,
-    batch: &mut Batch<I>,
+    batch: &mut Batch<T>,
 ) -> Result<(), RunFault>
     ensures ends { (rest : List (List (List ℕ))) → ToCome R.remaining records.old rest
         → EndsBehind rest result }
