@@ -17,12 +17,12 @@ use Rattle.mdb_msgs.specs.Needs.{IsShort}
 use Rattle.mdb_msgs.specs.Replies.{reply_bytes}
 use Rattle.mdb_bus.specs.declared.act.Act.TheVariants as acts
 use Rattle.mdb_bus.specs.declared.levels.Levels.{Levels}
-use Rattle.mdb_bus.specs.Step.{Step}
-use Rattle.mdb_bus.specs.Step as step
+use Rattle.mdb_bus.specs.inner.Step.{Step}
+use Rattle.mdb_bus.specs.inner.Step as step
 use Rattle.mdb_bus.specs.Acts.{IsBlockWord, IsForeignOpening, IsForeignWord, Say, command_words, reply_words, said_by}
 use Rattle.mdb_bus.specs.ActLists.{AreSpaced, ArePieces, AskTail, Asked, BlockMayCome, InAsk, InForeign, InRepeat, InReply, IsAskFront, IsPiece, IsRepeatFront, IsReplyFront, MayCome, MayStand, Piece, PieceFitsLevels, Position, Quiet, RepeatTail, Replied, ReplyTail, Returned, Whole, events_of, last_of, levels_of, piece_events, position_of}
 use Rattle.mdb_bus.specs.LinkFaults.{Situation, situation_of}
-use Rattle.mdb_bus.specs.Steps.{Leads, WordLeads, grown, piece_after, pieces_after}
+use Rattle.mdb_bus.specs.inner.Steps.{Leads, WordLeads, grown, piece_after, pieces_after}
 use Rattle.mdb_bus.proofs.Commands.{command_some, more_low, spelled_low}
 use Rattle.mdb_bus.proofs.Lists.{all_front, all_last, controller_last, controller_length, first_stays, front_and_last, inside, not_empty, one_alone, peripheral_push, say_last, say_length, some_length}
 

@@ -19,7 +19,7 @@ use Rattle.mdb_msgs.specs.Commands.{HasBillFields, HasChangerFields, HasFields, 
 use Rattle.mdb_msgs.specs.Needs.{bill_need, changer_need, is_for, need as need_of, needed, reader_need}
 use Rattle.mdb_bus.specs.ActLists.{IsAskFront}
 use Rattle.mdb_bus.proofs.Decided.{Decided, less}
-use Rattle.mdb_bus.specs.Grammar.{Grammar}
+use Rattle.mdb_bus.specs.inner.Grammar.{Grammar}
 use Rattle.mdb_bus.proofs.Stops.{some_long}
 
 -- one byte never needs to be the whole block

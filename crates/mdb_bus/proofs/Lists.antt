@@ -11,7 +11,7 @@ use Rattle.mdb_words.specs.Event.{AtLeast, AtMost}
 use Rattle.mdb_blocks.specs.Block.{controller_words, peripheral_words}
 use Rattle.mdb_bus.specs.Acts.{Say, said_by}
 use Rattle.mdb_bus.specs.ActLists.{AreSpaced, last_of}
-use Rattle.mdb_bus.specs.Steps.{InBlock}
+use Rattle.mdb_bus.specs.inner.Steps.{InBlock}
 
 -- a list that isn't empty has a last element
 pub front_and_last : {X : Type 0} (xs : List X) → xs ≢ [] → (front : List X) × (last : X) × (xs ≡ front ++ last ∷ [])

@@ -9,7 +9,7 @@ use Rattle.mdb_msgs.specs.Replies.{IsReplyTo, reply_bytes}
 use Rattle.mdb_blocks.specs.Block.{block_of}
 use Rattle.mdb_bus.specs.ActLists.{GoesOnFrom, HasActList, IsActList, Piece, acts_of, events_of, piece_events, position_of}
 use Rattle.mdb_bus.specs.LinkFaults.{situation_of}
-use Rattle.mdb_bus.specs.Steps.{Leads, act_after, pieces_after}
+use Rattle.mdb_bus.specs.inner.Steps.{Leads, act_after, pieces_after}
 use Rattle.mdb_bus.proofs.Backward.{backward, piece_some}
 use Rattle.mdb_bus.proofs.Forward.{forward}
 use Rattle.mdb_bus.proofs.Lists.{front_and_last, not_empty}

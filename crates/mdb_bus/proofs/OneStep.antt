@@ -12,13 +12,13 @@ use Rattle.mdb_msgs.specs.Commands.{Spells}
 use Rattle.mdb_msgs.specs.Needs.{IsTold, TellsLength, needed}
 use Rattle.mdb_msgs.specs.Replies.{IsReplyTo, reply_bytes}
 use Rattle.mdb_bus.specs.declared.levels.Levels.{Levels}
-use Rattle.mdb_bus.specs.Step.{Step}
-use Rattle.mdb_bus.specs.Step as step
+use Rattle.mdb_bus.specs.inner.Step.{Step}
+use Rattle.mdb_bus.specs.inner.Step as step
 use Rattle.mdb_bus.specs.Acts.{IsForeignOpening, reply_words}
 use Rattle.mdb_bus.specs.ActLists.{Asked, InAsk, InForeign, InRepeat, InReply, IsAskFront, IsRepeatFront, Position, Quiet, Replied, Returned}
 use Rattle.mdb_bus.specs.LinkFaults.{Situation}
-use Rattle.mdb_bus.specs.Steps.{Answers, AnswersReply, BeginsRepeat, GoesOnAsking, GoesOnForeign, GoesOnRepeating, GoesOnReplying, Leads, Opens, WordLeads}
-use Rattle.mdb_bus.specs.Grammar.{Grammar}
+use Rattle.mdb_bus.specs.inner.Steps.{Answers, AnswersReply, BeginsRepeat, GoesOnAsking, GoesOnForeign, GoesOnRepeating, GoesOnReplying, Leads, Opens, WordLeads}
+use Rattle.mdb_bus.specs.inner.Grammar.{Grammar}
 use Rattle.mdb_bus.proofs.Lists.{nothing_behind, some_length}
 
 -- what mdb_msgs promises of the commands and replies that a block may be

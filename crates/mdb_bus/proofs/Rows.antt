@@ -10,7 +10,7 @@ use Rattle.mdb_words.specs.Event.{AtLeast, AtMost}
 use Rattle.mdb_blocks.specs.Block.{block_of, controller_words, peripheral_words}
 use Rattle.mdb_bus.specs.Acts.{IsBlockWord, Say, said_by}
 use Rattle.mdb_bus.specs.ActLists.{AreSpaced, last_of}
-use Rattle.mdb_bus.specs.Steps.{InBlock}
+use Rattle.mdb_bus.specs.inner.Steps.{InBlock}
 
 -- a list that begins with an element has a last one
 front_and_last : {X : Type 0} (x : X) (xs : List X) → (front : List X) × (last : X) × (x ∷ xs ≡ front ++ last ∷ [])

@@ -2,10 +2,10 @@
 use Rattle.std.proofs.Common.{refl, subst, ◌≡◌, List, [], ◌∷◌, ◌++◌, ◌⊎◌, inl, inr}
 use Rattle.mdb_words.specs.declared.event.Event.{Event}
 use Rattle.mdb_bus.specs.declared.fault.Rule.{Rule}
-use Rattle.mdb_bus.specs.Step.{Step}
+use Rattle.mdb_bus.specs.inner.Step.{Step}
 use Rattle.mdb_bus.specs.ActLists.{Piece, ArePieces, HasActList, IsActList, events_of}
 use Rattle.mdb_bus.specs.LinkFaults.{IsFirstBroken, RowBreaks, Situation, situation_of}
-use Rattle.mdb_bus.specs.Steps.{IsSound, Leads, pieces_after}
+use Rattle.mdb_bus.specs.inner.Steps.{IsSound, Leads, pieces_after}
 use Rattle.mdb_bus.proofs.SomeRule.{HasReply}
 use Rattle.mdb_bus.proofs.Sound.{has_reply, is_sound, last_is_long}
 use Rattle.mdb_bus.proofs.Stops.{LastIsLong}

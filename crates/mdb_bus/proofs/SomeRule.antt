@@ -26,15 +26,15 @@ use Rattle.mdb_msgs.specs.Answers.{HasDataAnswer, MayHaveData}
 use Rattle.mdb_bus.specs.declared.fault.Rule.{Rule}
 use Rattle.mdb_bus.specs.declared.fault.Rule.TheVariants as rule
 use Rattle.mdb_bus.specs.declared.levels.Levels.{Levels}
-use Rattle.mdb_bus.specs.Step.{Step}
-use Rattle.mdb_bus.specs.Step as step
+use Rattle.mdb_bus.specs.inner.Step.{Step}
+use Rattle.mdb_bus.specs.inner.Step as step
 use Rattle.mdb_bus.specs.Acts.{IsReply, reply_words}
 use Rattle.mdb_bus.specs.ActLists.{Position, Quiet, InAsk, Asked, InReply, Replied, Returned, InRepeat, InForeign, BlockMayCome, InTime, IsAskFront, IsLow, IsReplyFront, NotBefore, NotBehind, level_for, rest_before_block, rest_before_break, tells_high}
 use Rattle.mdb_bus.specs.LinkFaults.{HasBadMessage, HasHighLevels, IsBefore, IsBehind, IsChanged, IsFirstBroken, IsLeftOut, IsOutside, OutOfOrder, RowBreaks, Situation, TooEarly, TooFarApart, TooLate, TooShort, WrongAnswer, WrongLength, WrongMode, WrongSpeaker, WrongSum}
-use Rattle.mdb_bus.specs.Steps.{GoesOnAsking, InBlock, IsSound, Leads, Opens}
+use Rattle.mdb_bus.specs.inner.Steps.{GoesOnAsking, InBlock, IsSound, Leads, Opens}
 use Rattle.mdb_bus.proofs.Decided.{Decided, Found, all_three, both, denied, either, first_or_none, held, is_true, less, meant, never, next_in, same, within}
 use Rattle.mdb_bus.proofs.Fronts.{first_byte, front_bytes, front_of, need_ends, need_three, needed_stays}
-use Rattle.mdb_bus.specs.Grammar.{Grammar}
+use Rattle.mdb_bus.specs.inner.Grammar.{Grammar}
 use Rattle.mdb_bus.proofs.Stops.{Broken, none_bad, same_reply, some_long}
 
 -- a reply that was told, or is told again, is one

@@ -11,7 +11,7 @@ use Rattle.mdb_bus.specs.declared.act.Act.{Act}
 use Rattle.mdb_bus.specs.declared.act.Act.TheVariants as acts
 use Rattle.mdb_bus.specs.Acts.{IsForeign, IsForeignWord, NamesAReply, Say, command_words, reply_words}
 use Rattle.mdb_bus.specs.ActLists.{Piece, Whole, AskTail, ReplyTail, RepeatTail, Position, ArePieces, IsSaid, events_of, last_of, piece_events, position_of}
-use Rattle.mdb_bus.specs.Steps.{IsSound}
+use Rattle.mdb_bus.specs.inner.Steps.{IsSound}
 use Rattle.mdb_bus.proofs.SomeRule.{HasReply}
 use Rattle.mdb_bus.proofs.Stops.{LastIsLong}
 

@@ -23,13 +23,13 @@ use Rattle.mdb_msgs.specs.Answers.{HasDataAnswer, MayHaveData}
 use Rattle.mdb_bus.specs.declared.fault.Rule.{Rule}
 use Rattle.mdb_bus.specs.declared.fault.Rule.TheVariants as rule
 use Rattle.mdb_bus.specs.declared.levels.Levels.{Levels}
-use Rattle.mdb_bus.specs.Step.{Step}
-use Rattle.mdb_bus.specs.Step as step
+use Rattle.mdb_bus.specs.inner.Step.{Step}
+use Rattle.mdb_bus.specs.inner.Step as step
 use Rattle.mdb_bus.specs.Acts.{IsForeignOpening, IsForeignWord, IsReply, reply_words}
 use Rattle.mdb_bus.specs.ActLists.{Position, Quiet, InAsk, Asked, InReply, Replied, Returned, InRepeat, InForeign, BlockMayCome, InTime, IsAskFront, IsLow, IsRepeatFront, NotBefore, NotBehind, level_for, rest_before_block, rest_before_break, tells_high}
 use Rattle.mdb_bus.specs.LinkFaults.{HasHighLevels, IsBefore, IsBehind, IsNext, IsOutside, OutOfOrder, RowBreaks, Situation}
-use Rattle.mdb_bus.specs.Steps.{Answers, AnswersReply, BeginsRepeat, GoesOnAsking, GoesOnForeign, GoesOnRepeating, GoesOnReplying, InBlock, IsSound, Leads, Opens, WordLeads}
-use Rattle.mdb_bus.specs.Grammar.{Grammar}
+use Rattle.mdb_bus.specs.inner.Steps.{Answers, AnswersReply, BeginsRepeat, GoesOnAsking, GoesOnForeign, GoesOnRepeating, GoesOnReplying, InBlock, IsSound, Leads, Opens, WordLeads}
+use Rattle.mdb_bus.specs.inner.Grammar.{Grammar}
 
 -- a last row that is a break lasts long enough for one
 abbrev pub LastIsLong : Option Event → Type 0

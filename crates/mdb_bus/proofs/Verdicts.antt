@@ -1,5 +1,5 @@
 -- What is made of a word, position by position.
-use Rattle.std.proofs.Common.{rules, arith, refl, ap, sym, subst, ◌∙◌, ◌≡◌, ◌≢◌, ◌+◌, ◌<◌, ◌≤◌, ◌%◌, ◌⊎◌, inl, inr, ℕ, zero, suc, List, [], ◌∷◌, ◌++◌, length, take, drop, slice_index, slice_get, sum, Option, Some, None, Result, Ok, Err, get_or, append_assoc, length-append, length-drop, Fits, w8}
+use Rattle.std.proofs.Common.{rules, arith, refl, ap, sym, subst, ◌∙◌, ◌≡◌, ◌≢◌, ◌+◌, ◌<◌, ◌≤◌, ◌%◌, ◌⊎◌, inl, inr, ℕ, zero, suc, List, [], ◌∷◌, ◌++◌, length, take, drop, slice_index, slice_get, sum, Option, Some, None, Result, Ok, Err, IfOk, get_or, append_assoc, length-append, length-drop, Fits, w8}
 use Rattle.std.proofs.lemmas.List.Elements.{All-append, All-from_get_or, All-from_recursion}
 use Rattle.std.proofs.lemmas.Option.{slice_get-get_or, slice_get_past, slice_get_within}
 use Rattle.std.proofs.Math.Seq.{get_or-append_seam}
@@ -32,10 +32,10 @@ use Rattle.mdb_bus.specs.declared.judged.Judged.{Judged}
 use Rattle.mdb_bus.specs.declared.judged.Judged.TheVariants as judged
 use Rattle.mdb_bus.specs.Acts.{IsForeignOpening, IsReply, reply_words}
 use Rattle.mdb_bus.specs.ActLists.{Asked, InAsk, InReply, IsAskFront, IsRepeatFront, NotBefore, NotBehind}
-use Rattle.mdb_bus.specs.declared.place.Phase.{Phase}
+use Rattle.mdb_bus.specs.declared.phase.Phase.{Phase}
 use Rattle.mdb_bus.specs.Bus.{position_at, position_in}
 use Rattle.mdb_bus.specs.LinkFaults.{IsBefore, IsBehind, IsFirstBroken, OutOfOrder, RowBreaks, Situation, WrongLength, place_of}
-use Rattle.mdb_bus.specs.Steps.{IsGoingOn, IsJudged, IsRead, IsReplyEnd, IsSettled, IsSound, rule_of}
+use Rattle.mdb_bus.specs.inner.Steps.{Belongs, IsGoingOn, IsJudged, IsRead, IsReplyEnd, IsSettled, IsSound, rule_of}
 use Rattle.mdb_bus.proofs.Needs.{at_least_two, not_left, stays, tells}
 
 -- a row isn't both too early and in time
@@ -523,6 +523,19 @@ pub judged_row : (situation : Situation) (row other : Event) (result : Result Ju
 judged_row situation row other result is judged =
     let P : Event → Type 0 = λ r. IsJudged situation r result in
     subst P (sym is) judged
+
+-- what was judged belongs to a phase, or is of a row, that is another
+pub belongs_at : (here other : Phase) (bytes : List ℕ) (row : Event) (result : Result Judged Rule) → here ≡ other
+    → IfOk result (Belongs other bytes row) → IfOk result (Belongs here bytes row)
+belongs_at here other bytes row result is belongs =
+    let P : Phase → Type 0 = λ p. IfOk result (Belongs p bytes row) in
+    subst P (sym is) belongs
+
+pub belongs_row : (here : Phase) (bytes : List ℕ) (row other : Event) (result : Result Judged Rule) → row ≡ other
+    → IfOk result (Belongs here bytes other) → IfOk result (Belongs here bytes row)
+belongs_row here bytes row other result is belongs =
+    let P : Event → Type 0 = λ r. IfOk result (Belongs here bytes r) in
+    subst P (sym is) belongs
 
 -- a sound place that is another's
 pub sound_at : (place : Place) (other : Phase) → place.phase ≡ other → IsSound (position_at place)

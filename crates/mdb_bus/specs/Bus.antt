@@ -6,13 +6,11 @@ use Rattle.mdb_bus.specs.declared.bus.Bus.{Bus}
 use Rattle.mdb_bus.specs.declared.place.Place.{Place}
 use Rattle.mdb_msgs.specs.declared.command.Command.{Command}
 use Rattle.mdb_msgs.specs.declared.reply.Reply.{Reply}
-use Rattle.mdb_bus.specs.declared.place.Phase.{Phase}
-use Rattle.mdb_bus.specs.declared.place.Phase.TheVariants as phase
-use Rattle.mdb_bus.specs.Step.{Step}
+use Rattle.mdb_bus.specs.declared.phase.Phase.{Phase}
+use Rattle.mdb_bus.specs.declared.phase.Phase.TheVariants as phase
 use Rattle.mdb_bus.specs.Acts.{reply_words}
 use Rattle.mdb_bus.specs.ActLists.{Piece, Position, Quiet, InAsk, Asked, InReply, Replied, Returned, InRepeat, InForeign, ArePieces, IsTail, act_in, acts_of, events_of, last_of, levels_of, piece_events, position_of, with_act}
 use Rattle.mdb_bus.specs.LinkFaults.{asked_device}
-use Rattle.mdb_bus.specs.Steps.{HasAdvanced, asked_behind, levels_behind}
 
 -- the position that a phase is, with the last bytes, the last command and the last reply
 abbrev pub position_in : Phase → List ℕ → Command → Reply → Position
@@ -64,11 +62,3 @@ pub record GoesOn (bus : Bus) (pieces : List Piece) (row : Event) (act : Option 
   pub rows : events_of longer ≡ events_of pieces ++ row ∷ []
   pub acts : acts_of longer ≡ with_act act (acts_of pieces)
   pub grown : Grown pieces row act longer
-
--- A bus has gone a step by a row. This serves its private functions.
-pub record HasGone (old : Bus) (next : Step) (row : Event) (new : Bus)
-    (act : Option Act) : Type 0 where
-  pub advanced : HasAdvanced (position_at old.place) next (position_at new.place) act
-  pub last : new.last ≡ Some row
-  pub levels : new.levels ≡ levels_behind old.levels next
-  pub asked : new.asked ≡ asked_behind old.asked next

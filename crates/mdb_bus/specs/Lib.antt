@@ -2,8 +2,6 @@ pub mod Acts
 pub mod ActLists
 pub mod Bus
 pub mod Choice
-pub mod Grammar
 pub mod LinkFaults
 pub mod Loss
-pub mod Step
-pub mod Steps
+pub mod inner

@@ -1,16 +1,19 @@
 //! The bus: which rows may follow which, and the acts that they are.
 
-ghost use Rattle.std.specs.Prelude.{◌≡◌, [], ◌∷◌, ◌++◌, ℕ, List, Some, false, true, IfOk, IfErr, OnErr, Ok, Err};
+ghost use Rattle.std.specs.Prelude.{◌≡◌, ◌≢◌, [], ◌∷◌, ◌++◌, ℕ, List, Some, false, true, IfOk, IfErr, OnErr, Ok, Err};
 ghost use Rattle.mdb_msgs.specs.declared.reply.Reply.{Reply};
-ghost use Rattle.mdb_bus.specs.Step.{EachStep};
+ghost use Rattle.mdb_bus.specs.inner.Step.{EachStep};
 
 use super::act::Act;
+use super::begun::Begun;
 use super::fault::{Blame, LinkFault, Rule};
 use super::judged::Judged;
 use super::judging::judge;
 use super::laws;
 use super::levels::Levels;
-use super::place::{Begun, Phase, Place, Spelled};
+use super::phase::Phase;
+use super::place::Place;
+use super::spelled::Spelled;
 use mdb_msgs::{ChangerCommand, Command, Device};
 use mdb_words::{Event, Line};
 
@@ -28,10 +31,11 @@ pub struct Bus {
 impl Bus {
     ghost use Rattle.mdb_msgs.specs.Commands.{device_of};
     ghost use Rattle.mdb_bus.specs.ActLists.{HasActList, Piece, events_of, levels_after};
-    ghost use Rattle.mdb_bus.specs.Bus.{GoesOn, HasGone, StandsFor, ended_act, position_at};
+    ghost use Rattle.mdb_bus.specs.Bus.{GoesOn, StandsFor, ended_act, position_at};
     ghost use Rattle.mdb_bus.specs.LinkFaults.{IsLinkFault, blame_of};
-    ghost use Rattle.mdb_bus.specs.Step as step;
-    ghost use Rattle.mdb_bus.specs.Steps.{HasRoom, IsAt, IsReadAt};
+    ghost use Rattle.mdb_bus.specs.inner.Gone.{HasGone};
+    ghost use Rattle.mdb_bus.specs.inner.Step as step;
+    ghost use Rattle.mdb_bus.specs.inner.Steps.{Belongs, IsAt, IsReadAt};
 
     /// The bus before its first row: recording began at power-on or at a break.
     pub fn new() -> Bus
@@ -108,6 +112,7 @@ impl Bus {
     /// that it ends an act, which it then puts into `act`.
     #[inline(always)]
     fn take_reply(&mut self, event: Event, act: &mut Act) -> Result<bool, LinkFault>
+        requires { self.old.place.phase ≡ Phase.InReply }
         ensures taken { IfOk result (λ ended. (reply : Reply)
             × IsReadAt (position_at self.old.place) self.old.levels (Ok reply)
             × HasGone self.old (step.Reply reply) event self.new (ended_act ended act.new)) }
@@ -134,7 +139,8 @@ impl Bus {
     /// Goes a step by a row, and answers whether it ends an act, which it then puts into `act`.
     #[inline(always)]
     fn go(&mut self, judged: Judged, event: Event, act: &mut Act) -> bool
-        requires { HasRoom self.old.place.phase self.old.place.bytes judged }
+        requires belongs { Belongs self.old.place.phase self.old.place.bytes event judged }
+        requires other { judged ≢ Judged.Reply }
         ensures gone { EachStep judged event (λ next. IsAt (position_at self.old.place) next
             → HasGone self.old next event self.new (ended_act result act.new)) }
         ensures none { result ≡ false → act.new ≡ act.old }

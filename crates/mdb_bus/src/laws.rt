@@ -9,7 +9,7 @@ ghost use Rattle.mdb_bus.specs.declared.fault.Rule.{Rule};
 ghost use Rattle.mdb_bus.specs.Acts.{NamesAReply};
 ghost use Rattle.mdb_bus.specs.ActLists.{ArePieces, GoesOnFrom, HasActList, IsActList, Piece, Whole, events_of};
 ghost use Rattle.mdb_bus.specs.Choice.{Choice, HearsFreeAsChosen, HearsAsChosen, nothing_told};
-ghost use Rattle.mdb_bus.specs.Grammar.{Grammar};
+ghost use Rattle.mdb_bus.specs.inner.Grammar.{Grammar};
 ghost use Rattle.mdb_bus.specs.LinkFaults.{IsFirstBroken, IsLinkFault, RowBreaks, situation_of};
 ghost use Rattle.mdb_bus.specs.Loss.{IsExplained, Loss, LossFits};
 

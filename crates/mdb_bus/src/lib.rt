@@ -6,6 +6,7 @@
 #![tactic(auto)]
 
 mod act;
+mod begun;
 mod bus;
 mod fault;
 mod gaps;
@@ -13,7 +14,9 @@ mod judged;
 mod judging;
 pub mod laws;
 mod levels;
+mod phase;
 mod place;
+mod spelled;
 
 pub use act::Act;
 pub use bus::Bus;

@@ -1,152 +1,19 @@
-//! Where the bus is.
+//! Where the bus is, and how that goes on.
 
-ghost use Rattle.std.specs.Prelude.{◌≡◌, ◌≤◌, ◌<◌, [], ◌∷◌, ◌++◌, ◌%◌, ℕ, length, false, true, Some, IfSome, IfOk, IfErr, OnErr, Ok, Err};
-ghost use Rattle.mdb_blocks.specs.Block.{block_of};
-ghost use Rattle.mdb_msgs.specs.Replies.{reply_bytes};
-ghost use Rattle.mdb_msgs.specs.declared.reply.Reply.TheVariants.{ChangerPoll};
-ghost use Rattle.mdb_msgs.specs.declared.reply.changer.ChangerMsg.TheVariants.{Status};
-ghost use Rattle.mdb_bus.specs.Step.{word_in};
-ghost use Rattle.mdb_bus.specs.Steps.{rule_of as rule_of_lem};
+ghost use Rattle.std.specs.Prelude.{◌≡◌, ◌≢◌, ◌%◌, ℕ, false, true, Some, None, IfOk, IfErr, OnErr, Ok, Err};
+ghost use Rattle.mdb_bus.specs.inner.Step.{word_in};
+ghost use Rattle.mdb_bus.specs.inner.Steps.{rule_of as rule_of_lem};
 
 use super::act::Act;
+use super::begun::Begun;
 use super::fault::Rule;
 use super::judged::Judged;
-use super::judging::see_bytes;
 use super::levels::Levels;
-use arrayvec::ArrayVec;
-use mdb_blocks::{Block, seal};
-use mdb_msgs::{
-    ChangerCommand, ChangerMsg, Command, MsgFault, Reply, command_of, laws, polled, reply_of,
-};
+use super::phase::Phase;
+use super::spelled::Spelled;
+use mdb_msgs::{Command, MsgFault, Reply, command_of, laws, polled, reply_of};
 use mdb_words::Event;
-use std::marker::Model;
 use std::mem;
-
-/// The most bytes of a block beside its last.
-const CONTENT_MAX: usize = 35;
-
-/// The bytes so far of a block that has begun: 1 to 35.
-///
-/// A clause sees them as a list.
-#[derive(Drop)]
-pub struct Begun {
-    bytes: [u8; CONTENT_MAX],
-    count: usize,
-}
-
-impl Model for Begun {
-    ghost use Rattle.std.specs.Prelude.{List, ℕ, ◌≡◌, ◌≤◌, length, take};
-    ghost use Rattle.mdb_bus.specs.declared.place.TheConstants.{CONTENT_MAX};
-
-    ghost Value = { List ℕ };
-
-    ghost view = { λ b. take b.count b.bytes };
-
-    ghost invariant = { λ b. (1 ≤ b.count) × (b.count ≤ CONTENT_MAX)
-        × (length b.bytes ≡ CONTENT_MAX) };
-}
-
-impl Begun {
-    /// A block that begins with this byte.
-    pub(crate) fn with(first: u8) -> Begun
-        ensures { result ≡ first ∷ [] }
-    {
-        let mut bytes = [0; CONTENT_MAX];
-        bytes[0] = first;
-        Begun { bytes, count: 1 }
-    }
-
-    /// Adds the next byte.
-    pub(crate) fn push(&mut self, byte: u8)
-        requires { length self.old < CONTENT_MAX }
-        ensures { self.new ≡ self.old ++ byte ∷ [] }
-    {
-        self.bytes[self.count] = byte;
-        self.count += 1;
-    }
-
-    /// Becomes a block that begins with this byte.
-    pub(crate) fn restart(&mut self, first: u8)
-        ensures { self.new ≡ first ∷ [] }
-    {
-        self.bytes[0] = first;
-        self.count = 1;
-    }
-
-    /// The bytes.
-    pub(crate) fn as_slice(&self) -> &[u8]
-        ensures bytes { result.now ≡ self.now }
-        ensures some { 1 ≤ length self.now }
-        ensures few { length self.now ≤ CONTENT_MAX }
-    {
-        &self.bytes[..self.count]
-    }
-
-    /// The same bytes once more.
-    pub(crate) fn copy(&self) -> Begun
-        ensures { result ≡ self.now }
-    {
-        Begun {
-            bytes: self.bytes,
-            count: self.count,
-        }
-    }
-
-    /// The block that ends with their sum.
-    pub(crate) fn sealed(&self) -> Block
-        ensures { result ≡ block_of self.now }
-    {
-        seal(self.as_slice()).unwrap()
-    }
-}
-
-/// A reply and how it is spelled.
-#[derive(Drop)]
-pub struct Spelled {
-    /// The reply.
-    pub reply: Reply,
-    /// Its data bytes, without their sum.
-    pub bytes: Begun,
-    ghost spelled: { bytes ≡ reply_bytes reply },
-}
-
-impl Spelled {
-    /// What stands for the last reply before the first one, and no phase asks for: the changer's
-    /// POLL answered with status 00.
-    pub(crate) fn none() -> Spelled
-        ensures reply { result.reply ≡ ChangerPoll (record { items = Status 0 ∷ [] }) }
-        ensures bytes { result.bytes ≡ 0 ∷ [] }
-    {
-        let mut messages = ArrayVec::new();
-        messages.push(ChangerMsg::Status(0));
-        Spelled {
-            reply: Reply::ChangerPoll(messages),
-            bytes: Begun::with(0),
-        }
-    }
-}
-
-/// What the last act has left open, or what was said since. The bytes, the command and the reply
-/// that a phase means stand beside it.
-#[derive(Clone, Copy, PartialEq, Eq, Debug)]
-pub enum Phase {
-    /// Nothing is open.
-    Quiet,
-    /// The controller has sent the bytes of a block.
-    InAsk,
-    /// The command was asked, and may be answered.
-    Asked,
-    /// The peripheral has sent the bytes of a reply to the command.
-    InReply,
-    /// The command was answered by the last reply, and the controller may answer that.
-    Replied,
-    /// The controller has asked for the reply again.
-    Returned,
-    /// The peripheral has sent so many words of the repeat.
-    InRepeat(u8),
-    /// A foreign block was opened.
-    InForeign,
-}
 
 /// Where the bus is.
 ///
@@ -168,14 +35,16 @@ impl Place {
     ghost use Rattle.mdb_bus.specs.ActLists as lists;
     ghost use Rattle.mdb_bus.specs.declared.act.Act.TheVariants as acts;
     ghost use Rattle.mdb_bus.specs.Bus.{ended_act, position_at};
-    ghost use Rattle.mdb_bus.specs.Step as step;
-    ghost use Rattle.mdb_bus.specs.Step.{EachStep};
-    ghost use Rattle.mdb_bus.specs.Steps.{HasAdvanced, HasRoom, IsAt, IsReadAt, IsTaken};
+    ghost use Rattle.mdb_bus.specs.inner.Step as step;
+    ghost use Rattle.mdb_bus.specs.inner.Step.{EachStep};
+    ghost use Rattle.mdb_bus.specs.inner.Steps.{Belongs, HasAdvanced, HasRoom, IsAt, IsBreak, IsReadAt, IsTaken, MayRepeat, MayReply};
 
-    /// Goes a step, and answers whether it ends an act, which it then puts into `act`.
+    /// Goes a step, and answers whether it ends an act, which it then puts into `act`. What a reply
+    /// that has ended says decides of its step, so `end_reply` goes it.
     #[inline(always)]
     pub(crate) fn advance(&mut self, judged: Judged, row: &Event, act: &mut Act) -> bool
-        requires { HasRoom self.old.phase self.old.bytes judged }
+        requires belongs { Belongs self.old.phase self.old.bytes row.now judged }
+        requires other { judged ≢ Judged.Reply }
         ensures advanced { EachStep judged row.now (λ next. IsAt (position_at self.old) next
             → HasAdvanced (position_at self.old) next (position_at self.new)
             (ended_act result act.new)) }
@@ -194,8 +63,7 @@ impl Place {
                 self.add_to_reply(byte_in(row));
                 false
             }
-            // `end_reply` takes it.
-            Judged::Reply => false,
+            Judged::Reply => unreachable!(),
             Judged::VmcAck => self.acknowledge(act),
             Judged::VmcNak => self.refuse(act),
             Judged::VmcRet => self.return_reply(act),
@@ -223,13 +91,14 @@ impl Place {
     /// A break has ended what was open.
     #[inline(never)]
     fn end_by_break(&mut self, row: &Event, act: &mut Act) -> bool
+        requires { IsBreak row.now }
         ensures advanced { (at length : ℕ) → row.now ≡ Event.Break at length
             → HasAdvanced (position_at self.old) (step.Break length) (position_at self.new)
             (ended_act result act.new) }
         ensures none { result ≡ false → act.new ≡ act.old }
     {
         let Event::Break { length, .. } = *row else {
-            return false;
+            unreachable!();
         };
         self.phase = Phase::Quiet;
         act.note(Act::Break(length.value()))
@@ -237,7 +106,7 @@ impl Place {
 
     /// Adds a byte to the controller's block, or begins one with it.
     fn add_to_ask(&mut self, byte: u8)
-        requires { HasRoom self.old.phase self.old.bytes Judged.AskByte }
+        requires { HasRoom self.old.phase self.old.bytes }
         ensures { HasAdvanced (position_at self.old) (step.AskByte byte)
             (position_at self.new) None }
     {
@@ -253,15 +122,13 @@ impl Place {
     /// The controller's block has ended.
     #[inline(always)]
     fn end_ask(&mut self, act: &mut Act) -> bool
+        requires { self.old.phase ≡ Phase.InAsk }
         ensures advanced { (command : Command) → IsAt (position_at self.old) (step.Ask command)
             → HasAdvanced (position_at self.old) (step.Ask command) (position_at self.new)
             (ended_act result act.new) }
         ensures none { result ≡ false → act.new ≡ act.old }
     {
         laws::block_has_one_command();
-        let Phase::InAsk = self.phase else {
-            return false;
-        };
         // A POLL, which most asks are, is known without a call.
         if let Some(device) = polled(self.bytes.as_slice()) {
             return self.ask(device.poll(), act);
@@ -286,31 +153,27 @@ impl Place {
 
     /// Adds a byte to the reply, or begins one with it.
     fn add_to_reply(&mut self, byte: u8)
-        requires { HasRoom self.old.phase self.old.bytes Judged.ReplyByte }
-        ensures { IsAt (position_at self.old) (step.ReplyByte byte)
-            → HasAdvanced (position_at self.old) (step.ReplyByte byte) (position_at self.new) None }
+        requires { MayReply self.old.phase self.old.bytes }
+        ensures { HasAdvanced (position_at self.old) (step.ReplyByte byte)
+            (position_at self.new) None }
     {
         match self.phase {
             Phase::InReply => self.bytes.push(byte),
-            Phase::Asked => {
+            _ => {
                 self.phase = Phase::InReply;
                 self.bytes.restart(byte);
             }
-            _ => {}
         }
     }
 
     /// The peripheral acknowledges the command.
     #[inline(always)]
     fn end_by_ack(&mut self, act: &mut Act) -> bool
-        ensures advanced { IsAt (position_at self.old) step.Ack
-            → HasAdvanced (position_at self.old) step.Ack (position_at self.new)
+        requires { self.old.phase ≡ Phase.Asked }
+        ensures advanced { HasAdvanced (position_at self.old) step.Ack (position_at self.new)
             (ended_act result act.new) }
         ensures none { result ≡ false → act.new ≡ act.old }
     {
-        let Phase::Asked = self.phase else {
-            return false;
-        };
         self.phase = Phase::Quiet;
         act.note(Act::Ack(self.command))
     }
@@ -318,14 +181,11 @@ impl Place {
     /// The peripheral refuses the command.
     #[inline(never)]
     fn end_by_nak(&mut self, act: &mut Act) -> bool
-        ensures advanced { IsAt (position_at self.old) step.Nak
-            → HasAdvanced (position_at self.old) step.Nak (position_at self.new)
+        requires { self.old.phase ≡ Phase.Asked }
+        ensures advanced { HasAdvanced (position_at self.old) step.Nak (position_at self.new)
             (ended_act result act.new) }
         ensures none { result ≡ false → act.new ≡ act.old }
     {
-        let Phase::Asked = self.phase else {
-            return false;
-        };
         self.phase = Phase::Quiet;
         act.note(Act::Nak(self.command))
     }
@@ -336,6 +196,7 @@ impl Place {
     // that a reply is moved less often.
     #[inline(never)]
     pub(crate) fn end_reply(&mut self, levels: Levels, act: &mut Act) -> Result<(), Rule>
+        requires { self.old.phase ≡ Phase.InReply }
         ensures taken { IfOk result (λ _.
             IsTaken (position_at self.old) levels (position_at self.new) (Ok act.new)) }
         ensures rule { IfErr result (λ rule.
@@ -343,10 +204,6 @@ impl Place {
         ensures unchanged { OnErr result (self.new ≡ self.old) }
         ensures untouched { OnErr result (act.new ≡ act.old) }
     {
-        let Phase::InReply = self.phase else {
-            return Err(Rule::Answer);
-        };
-        see_bytes(self.bytes.as_slice());
         let reply = match reply_of(&self.command, self.bytes.as_slice()) {
             Ok(reply) => reply,
             Err(fault) => return Err(rule_of(fault)),
@@ -366,14 +223,11 @@ impl Place {
     /// The controller acknowledges the reply.
     #[inline(never)]
     fn acknowledge(&mut self, act: &mut Act) -> bool
-        ensures advanced { IsAt (position_at self.old) step.VmcAck
-            → HasAdvanced (position_at self.old) step.VmcAck (position_at self.new)
+        requires { self.old.phase ≡ Phase.Replied }
+        ensures advanced { HasAdvanced (position_at self.old) step.VmcAck (position_at self.new)
             (ended_act result act.new) }
         ensures none { result ≡ false → act.new ≡ act.old }
     {
-        let Phase::Replied = self.phase else {
-            return false;
-        };
         self.phase = Phase::Quiet;
         act.note(Act::VmcAck(self.command, self.settled()))
     }
@@ -381,14 +235,11 @@ impl Place {
     /// The controller didn't receive the reply well.
     #[inline(never)]
     fn refuse(&mut self, act: &mut Act) -> bool
-        ensures advanced { IsAt (position_at self.old) step.VmcNak
-            → HasAdvanced (position_at self.old) step.VmcNak (position_at self.new)
+        requires { self.old.phase ≡ Phase.Replied }
+        ensures advanced { HasAdvanced (position_at self.old) step.VmcNak (position_at self.new)
             (ended_act result act.new) }
         ensures none { result ≡ false → act.new ≡ act.old }
     {
-        let Phase::Replied = self.phase else {
-            return false;
-        };
         self.phase = Phase::Quiet;
         act.note(Act::VmcNak(self.command, self.settled()))
     }
@@ -407,43 +258,36 @@ impl Place {
     /// The controller asks for the reply again.
     #[inline(never)]
     fn return_reply(&mut self, act: &mut Act) -> bool
-        ensures advanced { IsAt (position_at self.old) step.VmcRet
-            → HasAdvanced (position_at self.old) step.VmcRet (position_at self.new)
+        requires { self.old.phase ≡ Phase.Replied }
+        ensures advanced { HasAdvanced (position_at self.old) step.VmcRet (position_at self.new)
             (ended_act result act.new) }
         ensures none { result ≡ false → act.new ≡ act.old }
     {
-        let Phase::Replied = self.phase else {
-            return false;
-        };
         self.phase = Phase::Returned;
         act.note(Act::VmcRet(self.command, self.answer.reply.copy()))
     }
 
     /// A word of the repeat, which has more to come.
     fn add_to_repeat(&mut self)
-        requires { HasRoom self.old.phase self.old.bytes Judged.RepeatWord }
+        requires { MayRepeat self.old.phase }
         ensures { (word : ℕ) → IsAt (position_at self.old) (step.RepeatWord word)
             → HasAdvanced (position_at self.old) (step.RepeatWord word)
             (position_at self.new) None }
     {
         match self.phase {
-            Phase::Returned => self.phase = Phase::InRepeat(1),
             Phase::InRepeat(said) => self.phase = Phase::InRepeat(said + 1),
-            _ => {}
+            _ => self.phase = Phase::InRepeat(1),
         }
     }
 
     /// The repeat has ended.
     #[inline(never)]
     fn end_repeat(&mut self, act: &mut Act) -> bool
-        ensures advanced { IsAt (position_at self.old) step.Repeat
-            → HasAdvanced (position_at self.old) step.Repeat (position_at self.new)
+        requires { (said : ℕ) × (self.old.phase ≡ Phase.InRepeat said) }
+        ensures advanced { HasAdvanced (position_at self.old) step.Repeat (position_at self.new)
             (ended_act result act.new) }
         ensures none { result ≡ false → act.new ≡ act.old }
     {
-        let Phase::InRepeat(_) = self.phase else {
-            return false;
-        };
         self.phase = Phase::Replied;
         act.note(Act::Repeat(self.command, self.answer.reply.copy()))
     }

@@ -2,7 +2,7 @@ use Rattle.std.proofs.Common.{ap, ◌∙◌}
 use Rattle.mdb_words.specs.declared.event.Event.TheVariants.{Word}
 use Rattle.mdb_words.specs.declared.word.Line.{Line}
 use Rattle.mdb_bus.specs.Bus.{position_at}
-use Rattle.mdb_bus.proofs.Verdicts.{judged_row}
+use Rattle.mdb_bus.proofs.Verdicts.{belongs_row, judged_row}
 use Rattle.mdb_bus.proofs.judging.judge.Goals as goal
 
 pub returns-in-Break-clause-judged : goal.returns-in-Break-clause-judged
@@ -27,3 +27,8 @@ returns-in-Peripheral-clause-judged c =
     c.judge_peripheral.result
     (c.in-Word.is ∙ ap (λ (line : Line). Word c.in-Word.at line c.in-Word.word) c.in-Peripheral.is)
     (c.judge_peripheral.ensures.judged levels)
+
+pub returns-in-Break-clause-belongs : goal.returns-in-Break-clause-belongs
+returns-in-Break-clause-belongs c =
+    belongs_row c.args.place.now.phase c.args.place.now.bytes c.args.row.now _ c.judge_break.result c.in-Break.is
+    (c.judge_break.ensures.belongs c.args.place.now.phase c.args.place.now.bytes)

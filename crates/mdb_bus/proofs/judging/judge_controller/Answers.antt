@@ -1,6 +1,6 @@
 use Rattle.mdb_words.specs.declared.event.Event.TheVariants.{Word}
 use Rattle.mdb_words.specs.declared.word.Line.TheVariants.{Controller}
-use Rattle.mdb_bus.proofs.Verdicts.{judged_at, sound_at}
+use Rattle.mdb_bus.proofs.Verdicts.{belongs_at, judged_at, sound_at}
 use Rattle.mdb_bus.proofs.judging.judge_controller.Goals as goal
 
 pub returns-in-InAsk-clause-judged : goal.returns-in-InAsk-clause-judged
@@ -24,9 +24,23 @@ pub returns-in-Replied-2-clause-judged : goal.returns-in-Replied-2-clause-judged
 returns-in-Replied-2-clause-judged c =
     λ levels sound. judged_at c.args.place.now _ c.args.from.now levels (Word c.args.at Controller c.args.word)
     c.answer_reply.result c.in-Replied-2.is
-    (c.answer_reply.ensures levels c.args.place.now.command c.args.place.now.answer.reply)
+    (c.answer_reply.ensures.judged levels c.args.place.now.command c.args.place.now.answer.reply)
 
 pub returns-in-InForeign-2-clause-judged : goal.returns-in-InForeign-2-clause-judged
 returns-in-InForeign-2-clause-judged c =
     λ levels sound. judged_at c.args.place.now _ c.args.from.now levels (Word c.args.at Controller c.args.word)
-    c.go_on_foreign.result c.in-InForeign-2.is (c.go_on_foreign.ensures levels)
+    c.go_on_foreign.result c.in-InForeign-2.is (c.go_on_foreign.ensures.judged levels)
+
+pub returns-in-InAsk-clause-belongs : goal.returns-in-InAsk-clause-belongs
+returns-in-InAsk-clause-belongs c =
+    belongs_at c.args.place.now.phase _ c.args.place.now.bytes (Word c.args.at Controller c.args.word) c.go_on_asking.result
+    c.in-InAsk.is (c.go_on_asking.ensures.belongs (Word c.args.at Controller c.args.word))
+
+pub returns-in-Replied-2-clause-belongs : goal.returns-in-Replied-2-clause-belongs
+returns-in-Replied-2-clause-belongs c =
+    belongs_at c.args.place.now.phase _ c.args.place.now.bytes (Word c.args.at Controller c.args.word) c.answer_reply.result
+    c.in-Replied-2.is (c.answer_reply.ensures.belongs c.args.place.now.bytes (Word c.args.at Controller c.args.word))
+
+pub returns-in-InForeign-2-clause-belongs : goal.returns-in-InForeign-2-clause-belongs
+returns-in-InForeign-2-clause-belongs c =
+    c.go_on_foreign.ensures.belongs c.args.place.now.phase c.args.place.now.bytes (Word c.args.at Controller c.args.word)

@@ -1,5 +1,4 @@
--- How a row leads from one situation to the next. This file serves the private functions of the bus
--- and the proofs: no public clause cites it but by what a bus stands for.
+-- How a row leads from one situation to the next.
 use Rattle.std.specs.Prelude.{◌≡◌, ◌≢◌, ◌+◌, ◌%◌, ◌<◌, ◌≤◌, ◌⊎◌, ℕ, true, List, [], ◌∷◌, ◌++◌, length, slice_get, sum, Option, Some, None, Result, Ok, Err}
 use Rattle.mdb_words.specs.declared.limits.TheConstants.{WORD_GAP_MIN, BLOCK_GAP_MAX, BREAK_LENGTH_MIN}
 use Rattle.mdb_words.specs.declared.event.Event.{Event}
@@ -24,19 +23,29 @@ use Rattle.mdb_bus.specs.declared.act.Act.TheVariants as acts
 use Rattle.mdb_bus.specs.declared.fault.Rule.{Rule}
 use Rattle.mdb_bus.specs.declared.fault.Rule.TheVariants as rule
 use Rattle.mdb_bus.specs.declared.levels.Levels.{Levels}
-use Rattle.mdb_bus.specs.declared.place.Phase.{Phase}
-use Rattle.mdb_bus.specs.declared.place.Phase.TheVariants as phase
+use Rattle.mdb_bus.specs.declared.phase.Phase.{Phase}
+use Rattle.mdb_bus.specs.declared.phase.Phase.TheVariants as phase
 use Rattle.mdb_bus.specs.declared.judged.Judged.{Judged}
 use Rattle.mdb_bus.specs.declared.judged.Judged.TheVariants as judged
-use Rattle.mdb_bus.specs.Step.{Step, SomeStep}
-use Rattle.mdb_bus.specs.Step as step
+use Rattle.mdb_bus.specs.inner.Step.{Step, SomeStep}
+use Rattle.mdb_bus.specs.inner.Step as step
 use Rattle.mdb_bus.specs.Acts.{IsForeignOpening, IsReply, reply_words}
 use Rattle.mdb_bus.specs.ActLists.{Piece, Whole, AskTail, ReplyTail, RepeatTail, Position, Quiet, InAsk, Asked, InReply, Replied, Returned, InRepeat, InForeign, BlockMayCome, BreakMayCome, InTime, IsAskFront, IsLow, IsRepeatFront, IsReplyFront, NotBefore, NotBehind, act_in, level_for, levels_after, position_of, tells_high}
-use Rattle.mdb_bus.specs.LinkFaults.{HasHighLevels, IsBefore, IsFirstBroken, IsOutside, Situation}
+use Rattle.mdb_bus.specs.LinkFaults.{HasHighLevels, IsBefore, IsBehind, IsFirstBroken, IsOutside, Situation}
 
 -- in the time of the next word of a block
 abbrev pub InBlock : Option Event → Event → Type 0
 InBlock from to = NotBefore WORD_GAP_MIN from to × NotBehind BLOCK_GAP_MAX from to
+
+-- a row that goes on is on time: neither too soon, nor more than so long after the row before
+abbrev pub IsOnTime : ℕ → Option Event → Event → Type 0
+IsOnTime most from to = ¬ IsBefore WORD_GAP_MIN from to × ¬ IsBehind most from to
+
+-- the rule of time that it breaks otherwise: it is early, or it is late by this rule
+abbrev pub IsUntimely : Rule → ℕ → Option Event → Event → Rule → Type 0
+IsUntimely late most from to broken =
+    ((broken ≡ rule.Early) × IsBefore WORD_GAP_MIN from to)
+    ⊎ ((broken ≡ late) × ¬ IsBefore WORD_GAP_MIN from to × IsBehind most from to)
 
 -- a marked word of the controller begins a block
 abbrev pub Opens : Position → Option Event → Event → ℕ → Step → Type 0
@@ -150,8 +159,7 @@ IsRead command bytes levels (Err _) = ⊥
 -- the same for the bytes at a position: only inside a reply something can be read
 abbrev pub IsReadAt : Position → Levels → Result Reply Rule → Type 0
 IsReadAt (InReply command bytes) levels result = IsRead command bytes levels result
-IsReadAt _ levels (Ok reply) = ⊥
-IsReadAt _ levels (Err broken) = Unit {0}
+IsReadAt _ levels result = ⊥
 
 -- what is made of a row that ends a reply, once the reply was read
 abbrev pub IsSettled : Situation → Event → Result Reply Rule → Type 0
@@ -217,12 +225,42 @@ IsSound (InAsk bytes) = IsAskFront bytes
 IsSound (InReply command bytes) = IsReplyFront command bytes
 IsSound _ = Unit {0}
 
--- there is room for what a step adds
-abbrev pub HasRoom : Phase → List ℕ → Judged → Type 0
-HasRoom phase.InAsk bytes judged.AskByte = length bytes < 35
-HasRoom phase.InReply bytes judged.ReplyByte = length bytes < 35
-HasRoom (phase.InRepeat said) bytes judged.RepeatWord = said < 35
-HasRoom _ bytes _ = Unit {0}
+-- there is room for a further byte of the controller's block, or one may begin
+abbrev pub HasRoom : Phase → List ℕ → Type 0
+HasRoom phase.InAsk bytes = length bytes < 35
+HasRoom _ bytes = Unit {0}
+
+-- a reply may go on by a byte, or begin with it
+abbrev pub MayReply : Phase → List ℕ → Type 0
+MayReply phase.Asked bytes = Unit {0}
+MayReply phase.InReply bytes = length bytes < 35
+MayReply _ bytes = ⊥
+
+-- a repeat may go on by a word that isn't its last, or begin with it
+abbrev pub MayRepeat : Phase → Type 0
+MayRepeat phase.Returned = Unit {0}
+MayRepeat (phase.InRepeat said) = said < 35
+MayRepeat _ = ⊥
+
+abbrev pub IsBreak : Event → Type 0
+IsBreak (Break at length) = Unit {0}
+IsBreak (Word at line word) = ⊥
+
+-- What was judged of a row belongs to the phase in which it comes.
+abbrev pub Belongs : Phase → List ℕ → Event → Judged → Type 0
+Belongs here bytes row judged.AskByte = HasRoom here bytes
+Belongs here bytes row judged.Ask = here ≡ phase.InAsk
+Belongs here bytes row judged.Foreign = Unit {0}
+Belongs here bytes row judged.Ack = here ≡ phase.Asked
+Belongs here bytes row judged.Nak = here ≡ phase.Asked
+Belongs here bytes row judged.ReplyByte = MayReply here bytes
+Belongs here bytes row judged.Reply = here ≡ phase.InReply
+Belongs here bytes row judged.VmcAck = here ≡ phase.Replied
+Belongs here bytes row judged.VmcNak = here ≡ phase.Replied
+Belongs here bytes row judged.VmcRet = here ≡ phase.Replied
+Belongs here bytes row judged.RepeatWord = MayRepeat here
+Belongs here bytes row judged.Repeat = (said : ℕ) × (here ≡ phase.InRepeat said)
+Belongs here bytes row judged.Break = IsBreak row
 
 -- the word at an index of a reply's block
 abbrev pub word_at : Reply → ℕ → Option ℕ

@@ -1,11 +1,11 @@
 use Rattle.std.proofs.Common.{rules, arith, ◌≡◌, length, slice_get, Some, refl}
 use Rattle.mdb_bus.specs.Acts.{reply_words}
 use Rattle.mdb_bus.proofs.Verdicts.{repeats}
-use Rattle.mdb_bus.proofs.judging.begin_repeat.Goals as goal
+use Rattle.mdb_bus.proofs.judging.repeating.begin_repeat.Goals as goal
 
-pub returns-then-eq : goal.returns-then-eq
-returns-then-eq c =
+pub returns-then-eq-clause-judged : goal.returns-then-eq-clause-judged
+returns-then-eq-clause-judged c =
     let here : slice_get (reply_words c.args.answer.now.reply) 0 ≡ Some c.args.word = search rules in
     let front = repeats c.args.answer.now.reply 0 c.args.word (length c.args.answer.now.bytes)
-    c.word_at.ensures.count (omega (arith, c.word_at.ensures.some)) here in
+    c.word.ensures.count (omega (arith, c.word.ensures.some)) here in
     λ levels command. (refl, front, (search rules, search rules))

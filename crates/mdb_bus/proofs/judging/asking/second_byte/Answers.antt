@@ -1,7 +1,7 @@
 use Rattle.std.proofs.Common.{rules, refl, ◌≡◌, ◌%◌}
 use Rattle.mdb_msgs.specs.declared.needs.Need.TheVariants.{Exactly}
 use Rattle.mdb_bus.proofs.Verdicts.{second_foreign, second_front, second_outside}
-use Rattle.mdb_bus.proofs.judging.second_byte.Goals as goal
+use Rattle.mdb_bus.proofs.judging.asking.second_byte.Goals as goal
 
 pub returns-in-Outside-clause-judged : goal.returns-in-Outside-clause-judged
 returns-in-Outside-clause-judged c =

@@ -1,4 +1,4 @@
--- What mdb_msgs promises of commands and replies, as its laws say it. This file serves the proofs.
+-- What mdb_msgs promises of commands and replies, as its laws say it.
 use Rattle.std.specs.Prelude.{◌≡◌, ◌≢◌, ◌+◌, ◌<◌, ℕ, List, [], ◌++◌, ◌⊎◌, length, All}
 use Rattle.mdb_blocks.specs.Block.{IsContent, block_of}
 use Rattle.mdb_msgs.specs.declared.command.Command.{Command}

@@ -1,5 +1,4 @@
--- What a row does that breaks no rule. This file serves the private functions of the bus and the
--- proofs.
+-- What a row does that breaks no rule.
 use Rattle.std.specs.Prelude.{ℕ, ◌%◌}
 use Rattle.mdb_msgs.specs.declared.command.Command.{Command}
 use Rattle.mdb_msgs.specs.declared.reply.Reply.{Reply as Data}

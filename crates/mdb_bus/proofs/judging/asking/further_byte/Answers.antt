@@ -4,19 +4,19 @@ use Rattle.mdb_msgs.specs.Needs.{needed}
 use Rattle.mdb_bus.specs.ActLists.{IsAskFront}
 use Rattle.mdb_bus.proofs.Verdicts.{are_bytes, further_end, further_front}
 use Rattle.mdb_bus.proofs.Needs.{at_most_32}
-use Rattle.mdb_bus.proofs.judging.further_byte.Goals.{in_default-via-in-Exactly+else-so_far-length, in_default-via-in_default}
-use Rattle.mdb_bus.proofs.judging.further_byte.Goals as goal
+use Rattle.mdb_bus.proofs.judging.asking.further_byte.Goals.{in_default-via-in-Exactly+else-so_far-length, in_default-via-in_default}
+use Rattle.mdb_bus.proofs.judging.asking.further_byte.Goals as goal
 
 -- of two equal lengths the one is as small as the other
 at_most : (one other : ℕ) {most : ℕ} → Exactly one ≡ Exactly other → one ≤ most → other ≤ most
 at_most one other same small = let e : one ≡ other = cc in omega (arith, small, e)
 
-pub returns-in-Exactly-clause-room : goal.returns-in-Exactly-clause-room
-returns-in-Exactly-clause-room c =
+pub returns-in-Exactly-clause-belongs : goal.returns-in-Exactly-clause-belongs
+returns-in-Exactly-clause-belongs c =
     let most : c.in-Exactly.length ≤ 32 =
     at_most_32 c.args.so_far.now c.in-Exactly.length (omega arith) (sym c.need_of.ensures ∙ c.in-Exactly.is) in
     let same = ap length c.requires.is in
-    omega arith
+    λ row. omega arith
 
 pub returns-in-Exactly-clause-judged : goal.returns-in-Exactly-clause-judged
 returns-in-Exactly-clause-judged c =

@@ -1,6 +1,6 @@
 use Rattle.std.proofs.Common.{rules, ◌<◌}
 use Rattle.mdb_bus.proofs.Verdicts.{going_on}
-use Rattle.mdb_bus.proofs.judging.go_on_asking.Goals as goal
+use Rattle.mdb_bus.proofs.judging.asking.go_on_asking.Goals as goal
 
 pub returns-in-len1-clause-judged : goal.returns-in-len1-clause-judged
 returns-in-len1-clause-judged c =

@@ -1,8 +1,0 @@
-use Rattle.std.proofs.Common.{rules}
-use Rattle.mdb_bus.proofs.Verdicts.{no_answer}
-use Rattle.mdb_bus.proofs.judging.answer.Goals as goal
-
-pub returns-in-None : goal.returns-in-None
-returns-in-None c = λ levels. no_answer c.args.command.now c.args.from.now c.args.at c.args.word c.byte.result levels
-    c.requires (search rules) (search rules) (search rules) c.marked.ensures.range c.byte.ensures.value
-    c.in-None.ensures.none

@@ -1,0 +1,4 @@
+pub mod Gone
+pub mod Grammar
+pub mod Step
+pub mod Steps

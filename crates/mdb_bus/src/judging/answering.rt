@@ -1,0 +1,70 @@
+//! Words that answer a command, or a reply.
+
+ghost use Rattle.std.specs.Prelude.{◌≡◌, ◌<◌, ℕ, List, IfOk};
+ghost use Rattle.mdb_words.specs.declared.event.Event.{Event};
+ghost use Rattle.mdb_msgs.specs.declared.command.Command.{Command};
+ghost use Rattle.mdb_msgs.specs.declared.reply.Reply.{Reply};
+ghost use Rattle.mdb_bus.specs.declared.levels.Levels.{Levels};
+ghost use Rattle.mdb_bus.specs.ActLists as lists;
+ghost use Rattle.mdb_bus.specs.LinkFaults.{OutOfOrder};
+ghost use Rattle.mdb_bus.specs.inner.Steps.{Belongs, IsJudged};
+
+use crate::fault::Rule;
+use crate::gaps::{in_answer_time, word_row};
+use crate::judged::Judged;
+use crate::phase::Phase;
+use mdb_blocks::Answer;
+use mdb_msgs::Command;
+use mdb_words::{Event, Line, Time, Word};
+
+/// A peripheral's first word in answer to a command.
+pub(crate) fn answer(
+    command: &Command,
+    from: &Option<Event>,
+    at: Time,
+    word: Word,
+) -> Result<Judged, Rule>
+    requires { OutOfOrder from.now (Event.Word at Line.Peripheral word) → ⊥ }
+    ensures judged { (levels : Levels)
+        → IsJudged (record { position = lists.Asked command.now; last = from.now; levels = levels })
+        (Event.Word at Line.Peripheral word) result }
+    ensures belongs { (bytes : List ℕ) (row : Event) → IfOk result (Belongs Phase.Asked bytes row) }
+{
+    let row = word_row(at, Line::Peripheral, word);
+    in_answer_time(from, &row)?;
+    if word.marked() {
+        match Answer::of(word.byte()) {
+            Some(Answer::Ack) => Ok(Judged::Ack),
+            Some(Answer::Nak) => Ok(Judged::Nak),
+            Some(Answer::Ret) => Err(Rule::Answer),
+            None => Err(Rule::Answer),
+        }
+    } else if command.may_have_data() {
+        Ok(Judged::ReplyByte)
+    } else {
+        Err(Rule::Answer)
+    }
+}
+
+/// An unmarked word of the controller in answer to a reply.
+pub(crate) fn answer_reply(from: &Option<Event>, at: Time, word: Word) -> Result<Judged, Rule>
+    requires in_order { OutOfOrder from.now (Event.Word at Line.Controller word) → ⊥ }
+    requires unmarked { word < 256 }
+    ensures judged { (levels : Levels) (command : Command) (reply : Reply)
+        → IsJudged (record {
+          position = lists.Replied command reply;
+          last = from.now;
+          levels = levels;
+        })
+        (Event.Word at Line.Controller word) result }
+    ensures belongs { (bytes : List ℕ) (row : Event) → IfOk result (Belongs Phase.Replied bytes row) }
+{
+    let row = word_row(at, Line::Controller, word);
+    in_answer_time(from, &row)?;
+    match Answer::of(word.byte()) {
+        Some(Answer::Ack) => Ok(Judged::VmcAck),
+        Some(Answer::Nak) => Ok(Judged::VmcNak),
+        Some(Answer::Ret) => Ok(Judged::VmcRet),
+        None => Err(Rule::Answer),
+    }
+}

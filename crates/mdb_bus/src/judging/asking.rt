@@ -1,0 +1,124 @@
+//! Words of the controller that begin a block, and those that go on with one.
+
+ghost use Rattle.std.specs.Prelude.{◌≡◌, ◌+◌, ◌<◌, ◌≤◌, ◌^◌, ◌∷◌, [], ℕ, List, length, IfOk};
+ghost use Rattle.mdb_words.specs.declared.event.Event.{Event};
+ghost use Rattle.mdb_msgs.specs.declared.needs.Need.TheVariants.{Exactly};
+ghost use Rattle.mdb_msgs.specs.Needs.{needed};
+ghost use Rattle.mdb_bus.specs.declared.levels.Levels.{Levels};
+ghost use Rattle.mdb_bus.specs.declared.phase.Phase.{Phase};
+ghost use Rattle.mdb_bus.specs.ActLists as lists;
+ghost use Rattle.mdb_bus.specs.ActLists.{IsAskFront};
+ghost use Rattle.mdb_bus.specs.LinkFaults.{OutOfOrder};
+ghost use Rattle.mdb_bus.specs.inner.Steps.{Belongs, HasRoom, IsGoingOn, IsJudged, IsOpened};
+
+use crate::begun::Begun;
+use crate::fault::Rule;
+use crate::gaps::{in_block_time, is_before, word_row};
+use crate::judged::Judged;
+use crate::phase::Phase;
+use mdb_blocks::sum_of;
+use mdb_msgs::{Need, laws, need_of};
+use mdb_words::{Event, Line, Time, Word};
+
+/// A word of the controller where a block may begin, at least so long after the row before it.
+pub(crate) fn begin_block(
+    from: &Option<Event>,
+    at: Time,
+    word: Word,
+    least: u64,
+) -> Result<Judged, Rule>
+    requires { least < 2 ^ 32 }
+    ensures opened { IsOpened least from.now (Event.Word at Line.Controller word) word result }
+    ensures belongs { (here : Phase) (bytes : List ℕ) (row : Event) → HasRoom here bytes
+        → IfOk result (Belongs here bytes row) }
+{
+    let row = word_row(at, Line::Controller, word);
+    if !word.marked() {
+        return Err(Rule::Mode);
+    }
+    if is_before(from, &row, least) {
+        return Err(Rule::Early);
+    }
+    laws::need_leaves_a_command_open();
+    match need_of(&[word.byte()]) {
+        Need::Outside => Err(Rule::Profile),
+        Need::Foreign => Ok(Judged::Foreign),
+        Need::More | Need::Exactly(_) => Ok(Judged::AskByte),
+    }
+}
+
+/// A word of the controller inside its block.
+#[inline(always)]
+pub(crate) fn go_on_asking(
+    bytes: &Begun,
+    from: &Option<Event>,
+    at: Time,
+    word: Word,
+) -> Result<Judged, Rule>
+    requires { OutOfOrder from.now (Event.Word at Line.Controller word) → ⊥ }
+    ensures judged { (levels : Levels) → IsAskFront bytes.now
+        → IsJudged (record { position = lists.InAsk bytes.now; last = from.now; levels = levels })
+        (Event.Word at Line.Controller word) result }
+    ensures belongs { (row : Event) → IfOk result (Belongs Phase.InAsk bytes.now row) }
+{
+    let row = word_row(at, Line::Controller, word);
+    if word.marked() {
+        return Err(Rule::Mode);
+    }
+    in_block_time(from, &row)?;
+    match bytes.as_slice() {
+        [first] => second_byte(bytes, *first, word),
+        more => further_byte(bytes, more, word),
+    }
+}
+
+/// The second byte of a block: its sum, a field, or a subcommand, which may make the block foreign.
+#[inline(always)]
+fn second_byte(bytes: &Begun, first: u8, word: Word) -> Result<Judged, Rule>
+    requires is { bytes.now ≡ first ∷ [] }
+    requires unmarked { word < 256 }
+    ensures judged { IsAskFront bytes.now → IsGoingOn bytes.now word result }
+    ensures belongs { (row : Event) → IfOk result (Belongs Phase.InAsk bytes.now row) }
+{
+    laws::need_leaves_a_command_open();
+    laws::front_of_a_command_is_open();
+    if need_of(&[first]) == Need::Exactly(2) {
+        return end_ask(bytes, word);
+    }
+    match need_of(&[first, word.byte()]) {
+        Need::Outside => Err(Rule::Profile),
+        Need::Foreign => Ok(Judged::Foreign),
+        Need::More | Need::Exactly(_) => Ok(Judged::AskByte),
+    }
+}
+
+/// A byte of a block behind its first two.
+fn further_byte(bytes: &Begun, so_far: &[u8], word: Word) -> Result<Judged, Rule>
+    requires is { bytes.now ≡ so_far.now }
+    requires two { 2 ≤ length so_far.now }
+    requires unmarked { word < 256 }
+    ensures judged { IsAskFront bytes.now → IsGoingOn bytes.now word result }
+    ensures belongs { (row : Event) → IfOk result (Belongs Phase.InAsk bytes.now row) }
+{
+    laws::need_leaves_a_command_open();
+    laws::front_of_a_command_is_open();
+    match need_of(so_far) {
+        Need::Exactly(length) if so_far.len() + 1 < length => Ok(Judged::AskByte),
+        _ => end_ask(bytes, word),
+    }
+}
+
+/// The last word of a command's block.
+fn end_ask(bytes: &Begun, word: Word) -> Result<Judged, Rule>
+    requires unmarked { word < 256 }
+    ensures judged { IsAskFront bytes.now → needed bytes.now ≡ Exactly (length bytes.now + 1)
+        → IsGoingOn bytes.now word result }
+    ensures belongs { (row : Event) → IfOk result (Belongs Phase.InAsk bytes.now row) }
+{
+    laws::what_it_needs_is_a_command();
+    if word.byte() == sum_of(bytes.as_slice()) {
+        Ok(Judged::Ask)
+    } else {
+        Err(Rule::Sum)
+    }
+}

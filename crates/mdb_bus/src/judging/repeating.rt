@@ -1,0 +1,76 @@
+//! Words of a peripheral that sends its reply again.
+
+ghost use Rattle.std.specs.Prelude.{◌≡◌, ◌<◌, ℕ, List, IfOk, take};
+ghost use Rattle.mdb_words.specs.declared.event.Event.{Event};
+ghost use Rattle.mdb_msgs.specs.declared.command.Command.{Command};
+ghost use Rattle.mdb_bus.specs.declared.levels.Levels.{Levels};
+ghost use Rattle.mdb_bus.specs.Acts.{reply_words};
+ghost use Rattle.mdb_bus.specs.ActLists as lists;
+ghost use Rattle.mdb_bus.specs.LinkFaults.{OutOfOrder};
+ghost use Rattle.mdb_bus.specs.inner.Steps.{Belongs, IsJudged};
+
+use crate::fault::Rule;
+use crate::gaps::{in_answer_time, in_block_time, word_row};
+use crate::judged::Judged;
+use crate::phase::Phase;
+use crate::spelled::Spelled;
+use mdb_words::{Event, Line, Time, Word};
+
+/// The first word of a repeat.
+pub(crate) fn begin_repeat(
+    answer: &Spelled,
+    from: &Option<Event>,
+    at: Time,
+    word: Word,
+) -> Result<Judged, Rule>
+    requires { OutOfOrder from.now (Event.Word at Line.Peripheral word) → ⊥ }
+    ensures judged { (levels : Levels) (command : Command)
+        → IsJudged (record {
+          position = lists.Returned command answer.now.reply;
+          last = from.now;
+          levels = levels;
+        })
+        (Event.Word at Line.Peripheral word) result }
+    ensures belongs { (bytes : List ℕ) (row : Event) → IfOk result (Belongs Phase.Returned bytes row) }
+{
+    let row = word_row(at, Line::Peripheral, word);
+    in_answer_time(from, &row)?;
+    if answer.word(0) == Some(word) {
+        Ok(Judged::RepeatWord)
+    } else {
+        Err(Rule::Same)
+    }
+}
+
+/// A further word of a repeat, of which so many were said.
+pub(crate) fn go_on_repeating(
+    answer: &Spelled,
+    said: u8,
+    from: &Option<Event>,
+    at: Time,
+    word: Word,
+) -> Result<Judged, Rule>
+    requires { OutOfOrder from.now (Event.Word at Line.Peripheral word) → ⊥ }
+    ensures judged { (levels : Levels) (command : Command)
+        → IsJudged
+        (record {
+          position = lists.InRepeat command answer.now.reply
+              (take said (reply_words answer.now.reply));
+          last = from.now;
+          levels = levels;
+        })
+        (Event.Word at Line.Peripheral word) result }
+    ensures belongs { (bytes : List ℕ) (row : Event)
+        → IfOk result (Belongs (Phase.InRepeat said) bytes row) }
+{
+    let row = word_row(at, Line::Peripheral, word);
+    in_block_time(from, &row)?;
+    if answer.word(usize::from(said)) != Some(word) {
+        return Err(Rule::Same);
+    }
+    if usize::from(said) < answer.bytes.as_slice().len() {
+        Ok(Judged::RepeatWord)
+    } else {
+        Ok(Judged::Repeat)
+    }
+}

@@ -1,0 +1,91 @@
+//! Words inside a peripheral's block.
+
+ghost use Rattle.std.specs.Prelude.{◌≡◌, ◌<◌, ◌≤◌, ℕ, List, IfOk, IsErr};
+ghost use Rattle.mdb_words.specs.declared.event.Event.{Event};
+ghost use Rattle.mdb_msgs.specs.declared.command.Command.{Command};
+ghost use Rattle.mdb_msgs.specs.declared.reply.Reply.{Reply};
+ghost use Rattle.mdb_bus.specs.declared.levels.Levels.{Levels};
+ghost use Rattle.mdb_bus.specs.ActLists as lists;
+ghost use Rattle.mdb_bus.specs.LinkFaults.{OutOfOrder};
+ghost use Rattle.mdb_bus.specs.inner.Steps.{Belongs, IsJudged, IsReplyEnd};
+
+use crate::begun::Begun;
+use crate::fault::Rule;
+use crate::gaps::{in_block_time, is_behind, word_row};
+use crate::judged::Judged;
+use crate::phase::Phase;
+use mdb_blocks::sum_of;
+use mdb_msgs::{Command, laws};
+use mdb_words::{BLOCK_GAP_MAX, Event, Line, Time, Word};
+
+/// A peripheral's word inside its reply.
+pub(crate) fn go_on_replying(
+    command: &Command,
+    bytes: &Begun,
+    from: &Option<Event>,
+    at: Time,
+    word: Word,
+) -> Result<Judged, Rule>
+    requires { OutOfOrder from.now (Event.Word at Line.Peripheral word) → ⊥ }
+    ensures judged { (levels : Levels) → IsJudged (record {
+      position = lists.InReply command.now bytes.now;
+      last = from.now;
+      levels = levels;
+    })
+        (Event.Word at Line.Peripheral word) result }
+    ensures belongs { (row : Event) → IfOk result (Belongs Phase.InReply bytes.now row) }
+{
+    let row = word_row(at, Line::Peripheral, word);
+    in_block_time(from, &row)?;
+    laws::bytes_have_one_fault();
+    laws::reply_has_no_fault();
+    if word.marked() {
+        end_reply(command, bytes, word)
+    } else if bytes.as_slice().len() < 35 {
+        Ok(Judged::ReplyByte)
+    } else {
+        Err(Rule::Length)
+    }
+}
+
+/// The marked word of a reply: its length and its sum.
+fn end_reply(command: &Command, bytes: &Begun, word: Word) -> Result<Judged, Rule>
+    requires { 256 ≤ word }
+    ensures ended { IsReplyEnd command.now bytes.now word result }
+    ensures belongs { (row : Event) → IfOk result (Belongs Phase.InReply bytes.now row) }
+{
+    if !command.has_data_answer(bytes.as_slice().len()) {
+        return Err(Rule::Length);
+    }
+    if word.byte() != sum_of(bytes.as_slice()) {
+        return Err(Rule::Sum);
+    }
+    Ok(Judged::Reply)
+}
+
+/// A word of the controller inside a peripheral's block.
+pub(crate) fn cut_in(from: &Option<Event>, at: Time, word: Word) -> Result<Judged, Rule>
+    requires { OutOfOrder from.now (Event.Word at Line.Controller word) → ⊥ }
+    ensures reply { (levels : Levels) (command : Command) (bytes : List ℕ)
+        → IsJudged (record {
+          position = lists.InReply command bytes;
+          last = from.now;
+          levels = levels;
+        })
+        (Event.Word at Line.Controller word) result }
+    ensures repeat { (levels : Levels) (command : Command) (reply : Reply) (words : List ℕ)
+        → IsJudged (record {
+          position = lists.InRepeat command reply words;
+          last = from.now;
+          levels = levels;
+        })
+        (Event.Word at Line.Controller word) result }
+    ensures refused { IsErr result }
+{
+    let row = word_row(at, Line::Controller, word);
+    if is_behind(from, &row, BLOCK_GAP_MAX) {
+        Err(Rule::Spacing)
+    } else {
+        Err(Rule::Speaker)
+    }
+}

@@ -1,0 +1,23 @@
+//! What is open on the bus.
+
+/// What the last act has left open, or what was said since. The bytes, the command and the reply
+/// that a phase means stand beside it.
+#[derive(Clone, Copy, PartialEq, Eq, Debug)]
+pub enum Phase {
+    /// Nothing is open.
+    Quiet,
+    /// The controller has sent the bytes of a block.
+    InAsk,
+    /// The command was asked, and may be answered.
+    Asked,
+    /// The peripheral has sent the bytes of a reply to the command.
+    InReply,
+    /// The command was answered by the last reply, and the controller may answer that.
+    Replied,
+    /// The controller has asked for the reply again.
+    Returned,
+    /// The peripheral has sent so many words of the repeat.
+    InRepeat(u8),
+    /// A foreign block was opened.
+    InForeign,
+}
