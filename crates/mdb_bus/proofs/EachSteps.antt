@@ -1,5 +1,5 @@
 -- What each step has, and some step has.
-use Rattle.std.proofs.Common.{refl, ◌≡◌, ◌%◌, Ok}
+use Rattle.std.proofs.Common.{refl, ◌≡◌, ◌%◌, ℕ, Ok}
 use Rattle.mdb_words.specs.declared.event.Event.{Event}
 use Rattle.mdb_words.specs.declared.event.Event.TheVariants.{Word, Break}
 use Rattle.mdb_bus.specs.LinkFaults.{Situation}
@@ -42,3 +42,10 @@ leads_of judged.VmcRet s row other h = h
 leads_of judged.RepeatWord s row other h = h
 leads_of judged.Repeat s row other h = h
 leads_of judged.Break s row other h = h
+
+-- a break's step has what it has by the length that the row says
+pub each_break : (found : Judged) (row : Event) (Has : Step → Type 0) → found ≡ judged.Break
+    → ((at length : ℕ) → row ≡ Break at length → Has (step.Break length)) → EachStep found row Has
+each_break judged.Break (Break at length) Has is has = has at length refl
+each_break judged.Break (Word at line word) Has is has = tt
+each_break found row Has is has = absurd (cc)

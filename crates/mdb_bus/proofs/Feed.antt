@@ -1,13 +1,11 @@
 -- The bus behind a row: what it stands for, and why a row is refused.
-use Rattle.std.proofs.Common.{refl, ap, sym, subst, sum, ◌∙◌, ◌≡◌, ◌%◌, ℕ, List, [], ◌∷◌, ◌++◌, Option, Result, Ok, Err, IfOk, IfErr, OnErr, inl, inr, Bool, true, false, Some, None, ◌⊎◌}
+use Rattle.std.proofs.Common.{refl, ap, sym, subst, ◌∙◌, ◌≡◌, ℕ, List, [], ◌∷◌, ◌++◌, Option, Result, Ok, Err, IfOk, IfErr, OnErr, inl, inr, Bool, true, false, Some, None, ◌⊎◌}
 use Rattle.mdb_words.specs.declared.event.Event.{Event}
 use Rattle.mdb_words.specs.declared.event.Event.TheVariants.{Word, Break}
 use Rattle.mdb_words.specs.declared.word.Line.{Line}
 use Rattle.mdb_words.specs.declared.word.Line.TheVariants.{Controller, Peripheral}
-use Rattle.std.proofs.lemmas.List.{same_from_push}
-use Rattle.mdb_blocks.specs.Block.{block_of}
 use Rattle.mdb_msgs.specs.declared.command.Command.{Command}
-use Rattle.mdb_msgs.specs.Commands.{Spells, command_bytes, device_of}
+use Rattle.mdb_msgs.specs.Commands.{device_of}
 use Rattle.mdb_bus.specs.declared.act.Act.{Act}
 use Rattle.mdb_bus.specs.declared.act.Act.TheVariants as acts
 use Rattle.mdb_bus.specs.declared.bus.Bus.{Bus}
@@ -22,13 +20,14 @@ use Rattle.mdb_bus.specs.ActLists.{ArePieces, HasActList, Piece, Position, Quiet
 use Rattle.mdb_bus.specs.Bus.{GoesOn, Grown, StandsFor, ended_act, position_at}
 use Rattle.mdb_bus.specs.inner.Gone.{HasGone}
 use Rattle.mdb_bus.specs.LinkFaults.{IsFirstBroken, IsLinkFault, RowBreaks, Situation, asked_device, blame_of, situation_of}
-use Rattle.mdb_bus.specs.inner.Steps.{HasAdvanced, IsAt, IsEnded, IsJudged, IsReadAt, IsSound, Leads, WordLeads, act_after, asked_behind, levels_behind, pieces_after, position_after}
+use Rattle.mdb_bus.specs.inner.Steps.{HasAdvanced, IsAt, IsEnded, IsJudged, IsReadAt, Leads, WordLeads, act_after, asked_behind, levels_behind, pieces_after, position_after}
 use Rattle.mdb_bus.specs.declared.judged.Judged.{Judged}
 use Rattle.mdb_bus.specs.declared.judged.Judged.TheVariants as judged
 use Rattle.mdb_msgs.specs.declared.reply.Reply.{Reply}
 use Rattle.mdb_bus.specs.inner.Step.{EachStep, SomeStep}
 use Rattle.mdb_bus.proofs.EachSteps.{leads_of, some_each}
-use Rattle.mdb_bus.proofs.Forward.{forward, sound}
+use Rattle.mdb_bus.proofs.Forward.{forward}
+use Rattle.mdb_bus.proofs.Verdicts.{sealed}
 use Rattle.mdb_bus.proofs.Rows.{last_push}
 
 -- the situation that a bus is in
@@ -42,15 +41,6 @@ same_situation bus pieces stands =
     ap (λ p. make p (last_of (events_of pieces)) (levels_of pieces)) stands.position
     ∙ (ap (λ l. make (position_at bus.place) l (levels_of pieces)) stands.last
     ∙ ap (λ v. make (position_at bus.place) bus.last v) stands.levels)
-
--- the block of a command is its bytes so far and their sum
-sealed : (bytes : List ℕ) (word : ℕ) (command : Command) → Spells command (bytes ++ word ∷ []) → Spells command (block_of bytes)
-sealed bytes word command spelled =
-    let content = command_bytes command in
-    record {
-      fields = spelled.fields;
-      bytes = ap block_of (same_from_push bytes content word (sum content % 256) spelled.bytes).0;
-    }
 
 -- a step belongs to the position that it leads from
 word_at : (at : Position) (from : Option Event) (levels : Levels) (to : Event) (line : Line) (word : ℕ) (next : Step)
@@ -133,39 +123,36 @@ stands_by old new pieces row next act stands leads gone =
 
 pub stands_on : (old new : Bus) (pieces : List Piece) (row : Event) (found : Judged) (act : Option Act) → StandsFor old pieces
     → (found ≡ judged.Reply → ⊥)
-    → (IsSound (position_at old.place) → IsJudged (situation_at old) row (Ok found))
+    → IsJudged (situation_at old) row (Ok found)
     → EachStep found row (λ next. IsAt (position_at old.place) next → HasGone old next row new act) → GoesOn new pieces row act
 stands_on old new pieces row found act stands other judged gone =
-    let Right : Position → Type 0 = λ p. IsSound p in
     let both = some_each found row (Leads (situation_at old) row)
     (λ next. IsAt (position_at old.place) next → HasGone old next row new act)
-    (leads_of found (situation_at old) row other (judged (subst Right stands.position (sound pieces stands.in_order)))) gone in
+    (leads_of found (situation_at old) row other judged) gone in
     stands_by old new pieces row both.0 act stands both.1 both.2
 
 -- the bus stands for one row more, where a reply has ended and was read
 pub stands_read : (old new : Bus) (pieces : List Piece) (row : Event) (reply : Reply) (act : Option Act) → StandsFor old pieces
-    → (IsSound (position_at old.place) → IsEnded (situation_at old) row)
+    → IsEnded (situation_at old) row
     → IsReadAt (position_at old.place) old.levels (Ok reply) → HasGone old (step.Reply reply) row new act
     → GoesOn new pieces row act
 stands_read old new pieces row reply act stands ended read gone =
-    let Right : Position → Type 0 = λ p. IsSound p in
-    let leads = ended (subst Right stands.position (sound pieces stands.in_order)) (Ok reply) read in
+    let leads = ended (Ok reply) read in
     stands_by old new pieces row (step.Reply reply) act stands leads (λ _. gone)
 
 -- a reply that has ended breaks the rule that is told of it
 pub read_breaks : (old : Bus) (pieces : List Piece) (row : Event) (broken : Rule) → StandsFor old pieces
-    → (IsSound (position_at old.place) → IsEnded (situation_at old) row)
+    → IsEnded (situation_at old) row
     → IsReadAt (position_at old.place) old.levels (Err broken)
-    → IsSound (position_at old.place) → IsFirstBroken (situation_at old) row broken
-read_breaks old pieces row broken stands ended read right = ended right (Err broken) read
+    → IsFirstBroken (situation_at old) row broken
+read_breaks old pieces row broken stands ended read = ended (Err broken) read
 
 -- the fault of a row that is refused
 pub fault_of : (old : Bus) (pieces : List Piece) (row : Event) (broken told : Rule) (blamed : Blame) → StandsFor old pieces
-    → (IsSound (position_at old.place) → IsFirstBroken (situation_at old) row broken) → told ≡ broken
+    → IsFirstBroken (situation_at old) row broken → told ≡ broken
     → blamed ≡ blame_of (position_at old.place) old.asked row broken → IsLinkFault pieces row told blamed
 fault_of old pieces row broken told blamed stands judged same blame =
-    let Right : Position → Type 0 = λ p. IsSound p in
-    let first : IsFirstBroken (situation_at old) row broken = judged (subst Right stands.position (sound pieces stands.in_order)) in
+    let first : IsFirstBroken (situation_at old) row broken = judged in
     let There : Situation → Type 0 = λ s. IsFirstBroken s row told in
     let Meant : Rule → Type 0 = λ r. IsFirstBroken (situation_at old) row r in
     record {
@@ -179,14 +166,14 @@ fault_of old pieces row broken told blamed stands judged same blame =
 -- the bus behind a row that ends a reply: the row goes on where the reply can be read, and else
 -- breaks a rule
 pub ended_by : (old : Bus) (row : Event) (found : Judged) → found ≡ judged.Reply
-    → (IsSound (position_at old.place) → IsJudged (situation_at old) row (Ok found))
-    → IsSound (position_at old.place) → IsEnded (situation_at old) row
-ended_by old row found is judged right =
+    → IsJudged (situation_at old) row (Ok found)
+    → IsEnded (situation_at old) row
+ended_by old row found is judged =
     let P : Judged → Type 0 = λ f. IsJudged (situation_at old) row (Ok f) in
-    subst P is (judged right)
+    subst P is judged
 
 pub read_goes_on : (old new : Bus) (pieces : List Piece) (row : Event) (act : Act) (result : Result Bool LinkFault)
-    → StandsFor old pieces → (IsSound (position_at old.place) → IsEnded (situation_at old) row)
+    → StandsFor old pieces → IsEnded (situation_at old) row
     → IfOk result (λ ends. (reply : Reply) × IsReadAt (position_at old.place) old.levels (Ok reply)
     × HasGone old (step.Reply reply) row new (ended_act ends act))
     → IfOk result (λ ends. GoesOn new pieces row (ended_act ends act))
@@ -195,7 +182,7 @@ read_goes_on old new pieces row act (Ok ends) stands ended h =
 read_goes_on old new pieces row act (Err fault) stands ended h = tt
 
 pub read_has_fault : (old : Bus) (pieces : List Piece) (row : Event) (result : Result Bool LinkFault)
-    → StandsFor old pieces → (IsSound (position_at old.place) → IsEnded (situation_at old) row)
+    → StandsFor old pieces → IsEnded (situation_at old) row
     → IfErr result (λ fault. IsReadAt (position_at old.place) old.levels (Err fault.rule))
     → IfErr result (λ fault. fault.blame ≡ blame_of (position_at old.place) old.asked row fault.rule)
     → IfErr result (λ fault. IsLinkFault pieces row fault.rule fault.blame)

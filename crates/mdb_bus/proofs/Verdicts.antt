@@ -1,5 +1,6 @@
 -- What is made of a word, position by position.
 use Rattle.std.proofs.Common.{rules, arith, refl, ap, sym, subst, ◌∙◌, ◌≡◌, ◌≢◌, ◌+◌, ◌<◌, ◌≤◌, ◌%◌, ◌⊎◌, inl, inr, ℕ, zero, suc, List, [], ◌∷◌, ◌++◌, length, take, drop, slice_index, slice_get, sum, Option, Some, None, Result, Ok, Err, IfOk, get_or, append_assoc, length-append, length-drop, Fits, w8}
+use Rattle.std.proofs.lemmas.List.{same_from_push}
 use Rattle.std.proofs.lemmas.List.Elements.{All-append, All-from_get_or, All-from_recursion}
 use Rattle.std.proofs.lemmas.Option.{slice_get-get_or, slice_get_past, slice_get_within}
 use Rattle.std.proofs.Math.Seq.{get_or-append_seam}
@@ -20,7 +21,7 @@ use Rattle.mdb_msgs.specs.declared.needs.Need.TheVariants.{More, Exactly, Foreig
 use Rattle.mdb_msgs.specs.declared.reply.Reply.{Reply}
 use Rattle.mdb_msgs.specs.declared.answer.AnswerForm.{AnswerForm}
 use Rattle.mdb_msgs.specs.Answers.{HasDataAnswer, IsDataLength}
-use Rattle.mdb_msgs.specs.Commands.{IsByte, Spells}
+use Rattle.mdb_msgs.specs.Commands.{IsByte, Spells, command_bytes}
 use Rattle.mdb_msgs.specs.Laws.{BytesHaveOneFault, FrontIsOpen, OpenIsAFront, ReplyHasNoFault}
 use Rattle.mdb_msgs.specs.Needs.{IsOpen, IsShort, needed}
 use Rattle.mdb_msgs.specs.Replies.{IsReadFault, IsReplyTo, form_of_reply, reply_bytes}
@@ -33,10 +34,11 @@ use Rattle.mdb_bus.specs.declared.judged.Judged.TheVariants as judged
 use Rattle.mdb_bus.specs.Acts.{IsForeignOpening, IsReply, reply_words}
 use Rattle.mdb_bus.specs.ActLists.{Asked, InAsk, InReply, IsAskFront, IsRepeatFront, NotBefore, NotBehind}
 use Rattle.mdb_bus.specs.declared.phase.Phase.{Phase}
+use Rattle.mdb_bus.specs.declared.phase.Phase.TheVariants as phase
 use Rattle.mdb_bus.specs.Bus.{position_at, position_in}
 use Rattle.mdb_bus.specs.LinkFaults.{IsBefore, IsBehind, IsFirstBroken, OutOfOrder, RowBreaks, Situation, WrongLength, place_of}
-use Rattle.mdb_bus.specs.inner.Steps.{Belongs, IsGoingOn, IsJudged, IsRead, IsReplyEnd, IsSettled, IsSound, rule_of}
-use Rattle.mdb_bus.proofs.Needs.{at_least_two, not_left, stays, tells}
+use Rattle.mdb_bus.specs.inner.Steps.{Belongs, IsGoingOn, IsJudged, IsOpened, IsRead, IsReplyEnd, IsSettled, MayAsk, rule_of}
+use Rattle.mdb_bus.proofs.Needs.{at_least_two, at_most_32, not_left, stays, tells}
 
 -- a row isn't both too early and in time
 pub not_early : (least : ℕ) (from : Option Event) (to : Event) → NotBefore least from to → IsBefore least from to → ⊥
@@ -107,35 +109,36 @@ left_by first word Foreign is short other = absurd short
 left_by first word Outside is short other = absurd short
 
 -- a second byte with which the bytes need no length
-second_other : FrontIsOpen → (bytes : List ℕ) (first byte word : ℕ) (told other : Need) → bytes ≡ first ∷ []
+second_other : (bytes : List ℕ) (first byte word : ℕ) (told other : Need) → bytes ≡ first ∷ []
     → byte ≡ word % 256 → word < 256 → told ≡ needed (first ∷ byte ∷ []) → told ≡ other
-    → ((n : ℕ) → other ≡ Exactly n → ⊥) → IsAskFront bytes
+    → ((n : ℕ) → other ≡ Exactly n → ⊥) → IsOpen bytes
     → (needed (first ∷ []) ≡ More) × (needed (first ∷ word ∷ []) ≡ other)
-second_other law bytes first byte word told other is low small tell out unsaid front =
+second_other bytes first byte word told other is low small tell out unsaid begun =
     let same : byte ≡ word = omega (arith, low) in
     let two : needed (first ∷ word ∷ []) ≡ other =
     ap (λ b. needed (first ∷ b ∷ [])) (sym same) ∙ (sym tell ∙ out) in
-    let alone : IsAskFront (first ∷ []) = subst IsAskFront is front in
+    let Open : List ℕ → Type 0 = λ bs. IsOpen bs in
+    let alone : IsOpen (first ∷ []) = subst Open is begun in
     let none : (n : ℕ) → needed (first ∷ word ∷ []) ≡ Exactly n → ⊥ = λ n exact. unsaid n (sym two ∙ exact) in
-    (left_by first word (needed (first ∷ [])) refl (open_front law (first ∷ []) alone) none, two)
+    (left_by first word (needed (first ∷ [])) refl alone none, two)
 
 -- a second byte that this profile leaves out
-pub second_outside : FrontIsOpen → (bytes : List ℕ) (first byte word : ℕ) (told : Need) → bytes ≡ first ∷ []
-    → byte ≡ word % 256 → word < 256 → told ≡ needed (first ∷ byte ∷ []) → told ≡ Outside → IsAskFront bytes
+pub second_outside : (bytes : List ℕ) (first byte word : ℕ) (told : Need) → bytes ≡ first ∷ []
+    → byte ≡ word % 256 → word < 256 → told ≡ needed (first ∷ byte ∷ []) → told ≡ Outside → IsOpen bytes
     → (needed bytes ≡ More) × (needed (bytes ++ word ∷ []) ≡ Outside)
-second_outside law bytes first byte word told is low small tell out front =
+second_outside bytes first byte word told is low small tell out begun =
     let P : List ℕ → Type 0 = λ bs. (needed bs ≡ More) × (needed (bs ++ word ∷ []) ≡ Outside) in
     let unsaid : (n : ℕ) → Outside ≡ Exactly n → ⊥ = λ n same. cc same in
-    subst P (sym is) (second_other law bytes first byte word told Outside is low small tell out unsaid front)
+    subst P (sym is) (second_other bytes first byte word told Outside is low small tell out unsaid begun)
 
 -- a second byte that makes the block foreign
-pub second_foreign : FrontIsOpen → (bytes : List ℕ) (first byte word : ℕ) (told : Need) → bytes ≡ first ∷ []
-    → byte ≡ word % 256 → word < 256 → told ≡ needed (first ∷ byte ∷ []) → told ≡ Foreign → IsAskFront bytes
+pub second_foreign : (bytes : List ℕ) (first byte word : ℕ) (told : Need) → bytes ≡ first ∷ []
+    → byte ≡ word % 256 → word < 256 → told ≡ needed (first ∷ byte ∷ []) → told ≡ Foreign → IsOpen bytes
     → IsForeignOpening (bytes ++ word ∷ [])
-second_foreign law bytes first byte word told is low small tell out front =
+second_foreign bytes first byte word told is low small tell out begun =
     let P : List ℕ → Type 0 = λ bs. IsForeignOpening (bs ++ word ∷ []) in
     let unsaid : (n : ℕ) → Foreign ≡ Exactly n → ⊥ = λ n same. cc same in
-    let both = second_other law bytes first byte word told Foreign is low small tell out unsaid front in
+    let both = second_other bytes first byte word told Foreign is low small tell out unsaid begun in
     subst P (sym is) (both.0, both.1, small)
 
 -- a second byte with which a command is open still
@@ -158,24 +161,24 @@ second_short first byte (Exactly m) told is tell short other (inr exact) =
 second_short first byte Foreign told is tell short other (inr exact) = absurd short
 second_short first byte Outside told is tell short other (inr exact) = absurd short
 
-pub second_front : OpenIsAFront → FrontIsOpen → (bytes : List ℕ) (first one byte word : ℕ) (alone told : Need)
+pub second_front : OpenIsAFront → (bytes : List ℕ) (first one byte word : ℕ) (alone told : Need)
     → bytes ≡ first ∷ [] → first < 256
     → alone ≡ needed (first ∷ []) → (alone ≡ Exactly 2 → ⊥) → one ≡ word % 256 → byte ≡ word % 256 → word < 256
     → told ≡ needed (first ∷ one ∷ [])
-    → (told ≡ More) ⊎ ((n : ℕ) × (told ≡ Exactly n)) → IsAskFront bytes
+    → (told ≡ More) ⊎ ((n : ℕ) × (told ≡ Exactly n)) → IsOpen bytes
     → (word ≡ byte) × IsAskFront (bytes ++ byte ∷ [])
-second_front opens law bytes first one byte word alone told is low lone other same again small tell wanting front =
-    let P : List ℕ → Type 0 = λ bs. IsAskFront bs → IsAskFront (bs ++ byte ∷ []) in
+second_front opens bytes first one byte word alone told is low lone other same again small tell wanting begun =
+    let P : List ℕ → Type 0 = λ bs. IsOpen bs → IsAskFront (bs ++ byte ∷ []) in
     let fits : one ≡ byte = omega (arith, same, again) in
     let byte_low : byte < 256 = omega (arith, again) in
     let both : told ≡ needed (first ∷ byte ∷ []) = tell ∙ ap (λ b. needed (first ∷ b ∷ [])) fits in
     let Q : Need → Type 0 = λ need. IsShort need 2 in
-    let go : IsAskFront (first ∷ []) → IsAskFront (first ∷ byte ∷ []) = λ begun.
+    let go : IsOpen (first ∷ []) → IsAskFront (first ∷ byte ∷ []) = λ alone_open.
     front_of opens (first ∷ byte ∷ []) (omega arith)
     (All-from_recursion IsByte (first ∷ byte ∷ []) (low, (byte_low, tt)))
     (subst Q both (second_short first byte (needed (first ∷ [])) told refl (sym both)
-    (open_front law (first ∷ []) begun) (λ two. other (lone ∙ two)) wanting)) in
-    (omega (arith, again), subst P (sym is) go front)
+    alone_open (λ two. other (lone ∙ two)) wanting)) in
+    (omega (arith, again), subst P (sym is) go begun)
 
 -- a further byte with which a command is open still
 pub further_front : OpenIsAFront → (bytes : List ℕ) (byte n : ℕ) → 2 ≤ length bytes → All IsByte bytes → byte < 256
@@ -199,11 +202,11 @@ ended bytes (Exactly n) two is short most =
 ended bytes Foreign two is short most = absurd short
 ended bytes Outside two is short most = absurd short
 
-pub further_end : FrontIsOpen → (bytes : List ℕ) (told : Need) → 2 ≤ length bytes → told ≡ needed bytes
-    → ((n : ℕ) → told ≡ Exactly n → n ≤ length bytes + 1) → IsAskFront bytes
+pub further_end : (bytes : List ℕ) (told : Need) → 2 ≤ length bytes → told ≡ needed bytes
+    → ((n : ℕ) → told ≡ Exactly n → n ≤ length bytes + 1) → IsOpen bytes
     → needed bytes ≡ Exactly (length bytes + 1)
-further_end law bytes told two is most front =
-    ended bytes (needed bytes) two refl (open_front law bytes front) (λ n exact. most n (is ∙ exact))
+further_end bytes told two is most begun =
+    ended bytes (needed bytes) two refl begun (λ n exact. most n (is ∙ exact))
 
 -- bytes that need their sum alone are with it the block of a command
 pub ask_whole : WhatItNeeds → (bytes : List ℕ) (word : ℕ) → All IsByte bytes → needed bytes ≡ Exactly (length bytes + 1)
@@ -537,9 +540,57 @@ belongs_row here bytes row other result is belongs =
     let P : Event → Type 0 = λ r. IfOk result (Belongs here bytes r) in
     subst P (sym is) belongs
 
--- a sound place that is another's
-pub sound_at : (place : Place) (other : Phase) → place.phase ≡ other → IsSound (position_at place)
-    → IsSound (position_in other place.bytes place.command place.answer.reply)
-sound_at place other is sound =
-    let P : Phase → Type 0 = λ p. IsSound (position_in p place.bytes place.command place.answer.reply) in
-    subst P is sound
+-- a phase that is another's is not inside a block of the controller
+pub not_asking : (here other : Phase) → here ≡ other → (other ≡ phase.InAsk → ⊥) → here ≡ phase.InAsk → ⊥
+not_asking here other is apart asking = apart (sym is ∙ asking)
+
+-- where no block of the controller is open, one may begin with a byte that leaves a command open
+may_begin : (here : Phase) (bytes : List ℕ) (byte : ℕ) → (here ≡ phase.InAsk → ⊥) → IsOpen (byte ∷ []) → MayAsk here bytes byte
+may_begin phase.Quiet bytes byte other begun = begun
+may_begin phase.InAsk bytes byte other begun = absurd (other refl)
+may_begin phase.Asked bytes byte other begun = begun
+may_begin phase.InReply bytes byte other begun = begun
+may_begin phase.Replied bytes byte other begun = begun
+may_begin phase.Returned bytes byte other begun = begun
+may_begin (phase.InRepeat said) bytes byte other begun = begun
+may_begin phase.InForeign bytes byte other begun = begun
+
+-- what was judged of a word that may begin a block
+pub opened_belongs : FrontIsOpen → (least : ℕ) (from : Option Event) (at word : ℕ) (result : Result Judged Rule)
+    → IsOpened least from (Word at Controller word) word result
+    → (here : Phase) (bytes : List ℕ) → (here ≡ phase.InAsk → ⊥) → IfOk result (Belongs here bytes (Word at Controller word))
+opened_belongs law least from at word (Ok judged.AskByte) opened here bytes other =
+    may_begin here bytes (word % 256) other (open_front law (word % 256 ∷ []) opened.1)
+opened_belongs law least from at word (Ok judged.Foreign) opened here bytes other = tt
+opened_belongs law least from at word (Ok found) opened here bytes other = absurd opened
+opened_belongs law least from at word (Err broken) opened here bytes other = tt
+
+-- bytes with which a command is open are few
+few_open : (bytes : List ℕ) (need : Need) → 0 < length bytes → needed bytes ≡ need → IsShort need (length bytes) → length bytes ≤ 32
+few_open bytes (Exactly n) some is short = omega (arith, short, at_most_32 bytes n some is)
+few_open bytes More some is short = omega (arith, short)
+few_open bytes Foreign some is short = absurd short
+few_open bytes Outside some is short = absurd short
+
+-- the block of a command is its bytes so far and their sum
+pub sealed : (bytes : List ℕ) (word : ℕ) (command : Command) → Spells command (bytes ++ word ∷ []) → Spells command (block_of bytes)
+sealed bytes word command spelled =
+    let content = command_bytes command in
+    record {
+      fields = spelled.fields;
+      bytes = ap block_of (same_from_push bytes content word (sum content % 256) spelled.bytes).0;
+    }
+
+-- what was judged of a word inside a block of the controller
+pub asking_belongs : FrontIsOpen → (bytes : List ℕ) (at word : ℕ) (result : Result Judged Rule) → IsGoingOn bytes word result
+    → IfOk result (Belongs phase.InAsk bytes (Word at Controller word))
+asking_belongs law bytes at word (Ok judged.AskByte) going =
+    let longer : List ℕ = bytes ++ word % 256 ∷ [] in
+    let begun : IsOpen longer = open_front law longer going.1 in
+    let long : length longer ≡ length bytes + 1 = length-append bytes (word % 256 ∷ []) in
+    let few : length longer ≤ 32 = few_open longer (needed longer) (omega (arith, long)) refl begun in
+    (omega (arith, long, few), begun)
+asking_belongs law bytes at word (Ok judged.Ask) going = (refl, going.0, sealed bytes word going.0 going.1)
+asking_belongs law bytes at word (Ok judged.Foreign) going = tt
+asking_belongs law bytes at word (Ok found) going = absurd going
+asking_belongs law bytes at word (Err broken) going = tt

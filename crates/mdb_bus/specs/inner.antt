@@ -1,3 +1,4 @@
+pub mod Begun
 pub mod Gone
 pub mod Grammar
 pub mod Step

@@ -8,7 +8,7 @@ ghost use Rattle.mdb_bus.specs.Acts.{IsForeignWord};
 ghost use Rattle.mdb_bus.specs.ActLists as lists;
 ghost use Rattle.mdb_bus.specs.Bus.{position_at};
 ghost use Rattle.mdb_bus.specs.LinkFaults.{OutOfOrder};
-ghost use Rattle.mdb_bus.specs.inner.Steps.{Belongs, IsJudged, IsSound};
+ghost use Rattle.mdb_bus.specs.inner.Steps.{Belongs, IsJudged};
 
 mod answering;
 mod asking;
@@ -29,7 +29,7 @@ use replying::{cut_in, go_on_replying};
 /// What is made of a row, which comes behind `from`.
 #[inline(always)]
 pub(crate) fn judge(place: &Place, from: &Option<Event>, row: &Event) -> Result<Judged, Rule>
-    ensures judged { (levels : Levels) → IsSound (position_at place.now)
+    ensures judged { (levels : Levels)
         → IsJudged (record {
           position = position_at place.now;
           last = from.now;
@@ -80,7 +80,7 @@ fn judge_controller(
     word: Word,
 ) -> Result<Judged, Rule>
     requires { OutOfOrder from.now (Event.Word at Line.Controller word) → ⊥ }
-    ensures judged { (levels : Levels) → IsSound (position_at place.now)
+    ensures judged { (levels : Levels)
         → IsJudged (record { position = position_at place.now; last = from.now; levels = levels })
         (Event.Word at Line.Controller word) result }
     ensures belongs { IfOk result (Belongs place.now.phase place.now.bytes

@@ -1,6 +1,7 @@
 //! Where the bus is, and how that goes on.
 
 ghost use Rattle.std.specs.Prelude.{◌≡◌, ◌≢◌, ◌%◌, ℕ, false, true, Some, None, IfOk, IfErr, OnErr, Ok, Err};
+ghost use Rattle.mdb_bus.specs.inner.Begun.{HasBegun, HasBegun-prop};
 ghost use Rattle.mdb_bus.specs.inner.Step.{word_in};
 ghost use Rattle.mdb_bus.specs.inner.Steps.{rule_of as rule_of_lem};
 
@@ -29,15 +30,18 @@ pub struct Place {
     pub command: Command,
     /// The last reply.
     pub answer: Spelled,
+    ghost begun: { HasBegun phase bytes } by { HasBegun-prop phase bytes },
 }
 
 impl Place {
+    ghost use Rattle.mdb_blocks.specs.Block.{block_of};
+    ghost use Rattle.mdb_msgs.specs.Commands.{Spells};
     ghost use Rattle.mdb_bus.specs.ActLists as lists;
     ghost use Rattle.mdb_bus.specs.declared.act.Act.TheVariants as acts;
     ghost use Rattle.mdb_bus.specs.Bus.{ended_act, position_at};
     ghost use Rattle.mdb_bus.specs.inner.Step as step;
     ghost use Rattle.mdb_bus.specs.inner.Step.{EachStep};
-    ghost use Rattle.mdb_bus.specs.inner.Steps.{Belongs, HasAdvanced, HasRoom, IsAt, IsBreak, IsReadAt, IsTaken, MayRepeat, MayReply};
+    ghost use Rattle.mdb_bus.specs.inner.Steps.{Belongs, HasAdvanced, IsAt, IsBreak, IsReadAt, IsTaken, MayAsk, MayRepeat, MayReply};
 
     /// Goes a step, and answers whether it ends an act, which it then puts into `act`. What a reply
     /// that has ended says decides of its step, so `end_reply` goes it.
@@ -106,7 +110,7 @@ impl Place {
 
     /// Adds a byte to the controller's block, or begins one with it.
     fn add_to_ask(&mut self, byte: u8)
-        requires { HasRoom self.old.phase self.old.bytes }
+        requires { MayAsk self.old.phase self.old.bytes byte }
         ensures { HasAdvanced (position_at self.old) (step.AskByte byte)
             (position_at self.new) None }
     {
@@ -122,7 +126,8 @@ impl Place {
     /// The controller's block has ended.
     #[inline(always)]
     fn end_ask(&mut self, act: &mut Act) -> bool
-        requires { self.old.phase ≡ Phase.InAsk }
+        requires asking { self.old.phase ≡ Phase.InAsk }
+        requires spelled { (command : Command) × Spells command (block_of self.old.bytes) }
         ensures advanced { (command : Command) → IsAt (position_at self.old) (step.Ask command)
             → HasAdvanced (position_at self.old) (step.Ask command) (position_at self.new)
             (ended_act result act.new) }
@@ -133,10 +138,8 @@ impl Place {
         if let Some(device) = polled(self.bytes.as_slice()) {
             return self.ask(device.poll(), act);
         }
-        match command_of(self.bytes.as_slice()) {
-            Ok(command) => self.ask(command, act),
-            Err(_) => false,
-        }
+        let command = command_of(self.bytes.as_slice()).unwrap();
+        self.ask(command, act)
     }
 
     /// The controller has asked a command.

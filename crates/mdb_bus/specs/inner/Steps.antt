@@ -16,7 +16,7 @@ use Rattle.mdb_msgs.specs.declared.fault.MsgFault.TheVariants as reading
 use Rattle.mdb_msgs.specs.declared.needs.Need.TheVariants as need
 use Rattle.mdb_msgs.specs.Answers.{HasDataAnswer, MayHaveData}
 use Rattle.mdb_msgs.specs.Commands.{Spells, device_of}
-use Rattle.mdb_msgs.specs.Needs.{needed}
+use Rattle.mdb_msgs.specs.Needs.{IsOpen, needed}
 use Rattle.mdb_msgs.specs.Replies.{IsReadFault, reply_bytes}
 use Rattle.mdb_bus.specs.declared.act.Act.{Act}
 use Rattle.mdb_bus.specs.declared.act.Act.TheVariants as acts
@@ -27,7 +27,7 @@ use Rattle.mdb_bus.specs.declared.phase.Phase.{Phase}
 use Rattle.mdb_bus.specs.declared.phase.Phase.TheVariants as phase
 use Rattle.mdb_bus.specs.declared.judged.Judged.{Judged}
 use Rattle.mdb_bus.specs.declared.judged.Judged.TheVariants as judged
-use Rattle.mdb_bus.specs.inner.Step.{Step, SomeStep}
+use Rattle.mdb_bus.specs.inner.Step.{Step, SomeStep, word_in}
 use Rattle.mdb_bus.specs.inner.Step as step
 use Rattle.mdb_bus.specs.Acts.{IsForeignOpening, IsReply, reply_words}
 use Rattle.mdb_bus.specs.ActLists.{Piece, Whole, AskTail, ReplyTail, RepeatTail, Position, Quiet, InAsk, Asked, InReply, Replied, Returned, InRepeat, InForeign, BlockMayCome, BreakMayCome, InTime, IsAskFront, IsLow, IsRepeatFront, IsReplyFront, NotBefore, NotBehind, act_in, level_for, levels_after, position_of, tells_high}
@@ -225,10 +225,10 @@ IsSound (InAsk bytes) = IsAskFront bytes
 IsSound (InReply command bytes) = IsReplyFront command bytes
 IsSound _ = Unit {0}
 
--- there is room for a further byte of the controller's block, or one may begin
-abbrev pub HasRoom : Phase → List ℕ → Type 0
-HasRoom phase.InAsk bytes = length bytes < 35
-HasRoom _ bytes = Unit {0}
+-- a block of the controller may go on by a byte that isn't its last, or begin with it
+abbrev pub MayAsk : Phase → List ℕ → ℕ → Type 0
+MayAsk phase.InAsk bytes byte = (length bytes < 35) × IsOpen (bytes ++ byte ∷ [])
+MayAsk _ bytes byte = IsOpen (byte ∷ [])
 
 -- a reply may go on by a byte, or begin with it
 abbrev pub MayReply : Phase → List ℕ → Type 0
@@ -248,8 +248,9 @@ IsBreak (Word at line word) = ⊥
 
 -- What was judged of a row belongs to the phase in which it comes.
 abbrev pub Belongs : Phase → List ℕ → Event → Judged → Type 0
-Belongs here bytes row judged.AskByte = HasRoom here bytes
-Belongs here bytes row judged.Ask = here ≡ phase.InAsk
+Belongs here bytes row judged.AskByte = MayAsk here bytes (word_in row % 256)
+Belongs here bytes row judged.Ask =
+    (here ≡ phase.InAsk) × (command : Command) × Spells command (block_of bytes)
 Belongs here bytes row judged.Foreign = Unit {0}
 Belongs here bytes row judged.Ack = here ≡ phase.Asked
 Belongs here bytes row judged.Nak = here ≡ phase.Asked

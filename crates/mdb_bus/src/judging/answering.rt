@@ -28,7 +28,8 @@ pub(crate) fn answer(
     ensures judged { (levels : Levels)
         → IsJudged (record { position = lists.Asked command.now; last = from.now; levels = levels })
         (Event.Word at Line.Peripheral word) result }
-    ensures belongs { (bytes : List ℕ) (row : Event) → IfOk result (Belongs Phase.Asked bytes row) }
+    ensures belongs { (bytes : List ℕ) (row : Event)
+        → IfOk result (Belongs Phase.Asked bytes row) }
 {
     let row = word_row(at, Line::Peripheral, word);
     in_answer_time(from, &row)?;
@@ -57,7 +58,8 @@ pub(crate) fn answer_reply(from: &Option<Event>, at: Time, word: Word) -> Result
           levels = levels;
         })
         (Event.Word at Line.Controller word) result }
-    ensures belongs { (bytes : List ℕ) (row : Event) → IfOk result (Belongs Phase.Replied bytes row) }
+    ensures belongs { (bytes : List ℕ) (row : Event)
+        → IfOk result (Belongs Phase.Replied bytes row) }
 {
     let row = word_row(at, Line::Controller, word);
     in_answer_time(from, &row)?;

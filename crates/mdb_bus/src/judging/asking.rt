@@ -3,13 +3,12 @@
 ghost use Rattle.std.specs.Prelude.{◌≡◌, ◌+◌, ◌<◌, ◌≤◌, ◌^◌, ◌∷◌, [], ℕ, List, length, IfOk};
 ghost use Rattle.mdb_words.specs.declared.event.Event.{Event};
 ghost use Rattle.mdb_msgs.specs.declared.needs.Need.TheVariants.{Exactly};
-ghost use Rattle.mdb_msgs.specs.Needs.{needed};
+ghost use Rattle.mdb_msgs.specs.Needs.{IsOpen, needed};
 ghost use Rattle.mdb_bus.specs.declared.levels.Levels.{Levels};
 ghost use Rattle.mdb_bus.specs.declared.phase.Phase.{Phase};
 ghost use Rattle.mdb_bus.specs.ActLists as lists;
-ghost use Rattle.mdb_bus.specs.ActLists.{IsAskFront};
 ghost use Rattle.mdb_bus.specs.LinkFaults.{OutOfOrder};
-ghost use Rattle.mdb_bus.specs.inner.Steps.{Belongs, HasRoom, IsGoingOn, IsJudged, IsOpened};
+ghost use Rattle.mdb_bus.specs.inner.Steps.{Belongs, IsGoingOn, IsJudged, IsOpened};
 
 use crate::begun::Begun;
 use crate::fault::Rule;
@@ -29,8 +28,8 @@ pub(crate) fn begin_block(
 ) -> Result<Judged, Rule>
     requires { least < 2 ^ 32 }
     ensures opened { IsOpened least from.now (Event.Word at Line.Controller word) word result }
-    ensures belongs { (here : Phase) (bytes : List ℕ) (row : Event) → HasRoom here bytes
-        → IfOk result (Belongs here bytes row) }
+    ensures belongs { (here : Phase) (bytes : List ℕ) → (here ≡ Phase.InAsk → ⊥)
+        → IfOk result (Belongs here bytes (Event.Word at Line.Controller word)) }
 {
     let row = word_row(at, Line::Controller, word);
     if !word.marked() {
@@ -40,6 +39,7 @@ pub(crate) fn begin_block(
         return Err(Rule::Early);
     }
     laws::need_leaves_a_command_open();
+    laws::front_of_a_command_is_open();
     match need_of(&[word.byte()]) {
         Need::Outside => Err(Rule::Profile),
         Need::Foreign => Ok(Judged::Foreign),
@@ -55,17 +55,20 @@ pub(crate) fn go_on_asking(
     at: Time,
     word: Word,
 ) -> Result<Judged, Rule>
-    requires { OutOfOrder from.now (Event.Word at Line.Controller word) → ⊥ }
-    ensures judged { (levels : Levels) → IsAskFront bytes.now
+    requires in_order { OutOfOrder from.now (Event.Word at Line.Controller word) → ⊥ }
+    requires begun { IsOpen bytes.now }
+    ensures judged { (levels : Levels)
         → IsJudged (record { position = lists.InAsk bytes.now; last = from.now; levels = levels })
         (Event.Word at Line.Controller word) result }
-    ensures belongs { (row : Event) → IfOk result (Belongs Phase.InAsk bytes.now row) }
+    ensures belongs { IfOk result
+        (Belongs Phase.InAsk bytes.now (Event.Word at Line.Controller word)) }
 {
     let row = word_row(at, Line::Controller, word);
     if word.marked() {
         return Err(Rule::Mode);
     }
     in_block_time(from, &row)?;
+    laws::front_of_a_command_is_open();
     match bytes.as_slice() {
         [first] => second_byte(bytes, *first, word),
         more => further_byte(bytes, more, word),
@@ -77,11 +80,10 @@ pub(crate) fn go_on_asking(
 fn second_byte(bytes: &Begun, first: u8, word: Word) -> Result<Judged, Rule>
     requires is { bytes.now ≡ first ∷ [] }
     requires unmarked { word < 256 }
-    ensures judged { IsAskFront bytes.now → IsGoingOn bytes.now word result }
-    ensures belongs { (row : Event) → IfOk result (Belongs Phase.InAsk bytes.now row) }
+    requires begun { IsOpen bytes.now }
+    ensures { IsGoingOn bytes.now word result }
 {
     laws::need_leaves_a_command_open();
-    laws::front_of_a_command_is_open();
     if need_of(&[first]) == Need::Exactly(2) {
         return end_ask(bytes, word);
     }
@@ -97,11 +99,10 @@ fn further_byte(bytes: &Begun, so_far: &[u8], word: Word) -> Result<Judged, Rule
     requires is { bytes.now ≡ so_far.now }
     requires two { 2 ≤ length so_far.now }
     requires unmarked { word < 256 }
-    ensures judged { IsAskFront bytes.now → IsGoingOn bytes.now word result }
-    ensures belongs { (row : Event) → IfOk result (Belongs Phase.InAsk bytes.now row) }
+    requires begun { IsOpen bytes.now }
+    ensures { IsGoingOn bytes.now word result }
 {
     laws::need_leaves_a_command_open();
-    laws::front_of_a_command_is_open();
     match need_of(so_far) {
         Need::Exactly(length) if so_far.len() + 1 < length => Ok(Judged::AskByte),
         _ => end_ask(bytes, word),
@@ -111,9 +112,8 @@ fn further_byte(bytes: &Begun, so_far: &[u8], word: Word) -> Result<Judged, Rule
 /// The last word of a command's block.
 fn end_ask(bytes: &Begun, word: Word) -> Result<Judged, Rule>
     requires unmarked { word < 256 }
-    ensures judged { IsAskFront bytes.now → needed bytes.now ≡ Exactly (length bytes.now + 1)
+    ensures { needed bytes.now ≡ Exactly (length bytes.now + 1)
         → IsGoingOn bytes.now word result }
-    ensures belongs { (row : Event) → IfOk result (Belongs Phase.InAsk bytes.now row) }
 {
     laws::what_it_needs_is_a_command();
     if word.byte() == sum_of(bytes.as_slice()) {

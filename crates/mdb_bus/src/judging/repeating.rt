@@ -31,7 +31,8 @@ pub(crate) fn begin_repeat(
           levels = levels;
         })
         (Event.Word at Line.Peripheral word) result }
-    ensures belongs { (bytes : List ℕ) (row : Event) → IfOk result (Belongs Phase.Returned bytes row) }
+    ensures belongs { (bytes : List ℕ) (row : Event)
+        → IfOk result (Belongs Phase.Returned bytes row) }
 {
     let row = word_row(at, Line::Peripheral, word);
     in_answer_time(from, &row)?;

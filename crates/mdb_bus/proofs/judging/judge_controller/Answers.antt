@@ -1,40 +1,41 @@
 use Rattle.mdb_words.specs.declared.event.Event.TheVariants.{Word}
 use Rattle.mdb_words.specs.declared.word.Line.TheVariants.{Controller}
-use Rattle.mdb_bus.proofs.Verdicts.{belongs_at, judged_at, sound_at}
+use Rattle.mdb_bus.proofs.Verdicts.{belongs_at, judged_at, not_asking}
+use Rattle.mdb_bus.specs.declared.phase.Phase.TheVariants as phase
 use Rattle.mdb_bus.proofs.judging.judge_controller.Goals as goal
 
 pub returns-in-InAsk-clause-judged : goal.returns-in-InAsk-clause-judged
 returns-in-InAsk-clause-judged c =
-    λ levels sound. judged_at c.args.place.now _ c.args.from.now levels (Word c.args.at Controller c.args.word)
+    λ levels. judged_at c.args.place.now _ c.args.from.now levels (Word c.args.at Controller c.args.word)
     c.go_on_asking.result c.in-InAsk.is
-    (c.go_on_asking.ensures.judged levels (sound_at c.args.place.now _ c.in-InAsk.is sound))
+    (c.go_on_asking.ensures.judged levels)
 
 pub returns-in-InReply-clause-judged : goal.returns-in-InReply-clause-judged
 returns-in-InReply-clause-judged c =
-    λ levels sound. judged_at c.args.place.now _ c.args.from.now levels (Word c.args.at Controller c.args.word)
+    λ levels. judged_at c.args.place.now _ c.args.from.now levels (Word c.args.at Controller c.args.word)
     c.cut_in.result c.in-InReply.is (c.cut_in.ensures.reply levels c.args.place.now.command c.args.place.now.bytes)
 
 pub returns-in-InRepeat-clause-judged : goal.returns-in-InRepeat-clause-judged
 returns-in-InRepeat-clause-judged c =
-    λ levels sound. judged_at c.args.place.now _ c.args.from.now levels (Word c.args.at Controller c.args.word)
+    λ levels. judged_at c.args.place.now _ c.args.from.now levels (Word c.args.at Controller c.args.word)
     c.cut_in-in-InRepeat.result c.in-InRepeat.is
     (c.cut_in-in-InRepeat.ensures.repeat levels c.args.place.now.command c.args.place.now.answer.reply _)
 
 pub returns-in-Replied-2-clause-judged : goal.returns-in-Replied-2-clause-judged
 returns-in-Replied-2-clause-judged c =
-    λ levels sound. judged_at c.args.place.now _ c.args.from.now levels (Word c.args.at Controller c.args.word)
+    λ levels. judged_at c.args.place.now _ c.args.from.now levels (Word c.args.at Controller c.args.word)
     c.answer_reply.result c.in-Replied-2.is
     (c.answer_reply.ensures.judged levels c.args.place.now.command c.args.place.now.answer.reply)
 
 pub returns-in-InForeign-2-clause-judged : goal.returns-in-InForeign-2-clause-judged
 returns-in-InForeign-2-clause-judged c =
-    λ levels sound. judged_at c.args.place.now _ c.args.from.now levels (Word c.args.at Controller c.args.word)
+    λ levels. judged_at c.args.place.now _ c.args.from.now levels (Word c.args.at Controller c.args.word)
     c.go_on_foreign.result c.in-InForeign-2.is (c.go_on_foreign.ensures.judged levels)
 
 pub returns-in-InAsk-clause-belongs : goal.returns-in-InAsk-clause-belongs
 returns-in-InAsk-clause-belongs c =
     belongs_at c.args.place.now.phase _ c.args.place.now.bytes (Word c.args.at Controller c.args.word) c.go_on_asking.result
-    c.in-InAsk.is (c.go_on_asking.ensures.belongs (Word c.args.at Controller c.args.word))
+    c.in-InAsk.is c.go_on_asking.ensures.belongs
 
 pub returns-in-Replied-2-clause-belongs : goal.returns-in-Replied-2-clause-belongs
 returns-in-Replied-2-clause-belongs c =
@@ -44,3 +45,18 @@ returns-in-Replied-2-clause-belongs c =
 pub returns-in-InForeign-2-clause-belongs : goal.returns-in-InForeign-2-clause-belongs
 returns-in-InForeign-2-clause-belongs c =
     c.go_on_foreign.ensures.belongs c.args.place.now.phase c.args.place.now.bytes (Word c.args.at Controller c.args.word)
+
+pub returns-in-Quiet-clause-belongs : goal.returns-in-Quiet-clause-belongs
+returns-in-Quiet-clause-belongs c =
+    c.begin_block.ensures.belongs c.args.place.now.phase c.args.place.now.bytes
+    (not_asking c.args.place.now.phase phase.Quiet c.in-Quiet.is (λ same. cc same))
+
+pub returns-in-Asked-clause-belongs : goal.returns-in-Asked-clause-belongs
+returns-in-Asked-clause-belongs c =
+    c.begin_block-in-Asked.ensures.belongs c.args.place.now.phase c.args.place.now.bytes
+    (not_asking c.args.place.now.phase phase.Asked c.in-Asked.is (λ same. cc same))
+
+pub returns-in-Returned-clause-belongs : goal.returns-in-Returned-clause-belongs
+returns-in-Returned-clause-belongs c =
+    c.begin_block-in-Returned.ensures.belongs c.args.place.now.phase c.args.place.now.bytes
+    (not_asking c.args.place.now.phase phase.Returned c.in-Returned.is (λ same. cc same))

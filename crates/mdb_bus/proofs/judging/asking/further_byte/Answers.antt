@@ -3,7 +3,6 @@ use Rattle.mdb_msgs.specs.declared.needs.Need.TheVariants.{Exactly}
 use Rattle.mdb_msgs.specs.Needs.{needed}
 use Rattle.mdb_bus.specs.ActLists.{IsAskFront}
 use Rattle.mdb_bus.proofs.Verdicts.{are_bytes, further_end, further_front}
-use Rattle.mdb_bus.proofs.Needs.{at_most_32}
 use Rattle.mdb_bus.proofs.judging.asking.further_byte.Goals.{in_default-via-in-Exactly+else-so_far-length, in_default-via-in_default}
 use Rattle.mdb_bus.proofs.judging.asking.further_byte.Goals as goal
 
@@ -11,24 +10,17 @@ use Rattle.mdb_bus.proofs.judging.asking.further_byte.Goals as goal
 at_most : (one other : ℕ) {most : ℕ} → Exactly one ≡ Exactly other → one ≤ most → other ≤ most
 at_most one other same small = let e : one ≡ other = cc in omega (arith, small, e)
 
-pub returns-in-Exactly-clause-belongs : goal.returns-in-Exactly-clause-belongs
-returns-in-Exactly-clause-belongs c =
-    let most : c.in-Exactly.length ≤ 32 =
-    at_most_32 c.args.so_far.now c.in-Exactly.length (omega arith) (sym c.need_of.ensures ∙ c.in-Exactly.is) in
-    let same = ap length c.requires.is in
-    λ row. omega arith
-
-pub returns-in-Exactly-clause-judged : goal.returns-in-Exactly-clause-judged
-returns-in-Exactly-clause-judged c =
+pub returns-in-Exactly : goal.returns-in-Exactly
+returns-in-Exactly c =
     let told : needed c.args.so_far.now ≡ Exactly c.in-Exactly.length = sym c.need_of.ensures ∙ c.in-Exactly.is in
     let front : IsAskFront (c.args.so_far.now ++ (c.args.word % 256) ∷ []) =
     further_front c.need_leaves_a_command_open.ensures c.args.so_far.now (c.args.word % 256) c.in-Exactly.length
     c.requires.two (are_bytes c.args.so_far.now c.type_inv.so_far) (omega arith) told c.if-so_far-length.true in
     let P : List ℕ → Type 0 = λ bytes. IsAskFront (bytes ++ (c.args.word % 256) ∷ []) in
-    λ begun. (omega (arith, c.requires.unmarked), subst P (sym c.requires.is) front)
+    (omega (arith, c.requires.unmarked), subst P (sym c.requires.is) front)
 
-pub returns-in_default-clause-judged : goal.returns-in_default-clause-judged
-returns-in_default-clause-judged c =
+pub returns-in_default : goal.returns-in_default
+returns-in_default c =
     let same = ap length c.requires.is in
     let most : (n : ℕ) → c.need_of.result ≡ Exactly n → n ≤ length c.args.bytes.now + 1 =
     λ n exact. (elim c.in_default.branch [
@@ -37,6 +29,4 @@ returns-in_default-clause-judged c =
       | in_default-via-in_default w ↦ absurd (search rules)
     ]) in
     let told = c.need_of.ensures ∙ ap needed (sym c.requires.is) in
-    λ front. c.end_ask.ensures.judged front
-    (further_end c.front_of_a_command_is_open.ensures c.args.bytes.now c.need_of.result (omega arith) told most
-    front)
+    c.end_ask.ensures (further_end c.args.bytes.now c.need_of.result (omega arith) told most c.requires.begun)
