@@ -560,7 +560,7 @@ pub opened_belongs : FrontIsOpen → (least : ℕ) (from : Option Event) (at wor
     → IsOpened least from (Word at Controller word) word result
     → (here : Phase) (bytes : List ℕ) → (here ≡ phase.InAsk → ⊥) → IfOk result (Belongs here bytes (Word at Controller word))
 opened_belongs law least from at word (Ok judged.AskByte) opened here bytes other =
-    may_begin here bytes (word % 256) other (open_front law (word % 256 ∷ []) opened.1)
+    (tt, may_begin here bytes (word % 256) other (open_front law (word % 256 ∷ []) opened.1))
 opened_belongs law least from at word (Ok judged.Foreign) opened here bytes other = tt
 opened_belongs law least from at word (Ok found) opened here bytes other = absurd opened
 opened_belongs law least from at word (Err broken) opened here bytes other = tt
@@ -589,7 +589,7 @@ asking_belongs law bytes at word (Ok judged.AskByte) going =
     let begun : IsOpen longer = open_front law longer going.1 in
     let long : length longer ≡ length bytes + 1 = length-append bytes (word % 256 ∷ []) in
     let few : length longer ≤ 32 = few_open longer (needed longer) (omega (arith, long)) refl begun in
-    (omega (arith, long, few), begun)
+    (tt, (omega (arith, long, few), begun))
 asking_belongs law bytes at word (Ok judged.Ask) going = (refl, going.0, sealed bytes word going.0 going.1)
 asking_belongs law bytes at word (Ok judged.Foreign) going = tt
 asking_belongs law bytes at word (Ok found) going = absurd going

@@ -3,7 +3,7 @@
 ghost use Rattle.std.specs.Prelude.{◌≡◌, ◌≢◌, ◌%◌, ℕ, false, true, Some, None, IfOk, IfErr, OnErr, Ok, Err};
 ghost use Rattle.mdb_bus.specs.inner.Begun.{HasBegun, HasBegun-prop};
 ghost use Rattle.mdb_bus.specs.inner.Step.{word_in};
-ghost use Rattle.mdb_bus.specs.inner.Steps.{rule_of as rule_of_lem};
+ghost use Rattle.mdb_bus.specs.inner.Steps.{IsWord, rule_of as rule_of_lem};
 
 use super::act::Act;
 use super::begun::Begun;
@@ -299,12 +299,13 @@ impl Place {
 /// The eight data bits of a row's word.
 #[inline(always)]
 fn byte_in(row: &Event) -> u8
+    requires { IsWord row.now }
     ensures { result ≡ word_in row.now % 256 }
 {
-    match *row {
-        Event::Word { word, .. } => word.byte(),
-        Event::Break { .. } => 0,
-    }
+    let Event::Word { word, .. } = *row else {
+        unreachable!();
+    };
+    word.byte()
 }
 
 /// The rule that a block breaks whose content can't be read.

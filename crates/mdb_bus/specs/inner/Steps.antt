@@ -242,19 +242,24 @@ MayRepeat phase.Returned = Unit {0}
 MayRepeat (phase.InRepeat said) = said < 35
 MayRepeat _ = ⊥
 
+abbrev pub IsWord : Event → Type 0
+IsWord (Word at line word) = Unit {0}
+IsWord (Break at length) = ⊥
+
 abbrev pub IsBreak : Event → Type 0
 IsBreak (Break at length) = Unit {0}
 IsBreak (Word at line word) = ⊥
 
 -- What was judged of a row belongs to the phase in which it comes.
 abbrev pub Belongs : Phase → List ℕ → Event → Judged → Type 0
-Belongs here bytes row judged.AskByte = MayAsk here bytes (word_in row % 256)
+Belongs here bytes row judged.AskByte =
+    IsWord row × MayAsk here bytes (word_in row % 256)
 Belongs here bytes row judged.Ask =
     (here ≡ phase.InAsk) × (command : Command) × Spells command (block_of bytes)
 Belongs here bytes row judged.Foreign = Unit {0}
 Belongs here bytes row judged.Ack = here ≡ phase.Asked
 Belongs here bytes row judged.Nak = here ≡ phase.Asked
-Belongs here bytes row judged.ReplyByte = MayReply here bytes
+Belongs here bytes row judged.ReplyByte = IsWord row × MayReply here bytes
 Belongs here bytes row judged.Reply = here ≡ phase.InReply
 Belongs here bytes row judged.VmcAck = here ≡ phase.Replied
 Belongs here bytes row judged.VmcNak = here ≡ phase.Replied

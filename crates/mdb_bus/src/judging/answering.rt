@@ -28,8 +28,8 @@ pub(crate) fn answer(
     ensures judged { (levels : Levels)
         → IsJudged (record { position = lists.Asked command.now; last = from.now; levels = levels })
         (Event.Word at Line.Peripheral word) result }
-    ensures belongs { (bytes : List ℕ) (row : Event)
-        → IfOk result (Belongs Phase.Asked bytes row) }
+    ensures belongs { (bytes : List ℕ)
+        → IfOk result (Belongs Phase.Asked bytes (Event.Word at Line.Peripheral word)) }
 {
     let row = word_row(at, Line::Peripheral, word);
     in_answer_time(from, &row)?;

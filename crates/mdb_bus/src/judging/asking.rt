@@ -112,8 +112,8 @@ fn further_byte(bytes: &Begun, so_far: &[u8], word: Word) -> Result<Judged, Rule
 /// The last word of a command's block.
 fn end_ask(bytes: &Begun, word: Word) -> Result<Judged, Rule>
     requires unmarked { word < 256 }
-    ensures { needed bytes.now ≡ Exactly (length bytes.now + 1)
-        → IsGoingOn bytes.now word result }
+    requires last { needed bytes.now ≡ Exactly (length bytes.now + 1) }
+    ensures { IsGoingOn bytes.now word result }
 {
     laws::what_it_needs_is_a_command();
     if word.byte() == sum_of(bytes.as_slice()) {

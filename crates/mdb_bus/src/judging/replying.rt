@@ -33,7 +33,8 @@ pub(crate) fn go_on_replying(
       levels = levels;
     })
         (Event.Word at Line.Peripheral word) result }
-    ensures belongs { (row : Event) → IfOk result (Belongs Phase.InReply bytes.now row) }
+    ensures belongs { IfOk result
+        (Belongs Phase.InReply bytes.now (Event.Word at Line.Peripheral word)) }
 {
     let row = word_row(at, Line::Peripheral, word);
     in_block_time(from, &row)?;

@@ -31,12 +31,12 @@ returns-in-InReply-clause-judged c =
 pub returns-in-Asked-clause-belongs : goal.returns-in-Asked-clause-belongs
 returns-in-Asked-clause-belongs c =
     belongs_at c.args.place.now.phase _ c.args.place.now.bytes (Word c.args.at Peripheral c.args.word) c.answer.result
-    c.in-Asked.is (c.answer.ensures.belongs c.args.place.now.bytes (Word c.args.at Peripheral c.args.word))
+    c.in-Asked.is (c.answer.ensures.belongs c.args.place.now.bytes)
 
 pub returns-in-InReply-clause-belongs : goal.returns-in-InReply-clause-belongs
 returns-in-InReply-clause-belongs c =
     belongs_at c.args.place.now.phase _ c.args.place.now.bytes (Word c.args.at Peripheral c.args.word) c.go_on_replying.result
-    c.in-InReply.is (c.go_on_replying.ensures.belongs (Word c.args.at Peripheral c.args.word))
+    c.in-InReply.is c.go_on_replying.ensures.belongs
 
 pub returns-in-Returned-clause-belongs : goal.returns-in-Returned-clause-belongs
 returns-in-Returned-clause-belongs c =

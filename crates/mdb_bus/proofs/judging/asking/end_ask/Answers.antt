@@ -5,5 +5,5 @@ use Rattle.mdb_bus.proofs.judging.asking.end_ask.Goals as goal
 pub returns-then-byte-sum_of : goal.returns-then-byte-sum_of
 returns-then-byte-sum_of c =
     let total : c.args.word ≡ sum c.args.bytes.now % 256 = search rules in
-    λ exact. ask_whole c.what_it_needs_is_a_command.ensures c.args.bytes.now c.args.word
-    c.as_slice.ensures.are_bytes exact total
+    ask_whole c.what_it_needs_is_a_command.ensures c.args.bytes.now c.args.word
+    c.as_slice.ensures.are_bytes c.requires.last total

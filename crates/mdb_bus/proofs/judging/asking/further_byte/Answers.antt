@@ -19,8 +19,8 @@ returns-in-Exactly c =
     let P : List ℕ → Type 0 = λ bytes. IsAskFront (bytes ++ (c.args.word % 256) ∷ []) in
     (omega (arith, c.requires.unmarked), subst P (sym c.requires.is) front)
 
-pub returns-in_default : goal.returns-in_default
-returns-in_default c =
+pub end_ask-requires-clause-last : goal.end_ask-requires-clause-last
+end_ask-requires-clause-last c =
     let same = ap length c.requires.is in
     let most : (n : ℕ) → c.need_of.result ≡ Exactly n → n ≤ length c.args.bytes.now + 1 =
     λ n exact. (elim c.in_default.branch [
@@ -29,4 +29,4 @@ returns-in_default c =
       | in_default-via-in_default w ↦ absurd (search rules)
     ]) in
     let told = c.need_of.ensures ∙ ap needed (sym c.requires.is) in
-    c.end_ask.ensures (further_end c.args.bytes.now c.need_of.result (omega arith) told most c.requires.begun)
+    further_end c.args.bytes.now c.need_of.result (omega arith) told most c.requires.begun
