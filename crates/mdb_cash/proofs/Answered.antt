@@ -10,9 +10,9 @@ use Rattle.mdb_bus.specs.declared.act.Act.{Act}
 use Rattle.mdb_bus.specs.declared.act.Act.TheVariants as acts
 use Rattle.mdb_cash.specs.declared.changer.report.ChangerReport.{ChangerReport}
 use Rattle.mdb_cash.specs.declared.changer.state.ChangerState.{ChangerState}
+use Rattle.mdb_cash.specs.declared.choice.Choice.{Choice}
 use Rattle.mdb_cash.specs.declared.gains.Gains.{Gains}
 use Rattle.mdb_cash.specs.declared.kept.Part.{Part}
-use Rattle.mdb_cash.specs.declared.kept.Reading.{Reading}
 use Rattle.mdb_cash.specs.Changer.{ChangerStep, MayBeNew, ReplyStep, VmcAckStep, all_deposited, all_paid_by_hand, is_poll}
 use Rattle.mdb_cash.specs.ChangerFacts.{Facts, facts_of}
 use Rattle.mdb_cash.specs.ChangerMessages.{part_of, parts_of}
@@ -22,14 +22,14 @@ use Rattle.mdb_cash.specs.Pair.{IsOutcome, Stays}
 use Rattle.mdb_cash.proofs.KeptLists.{TellsOnly}
 
 -- a reply that tells these news, and no others
-pub told : {facts : Facts} {command : ChangerCommand} {reply : Reply} {reading : Reading} {before : ChangerState} {news kept : List ChangerReport} {holds behind : Bool} {deposits paid : ℕ} {gains : Gains}
-    → TellsOnly (is_poll command) reading facts.past.reset_owed (held (holds_read reading before.holds) facts.past.kept) (parts_of reply) news
+pub told : {facts : Facts} {command : ChangerCommand} {reply : Reply} {choice : Choice} {before : ChangerState} {news kept : List ChangerReport} {holds behind : Bool} {deposits paid : ℕ} {gains : Gains}
+    → TellsOnly (is_poll command) choice facts.past.reset_owed (held (holds_read choice before.holds) facts.past.kept) (parts_of reply) news
     → AllByRecursion (MayBeNew facts) news
-    → kept ≡ kept_of (parts_of reply) → holds ≡ holds_read reading before.holds → behind ≡ holds_behind kept holds
+    → kept ≡ kept_of (parts_of reply) → holds ≡ holds_read choice before.holds → behind ≡ holds_behind kept holds
     → deposits ≡ all_deposited facts.setup news → paid ≡ all_paid_by_hand facts.setup news → gains ≡ device_gains deposits paid
-    → IsOutcome (ReplyStep facts command reply reading before) (Some (record before { holds = behind }, gains))
-told {facts} {command} {reply} {reading} {before} {news} {kept} {holds} {behind} {deposits} {paid} {gains} telling enabled kept_is holds_is behind_is deposits_are paid_is gains_are =
-    let to : record before { holds = behind } ≡ record before { holds = holds_behind (kept_of (parts_of reply)) (holds_read reading before.holds) } =
+    → IsOutcome (ReplyStep facts command reply choice before) (Some (record before { holds = behind }, gains))
+told {facts} {command} {reply} {choice} {before} {news} {kept} {holds} {behind} {deposits} {paid} {gains} telling enabled kept_is holds_is behind_is deposits_are paid_is gains_are =
+    let to : record before { holds = behind } ≡ record before { holds = holds_behind (kept_of (parts_of reply)) (holds_read choice before.holds) } =
     ap (λ h. record before { holds = h }) (behind_is ∙ (ap (λ ks. holds_behind ks holds) kept_is ∙ ap (holds_behind (kept_of (parts_of reply))) holds_is)) in
     let gained : gains ≡ device_gains (all_deposited facts.setup news) (all_paid_by_hand facts.setup news) =
     gains_are ∙ (ap (λ d. device_gains d paid) deposits_are ∙ ap (device_gains (all_deposited facts.setup news)) paid_is) in (
@@ -42,21 +42,21 @@ told {facts} {command} {reply} {reading} {before} {news} {kept} {holds} {behind}
     )
 
 -- the controller's ACK has one outcome
-pub acknowledged : {facts : Facts} {command : ChangerCommand} {reply : Reply} {heard : Bool} {before after : ChangerState} {gains : Gains}
-    → VmcAckStep facts command reply heard before after gains → IsOutcome (VmcAckStep facts command reply heard before) (Some (after, gains))
+pub acknowledged : {facts : Facts} {command : ChangerCommand} {reply : Reply} {choice : Choice} {before after : ChangerState} {gains : Gains}
+    → VmcAckStep facts command reply choice before after gains → IsOutcome (VmcAckStep facts command reply choice before) (Some (after, gains))
 acknowledged step = (step, λ other more its. (its.to ∙ sym step.to, its.gained ∙ sym step.gained))
 
 -- an ACK of a reply without messages of the changer changes nothing
-idle_ack : (facts : Facts) (command : ChangerCommand) (reply : Reply) (heard : Bool) (before after : ChangerState) (gains : Gains) → parts_of reply ≡ []
-    → VmcAckStep facts command reply heard before after gains ↔ Stays before after gains
-idle_ack facts command reply heard before after gains none =
-    let to_is : acked command heard before (parts_of reply) ≡ before = ap (acked command heard before) none ∙ same_owed (is_poll command) in
+idle_ack : (facts : Facts) (command : ChangerCommand) (reply : Reply) (choice : Choice) (before after : ChangerState) (gains : Gains) → parts_of reply ≡ []
+    → VmcAckStep facts command reply choice before after gains ↔ Stays before after gains
+idle_ack facts command reply choice before after gains none =
+    let to_is : acked command choice before (parts_of reply) ≡ before = ap (acked command choice before) none ∙ same_owed (is_poll command) in
     let gains_are : gained facts command (parts_of reply) ≡ no_gains = ap (gained facts command) none ∙ nothing (is_poll command) in (
       λ step. (step.to ∙ to_is, step.gained ∙ gains_are),
       λ stays. record { to = stays.0 ∙ sym to_is; gained = stays.1 ∙ sym gains_are },
     )
   where
-    acked : ChangerCommand → Bool → ChangerState → List (Part ChangerReport) → ChangerState
+    acked : ChangerCommand → Choice → ChangerState → List (Part ChangerReport) → ChangerState
     acked c h b parts = record {
       holds = holds_acked h (kept_of parts) b.holds;
       owed = if is_poll c && has_reset parts then false else b.owed;
@@ -74,10 +74,10 @@ idle_ack facts command reply heard before after gains none =
     nothing false = refl
 
 pub idle : (act : Act) (command : ChangerCommand) (reply : Reply) (messages : List ChangerMsg) (empty : Bool) → act ≡ acts.VmcAck (commands.Changer command) reply → map part_of messages ≡ parts_of reply → empty ≡ (length messages == 0)
-    → OnFalse (not empty) ((past : List Act) (heard : Bool) (reading : Reading) (before after : ChangerState) (gains : Gains) → ChangerStep (facts_of past) act heard reading before after gains ↔ (after ≡ before) × (gains ≡ no_gains))
+    → OnFalse (not empty) ((past : List Act) (choice : Choice) (before after : ChangerState) (gains : Gains) → ChangerStep (facts_of past) act choice before after gains ↔ (after ≡ before) × (gains ≡ no_gains))
 idle act command reply messages false is parts e = tt
-idle act command reply [] true is parts e = λ past heard reading before after gains.
-    subst (λ (a : Act). ChangerStep (facts_of past) a heard reading before after gains ↔ (after ≡ before) × (gains ≡ no_gains)) (sym is) (idle_ack (facts_of past) command reply heard before after gains (sym parts))
+idle act command reply [] true is parts e = λ past choice before after gains.
+    subst (λ (a : Act). ChangerStep (facts_of past) a choice before after gains ↔ (after ≡ before) × (gains ≡ no_gains)) (sym is) (idle_ack (facts_of past) command reply choice before after gains (sym parts))
 idle act command reply (m ∷ messages) true is parts e =
     let none : length (m ∷ messages) ≡ 0 = eqb-true (length (m ∷ messages)) 0 (sym e) in
     absurd (omega (arith, none))

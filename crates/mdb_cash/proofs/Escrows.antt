@@ -13,8 +13,8 @@ use Rattle.mdb_cash.specs.declared.bill.state.BillState.{BillState}
 use Rattle.mdb_cash.specs.declared.bill.state.BillType.{BillType}
 use Rattle.mdb_cash.specs.declared.bill.state.Escrow.{Escrow}
 use Rattle.mdb_cash.specs.declared.bill.state.Escrow.TheVariants.{Empty, Waiting}
+use Rattle.mdb_cash.specs.declared.choice.Choice.{Choice}
 use Rattle.mdb_cash.specs.declared.gains.Gains.{Gains}
-use Rattle.mdb_cash.specs.declared.kept.Reading.{Reading}
 use Rattle.mdb_cash.specs.Bill.{BillStep, MayReturn, MayStack, ReplyStep, TakesAll, TakesMessage, VmcAckStep, all_stacked, escrow_read, is_poll}
 use Rattle.mdb_cash.specs.BillCodes.{same_type}
 use Rattle.mdb_cash.specs.BillFacts.{Facts, facts_of}
@@ -81,23 +81,23 @@ leaves_all {facts} {all} {rest} {from} {now} is leaves = (
 )
 
 -- a reply whose new messages can't be
-pub untaken : {facts : Facts} {command : BillCommand} {reply : Reply} {reading : Reading} {before : BillState} {news : List BillReport} {from : Escrow}
-    → TellsOnly (is_poll command) reading facts.past.reset_owed (held (holds_read reading before.holds) facts.past.kept) (parts_of reply) news
-    → from ≡ escrow_read reading before.escrow
+pub untaken : {facts : Facts} {command : BillCommand} {reply : Reply} {choice : Choice} {before : BillState} {news : List BillReport} {from : Escrow}
+    → TellsOnly (is_poll command) choice facts.past.reset_owed (held (holds_read choice before.holds) facts.past.kept) (parts_of reply) news
+    → from ≡ escrow_read choice before.escrow
     → ((x : Escrow) → TakesAll facts news from x → ⊥)
-    → (after : BillState) (gains : Gains) → ReplyStep facts command reply reading before after gains → ⊥
-untaken {facts} {command} {reply} {reading} {before} {news} {from} telling from_is none after gains step =
+    → (after : BillState) (gains : Gains) → ReplyStep facts command reply choice before after gains → ⊥
+untaken {facts} {command} {reply} {choice} {before} {news} {from} telling from_is none after gains step =
     none after.escrow (subst (λ ns. TakesAll facts ns from after.escrow) (telling.only step.news step.tells) (subst (λ f. TakesAll facts step.news f after.escrow) (sym from_is) step.escrow))
 
 -- a reply that tells these news, and no others
-pub told : {facts : Facts} {command : BillCommand} {reply : Reply} {reading : Reading} {before : BillState} {news kept : List BillReport} {from to : Escrow} {holds behind : Bool} {bills : ℕ} {gains : Gains}
-    → TellsOnly (is_poll command) reading facts.past.reset_owed (held (holds_read reading before.holds) facts.past.kept) (parts_of reply) news
-    → from ≡ escrow_read reading before.escrow → IsOnly (TakesAll facts news from) (Some to)
-    → kept ≡ kept_of (parts_of reply) → holds ≡ holds_read reading before.holds → behind ≡ holds_behind kept holds
+pub told : {facts : Facts} {command : BillCommand} {reply : Reply} {choice : Choice} {before : BillState} {news kept : List BillReport} {from to : Escrow} {holds behind : Bool} {bills : ℕ} {gains : Gains}
+    → TellsOnly (is_poll command) choice facts.past.reset_owed (held (holds_read choice before.holds) facts.past.kept) (parts_of reply) news
+    → from ≡ escrow_read choice before.escrow → IsOnly (TakesAll facts news from) (Some to)
+    → kept ≡ kept_of (parts_of reply) → holds ≡ holds_read choice before.holds → behind ≡ holds_behind kept holds
     → bills ≡ all_stacked facts.setup news → gains ≡ device_gains bills 0
-    → IsOutcome (ReplyStep facts command reply reading before) (Some (record { escrow = to; holds = behind }, gains))
-told {facts} {command} {reply} {reading} {before} {news} {kept} {from} {to} {holds} {behind} {bills} {gains} telling from_is takes kept_is holds_is behind_is bills_are gains_are =
-    let holds_to : behind ≡ holds_behind (kept_of (parts_of reply)) (holds_read reading before.holds) =
+    → IsOutcome (ReplyStep facts command reply choice before) (Some (record { escrow = to; holds = behind }, gains))
+told {facts} {command} {reply} {choice} {before} {news} {kept} {from} {to} {holds} {behind} {bills} {gains} telling from_is takes kept_is holds_is behind_is bills_are gains_are =
+    let holds_to : behind ≡ holds_behind (kept_of (parts_of reply)) (holds_read choice before.holds) =
     behind_is ∙ (ap (λ ks. holds_behind ks holds) kept_is ∙ ap (holds_behind (kept_of (parts_of reply))) holds_is) in
     let gained : gains ≡ device_gains (all_stacked facts.setup news) 0 = gains_are ∙ ap (λ b. device_gains b 0) bills_are in (
       record { news = news; tells = telling.tells; escrow = subst (λ f. TakesAll facts news f to) from_is takes.0; holds = holds_to; gained = gained },
@@ -112,21 +112,21 @@ told {facts} {command} {reply} {reading} {before} {news} {kept} {from} {to} {hol
     )
 
 -- the controller's ACK has one outcome
-pub acknowledged : {facts : Facts} {command : BillCommand} {reply : Reply} {heard : Bool} {before after : BillState} {gains : Gains}
-    → VmcAckStep facts command reply heard before after gains → IsOutcome (VmcAckStep facts command reply heard before) (Some (after, gains))
+pub acknowledged : {facts : Facts} {command : BillCommand} {reply : Reply} {choice : Choice} {before after : BillState} {gains : Gains}
+    → VmcAckStep facts command reply choice before after gains → IsOutcome (VmcAckStep facts command reply choice before) (Some (after, gains))
 acknowledged step = (step, λ other more its. (its.to ∙ sym step.to, its.gained ∙ sym step.gained))
 
 -- an ACK of a reply without messages of the validator changes nothing
-pub idle_ack : (facts : Facts) (command : BillCommand) (reply : Reply) (heard : Bool) (before after : BillState) (gains : Gains) → parts_of reply ≡ []
-    → VmcAckStep facts command reply heard before after gains ↔ Stays before after gains
-idle_ack facts command reply heard before after gains none = (
+pub idle_ack : (facts : Facts) (command : BillCommand) (reply : Reply) (choice : Choice) (before after : BillState) (gains : Gains) → parts_of reply ≡ []
+    → VmcAckStep facts command reply choice before after gains ↔ Stays before after gains
+idle_ack facts command reply choice before after gains none = (
   λ step. (
-    step.to ∙ ap (λ ps. record before { holds = holds_acked heard (kept_of ps) before.holds }) none,
+    step.to ∙ ap (λ ps. record before { holds = holds_acked choice (kept_of ps) before.holds }) none,
     step.gained ∙ (ap (λ ps. if is_poll command then controller_gains (all_stacked facts.setup (kept_of ps)) 0 else no_gains) none ∙ either (is_poll command)),
   ),
   λ stays.
       record {
-        to = stays.0 ∙ sym (ap (λ ps. record before { holds = holds_acked heard (kept_of ps) before.holds }) none);
+        to = stays.0 ∙ sym (ap (λ ps. record before { holds = holds_acked choice (kept_of ps) before.holds }) none);
         gained = stays.1 ∙ sym (ap (λ ps. if is_poll command then controller_gains (all_stacked facts.setup (kept_of ps)) 0 else no_gains) none ∙ either (is_poll command));
       },
 )
@@ -136,10 +136,10 @@ idle_ack facts command reply heard before after gains none = (
     either false = refl
 
 pub idle : (act : Act) (command : BillCommand) (reply : Reply) (messages : List BillMsg) (empty : Bool) → act ≡ acts.VmcAck (commands.Bill command) reply → map part_of messages ≡ parts_of reply → empty ≡ (length messages == 0)
-    → OnFalse (not empty) ((past : List Act) (heard : Bool) (reading : Reading) (before after : BillState) (gains : Gains) → BillStep (facts_of past) act heard reading before after gains ↔ (after ≡ before) × (gains ≡ no_gains))
+    → OnFalse (not empty) ((past : List Act) (choice : Choice) (before after : BillState) (gains : Gains) → BillStep (facts_of past) act choice before after gains ↔ (after ≡ before) × (gains ≡ no_gains))
 idle act command reply messages false is parts e = tt
-idle act command reply [] true is parts e = λ past heard reading before after gains.
-    subst (λ (a : Act). BillStep (facts_of past) a heard reading before after gains ↔ (after ≡ before) × (gains ≡ no_gains)) (sym is) (idle_ack (facts_of past) command reply heard before after gains (sym parts))
+idle act command reply [] true is parts e = λ past choice before after gains.
+    subst (λ (a : Act). BillStep (facts_of past) a choice before after gains ↔ (after ≡ before) × (gains ≡ no_gains)) (sym is) (idle_ack (facts_of past) command reply choice before after gains (sym parts))
 idle act command reply (m ∷ messages) true is parts e =
     let none : length (m ∷ messages) ≡ 0 = eqb-true (length (m ∷ messages)) 0 (sym e) in
     absurd (omega (arith, none))

@@ -5,8 +5,8 @@ use Rattle.std.proofs.lemmas.List.Elements.{filter_map-append}
 use Rattle.std.proofs.lemmas.List.Folds.{list_any-append}
 use Rattle.mdb_cash.specs.declared.kept.Part.{Part}
 use Rattle.mdb_cash.specs.declared.kept.Part.TheVariants as part
-use Rattle.mdb_cash.specs.declared.kept.Reading.{Reading}
-use Rattle.mdb_cash.specs.declared.kept.Reading.TheVariants.{Restart}
+use Rattle.mdb_cash.specs.declared.choice.Choice.{Choice}
+use Rattle.mdb_cash.specs.declared.choice.Choice.TheVariants.{Plain, Lost, Restart}
 use Rattle.mdb_cash.specs.Kept.{IsNew, MayBeRead, IsSummary, Tells, has_reset, holds_acked, is_reset, keeps_early, kept_by, kept_of}
 
 -- the kept list of a reply with one message more
@@ -25,11 +25,11 @@ keeps_early-more (part.Kept message ∷ parts) p = refl
 keeps_early-more (part.Other ∷ parts) p = keeps_early-more parts p
 
 -- a reply that its device can't tell, since its kept list doesn't begin with what it holds
-pub untold : {M X : Type 0} (o : Option X) (poll owed reset early : Bool) (reading : Reading) (holding : List M) {kept items : List M} → kept ≡ items
+pub untold : {M X : Type 0} (o : Option X) (poll owed reset early : Bool) (choice : Choice) (holding : List M) {kept items : List M} → kept ≡ items
     → IfNone o ((other : List M) → IsNew poll holding kept other → ⊥)
-    → IfNone o ((parts : List (Part M)) (other : List M) → IsSummary items reset early parts → Tells poll reading owed holding parts other → ⊥)
-untold (Some x) poll owed reset early reading holding is none = tt
-untold None poll owed reset early reading holding is none = λ parts other summary tells. none other (rw (is, summary.kept_is) tells.new)
+    → IfNone o ((parts : List (Part M)) (other : List M) → IsSummary items reset early parts → Tells poll choice owed holding parts other → ⊥)
+untold (Some x) poll owed reset early choice holding is none = tt
+untold None poll owed reset early choice holding is none = λ parts other summary tells. none other (rw (is, summary.kept_is) tells.new)
 
 -- whether messages have a reset message
 reset_among : {T M : Type 0} (part_of : T → Part M) (messages : List T) → has_reset (map part_of messages) ≡ list_any (λ m. is_reset (part_of m)) messages
@@ -45,28 +45,29 @@ no_restart false part_of messages is = λ read.
     absurd (cc (has, hasnt))
 
 -- what a reply tells, and that it tells nothing else
-pub record TellsOnly {M : Type 0} (poll : Bool) (reading : Reading) (owed : Bool) (holding : List M) (parts : List (Part M)) (news : List M) : Type 0 where
-  pub tells : Tells poll reading owed holding parts news
-  pub only : (other : List M) → Tells poll reading owed holding parts other → other ≡ news
+pub record TellsOnly {M : Type 0} (poll : Bool) (choice : Choice) (owed : Bool) (holding : List M) (parts : List (Part M)) (news : List M) : Type 0 where
+  pub tells : Tells poll choice owed holding parts news
+  pub only : (other : List M) → Tells poll choice owed holding parts other → other ≡ news
 
 -- it, as the code finds it
-pub tells_only : {M : Type 0} {poll polls owed reset early : Bool} {reading : Reading} {holding held items news : List M} {parts messages : List (Part M)}
+pub tells_only : {M : Type 0} {poll polls owed reset early : Bool} {choice : Choice} {holding held items news : List M} {parts messages : List (Part M)}
     → poll ≡ polls → holding ≡ held → messages ≡ parts → IsSummary items reset early messages
-    → ((parts : List (Part M)) → IsSummary items reset early parts → Tells poll reading owed holding parts news)
-    → ((parts : List (Part M)) (other : List M) → IsSummary items reset early parts → Tells poll reading owed holding parts other → other ≡ news)
-    → TellsOnly polls reading owed held parts news
-tells_only {M} {poll} {polls} {owed} {reset} {early} {reading} {holding} {held} {items} {news} {parts} {messages} poll_is held_is parts_are summary found only =
-    let so : TellsOnly poll reading owed holding messages news = record { tells = found messages summary; only = λ other. only messages other summary } in
-    subst (λ (p : Bool). TellsOnly p reading owed held parts news) poll_is
-    (subst (λ (h : List M). TellsOnly poll reading owed h parts news) held_is
-    (subst (λ (ps : List (Part M)). TellsOnly poll reading owed holding ps news) parts_are so))
+    → ((parts : List (Part M)) → IsSummary items reset early parts → Tells poll choice owed holding parts news)
+    → ((parts : List (Part M)) (other : List M) → IsSummary items reset early parts → Tells poll choice owed holding parts other → other ≡ news)
+    → TellsOnly polls choice owed held parts news
+tells_only {M} {poll} {polls} {owed} {reset} {early} {choice} {holding} {held} {items} {news} {parts} {messages} poll_is held_is parts_are summary found only =
+    let so : TellsOnly poll choice owed holding messages news = record { tells = found messages summary; only = λ other. only messages other summary } in
+    subst (λ (p : Bool). TellsOnly p choice owed held parts news) poll_is
+    (subst (λ (h : List M). TellsOnly poll choice owed h parts news) held_is
+    (subst (λ (ps : List (Part M)). TellsOnly poll choice owed holding ps news) parts_are so))
 
--- an ACK that a device hears while it holds nothing, or doesn't hear, leaves it so
-pub free_acked : {M : Type 0} (heard : Bool) (kept : List M) {holds : Bool} → holds ≡ false
-    → holds_acked heard kept holds ≡ false
-free_acked heard kept free = ap (holds_acked heard kept) free ∙ never heard kept
+-- an ACK leaves a device that holds nothing so, whether it hears that or not
+pub free_acked : {M : Type 0} (choice : Choice) (kept : List M) {holds : Bool} → holds ≡ false
+    → holds_acked choice kept holds ≡ false
+free_acked choice kept free = ap (holds_acked choice kept) free ∙ never choice kept
   where
-    never : {M : Type 0} (heard : Bool) (kept : List M) → holds_acked heard kept false ≡ false
-    never heard [] = refl
-    never true (message ∷ kept) = refl
-    never false (message ∷ kept) = refl
+    never : {M : Type 0} (choice : Choice) (kept : List M) → holds_acked choice kept false ≡ false
+    never choice [] = refl
+    never Plain (message ∷ kept) = refl
+    never Lost (message ∷ kept) = refl
+    never Restart (message ∷ kept) = refl

@@ -1,7 +1,7 @@
 pub mod Answered
+pub mod BillChoices
 pub mod BillFactsBehind
-pub mod BillMarks
-pub mod ChangerMarks
+pub mod ChangerChoices
 pub mod Escrows
 pub mod FactsBehind
 pub mod FirstBytes

@@ -15,9 +15,9 @@ use Rattle.mdb_cash.specs.declared.bill.state.BillState.{BillState}
 use Rattle.mdb_cash.specs.declared.bill.state.BillType.{BillType}
 use Rattle.mdb_cash.specs.declared.bill.state.Escrow.{Escrow}
 use Rattle.mdb_cash.specs.declared.bill.state.Escrow.TheVariants.{Empty, Waiting, Ordered}
+use Rattle.mdb_cash.specs.declared.choice.Choice.{Choice}
+use Rattle.mdb_cash.specs.declared.choice.Choice.TheVariants.{Restart}
 use Rattle.mdb_cash.specs.declared.gains.Gains.{Gains}
-use Rattle.mdb_cash.specs.declared.kept.Reading.{Reading}
-use Rattle.mdb_cash.specs.declared.kept.Reading.TheVariants.{Plain, Restart}
 use Rattle.mdb_cash.specs.BillFacts.{Facts}
 use Rattle.mdb_cash.specs.BillMessages.{parts_of}
 use Rattle.mdb_cash.specs.Credits.{counted}
@@ -83,9 +83,9 @@ ordered order (Waiting type) = if order % 2 == 1 then Ordered type else Waiting 
 ordered order escrow = escrow
 
 -- what is in escrow once a reply is read: behind a restart, nothing
-abbrev pub escrow_read : Reading → Escrow → Escrow
-escrow_read Plain escrow = escrow
+abbrev pub escrow_read : Choice → Escrow → Escrow
 escrow_read Restart escrow = Empty
+escrow_read choice escrow = escrow
 
 -- The validator acknowledges: by that it takes RESET, and is in its power-on state, or ESCROW.
 -- While it holds something, ACK is no answer to POLL.
@@ -96,49 +96,49 @@ AckStep (bill.Escrow order) before after gains =
 AckStep bill.Poll before after gains = (before.holds ≡ false) × Stays before after gains
 AckStep _ before after gains = Stays before after gains
 
--- The validator replies with data, which is read as plain or as telling of a restart. What is new
--- counts for the validator, and moves what is in escrow. Data answers SETUP, POLL, STACKER and
+-- The validator replies with data, which is read as it stands or as telling of a restart. What is
+-- new counts for the validator, and moves what is in escrow. Data answers SETUP, POLL, STACKER and
 -- IDENTIFICATION alone: the validator answers all other commands by ACK or NAK, RESET, BILL TYPE
 -- and ESCROW among them, so what it does behind those stands in `AckStep`.
 pub record ReplyStep (facts : Facts) (command : BillCommand) (reply : Reply)
-    (reading : Reading) (before after : BillState) (gains : Gains) : Type 0 where
+    (choice : Choice) (before after : BillState) (gains : Gains) : Type 0 where
   pub news : List BillReport
-  pub tells : Tells (is_poll command) reading facts.past.reset_owed
-      (held (holds_read reading before.holds) facts.past.kept) (parts_of reply) news
-  pub escrow : TakesAll facts news (escrow_read reading before.escrow) after.escrow
+  pub tells : Tells (is_poll command) choice facts.past.reset_owed
+      (held (holds_read choice before.holds) facts.past.kept) (parts_of reply) news
+  pub escrow : TakesAll facts news (escrow_read choice before.escrow) after.escrow
   pub holds : after.holds
-      ≡ holds_behind (kept_of (parts_of reply)) (holds_read reading before.holds)
+      ≡ holds_behind (kept_of (parts_of reply)) (holds_read choice before.holds)
   pub gained : gains ≡ device_gains (all_stacked facts.setup news) 0
 
 -- The controller acknowledges a reply. To POLL, all bills that were stacked count for it, new or
 -- not.
 pub record VmcAckStep (facts : Facts) (command : BillCommand) (reply : Reply)
-    (heard : Bool) (before after : BillState) (gains : Gains) : Type 0 where
+    (choice : Choice) (before after : BillState) (gains : Gains) : Type 0 where
   pub to : after ≡ record before {
-    holds = holds_acked heard (kept_of (parts_of reply)) before.holds;
+    holds = holds_acked choice (kept_of (parts_of reply)) before.holds;
   }
   pub gained : gains ≡ (if is_poll command
       then controller_gains (all_stacked facts.setup (kept_of (parts_of reply))) 0
       else no_gains)
 
--- A step of the validator and the controller, behind acts that leave these facts. Whether the act
--- was heard matters for the controller's ACK alone, and the reading for a reply.
-abbrev pub BillStep : Facts → Act → Bool → Reading → BillState → BillState → Gains → Type 0
-BillStep facts (acts.Ack (commands.Bill command)) heard reading = AckStep command
-BillStep facts (acts.Reply (commands.Bill command) reply) heard reading =
-    ReplyStep facts command reply reading
-BillStep facts (acts.VmcAck (commands.Bill command) reply) heard reading =
-    VmcAckStep facts command reply heard
-BillStep facts (acts.Break length) heard reading =
+-- A step of the validator and the controller by an act that is taken so, after acts that leave
+-- these facts.
+abbrev pub BillStep : Facts → Act → Choice → BillState → BillState → Gains → Type 0
+BillStep facts (acts.Ack (commands.Bill command)) choice = AckStep command
+BillStep facts (acts.Reply (commands.Bill command) reply) choice =
+    ReplyStep facts command reply choice
+BillStep facts (acts.VmcAck (commands.Bill command) reply) choice =
+    VmcAckStep facts command reply choice
+BillStep facts (acts.Break length) choice =
     λ before after gains. (after ≡ power_on) × (gains ≡ no_gains)
 -- what the controller asks, NAK, RET, repeats and foreign traffic change nothing,
-BillStep facts (acts.Ask command) heard reading = Stays
-BillStep facts (acts.Nak command) heard reading = Stays
-BillStep facts (acts.VmcNak command reply) heard reading = Stays
-BillStep facts (acts.VmcRet command reply) heard reading = Stays
-BillStep facts (acts.Repeat command reply) heard reading = Stays
-BillStep facts acts.Foreign heard reading = Stays
+BillStep facts (acts.Ask command) choice = Stays
+BillStep facts (acts.Nak command) choice = Stays
+BillStep facts (acts.VmcNak command reply) choice = Stays
+BillStep facts (acts.VmcRet command reply) choice = Stays
+BillStep facts (acts.Repeat command reply) choice = Stays
+BillStep facts acts.Foreign choice = Stays
 -- nor do the acts of other devices
-BillStep facts (acts.Ack command) heard reading = Stays
-BillStep facts (acts.Reply command reply) heard reading = Stays
-BillStep facts (acts.VmcAck command reply) heard reading = Stays
+BillStep facts (acts.Ack command) choice = Stays
+BillStep facts (acts.Reply command reply) choice = Stays
+BillStep facts (acts.VmcAck command reply) choice = Stays

@@ -13,8 +13,9 @@ use Rattle.mdb_bus.specs.declared.act.Act.TheVariants as acts
 use Rattle.mdb_cash.specs.declared.changer.state.ChangerState.{ChangerState}
 use Rattle.mdb_cash.specs.declared.changer.report.ChangerReport.{ChangerReport}
 use Rattle.mdb_cash.specs.declared.changer.report.ChangerReport.TheVariants.{Dispensed, CashBox, Tube}
+use Rattle.mdb_cash.specs.declared.choice.Choice.{Choice}
+use Rattle.mdb_cash.specs.declared.choice.Choice.TheVariants.{Lost}
 use Rattle.mdb_cash.specs.declared.gains.Gains.{Gains}
-use Rattle.mdb_cash.specs.declared.kept.Reading.{Reading}
 use Rattle.mdb_cash.specs.ChangerFacts.{Facts}
 use Rattle.mdb_cash.specs.ChangerMessages.{parts_of}
 use Rattle.mdb_cash.specs.Gains.{no_gains, controller_gains, device_gains}
@@ -87,31 +88,36 @@ AskStep facts changer.Reset before after gains =
     (after ≡ record before { owed = false }) × (gains ≡ no_gains)
 AskStep facts _ before after gains = Stays before after gains
 
+-- whether the controller owes a DISPENSE after the changer's ACK: where it hears that, no longer
+abbrev pub owed_acked : Choice → Bool → Bool
+owed_acked Lost owed = owed
+owed_acked choice owed = false
+
 -- The changer acknowledges: by that it takes RESET, and holds nothing. It has dispensed what
 -- DISPENSE asked for, and that is owed no longer if the controller hears it. While it holds
 -- something, ACK is no answer to POLL.
-abbrev pub AckStep : Facts → ChangerCommand → Bool → ChangerState → ChangerState → Gains → Type 0
-AckStep facts changer.Reset heard before after gains =
+abbrev pub AckStep : Facts → ChangerCommand → Choice → ChangerState → ChangerState → Gains → Type 0
+AckStep facts changer.Reset choice before after gains =
     (after ≡ record before { holds = false }) × (gains ≡ no_gains)
-AckStep facts (changer.Dispense coins) heard before after gains =
-    (after ≡ (if heard then record before { owed = false } else before))
+AckStep facts (changer.Dispense coins) choice before after gains =
+    (after ≡ record before { owed = owed_acked choice before.owed })
     × (gains ≡ device_gains 0 (dispensed_value facts.setup coins))
-AckStep facts changer.Poll heard before after gains =
+AckStep facts changer.Poll choice before after gains =
     (before.holds ≡ false) × Stays before after gains
-AckStep facts _ heard before after gains = Stays before after gains
+AckStep facts _ choice before after gains = Stays before after gains
 
--- The changer replies with data, which is read as plain or as telling of a restart. What is new
+-- The changer replies with data, which is read as it stands or as telling of a restart. What is new
 -- counts for the changer. Data answers SETUP, TUBE STATUS, POLL and IDENTIFICATION alone: the
 -- changer answers all other commands by ACK or NAK, RESET, COIN TYPE and DISPENSE among them, so
 -- what it does behind those stands in `AckStep`.
 pub record ReplyStep (facts : Facts) (command : ChangerCommand) (reply : Reply)
-    (reading : Reading) (before after : ChangerState) (gains : Gains) : Type 0 where
+    (choice : Choice) (before after : ChangerState) (gains : Gains) : Type 0 where
   pub news : List ChangerReport
-  pub tells : Tells (is_poll command) reading facts.past.reset_owed
-      (held (holds_read reading before.holds) facts.past.kept) (parts_of reply) news
+  pub tells : Tells (is_poll command) choice facts.past.reset_owed
+      (held (holds_read choice before.holds) facts.past.kept) (parts_of reply) news
   pub enabled : AllByRecursion (MayBeNew facts) news
   pub to : after ≡ record before {
-    holds = holds_behind (kept_of (parts_of reply)) (holds_read reading before.holds);
+    holds = holds_behind (kept_of (parts_of reply)) (holds_read choice before.holds);
   }
   pub gained : gains ≡ device_gains (all_deposited facts.setup news)
       (all_paid_by_hand facts.setup news)
@@ -119,9 +125,9 @@ pub record ReplyStep (facts : Facts) (command : ChangerCommand) (reply : Reply)
 -- The controller acknowledges a reply. To POLL, all kept messages count for it, new or not, and
 -- behind a reset message it knows that nothing is owed.
 pub record VmcAckStep (facts : Facts) (command : ChangerCommand) (reply : Reply)
-    (heard : Bool) (before after : ChangerState) (gains : Gains) : Type 0 where
+    (choice : Choice) (before after : ChangerState) (gains : Gains) : Type 0 where
   pub to : after ≡ record {
-    holds = holds_acked heard (kept_of (parts_of reply)) before.holds;
+    holds = holds_acked choice (kept_of (parts_of reply)) before.holds;
     owed = if is_poll command && has_reset (parts_of reply) then false else before.owed;
   }
   pub gained : gains ≡ (if is_poll command
@@ -129,27 +135,25 @@ pub record VmcAckStep (facts : Facts) (command : ChangerCommand) (reply : Reply)
       (all_paid_by_hand facts.setup (kept_of (parts_of reply)))
       else no_gains)
 
--- A step of the changer and the controller, behind acts that leave these facts. Whether the act was
--- heard matters for an ACK alone, of either side, and the reading for a reply.
-abbrev pub ChangerStep : Facts → Act → Bool → Reading → ChangerState → ChangerState → Gains
-    → Type 0
-ChangerStep facts (acts.Ask (commands.Changer command)) heard reading = AskStep facts command
-ChangerStep facts (acts.Ack (commands.Changer command)) heard reading =
-    AckStep facts command heard
-ChangerStep facts (acts.Reply (commands.Changer command) reply) heard reading =
-    ReplyStep facts command reply reading
-ChangerStep facts (acts.VmcAck (commands.Changer command) reply) heard reading =
-    VmcAckStep facts command reply heard
-ChangerStep facts (acts.Break length) heard reading =
+-- A step of the changer and the controller by an act that is taken so, after acts that leave these
+-- facts.
+abbrev pub ChangerStep : Facts → Act → Choice → ChangerState → ChangerState → Gains → Type 0
+ChangerStep facts (acts.Ask (commands.Changer command)) choice = AskStep facts command
+ChangerStep facts (acts.Ack (commands.Changer command)) choice = AckStep facts command choice
+ChangerStep facts (acts.Reply (commands.Changer command) reply) choice =
+    ReplyStep facts command reply choice
+ChangerStep facts (acts.VmcAck (commands.Changer command) reply) choice =
+    VmcAckStep facts command reply choice
+ChangerStep facts (acts.Break length) choice =
     λ before after gains. (after ≡ power_on) × (gains ≡ no_gains)
 -- NAK, RET, repeats and foreign traffic change nothing,
-ChangerStep facts (acts.Nak command) heard reading = Stays
-ChangerStep facts (acts.VmcNak command reply) heard reading = Stays
-ChangerStep facts (acts.VmcRet command reply) heard reading = Stays
-ChangerStep facts (acts.Repeat command reply) heard reading = Stays
-ChangerStep facts acts.Foreign heard reading = Stays
+ChangerStep facts (acts.Nak command) choice = Stays
+ChangerStep facts (acts.VmcNak command reply) choice = Stays
+ChangerStep facts (acts.VmcRet command reply) choice = Stays
+ChangerStep facts (acts.Repeat command reply) choice = Stays
+ChangerStep facts acts.Foreign choice = Stays
 -- nor do the acts of other devices
-ChangerStep facts (acts.Ask command) heard reading = Stays
-ChangerStep facts (acts.Ack command) heard reading = Stays
-ChangerStep facts (acts.Reply command reply) heard reading = Stays
-ChangerStep facts (acts.VmcAck command reply) heard reading = Stays
+ChangerStep facts (acts.Ask command) choice = Stays
+ChangerStep facts (acts.Ack command) choice = Stays
+ChangerStep facts (acts.Reply command reply) choice = Stays
+ChangerStep facts (acts.VmcAck command reply) choice = Stays

@@ -1,103 +1,61 @@
--- That it matters for ACKs alone whether they were heard, for replies alone how they are read, and
--- that acts of other devices change nothing and tell nothing. This proves laws of the trait
--- `Pair` for the changer.
-use Rattle.std.specs.Prelude.{◌≡◌, ◌↔◌, Bool, List, ◌∷◌, refl}
+-- That acts of other devices change nothing and tell nothing. This proves laws of the trait `Pair`
+-- for the changer.
+use Rattle.std.specs.Prelude.{◌≡◌, ◌↔◌, List, ◌∷◌, refl}
 use Rattle.std.proofs.Common.{ap, ◌∙◌}
 use Rattle.mdb_msgs.specs.declared.command.Device.TheVariants as devices
 use Rattle.mdb_msgs.specs.declared.command.Command.TheVariants.{Changer, Bill, Reader}
 use Rattle.mdb_bus.specs.declared.act.Act.{Act}
 use Rattle.mdb_bus.specs.declared.act.Act.TheVariants as acts
-use Rattle.mdb_bus.specs.Choice.{IsAck}
 use Rattle.mdb_cash.specs.declared.changer.state.ChangerState.{ChangerState}
+use Rattle.mdb_cash.specs.declared.choice.Choice.{Choice}
 use Rattle.mdb_cash.specs.declared.gains.Gains.{Gains}
-use Rattle.mdb_cash.specs.declared.kept.Reading.{Reading}
 use Rattle.mdb_cash.specs.Changer.{ChangerStep}
 use Rattle.mdb_cash.specs.ChangerFacts.{Facts, dispense_by, effect_of, facts_of, parts_by, setup_by}
 use Rattle.mdb_cash.specs.Gains.{no_gains}
-use Rattle.mdb_cash.specs.Pair.{IsActOf, IsReply}
+use Rattle.mdb_cash.specs.Pair.{IsActOf}
 use Rattle.mdb_cash.specs.Past.{PastFacts, last_told, resets}
 use Rattle.mdb_cash.specs.PastWays.{answered_still, still}
 use Rattle.mdb_cash.specs.declared.changer.report.ChangerReport.{ChangerReport}
 
-pub hearing : (facts : Facts) (act : Act) (one other : Bool) (reading : Reading)
-    (before after : ChangerState) (gains : Gains) → (IsAck act → ⊥)
-    → ChangerStep facts act one reading before after gains
-    → ChangerStep facts act other reading before after gains
-hearing facts (acts.Ask (Changer c)) one other reading before after gains kind step = step
-hearing facts (acts.Ask (Bill c)) one other reading before after gains kind step = step
-hearing facts (acts.Ask (Reader u c)) one other reading before after gains kind step = step
-hearing facts (acts.Ack c) one other reading before after gains kind step = absurd (kind tt)
-hearing facts (acts.Nak c) one other reading before after gains kind step = step
-hearing facts (acts.Reply (Changer c) r) one other reading before after gains kind step = step
-hearing facts (acts.Reply (Bill c) r) one other reading before after gains kind step = step
-hearing facts (acts.Reply (Reader u c) r) one other reading before after gains kind step = step
-hearing facts (acts.VmcAck c r) one other reading before after gains kind step = absurd (kind tt)
-hearing facts (acts.VmcNak c r) one other reading before after gains kind step = step
-hearing facts (acts.VmcRet c r) one other reading before after gains kind step = step
-hearing facts (acts.Repeat c r) one other reading before after gains kind step = step
-hearing facts acts.Foreign one other reading before after gains kind step = step
-hearing facts (acts.Break n) one other reading before after gains kind step = step
-
-pub readings : (facts : Facts) (act : Act) (heard : Bool) (one other : Reading)
-    (before after : ChangerState) (gains : Gains) → (IsReply act → ⊥)
-    → ChangerStep facts act heard one before after gains
-    → ChangerStep facts act heard other before after gains
-readings facts (acts.Ask (Changer c)) heard one other before after gains kind step = step
-readings facts (acts.Ask (Bill c)) heard one other before after gains kind step = step
-readings facts (acts.Ask (Reader u c)) heard one other before after gains kind step = step
-readings facts (acts.Ack (Changer c)) heard one other before after gains kind step = step
-readings facts (acts.Ack (Bill c)) heard one other before after gains kind step = step
-readings facts (acts.Ack (Reader u c)) heard one other before after gains kind step = step
-readings facts (acts.Nak c) heard one other before after gains kind step = step
-readings facts (acts.Reply c r) heard one other before after gains kind step = absurd (kind tt)
-readings facts (acts.VmcAck (Changer c) r) heard one other before after gains kind step = step
-readings facts (acts.VmcAck (Bill c) r) heard one other before after gains kind step = step
-readings facts (acts.VmcAck (Reader u c) r) heard one other before after gains kind step = step
-readings facts (acts.VmcNak c r) heard one other before after gains kind step = step
-readings facts (acts.VmcRet c r) heard one other before after gains kind step = step
-readings facts (acts.Repeat c r) heard one other before after gains kind step = step
-readings facts acts.Foreign heard one other before after gains kind step = step
-readings facts (acts.Break n) heard one other before after gains kind step = step
-
-pub elsewhere : (facts : Facts) (act : Act) (heard : Bool) (reading : Reading)
+pub elsewhere : (facts : Facts) (act : Act) (choice : Choice)
     (before after : ChangerState) (gains : Gains) → (IsActOf devices.Changer act → ⊥)
-    → ChangerStep facts act heard reading before after gains
+    → ChangerStep facts act choice before after gains
     ↔ (after ≡ before) × (gains ≡ no_gains)
-elsewhere facts (acts.Ask (Changer c)) heard reading before after gains other =
+elsewhere facts (acts.Ask (Changer c)) choice before after gains other =
     absurd (other refl)
-elsewhere facts (acts.Ask (Bill c)) heard reading before after gains other =
+elsewhere facts (acts.Ask (Bill c)) choice before after gains other =
     (λ step. step, λ step. step)
-elsewhere facts (acts.Ask (Reader u c)) heard reading before after gains other =
+elsewhere facts (acts.Ask (Reader u c)) choice before after gains other =
     (λ step. step, λ step. step)
-elsewhere facts (acts.Ack (Changer c)) heard reading before after gains other =
+elsewhere facts (acts.Ack (Changer c)) choice before after gains other =
     absurd (other refl)
-elsewhere facts (acts.Ack (Bill c)) heard reading before after gains other =
+elsewhere facts (acts.Ack (Bill c)) choice before after gains other =
     (λ step. step, λ step. step)
-elsewhere facts (acts.Ack (Reader u c)) heard reading before after gains other =
+elsewhere facts (acts.Ack (Reader u c)) choice before after gains other =
     (λ step. step, λ step. step)
-elsewhere facts (acts.Reply (Changer c) r) heard reading before after gains other =
+elsewhere facts (acts.Reply (Changer c) r) choice before after gains other =
     absurd (other refl)
-elsewhere facts (acts.Reply (Bill c) r) heard reading before after gains other =
+elsewhere facts (acts.Reply (Bill c) r) choice before after gains other =
     (λ step. step, λ step. step)
-elsewhere facts (acts.Reply (Reader u c) r) heard reading before after gains other =
+elsewhere facts (acts.Reply (Reader u c) r) choice before after gains other =
     (λ step. step, λ step. step)
-elsewhere facts (acts.VmcAck (Changer c) r) heard reading before after gains other =
+elsewhere facts (acts.VmcAck (Changer c) r) choice before after gains other =
     absurd (other refl)
-elsewhere facts (acts.VmcAck (Bill c) r) heard reading before after gains other =
+elsewhere facts (acts.VmcAck (Bill c) r) choice before after gains other =
     (λ step. step, λ step. step)
-elsewhere facts (acts.VmcAck (Reader u c) r) heard reading before after gains other =
+elsewhere facts (acts.VmcAck (Reader u c) r) choice before after gains other =
     (λ step. step, λ step. step)
-elsewhere facts (acts.Nak c) heard reading before after gains other =
+elsewhere facts (acts.Nak c) choice before after gains other =
     (λ step. step, λ step. step)
-elsewhere facts (acts.VmcNak c r) heard reading before after gains other =
+elsewhere facts (acts.VmcNak c r) choice before after gains other =
     (λ step. step, λ step. step)
-elsewhere facts (acts.VmcRet c r) heard reading before after gains other =
+elsewhere facts (acts.VmcRet c r) choice before after gains other =
     (λ step. step, λ step. step)
-elsewhere facts (acts.Repeat c r) heard reading before after gains other =
+elsewhere facts (acts.Repeat c r) choice before after gains other =
     (λ step. step, λ step. step)
-elsewhere facts acts.Foreign heard reading before after gains other =
+elsewhere facts acts.Foreign choice before after gains other =
     (λ step. step, λ step. step)
-elsewhere facts (acts.Break n) heard reading before after gains other = absurd (other tt)
+elsewhere facts (acts.Break n) choice before after gains other = absurd (other tt)
 
 -- facts that differ in what counts of the acts at most
 abbrev with_past : List Act → PastFacts ChangerReport → Facts

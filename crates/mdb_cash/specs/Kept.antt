@@ -1,12 +1,12 @@
 -- Kept messages, as they are for changer, validator and readers (this profile). A device keeps
 -- the messages on money and sessions until it hears the controller's ACK of their reply. `M` is
 -- what a kept message says: two messages are the same where they say the same.
-use Rattle.std.specs.Prelude.{◌≡◌, ◌⊎◌, Bool, true, false, List, [], ◌∷◌, ◌++◌, Option, Some, None, if◌then◌else◌}
+use Rattle.std.specs.Prelude.{◌≡◌, ◌⊎◌, Bool, true, false, List, [], ◌∷◌, ◌++◌, Option, Some, None}
 use Rattle.std.specs.List.{filter_map, list_any}
 use Rattle.mdb_cash.specs.declared.kept.Part.{Part}
 use Rattle.mdb_cash.specs.declared.kept.Part.TheVariants as part
-use Rattle.mdb_cash.specs.declared.kept.Reading.{Reading}
-use Rattle.mdb_cash.specs.declared.kept.Reading.TheVariants.{Plain, Restart}
+use Rattle.mdb_cash.specs.declared.choice.Choice.{Choice}
+use Rattle.mdb_cash.specs.declared.choice.Choice.TheVariants.{Lost, Restart}
 
 -- what a message says that is kept
 abbrev pub kept_by : {M : Type 0} → Part M → Option M
@@ -41,23 +41,23 @@ pub record IsSummary {M : Type 0} (kept : List M) (reset early : Bool)
   pub reset_is : reset ≡ has_reset parts
   pub early_is : early ≡ keeps_early parts
 
--- Each reply can be read as plain. A restart can be read where there is a reset message, and no
--- kept message in front of the first one.
-abbrev pub CanBeRead : Reading → Bool → Bool → Type 0
-CanBeRead Plain reset early = Unit {0}
+-- A reply can be read as telling of a restart where there is a reset message, and no kept message
+-- in front of the first one. As it stands, each can be read.
+abbrev pub CanBeRead : Choice → Bool → Bool → Type 0
 CanBeRead Restart reset early = (reset ≡ true) × (early ≡ false)
+CanBeRead choice reset early = Unit {0}
 
-abbrev pub MayBeRead : {M : Type 0} → Reading → List (Part M) → Type 0
-MayBeRead reading parts = CanBeRead reading (has_reset parts) (keeps_early parts)
+abbrev pub MayBeRead : {M : Type 0} → Choice → List (Part M) → Type 0
+MayBeRead choice parts = CanBeRead choice (has_reset parts) (keeps_early parts)
 
 -- While a reset message is owed, no kept message comes before it, and none without it.
 abbrev pub MayBeKept : {M : Type 0} → Bool → List (Part M) → Type 0
 MayBeKept owed parts = owed ≡ true → keeps_early parts ≡ false
 
 -- whether a device still holds what it held, once a reply is read: behind a restart it doesn't
-abbrev pub holds_read : Reading → Bool → Bool
-holds_read Plain holds = holds
+abbrev pub holds_read : Choice → Bool → Bool
 holds_read Restart holds = false
+holds_read choice holds = holds
 
 -- what a device holds: its last kept list that wasn't empty, or nothing
 abbrev pub held : {M : Type 0} → Bool → List M → List M
@@ -77,14 +77,15 @@ holds_behind (message ∷ kept) holds = true
 
 -- whether the device holds behind the controller's ACK of a reply: an ACK of kept messages that it
 -- hears ends that, and any other leaves what is held
-abbrev pub holds_acked : {M : Type 0} → Bool → List M → Bool → Bool
-holds_acked heard [] holds = holds
-holds_acked heard (message ∷ kept) holds = if heard then false else holds
+abbrev pub holds_acked : {M : Type 0} → Choice → List M → Bool → Bool
+holds_acked choice [] holds = holds
+holds_acked Lost (message ∷ kept) holds = holds
+holds_acked choice (message ∷ kept) holds = false
 
--- What a reply tells, read in a way: while a reset message is owed, it keeps nothing in front of
--- one, and behind what its device holds (`holding`) the rest of its kept list is new.
-pub record Tells {M : Type 0} (poll : Bool) (reading : Reading) (owed : Bool) (holding : List M)
+-- What a reply tells where it is taken so: while a reset message is owed, it keeps nothing in front
+-- of one, and behind what its device holds (`holding`) the rest of its kept list is new.
+pub record Tells {M : Type 0} (poll : Bool) (choice : Choice) (owed : Bool) (holding : List M)
     (parts : List (Part M)) (news : List M) : Type 0 where
-  pub read : MayBeRead reading parts
+  pub read : MayBeRead choice parts
   pub reset : MayBeKept owed parts
   pub new : IsNew poll holding (kept_of parts) news

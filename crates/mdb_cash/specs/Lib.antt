@@ -10,6 +10,7 @@ pub mod ChangerFacts
 pub mod ChangerMessages
 pub mod ChangerValues
 pub mod ChangerWays
+pub mod Choices
 pub mod Credits
 pub mod Gains
 pub mod Kept

@@ -15,8 +15,9 @@ pub(crate) mod state;
 mod steps;
 mod values;
 
+use crate::choice::Choice;
 use crate::gains::Gains;
-use crate::kept::{Reading, may_be_read};
+use crate::kept::may_be_read;
 use crate::pair::Pair;
 pub use facts::BillFacts;
 use mdb_bus::Act;
@@ -88,10 +89,10 @@ impl Pair for Bill {
     }
 
     #[inline(always)]
-    fn heeds_mark(act: &Act, state: BillState) -> bool {
+    fn heeds_choice(act: &Act, state: BillState) -> bool {
         match act {
             Act::Reply(Command::Bill(_), reply) => {
-                may_be_read(Reading::Restart, messages_in(reply))
+                may_be_read(Choice::Restart, messages_in(reply))
             }
             Act::VmcAck(Command::Bill(_), _) => state.holds,
             _ => false,
@@ -109,11 +110,10 @@ impl Pair for Bill {
     fn outcome(
         facts: &BillFacts,
         act: &Act,
-        heard: bool,
-        reading: Reading,
+        choice: Choice,
         before: BillState,
     ) -> Option<(BillState, Gains)> {
-        step(facts, act, heard, reading, before)
+        step(facts, act, choice, before)
     }
 
     ghost apart = { codes.apart };
@@ -121,10 +121,6 @@ impl Pair for Bill {
     ghost below = { codes.below };
 
     ghost whole = { codes.whole };
-
-    ghost hearing = { λ acts. ways.hearing (facts_of acts) };
-
-    ghost readings = { λ acts. ways.readings (facts_of acts) };
 
     ghost elsewhere = { λ acts. ways.elsewhere (facts_of acts) };
 

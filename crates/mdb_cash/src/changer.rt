@@ -15,8 +15,9 @@ pub(crate) mod state;
 mod steps;
 mod values;
 
+use crate::choice::Choice;
 use crate::gains::Gains;
-use crate::kept::{Reading, may_be_read};
+use crate::kept::may_be_read;
 use crate::pair::Pair;
 pub use facts::ChangerFacts;
 use mdb_bus::Act;
@@ -92,11 +93,11 @@ impl Pair for Changer {
     }
 
     #[inline(always)]
-    fn heeds_mark(act: &Act, state: ChangerState) -> bool {
+    fn heeds_choice(act: &Act, state: ChangerState) -> bool {
         match act {
             Act::Ack(Command::Changer(ChangerCommand::Dispense(_))) => state.owed,
             Act::Reply(Command::Changer(_), reply) => {
-                may_be_read(Reading::Restart, messages_in(reply))
+                may_be_read(Choice::Restart, messages_in(reply))
             }
             Act::VmcAck(Command::Changer(_), _) => state.holds,
             _ => false,
@@ -114,11 +115,10 @@ impl Pair for Changer {
     fn outcome(
         facts: &ChangerFacts,
         act: &Act,
-        heard: bool,
-        reading: Reading,
+        choice: Choice,
         before: ChangerState,
     ) -> Option<(ChangerState, Gains)> {
-        step(facts, act, heard, reading, before)
+        step(facts, act, choice, before)
     }
 
     ghost apart = { codes.apart };
@@ -126,10 +126,6 @@ impl Pair for Changer {
     ghost below = { codes.below };
 
     ghost whole = { codes.whole };
-
-    ghost hearing = { λ acts. ways.hearing (facts_of acts) };
-
-    ghost readings = { λ acts. ways.readings (facts_of acts) };
 
     ghost elsewhere = { λ acts. ways.elsewhere (facts_of acts) };
 

@@ -8,31 +8,8 @@ ghost use Rattle.mdb_cash.specs.Kept as spec;
 ghost use Rattle.mdb_cash.specs.declared.kept.Part.{Part};
 ghost use Rattle.mdb_cash.specs.Kept.{CanBeRead, IsNew, IsSummary, MayBeRead, Tells};
 
+use crate::choice::Choice;
 use arrayvec::ArrayVec;
-
-/// How a reply is read (this profile).
-#[derive(Clone, Copy, PartialEq, Eq, Debug)]
-pub enum Reading {
-    /// The device wasn't restarted before it.
-    Plain,
-    /// It tells that the device was restarted.
-    Restart,
-}
-
-impl Reading {
-    ghost use Rattle.mdb_cash.specs.Pair.{reading_of};
-
-    /// How a reply is read that has a mark, and that has none.
-    pub fn of_mark(marked: bool) -> Reading
-        ensures { result ≡ reading_of marked }
-    {
-        if marked {
-            Reading::Restart
-        } else {
-            Reading::Plain
-        }
-    }
-}
 
 /// What a message of a reply is to the device that keeps some of them (this profile).
 #[derive(Clone, Copy, PartialEq, Eq, Debug)]
@@ -121,12 +98,12 @@ impl<M: KeptMessage + Drop, const CAP: usize> Summary<M, CAP> {
     }
 
     /// Whether the reply can be read so.
-    pub fn may_be_read(&self, reading: Reading) -> bool
-        ensures { IsTrue result ↔ CanBeRead reading self.now.reset self.now.early }
+    pub fn may_be_read(&self, choice: Choice) -> bool
+        ensures { IsTrue result ↔ CanBeRead choice self.now.reset self.now.early }
     {
-        match reading {
-            Reading::Plain => true,
-            Reading::Restart => self.reset && !self.early,
+        match choice {
+            Choice::Plain | Choice::Lost => true,
+            Choice::Restart => self.reset && !self.early,
         }
     }
 
@@ -139,19 +116,19 @@ impl<M: KeptMessage + Drop, const CAP: usize> Summary<M, CAP> {
 
     /// The kept messages that are new where the reply is read so, a reset message is owed or isn't,
     /// and the device holds these. `None` where it can't tell what it tells.
-    pub fn told(&self, is_poll: bool, reading: Reading, owed: bool, held: &[M]) -> Option<&[M]>
+    pub fn told(&self, is_poll: bool, choice: Choice, owed: bool, held: &[M]) -> Option<&[M]>
         ensures found { IfSome result (λ new. (parts : List (Part M))
             → IsSummary self.now.kept.items self.now.reset self.now.early parts
-            → Tells is_poll reading owed held.now parts new.now) }
+            → Tells is_poll choice owed held.now parts new.now) }
         ensures only { IfSome result (λ new. (parts : List (Part M)) (other : List M)
             → IsSummary self.now.kept.items self.now.reset self.now.early parts
-            → Tells is_poll reading owed held.now parts other → other ≡ new.now) }
+            → Tells is_poll choice owed held.now parts other → other ≡ new.now) }
         ensures none { IfNone result ((parts : List (Part M)) (other : List M)
             → IsSummary self.now.kept.items self.now.reset self.now.early parts
-            → Tells is_poll reading owed held.now parts other → ⊥) }
+            → Tells is_poll choice owed held.now parts other → ⊥) }
         ensures few { IfSome result (λ new. length new.now ≤ array_vec_len self.now.kept) }
     {
-        if !self.may_be_read(reading) || !self.may_be_kept(owed) {
+        if !self.may_be_read(choice) || !self.may_be_kept(owed) {
             return None;
         }
         news(is_poll, held, self.kept.as_slice())
@@ -172,10 +149,10 @@ pub fn add_all<T: Message, const CAP: usize>(summary: &mut Summary<T::Kept, CAP>
 
 /// Whether messages may be read so, by what is quickly seen: none without a reset message tell of a
 /// restart. A yes promises nothing: `Summary::told` has the last word.
-pub(crate) fn may_be_read<T: Message>(reading: Reading, messages: &[T]) -> bool
-    ensures { OnFalse result (MayBeRead reading (map T.part_of messages.now) → ⊥) }
+pub(crate) fn may_be_read<T: Message>(choice: Choice, messages: &[T]) -> bool
+    ensures { OnFalse result (MayBeRead choice (map T.part_of messages.now) → ⊥) }
 {
-    if let Reading::Restart = reading {
+    if let Choice::Restart = choice {
         tell_reset(messages)
     } else {
         true
@@ -197,12 +174,12 @@ fn is_reset<M: KeptMessage + Drop>(part: Part<M>) -> bool
 }
 
 /// Whether a device still holds what it held, once its reply is read.
-pub fn holds_read(reading: Reading, holds: bool) -> bool
-    ensures { result ≡ spec.holds_read reading holds }
+pub fn holds_read(choice: Choice, holds: bool) -> bool
+    ensures { result ≡ spec.holds_read choice holds }
 {
-    match reading {
-        Reading::Plain => holds,
-        Reading::Restart => false,
+    match choice {
+        Choice::Plain | Choice::Lost => holds,
+        Choice::Restart => false,
     }
 }
 
@@ -221,10 +198,13 @@ pub fn holds_behind<M>(kept: &[M], holds: bool) -> bool
 }
 
 /// Whether a device holds behind the controller's ACK of a reply with these kept messages.
-pub fn holds_acked<M>(heard: bool, kept: &[M], holds: bool) -> bool
-    ensures { result ≡ spec.holds_acked heard kept.now holds }
+pub fn holds_acked<M>(choice: Choice, kept: &[M], holds: bool) -> bool
+    ensures { result ≡ spec.holds_acked choice kept.now holds }
 {
-    holds && (kept.is_empty() || !heard)
+    match choice {
+        Choice::Lost => holds,
+        Choice::Plain | Choice::Restart => holds && kept.is_empty(),
+    }
 }
 
 /// Whether two lists of as many messages are the same.

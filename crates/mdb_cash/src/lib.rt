@@ -7,6 +7,7 @@
 
 mod bill;
 mod changer;
+mod choice;
 mod credits;
 mod gains;
 pub mod kept;
@@ -16,6 +17,6 @@ pub mod past;
 
 pub use bill::{Bill, BillFacts, BillReport, BillState, BillType, Escrow};
 pub use changer::{Changer, ChangerFacts, ChangerReport, ChangerState};
+pub use choice::{Choice, other_choice};
 pub use gains::Gains;
-pub use kept::Reading;
-pub use pair::{Pair, may_be_marked};
+pub use pair::{Pair, can_stand};

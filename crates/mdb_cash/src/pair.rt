@@ -1,18 +1,18 @@
 //! A device and the controller.
 
-ghost use Rattle.std.specs.Prelude.{◌≡◌, ◌<◌, ◌↔◌, ◌⊎◌, ℕ, Bool, true, false, not, IsTrue, List, [], ◌∷◌, Contains, Some, IfSome};
+ghost use Rattle.std.specs.Prelude.{◌≡◌, ◌<◌, ◌↔◌, ◌⊎◌, ℕ, IsTrue, List, [], ◌∷◌, Contains, Some, IfSome};
 ghost use Rattle.std.specs.Bool.{OnFalse, OnTrue};
 ghost use Rattle.mdb_msgs.specs.declared.command.Device.{Device};
 ghost use Rattle.mdb_bus.specs.declared.act.Act.{Act};
-ghost use Rattle.mdb_bus.specs.Choice.{IsAck};
+ghost use Rattle.mdb_cash.specs.declared.choice.Choice.{Choice};
+ghost use Rattle.mdb_cash.specs.declared.choice.Choice.TheVariants.{Plain};
 ghost use Rattle.mdb_cash.specs.declared.gains.Gains.{Gains};
-ghost use Rattle.mdb_cash.specs.declared.kept.Reading.{Reading};
-ghost use Rattle.mdb_cash.specs.declared.kept.Reading.TheVariants.{Plain, Restart};
+ghost use Rattle.mdb_cash.specs.Choices.{CanStand};
 ghost use Rattle.mdb_cash.specs.Gains.{IsSmall, no_gains};
-ghost use Rattle.mdb_cash.specs.Pair.{IsActOf, IsMarkedStep, IsMove, IsOfAnother, IsOutcome, IsReply, MayBeMarked};
+ghost use Rattle.mdb_cash.specs.Pair.{CanStandFor, IsActOf, IsChosenStep, IsMove, IsOfAnother, IsOtherMove, IsOutcome};
 
+use super::choice::{Choice, other_choice};
 use super::gains::Gains;
-use super::kept::Reading;
 use arrayvec::ArrayVec;
 use mdb_bus::Act;
 use mdb_msgs::Device;
@@ -45,9 +45,8 @@ pub trait Pair {
     /// The facts are those behind acts.
     ghost stands_for: { Self.Facts → List Act → Type 0 };
 
-    /// Behind acts, a step by an act that was heard or not, in a reading, from a state to a state,
-    /// with its gains.
-    ghost may_step: { List Act → Act → Bool → Reading → Self.State → Self.State → Gains → Type 0 };
+    /// After acts, a step by an act that is taken so, from a state to a state, with its gains.
+    ghost may_step: { List Act → Act → Choice → Self.State → Self.State → Gains → Type 0 };
 
     /// The device.
     fn device() -> Device
@@ -75,25 +74,26 @@ pub trait Pair {
     /// No act of another device is.
     fn concerns(act: &Act) -> bool
         ensures own { OnTrue result (IsActOf device act.now) }
-        ensures still { OnFalse result ((acts : List Act) (heard : Bool) (reading : Reading)
+        ensures still { OnFalse result ((acts : List Act) (choice : Choice)
             (before after : Self.State) (gains : Gains)
-            → may_step acts act.now heard reading before after gains
+            → may_step acts act.now choice before after gains
             ↔ (after ≡ before) × (gains ≡ no_gains)) };
 
-    /// Whether an act leaves a state and the sums, whether it was heard or not and however it is
-    /// read: an ACK to POLL does, where nothing is held. It may say no though the act does.
+    /// Whether an act leaves a state and the sums, however it is taken: an ACK to POLL does, where
+    /// nothing is held. It may say no though the act does.
     fn rests(act: &Act, state: Self::State) -> bool
-        ensures { OnTrue result ((acts : List Act) (heard : Bool) (reading : Reading)
-            (after : Self.State) (gains : Gains)
-            → may_step acts act.now heard reading state after gains
+        ensures { OnTrue result ((acts : List Act) (choice : Choice) (after : Self.State)
+            (gains : Gains) → may_step acts act.now choice state after gains
             ↔ (after ≡ state) × (gains ≡ no_gains)) };
 
-    /// Whether a mark may lead an act from a state elsewhere than no mark does: an ACK that isn't
-    /// heard, or a reply that tells of a restart. It may say yes though a mark can't.
-    fn heeds_mark(act: &Act, state: Self::State) -> bool
-        ensures { OnFalse result ((acts : List Act) (after : Self.State) (gains : Gains)
-            → may_step acts act.now false Restart state after gains
-            → may_step acts act.now true Plain state after gains) };
+    /// Whether it may matter, from a state, how an act is taken: where it doesn't, each choice that
+    /// can stand on the act leads nowhere else than the plain one. It may say yes though no choice
+    /// does.
+    fn heeds_choice(act: &Act, state: Self::State) -> bool
+        ensures { OnFalse result ((acts : List Act) (choice : Choice) (after : Self.State)
+            (gains : Gains) → CanStand act.now choice
+            → may_step acts act.now choice state after gains
+            → may_step acts act.now Plain state after gains) };
 
     /// The code of a state.
     fn code(state: Self::State) -> usize
@@ -104,17 +104,16 @@ pub trait Pair {
         requires { code < CODES }
         ensures { code_of result ≡ code };
 
-    /// The step by an act that was heard or not, in a reading, from a state: the state behind it,
-    /// and what it adds to the sums. `None` where there is no such step.
+    /// The step by an act that is taken so, from a state: the state after it, and what it adds to
+    /// the sums. `None` where there is no such step.
     fn outcome(
         facts: &Self::Facts,
         act: &Act,
-        heard: bool,
-        reading: Reading,
+        choice: Choice,
         before: Self::State,
     ) -> Option<(Self::State, Gains)>
         ensures outcome { (acts : List Act) → stands_for facts.now acts
-            → IsOutcome (may_step acts act.now heard reading before) result }
+            → IsOutcome (may_step acts act.now choice before) result }
         ensures small { IfSome result (λ outcome. IsSmall outcome.1) };
 
     /// Two states have two codes.
@@ -126,22 +125,10 @@ pub trait Pair {
     /// Each code below the number of states is that of a state.
     ghost whole: { (code : ℕ) → code < CODES → (state : Self.State) × (code_of state ≡ code) };
 
-    /// Only for an ACK it matters whether it was heard.
-    ghost hearing: { (acts : List Act) (act : Act) (one other : Bool) (reading : Reading)
-        (before after : Self.State) (gains : Gains) → (IsAck act → ⊥)
-        → may_step acts act one reading before after gains
-        → may_step acts act other reading before after gains };
-
-    /// Only for a reply it matters how it is read.
-    ghost readings: { (acts : List Act) (act : Act) (heard : Bool) (one other : Reading)
-        (before after : Self.State) (gains : Gains) → (IsReply act → ⊥)
-        → may_step acts act heard one before after gains
-        → may_step acts act heard other before after gains };
-
     /// An act that isn't this device's leaves its state and its sums.
-    ghost elsewhere: { (acts : List Act) (act : Act) (heard : Bool) (reading : Reading)
+    ghost elsewhere: { (acts : List Act) (act : Act) (choice : Choice)
         (before after : Self.State) (gains : Gains) → (IsActOf device act → ⊥)
-        → may_step acts act heard reading before after gains
+        → may_step acts act choice before after gains
         ↔ (after ≡ before) × (gains ≡ no_gains) };
 
     /// An act that isn't this device's leaves the facts.
@@ -158,64 +145,86 @@ pub trait Pair {
         after
     }
 
-    /// The step that an act is, from the state of a code, with a mark or without one: the code
-    /// behind it, and what it adds to the sums. `None` where there is no such step, and where the
-    /// act has a mark and none may stand on it.
-    ///
-    /// An ACK with a mark wasn't heard, and a reply with a mark tells of a restart. An act of
-    /// another device leaves the code, with a mark and without. No mark stands on any other act of
-    /// this device, on foreign traffic or on a break (this profile).
+    /// The step that an act is where it is taken so, from the state of a code: the code after it,
+    /// and what it adds to the sums. `None` where there is no such step, and where the choice can't
+    /// stand on the act: on foreign traffic, on a break and on most acts of this device only the
+    /// plain one can. An act of another device leaves the code, whatever the choice is.
     final fn step(
         facts: &Self::Facts,
         act: &Act,
         code: usize,
-        marked: bool,
+        choice: Choice,
     ) -> Option<(usize, Gains)>
         requires { code < CODES }
         ensures steps { (acts : List Act) → stands_for facts.now acts → (next : ℕ) (gains : Gains)
             → (result ≡ Some (next, gains))
-            ↔ IsMarkedStep device act.now code_of (may_step acts act.now) marked code next gains }
-        ensures unmarkable { marked ≡ true → (MayBeMarked device act.now → ⊥) → result ≡ None }
+            ↔ IsChosenStep device act.now code_of (may_step acts act.now) choice code next gains }
+        ensures barred { (CanStandFor device act.now choice → ⊥) → result ≡ None }
         ensures elsewhere { (acts : List Act) → stands_for facts.now acts
             → IsOfAnother device act.now → result ≡ Some (code, no_gains) }
         ensures below { IfSome result (λ move. (move.0 < CODES) × IsSmall move.1) }
     {
-        if marked && !may_be_marked(Self::device(), act) {
+        if !can_stand(Self::device(), act, choice) {
             return None;
         }
         let before = Self::state(code);
-        let outcome = Self::outcome(facts, act, !marked, Reading::of_mark(marked), before);
+        let outcome = Self::outcome(facts, act, choice, before);
         match outcome {
             None => None,
             Some((after, gains)) => Some((Self::code(after), gains)),
         }
     }
 
-    /// The steps that an act may be, from the state of a code, heard or not and in each reading:
-    /// the code behind each, and what it adds to the sums. They are those with a mark and without.
+    /// The step that an act is by its other choice than the plain one, from the state of a code:
+    /// the code after it, and what it adds to the sums. `None` where there is no such step, and
+    /// where no other choice can stand on the act.
+    final fn other_step(facts: &Self::Facts, act: &Act, code: usize) -> Option<(usize, Gains)>
+        requires { code < CODES }
+        ensures steps { (acts : List Act) → stands_for facts.now acts → (next : ℕ) (gains : Gains)
+            → (result ≡ Some (next, gains))
+            ↔ IsOtherMove act.now code_of (may_step acts act.now) code next gains }
+        ensures below { IfSome result (λ move. (move.0 < CODES) × IsSmall move.1) }
+    {
+        match other_choice(act) {
+            Some(choice) => Self::step(facts, act, code, choice),
+            None => None,
+        }
+    }
+
+    /// The steps that an act may be, from the state of a code, by all choices that can stand on it:
+    /// the code after each, and what it adds to the sums.
     final fn moves(facts: &Self::Facts, act: &Act, code: usize) -> ArrayVec<(usize, Gains), 2>
         requires { code < CODES }
         ensures steps { (acts : List Act) → stands_for facts.now acts → (next : ℕ) (gains : Gains)
             → Contains result.items (next, gains)
-            ↔ IsMove code_of (may_step acts act.now) code next gains }
+            ↔ IsMove act.now code_of (may_step acts act.now) code next gains }
         ensures below { (next : ℕ) (gains : Gains) → Contains result.items (next, gains)
             → (next < CODES) × IsSmall gains }
     {
-        let plain = Self::step(facts, act, code, false);
-        let marked = Self::step(facts, act, code, true);
-        both(plain, marked)
+        let plain = Self::step(facts, act, code, Choice::Plain);
+        let other = Self::other_step(facts, act, code);
+        both(plain, other)
     }
 }
 
-/// Whether a mark may stand on an act, where it is asked of a device: on an ACK and on a reply, and
-/// on any act of another device, of which it says nothing.
-pub fn may_be_marked(device: Device, act: &Act) -> bool
-    ensures { IsTrue result ↔ MayBeMarked device act.now }
+/// Whether a choice can stand on an act where it is asked of a device: where it can stand on the
+/// act, whosever that is. On an act of another device any can: there it says nothing.
+pub fn can_stand(device: Device, act: &Act, choice: Choice) -> bool
+    ensures { IsTrue result ↔ CanStandFor device act.now choice }
+{
+    choice.can_stand(act) || is_of_another(device, act)
+}
+
+/// Whether an act is another device's alone.
+fn is_of_another(device: Device, act: &Act) -> bool
+    ensures { IsTrue result ↔ IsOfAnother device act.now }
 {
     match act {
-        Act::Ack(_) | Act::Reply(..) | Act::VmcAck(..) => true,
         Act::Ask(command)
+        | Act::Ack(command)
         | Act::Nak(command)
+        | Act::Reply(command, _)
+        | Act::VmcAck(command, _)
         | Act::VmcNak(command, _)
         | Act::VmcRet(command, _)
         | Act::Repeat(command, _) => command.device() != device,

@@ -1,9 +1,9 @@
 use Rattle.std.proofs.Common.{◌≡◌, ◌∙◌, ℕ, Bool, List, Option, Some, None, refl, ap, sym}
 use Rattle.mdb_msgs.specs.declared.command.ReaderCommand.{ReaderCommand}
 use Rattle.mdb_msgs.specs.declared.reply.Reply.{Reply}
+use Rattle.mdb_cash.specs.declared.choice.Choice.{Choice}
 use Rattle.mdb_cash.specs.declared.gains.Gains.{Gains}
 use Rattle.mdb_cash.specs.declared.kept.Part.{Part}
-use Rattle.mdb_cash.specs.declared.kept.Reading.{Reading}
 use Rattle.mdb_cash.specs.Gains.{device_gains}
 use Rattle.mdb_cash.specs.Kept.{IsSummary, Tells, held, holds_behind, kept_of}
 use Rattle.mdb_cash.specs.Pair.{IsOutcome}
@@ -20,64 +20,64 @@ use Rattle.mdb_cashless.specs.ReaderMessages.{config_in, last_said, messages_of,
 use Rattle.mdb_cashless.proofs.Steps.{same_state}
 
 -- what the code has found out of a reply before it looks for new messages
-pub record Looked (facts : Facts) (command : ReaderCommand) (reply : Reply) (reading : Reading) (before : ReaderState) (poll owed reset early : Bool) (middle : ReaderState) (holding kept : List ReaderReport) : Type 0 where
+pub record Looked (facts : Facts) (command : ReaderCommand) (reply : Reply) (choice : Choice) (before : ReaderState) (poll owed reset early : Bool) (middle : ReaderState) (holding kept : List ReaderReport) : Type 0 where
   pub polls : poll ≡ is_poll command
   pub owed_is : owed ≡ owes_reset facts (taken command reply)
-  pub middle_is : middle ≡ before_messages facts command reply reading before
+  pub middle_is : middle ≡ before_messages facts command reply choice before
   pub holding_is : holding ≡ held middle.holds facts.past.kept
   pub summary : IsSummary kept reset early (parts_of reply)
 
 -- what the reply tells, in the words of the code
-telling : {facts : Facts} {command : ReaderCommand} {reply : Reply} {reading : Reading} {before : ReaderState} {poll owed reset early : Bool} {middle : ReaderState} {holding kept : List ReaderReport} {news : List ReaderReport}
-    → Looked facts command reply reading before poll owed reset early middle holding kept
-    → Tells (is_poll command) reading (owes_reset facts (taken command reply)) (held (before_messages facts command reply reading before).holds facts.past.kept) (parts_of reply) news
-    → Tells poll reading owed holding (parts_of reply) news
+telling : {facts : Facts} {command : ReaderCommand} {reply : Reply} {choice : Choice} {before : ReaderState} {poll owed reset early : Bool} {middle : ReaderState} {holding kept : List ReaderReport} {news : List ReaderReport}
+    → Looked facts command reply choice before poll owed reset early middle holding kept
+    → Tells (is_poll command) choice (owes_reset facts (taken command reply)) (held (before_messages facts command reply choice before).holds facts.past.kept) (parts_of reply) news
+    → Tells poll choice owed holding (parts_of reply) news
 telling {facts} looked tells = rw (looked.polls, looked.owed_is, looked.holding_is, ap (λ (s : ReaderState). held s.holds facts.past.kept) looked.middle_is) tells
 
-told_back : {facts : Facts} {command : ReaderCommand} {reply : Reply} {reading : Reading} {before : ReaderState} {poll owed reset early : Bool} {middle : ReaderState} {holding kept : List ReaderReport} {news : List ReaderReport}
-    → Looked facts command reply reading before poll owed reset early middle holding kept
-    → Tells poll reading owed holding (parts_of reply) news
-    → Tells (is_poll command) reading (owes_reset facts (taken command reply)) (held (before_messages facts command reply reading before).holds facts.past.kept) (parts_of reply) news
-told_back {facts} {command} {reply} {reading} {before} {poll} {owed} {reset} {early} {middle} {holding} {kept} {news} looked tells =
-    let held_is : held (before_messages facts command reply reading before).holds facts.past.kept ≡ holding = sym (looked.holding_is ∙ ap (λ (s : ReaderState). held s.holds facts.past.kept) looked.middle_is) in
+told_back : {facts : Facts} {command : ReaderCommand} {reply : Reply} {choice : Choice} {before : ReaderState} {poll owed reset early : Bool} {middle : ReaderState} {holding kept : List ReaderReport} {news : List ReaderReport}
+    → Looked facts command reply choice before poll owed reset early middle holding kept
+    → Tells poll choice owed holding (parts_of reply) news
+    → Tells (is_poll command) choice (owes_reset facts (taken command reply)) (held (before_messages facts command reply choice before).holds facts.past.kept) (parts_of reply) news
+told_back {facts} {command} {reply} {choice} {before} {poll} {owed} {reset} {early} {middle} {holding} {kept} {news} looked tells =
+    let held_is : held (before_messages facts command reply choice before).holds facts.past.kept ≡ holding = sym (looked.holding_is ∙ ap (λ (s : ReaderState). held s.holds facts.past.kept) looked.middle_is) in
     rw (held_is, sym looked.polls, sym looked.owed_is) tells
 
 -- a reply that the reader can't tell: it doesn't tell what is held
-pub untold : {facts : Facts} {command : ReaderCommand} {reply : Reply} {reading : Reading} {before : ReaderState} {poll owed reset early : Bool} {middle : ReaderState} {holding kept : List ReaderReport}
-    → Looked facts command reply reading before poll owed reset early middle holding kept
-    → ((parts : List (Part ReaderReport)) (other : List ReaderReport) → IsSummary kept reset early parts → Tells poll reading owed holding parts other → ⊥)
-    → (after : ReaderState) (gains : Gains) → ReplyStep facts command reply reading before after gains → ⊥
+pub untold : {facts : Facts} {command : ReaderCommand} {reply : Reply} {choice : Choice} {before : ReaderState} {poll owed reset early : Bool} {middle : ReaderState} {holding kept : List ReaderReport}
+    → Looked facts command reply choice before poll owed reset early middle holding kept
+    → ((parts : List (Part ReaderReport)) (other : List ReaderReport) → IsSummary kept reset early parts → Tells poll choice owed holding parts other → ⊥)
+    → (after : ReaderState) (gains : Gains) → ReplyStep facts command reply choice before after gains → ⊥
 untold {facts} {command} {reply} looked none after gains step = none (parts_of reply) step.news looked.summary (telling looked step.tells)
 
 -- a reply that it can't tell: a new message is impossible
-pub mistold : {facts : Facts} {command : ReaderCommand} {reply : Reply} {reading : Reading} {before : ReaderState} {poll owed reset early : Bool} {middle : ReaderState} {holding kept news : List ReaderReport} {last : Option Transaction}
-    → Looked facts command reply reading before poll owed reset early middle holding kept
-    → ((parts : List (Part ReaderReport)) (other : List ReaderReport) → IsSummary kept reset early parts → Tells poll reading owed holding parts other → other ≡ news)
+pub mistold : {facts : Facts} {command : ReaderCommand} {reply : Reply} {choice : Choice} {before : ReaderState} {poll owed reset early : Bool} {middle : ReaderState} {holding kept news : List ReaderReport} {last : Option Transaction}
+    → Looked facts command reply choice before poll owed reset early middle holding kept
+    → ((parts : List (Part ReaderReport)) (other : List ReaderReport) → IsSummary kept reset early parts → Tells poll choice owed holding parts other → other ≡ news)
     → last ≡ last_transaction facts (taken command reply)
     → all_told last news middle.device ≡ None
-    → (after : ReaderState) (gains : Gains) → ReplyStep facts command reply reading before after gains → ⊥
-mistold {facts} {command} {reply} {reading} {before} {poll} {owed} {reset} {early} {middle} {holding} {kept} {news} {last} looked only last_is none after gains step =
+    → (after : ReaderState) (gains : Gains) → ReplyStep facts command reply choice before after gains → ⊥
+mistold {facts} {command} {reply} {choice} {before} {poll} {owed} {reset} {early} {middle} {holding} {kept} {news} {last} looked only last_is none after gains step =
     let same : step.news ≡ news = only (parts_of reply) step.news looked.summary (telling looked step.tells) in
     let told : all_told last news middle.device ≡ Some after.device =
     ap (all_told last news) (ap (λ (s : ReaderState). s.device) looked.middle_is)
-    ∙ (ap (λ ns. all_told last ns (before_messages facts command reply reading before).device) (sym same)
-    ∙ (ap (λ l. all_told l step.news (before_messages facts command reply reading before).device) last_is ∙ step.told)) in
+    ∙ (ap (λ ns. all_told last ns (before_messages facts command reply choice before).device) (sym same)
+    ∙ (ap (λ l. all_told l step.news (before_messages facts command reply choice before).device) last_is ∙ step.told)) in
     let never : None ≡ Some after.device = sym none ∙ told in
     absurd cc
 
 -- a reply that it can tell, and what that is
-pub told : {facts : Facts} {command : ReaderCommand} {reply : Reply} {reading : Reading} {before : ReaderState} {poll owed reset early : Bool} {middle : ReaderState} {holding kept news : List ReaderReport} {last : Option Transaction} {device : DeviceState} {behind : Bool} {config : Option ReaderConfig} {approved sold : ℕ} {gains : Gains}
-    → Looked facts command reply reading before poll owed reset early middle holding kept
-    → ((parts : List (Part ReaderReport)) → IsSummary kept reset early parts → Tells poll reading owed holding parts news)
-    → ((parts : List (Part ReaderReport)) (other : List ReaderReport) → IsSummary kept reset early parts → Tells poll reading owed holding parts other → other ≡ news)
+pub told : {facts : Facts} {command : ReaderCommand} {reply : Reply} {choice : Choice} {before : ReaderState} {poll owed reset early : Bool} {middle : ReaderState} {holding kept news : List ReaderReport} {last : Option Transaction} {device : DeviceState} {behind : Bool} {config : Option ReaderConfig} {approved sold : ℕ} {gains : Gains}
+    → Looked facts command reply choice before poll owed reset early middle holding kept
+    → ((parts : List (Part ReaderReport)) → IsSummary kept reset early parts → Tells poll choice owed holding parts news)
+    → ((parts : List (Part ReaderReport)) (other : List ReaderReport) → IsSummary kept reset early parts → Tells poll choice owed holding parts other → other ≡ news)
     → last ≡ last_transaction facts (taken command reply)
     → all_told last news middle.device ≡ Some device
     → behind ≡ holds_behind kept middle.holds
     → config ≡ or_else (last_said config_in (messages_of reply)) facts.config
-    → approved ≡ all_approved config news → sold ≡ sold_any facts (taken command reply) (read reading before) → gains ≡ device_gains approved sold
-    → IsOutcome (ReplyStep facts command reply reading before) (Some (record { device = device; view = before.view; holds = behind }, gains))
-told {facts} {command} {reply} {reading} {before} {poll} {owed} {reset} {early} {middle} {holding} {kept} {news} {last} {device} {behind} {config} {approved} {sold} {gains} looked found only last_is told_is behind_is config_is approved_is sold_is gains_are =
-    let ready = before_messages facts command reply reading before in
+    → approved ≡ all_approved config news → sold ≡ sold_any facts (taken command reply) (read choice before) → gains ≡ device_gains approved sold
+    → IsOutcome (ReplyStep facts command reply choice before) (Some (record { device = device; view = before.view; holds = behind }, gains))
+told {facts} {command} {reply} {choice} {before} {poll} {owed} {reset} {early} {middle} {holding} {kept} {news} {last} {device} {behind} {config} {approved} {sold} {gains} looked found only last_is told_is behind_is config_is approved_is sold_is gains_are =
+    let ready = before_messages facts command reply choice before in
     let own_config = or_else (last_said config_in (messages_of reply)) facts.config in
     let devices : middle.device ≡ ready.device = ap (λ (s : ReaderState). s.device) looked.middle_is in
     let holding_on : middle.holds ≡ ready.holds = ap (λ (s : ReaderState). s.holds) looked.middle_is in
@@ -85,7 +85,7 @@ told {facts} {command} {reply} {reading} {before} {poll} {owed} {reset} {early} 
     ap (λ l. all_told l news ready.device) (sym last_is) ∙ (ap (all_told last news) (sym devices) ∙ told_is) in
     let holds : behind ≡ holds_behind (kept_of (parts_of reply)) ready.holds =
     behind_is ∙ (ap (λ ks. holds_behind ks middle.holds) looked.summary.kept_is ∙ ap (holds_behind (kept_of (parts_of reply))) holding_on) in
-    let gained : gains ≡ device_gains (all_approved own_config news) (sold_any facts (taken command reply) (read reading before)) =
+    let gained : gains ≡ device_gains (all_approved own_config news) (sold_any facts (taken command reply) (read choice before)) =
     gains_are ∙ (ap (λ a. device_gains a sold) (approved_is ∙ ap (λ c. all_approved c news) config_is) ∙ ap (device_gains (all_approved own_config news)) sold_is) in (
       record {
         news = news;
@@ -101,6 +101,6 @@ told {facts} {command} {reply} {reading} {before} {poll} {owed} {reset} {early} 
           sym step.told ∙ (ap (λ ns. all_told (last_transaction facts (taken command reply)) ns ready.device) same ∙ tells) in
           let devices_same : other.device ≡ device = cc in (
             same_state devices_same step.view (step.holds ∙ sym holds),
-            step.gained ∙ (ap (λ ns. device_gains (all_approved own_config ns) (sold_any facts (taken command reply) (read reading before))) same ∙ sym gained),
+            step.gained ∙ (ap (λ ns. device_gains (all_approved own_config ns) (sold_any facts (taken command reply) (read choice before))) same ∙ sym gained),
           ),
     )

@@ -1,26 +1,47 @@
 -- What is held behind an ACK, by whether a message of the reply is kept.
-use Rattle.std.proofs.Common.{◌≡◌, ◌&&◌, not, Bool, true, false, List, [], ◌∷◌, refl, map, if◌then◌else◌}
+use Rattle.std.proofs.Common.{◌≡◌, ◌⊎◌, inl, inr, ◌&&◌, not, Bool, true, false, List, [], ◌∷◌, refl, map}
 use Rattle.std.specs.List.{list_any}
 use Rattle.mdb_msgs.specs.declared.reply.reader.ReaderMsg.{ReaderMsg}
 use Rattle.mdb_msgs.specs.declared.reply.reader.ReaderMsg.TheVariants.{BeginSession, VendApproved, VendDenied, EndSession}
 use Rattle.mdb_msgs.specs.Reader.{is_kept}
+use Rattle.mdb_cash.specs.declared.choice.Choice.{Choice}
+use Rattle.mdb_cash.specs.declared.choice.Choice.TheVariants.{Plain, Lost, Restart}
 use Rattle.mdb_cash.specs.Kept.{holds_acked, kept_of}
 use Rattle.mdb_cashless.specs.ReaderMessages.{part_of}
 
-ended : (heard holds : Bool) → (holds && not heard) ≡ (if heard then false else holds)
-ended true true = refl
-ended true false = refl
-ended false true = refl
-ended false false = refl
+-- what the reader holds, by that
+abbrev pub held_on : Choice → Bool → Bool → Bool
+held_on Lost keeps holds = holds
+held_on choice keeps holds = holds && not keeps
 
-stays : (holds : Bool) → (holds && true) ≡ holds
-stays true = refl
-stays false = refl
+none : (choice : Choice) (holds : Bool) → held_on choice false holds ≡ holds
+none Lost holds = refl
+none Plain true = refl
+none Plain false = refl
+none Restart true = refl
+none Restart false = refl
 
-pub acked_is : (messages : List ReaderMsg) (heard holds : Bool) → (holds && not (list_any is_kept messages && heard)) ≡ holds_acked heard (kept_of (map part_of messages)) holds
-acked_is [] heard holds = stays holds
-acked_is (BeginSession funds ∷ messages) heard holds = ended heard holds
-acked_is (VendApproved amount ∷ messages) heard holds = ended heard holds
-acked_is (VendDenied ∷ messages) heard holds = ended heard holds
-acked_is (EndSession ∷ messages) heard holds = ended heard holds
-acked_is (_ ∷ messages) heard holds = acked_is messages heard holds
+some : {M : Type 0} (choice : Choice) (message : M) (kept : List M) (holds : Bool)
+    → held_on choice true holds ≡ holds_acked choice (message ∷ kept) holds
+some Lost message kept holds = refl
+some Plain message kept true = refl
+some Plain message kept false = refl
+some Restart message kept true = refl
+some Restart message kept false = refl
+
+pub acked_is : (messages : List ReaderMsg) (choice : Choice) (holds : Bool)
+    → held_on choice (list_any is_kept messages) holds
+    ≡ holds_acked choice (kept_of (map part_of messages)) holds
+acked_is [] choice holds = none choice holds
+acked_is (BeginSession funds ∷ messages) choice holds = some choice _ _ holds
+acked_is (VendApproved amount ∷ messages) choice holds = some choice _ _ holds
+acked_is (VendDenied ∷ messages) choice holds = some choice _ _ holds
+acked_is (EndSession ∷ messages) choice holds = some choice _ _ holds
+acked_is (_ ∷ messages) choice holds = acked_is messages choice holds
+
+pub heard_is : (choice : Choice) → (choice ≡ Plain) ⊎ (choice ≡ Restart)
+    → (messages : List ReaderMsg) (holds : Bool) → (holds && not (list_any is_kept messages))
+    ≡ holds_acked choice (kept_of (map part_of messages)) holds
+heard_is Plain heard messages holds = acked_is messages Plain holds
+heard_is Restart heard messages holds = acked_is messages Restart holds
+heard_is Lost heard messages holds = elim heard [ inl is ↦ absurd cc | inr is ↦ absurd cc ]

@@ -1,10 +1,10 @@
 pub mod Answered
 pub mod Behind
+pub mod Choices
 pub mod FactsTold
 pub mod KeptAcked
-pub mod Marks
+pub mod Resets
 pub mod Said
+pub mod Sales
 pub mod Steps
 pub mod Transactions
-pub mod Resets
-pub mod Sales

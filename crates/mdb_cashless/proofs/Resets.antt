@@ -1,8 +1,8 @@
 use Rattle.std.proofs.Common.{◌≡◌, ◌||◌, ◌∙◌, Bool, true, false, List, [], ◌∷◌, refl, ap, sym, map}
 use Rattle.std.specs.Bool.{OnFalse}
 use Rattle.std.specs.List.{list_any}
+use Rattle.mdb_cash.specs.declared.choice.Choice.TheVariants.{Restart}
 use Rattle.mdb_cash.specs.declared.kept.Part.{Part}
-use Rattle.mdb_cash.specs.declared.kept.Reading.TheVariants.{Restart}
 use Rattle.mdb_cash.specs.Kept.{MayBeRead, has_reset, is_reset}
 
 -- whether messages tell of a reset, by each of them

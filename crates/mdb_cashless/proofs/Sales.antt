@@ -12,8 +12,9 @@ use Rattle.mdb_msgs.specs.declared.reply.reader.ReaderMsg.{ReaderMsg}
 use Rattle.mdb_msgs.specs.declared.reply.reader.ReaderMsg.TheVariants as messages
 use Rattle.mdb_bus.specs.declared.act.Act.{Act}
 use Rattle.mdb_bus.specs.declared.act.Act.TheVariants as acts
+use Rattle.mdb_cash.specs.declared.choice.Choice.{Choice}
+use Rattle.mdb_cash.specs.declared.choice.Choice.TheVariants.{Plain, Lost, Restart}
 use Rattle.mdb_cash.specs.declared.gains.Gains.{Gains}
-use Rattle.mdb_cash.specs.declared.kept.Reading.{Reading}
 use Rattle.mdb_cash.specs.Past.{last_told, or_else}
 use Rattle.mdb_cashless.specs.declared.reader.state.ReaderState.{ReaderState}
 use Rattle.mdb_cashless.specs.declared.reader.transaction.Transaction.{Transaction}
@@ -102,9 +103,10 @@ tells_taken_of : (unit : ReaderUnit) (found : Option Transaction) (view : View) 
 tells_taken_of unit None view so_far tells = tells
 tells_taken_of unit (Some t) view so_far tells = tells_taken unit view so_far tells
 
-tells_heard : (unit : ReaderUnit) (heard : Bool) (its : ReaderCommand) (view : View) (so_far : List Act) → TellsOfSale unit view so_far → TellsOfSale unit (view_heard heard its view) so_far
-tells_heard unit false its view so_far tells = tells
-tells_heard unit true its view so_far tells = tells_taken_of unit (transaction_of its) view so_far tells
+tells_heard : (unit : ReaderUnit) (choice : Choice) (its : ReaderCommand) (view : View) (so_far : List Act) → TellsOfSale unit view so_far → TellsOfSale unit (view_heard choice its view) so_far
+tells_heard unit Plain its view so_far tells = tells_taken_of unit (transaction_of its) view so_far tells
+tells_heard unit Lost its view so_far tells = tells
+tells_heard unit Restart its view so_far tells = tells_taken_of unit (transaction_of its) view so_far tells
 
 tells_answered : (unit : ReaderUnit) (found : Option ReaderCommand) (view : View) (so_far : List Act) → TellsOfSale unit view so_far → TellsOfSale unit (view_answered found view) so_far
 tells_answered unit None view so_far tells = tells
@@ -234,33 +236,33 @@ stays_view unit act so_far before after leaves none tells same =
 view_of : (one other : ReaderState) → one ≡ other → one.view ≡ other.view
 view_of one other e = ap (λ (s : ReaderState). s.view) e
 
-acked : (unit : ReaderUnit) (facts_heard : Bool) (command : Command) (reply : Reply) (so_far : List Act) (before after : ReaderState) (gains : Gains) (found : Option ReaderCommand)
+acked : (unit : ReaderUnit) (choice : Choice) (command : Command) (reply : Reply) (so_far : List Act) (before after : ReaderState) (gains : Gains) (found : Option ReaderCommand)
     → own unit command ≡ found → EndsInReply command reply so_far → TellsOfSale unit before.view so_far
-    → ForOwn found (λ c. VmcAckStep (facts_of unit so_far) c reply facts_heard) before after gains
+    → ForOwn found (λ c. VmcAckStep (facts_of unit so_far) c reply choice) before after gains
     → TellsOfSale unit after.view (acts.VmcAck command reply ∷ so_far)
-acked unit h command reply so_far before after gains None is ends tells step =
+acked unit choice command reply so_far before after gains None is ends tells step =
     stays_view unit (acts.VmcAck command reply) so_far before after (λ May. tt) refl tells (view_of after before step.0)
-acked unit h command reply so_far before after gains (Some its) is ends tells step =
+acked unit choice command reply so_far before after gains (Some its) is ends tells step =
     let same = own_is unit command its is in
     subst (λ (v : View). TellsOfSale unit v (acts.VmcAck command reply ∷ so_far)) (sym (ap (λ (s : ReaderState). s.view) step.to))
     (subst (λ (c : Command). TellsOfSale unit (all_heard (messages_of reply) (view_answered (taken its reply) before.view)) (acts.VmcAck c reply ∷ so_far)) (sym same)
     (acked_own unit its reply so_far before.view (subst (λ (c : Command). EndsInReply c reply so_far) same ends) tells))
 
-acknowledged : (unit : ReaderUnit) (h : Bool) (command : Command) (so_far : List Act) (before after : ReaderState) (gains : Gains) (found : Option ReaderCommand)
-    → TellsOfSale unit before.view so_far → ForOwn found (λ c. AckStep (facts_of unit so_far) c h) before after gains
+acknowledged : (unit : ReaderUnit) (choice : Choice) (command : Command) (so_far : List Act) (before after : ReaderState) (gains : Gains) (found : Option ReaderCommand)
+    → TellsOfSale unit before.view so_far → ForOwn found (λ c. AckStep (facts_of unit so_far) c choice) before after gains
     → TellsOfSale unit after.view (acts.Ack command ∷ so_far)
-acknowledged unit h command so_far before after gains None tells step =
+acknowledged unit choice command so_far before after gains None tells step =
     stays_view unit (acts.Ack command) so_far before after (λ May. tt) refl tells (view_of after before step.0)
-acknowledged unit h command so_far before after gains (Some its) tells step =
+acknowledged unit choice command so_far before after gains (Some its) tells step =
     subst (λ (v : View). TellsOfSale unit v (acts.Ack command ∷ so_far)) (sym (ap (λ (s : ReaderState). s.view) step.to))
-    (still unit (view_heard h its before.view) (acts.Ack command) so_far (λ May. tt) refl (tells_heard unit h its before.view so_far tells))
+    (still unit (view_heard choice its before.view) (acts.Ack command) so_far (λ May. tt) refl (tells_heard unit choice its before.view so_far tells))
 
-replied : (unit : ReaderUnit) (reading : Reading) (command : Command) (reply : Reply) (so_far : List Act) (before after : ReaderState) (gains : Gains) (found : Option ReaderCommand)
-    → TellsOfSale unit before.view so_far → ForOwn found (λ c. ReplyStep (facts_of unit so_far) c reply reading) before after gains
+replied : (unit : ReaderUnit) (choice : Choice) (command : Command) (reply : Reply) (so_far : List Act) (before after : ReaderState) (gains : Gains) (found : Option ReaderCommand)
+    → TellsOfSale unit before.view so_far → ForOwn found (λ c. ReplyStep (facts_of unit so_far) c reply choice) before after gains
     → TellsOfSale unit after.view (acts.Reply command reply ∷ so_far)
-replied unit reading command reply so_far before after gains None tells step =
+replied unit choice command reply so_far before after gains None tells step =
     stays_view unit (acts.Reply command reply) so_far before after (λ May. tt) refl tells (view_of after before step.0)
-replied unit reading command reply so_far before after gains (Some its) tells step =
+replied unit choice command reply so_far before after gains (Some its) tells step =
     stays_view unit (acts.Reply command reply) so_far before after (λ May. tt) refl tells step.view
 
 -- an ask that is no matter of the sale: of another device, or neither RESET nor a transaction
@@ -433,25 +435,25 @@ asks law unit command so_far before after gains None is tells step =
 asks law unit command so_far before after gains (Some its) is tells step = asks_own law unit command its so_far before.view after.view is tells step.view
 
 -- each step keeps what the view tells
-pub steps_tell : SameFields → (unit : ReaderUnit) (so_far : List Act) (act : Act) (heard : Bool) (reading : Reading) (before after : ReaderState) (gains : Gains)
-    → AcksLastReply act so_far → TellsOfSale unit before.view so_far → ReaderStep unit (facts_of unit so_far) act heard reading before after gains
+pub steps_tell : SameFields → (unit : ReaderUnit) (so_far : List Act) (act : Act) (choice : Choice) (before after : ReaderState) (gains : Gains)
+    → AcksLastReply act so_far → TellsOfSale unit before.view so_far → ReaderStep unit (facts_of unit so_far) act choice before after gains
     → TellsOfSale unit after.view (act ∷ so_far)
-steps_tell law unit so_far (acts.Ask command) heard reading before after gains ends tells step = asks law unit command so_far before after gains (own unit command) refl tells step
-steps_tell law unit so_far (acts.Ack command) heard reading before after gains ends tells step = acknowledged unit heard command so_far before after gains (own unit command) tells step
-steps_tell law unit so_far (acts.Nak command) heard reading before after gains ends tells step =
+steps_tell law unit so_far (acts.Ask command) choice before after gains ends tells step = asks law unit command so_far before after gains (own unit command) refl tells step
+steps_tell law unit so_far (acts.Ack command) choice before after gains ends tells step = acknowledged unit choice command so_far before after gains (own unit command) tells step
+steps_tell law unit so_far (acts.Nak command) choice before after gains ends tells step =
     stays_view unit (acts.Nak command) so_far before after (λ May. tt) refl tells (view_of after before step.0)
-steps_tell law unit so_far (acts.Reply command reply) heard reading before after gains ends tells step = replied unit reading command reply so_far before after gains (own unit command) tells step
-steps_tell law unit so_far (acts.VmcAck command reply) heard reading before after gains ends tells step =
-    acked unit heard command reply so_far before after gains (own unit command) refl ends tells step
-steps_tell law unit so_far (acts.VmcNak command reply) heard reading before after gains ends tells step =
+steps_tell law unit so_far (acts.Reply command reply) choice before after gains ends tells step = replied unit choice command reply so_far before after gains (own unit command) tells step
+steps_tell law unit so_far (acts.VmcAck command reply) choice before after gains ends tells step =
+    acked unit choice command reply so_far before after gains (own unit command) refl ends tells step
+steps_tell law unit so_far (acts.VmcNak command reply) choice before after gains ends tells step =
     stays_view unit (acts.VmcNak command reply) so_far before after (λ May. tt) refl tells (view_of after before step.0)
-steps_tell law unit so_far (acts.VmcRet command reply) heard reading before after gains ends tells step =
+steps_tell law unit so_far (acts.VmcRet command reply) choice before after gains ends tells step =
     stays_view unit (acts.VmcRet command reply) so_far before after (λ May. tt) refl tells (view_of after before step.0)
-steps_tell law unit so_far (acts.Repeat command reply) heard reading before after gains ends tells step =
+steps_tell law unit so_far (acts.Repeat command reply) choice before after gains ends tells step =
     stays_view unit (acts.Repeat command reply) so_far before after (λ May. tt) refl tells (view_of after before step.0)
-steps_tell law unit so_far acts.Foreign heard reading before after gains ends tells step =
+steps_tell law unit so_far acts.Foreign choice before after gains ends tells step =
     stays_view unit acts.Foreign so_far before after (λ May. tt) refl tells (view_of after before step.0)
-steps_tell law unit so_far (acts.Break length) heard reading before after gains ends tells step =
+steps_tell law unit so_far (acts.Break length) choice before after gains ends tells step =
     subst (λ (v : View). TellsOfSale unit v (acts.Break length ∷ so_far)) (sym (ap (λ (s : ReaderState). s.view) step.0)) tt
 
 -- a sale is asked where it is approved
@@ -463,8 +465,8 @@ asked_sale law unit so_far item before after gains (Some its) is tells step =
     let sends = (subst (λ (c : ReaderCommand). AskStep (facts_of unit so_far) c before after gains) same step).view in
     sale_approved law unit item so_far before.view after.view tells sends
 
-pub sales_approved : SameFields → (unit : ReaderUnit) (so_far : List Act) (item : ℕ) (heard : Bool) (reading : Reading) (before after : ReaderState) (gains : Gains)
-    → TellsOfSale unit before.view so_far → ReaderStep unit (facts_of unit so_far) (acts.Ask (commands.Reader unit (reader.VendSuccess item))) heard reading before after gains
+pub sales_approved : SameFields → (unit : ReaderUnit) (so_far : List Act) (item : ℕ) (choice : Choice) (before after : ReaderState) (gains : Gains)
+    → TellsOfSale unit before.view so_far → ReaderStep unit (facts_of unit so_far) (acts.Ask (commands.Reader unit (reader.VendSuccess item))) choice before after gains
     → IsApproved unit item so_far
-sales_approved law unit so_far item heard reading before after gains tells step =
+sales_approved law unit so_far item choice before after gains tells step =
     asked_sale law unit so_far item before after gains (own unit (commands.Reader unit (reader.VendSuccess item))) (own_of_unit unit (reader.VendSuccess item)) tells step

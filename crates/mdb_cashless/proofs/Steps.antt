@@ -7,8 +7,9 @@ use Rattle.mdb_msgs.specs.declared.command.ReaderUnit.{ReaderUnit}
 use Rattle.mdb_msgs.specs.declared.reply.Reply.{Reply}
 use Rattle.mdb_bus.specs.declared.act.Act.{Act}
 use Rattle.mdb_bus.specs.declared.act.Act.TheVariants as acts
+use Rattle.mdb_cash.specs.declared.choice.Choice.{Choice}
+use Rattle.mdb_cash.specs.declared.choice.Choice.TheVariants.{Plain, Lost, Restart}
 use Rattle.mdb_cash.specs.declared.gains.Gains.{Gains}
-use Rattle.mdb_cash.specs.declared.kept.Reading.{Reading}
 use Rattle.mdb_cash.specs.Gains.{controller_gains, device_gains, no_gains}
 use Rattle.mdb_cash.specs.Pair.{IsOutcome}
 use Rattle.mdb_cashless.specs.declared.reader.device.DeviceState.{DeviceState}
@@ -31,24 +32,24 @@ for_own : (Step : ReaderCommand → ReaderState → ReaderState → Gains → Ty
 for_own Step before result None command is outcome = absurd cc
 for_own Step before result (Some other) command is outcome = let same : command ≡ other = cc in subst (λ (c : ReaderCommand). IsOutcome (Step c before) result) same outcome
 
-pub asks : (facts : Facts) (before : ReaderState) (result : Option (ReaderState × Gains)) (unit : ReaderUnit) (act : Act) (command : Command) (its : ReaderCommand) (heard : Bool) (reading : Reading)
-    → act ≡ acts.Ask command → own unit command ≡ Some its → IsOutcome (AskStep facts its before) result → IsOutcome (ReaderStep unit facts act heard reading before) result
-asks facts before result unit act command its heard reading is found outcome = subst (λ (a : Act). IsOutcome (ReaderStep unit facts a heard reading before) result) (sym is) (for_own _ before result (own unit command) its found outcome)
+pub asks : (facts : Facts) (before : ReaderState) (result : Option (ReaderState × Gains)) (unit : ReaderUnit) (act : Act) (command : Command) (its : ReaderCommand) (choice : Choice)
+    → act ≡ acts.Ask command → own unit command ≡ Some its → IsOutcome (AskStep facts its before) result → IsOutcome (ReaderStep unit facts act choice before) result
+asks facts before result unit act command its choice is found outcome = subst (λ (a : Act). IsOutcome (ReaderStep unit facts a choice before) result) (sym is) (for_own _ before result (own unit command) its found outcome)
 
-pub acks : (facts : Facts) (before : ReaderState) (result : Option (ReaderState × Gains)) (unit : ReaderUnit) (act : Act) (command : Command) (its : ReaderCommand) (heard : Bool) (reading : Reading)
-    → act ≡ acts.Ack command → own unit command ≡ Some its → IsOutcome (AckStep facts its heard before) result → IsOutcome (ReaderStep unit facts act heard reading before) result
-acks facts before result unit act command its heard reading is found outcome = subst (λ (a : Act). IsOutcome (ReaderStep unit facts a heard reading before) result) (sym is) (for_own _ before result (own unit command) its found outcome)
+pub acks : (facts : Facts) (before : ReaderState) (result : Option (ReaderState × Gains)) (unit : ReaderUnit) (act : Act) (command : Command) (its : ReaderCommand) (choice : Choice)
+    → act ≡ acts.Ack command → own unit command ≡ Some its → IsOutcome (AckStep facts its choice before) result → IsOutcome (ReaderStep unit facts act choice before) result
+acks facts before result unit act command its choice is found outcome = subst (λ (a : Act). IsOutcome (ReaderStep unit facts a choice before) result) (sym is) (for_own _ before result (own unit command) its found outcome)
 
-pub replies : (facts : Facts) (before : ReaderState) (result : Option (ReaderState × Gains)) (unit : ReaderUnit) (act : Act) (command : Command) (reply : Reply) (its : ReaderCommand) (heard : Bool) (reading : Reading)
-    → act ≡ acts.Reply command reply → own unit command ≡ Some its → IsOutcome (ReplyStep facts its reply reading before) result → IsOutcome (ReaderStep unit facts act heard reading before) result
-replies facts before result unit act command reply its heard reading is found outcome = subst (λ (a : Act). IsOutcome (ReaderStep unit facts a heard reading before) result) (sym is) (for_own _ before result (own unit command) its found outcome)
+pub replies : (facts : Facts) (before : ReaderState) (result : Option (ReaderState × Gains)) (unit : ReaderUnit) (act : Act) (command : Command) (reply : Reply) (its : ReaderCommand) (choice : Choice)
+    → act ≡ acts.Reply command reply → own unit command ≡ Some its → IsOutcome (ReplyStep facts its reply choice before) result → IsOutcome (ReaderStep unit facts act choice before) result
+replies facts before result unit act command reply its choice is found outcome = subst (λ (a : Act). IsOutcome (ReaderStep unit facts a choice before) result) (sym is) (for_own _ before result (own unit command) its found outcome)
 
 -- the controller's ACK has one outcome
-pub vmc_acks : (facts : Facts) (before after : ReaderState) (gains : Gains) (unit : ReaderUnit) (act : Act) (command : Command) (reply : Reply) (its : ReaderCommand) (heard : Bool) (reading : Reading)
-    → act ≡ acts.VmcAck command reply → own unit command ≡ Some its → VmcAckStep facts its reply heard before after gains → IsOutcome (ReaderStep unit facts act heard reading before) (Some (after, gains))
-vmc_acks facts before after gains unit act command reply its heard reading is found step =
-    subst (λ (a : Act). IsOutcome (ReaderStep unit facts a heard reading before) (Some (after, gains))) (sym is)
-    (for_own (λ c. VmcAckStep facts c reply heard) before (Some (after, gains)) (own unit command) its found (step, λ other more one. (one.to ∙ sym step.to, one.gained ∙ sym step.gained)))
+pub vmc_acks : (facts : Facts) (before after : ReaderState) (gains : Gains) (unit : ReaderUnit) (act : Act) (command : Command) (reply : Reply) (its : ReaderCommand) (choice : Choice)
+    → act ≡ acts.VmcAck command reply → own unit command ≡ Some its → VmcAckStep facts its reply choice before after gains → IsOutcome (ReaderStep unit facts act choice before) (Some (after, gains))
+vmc_acks facts before after gains unit act command reply its choice is found step =
+    subst (λ (a : Act). IsOutcome (ReaderStep unit facts a choice before) (Some (after, gains))) (sym is)
+    (for_own (λ c. VmcAckStep facts c reply choice) before (Some (after, gains)) (own unit command) its found (step, λ other more one. (one.to ∙ sym step.to, one.gained ∙ sym step.gained)))
 
 -- a command that leaves the view
 leaves : (facts : Facts) (command : ReaderCommand) (view : View) → changes_view command ≡ false → (asked facts command view ≡ Some view) × (sold_to facts command view ≡ 0)
@@ -92,9 +93,9 @@ own_stays None its facts before after gains is still = absurd cc
 own_stays (Some command) its facts before after gains is still = let same : command ≡ its = cc in ask_stays facts command before after gains (ap changes_view same ∙ still)
 
 pub asks_stay : (unit : ReaderUnit) (act : Act) (command : Command) (its : ReaderCommand) → act ≡ acts.Ask command → own unit command ≡ Some its → changes_view its ≡ false
-    → (facts : Facts) (heard : Bool) (reading : Reading) (before after : ReaderState) (gains : Gains) → ReaderStep unit facts act heard reading before after gains ↔ (after ≡ before) × (gains ≡ no_gains)
-asks_stay unit act command its is found still facts heard reading before after gains =
-    subst (λ (a : Act). ReaderStep unit facts a heard reading before after gains ↔ (after ≡ before) × (gains ≡ no_gains)) (sym is) (own_stays (own unit command) its facts before after gains found still)
+    → (facts : Facts) (choice : Choice) (before after : ReaderState) (gains : Gains) → ReaderStep unit facts act choice before after gains ↔ (after ≡ before) × (gains ≡ no_gains)
+asks_stay unit act command its is found still facts choice before after gains =
+    subst (λ (a : Act). ReaderStep unit facts a choice before after gains ↔ (after ≡ before) × (gains ≡ no_gains)) (sym is) (own_stays (own unit command) its facts before after gains found still)
 
 -- what holds where a test denies
 pub denied : {P : Type 0} (is : Bool) → (is ≡ false → P) → OnFalse is P
@@ -102,48 +103,49 @@ denied true p = tt
 denied false p = p refl
 
 -- a POLL that is acknowledged while nothing is held changes nothing
-same_behind : (facts : Facts) (heard : Bool) (device : DeviceState) (view : View)
+same_behind : (facts : Facts) (choice : Choice) (device : DeviceState) (view : View)
     → record (take facts reader.Poll (record { device = device; view = view; holds = false })) {
-      view = view_heard heard reader.Poll view;
+      view = view_heard choice reader.Poll view;
     } ≡ record { device = device; view = view; holds = false }
-same_behind facts true device view = refl
-same_behind facts false device view = refl
+same_behind facts Plain device view = refl
+same_behind facts Lost device view = refl
+same_behind facts Restart device view = refl
 
 none_sold : (facts : Facts) (device : DeviceState) (view : View)
     → sold facts reader.Poll (record { device = device; view = view; holds = false }) ≡ 0
 none_sold facts device view = refl
 
-rests_apart : (facts : Facts) (heard : Bool) (device : DeviceState) (view : View)
+rests_apart : (facts : Facts) (choice : Choice) (device : DeviceState) (view : View)
     (after : ReaderState) (gains : Gains)
-    → AckStep facts reader.Poll heard (record { device = device; view = view; holds = false }) after gains
+    → AckStep facts reader.Poll choice (record { device = device; view = view; holds = false }) after gains
     ↔ (after ≡ record { device = device; view = view; holds = false }) × (gains ≡ no_gains)
-rests_apart facts heard device view after gains = (
+rests_apart facts choice device view after gains = (
   (λ step. (
-    step.to ∙ same_behind facts heard device view,
+    step.to ∙ same_behind facts choice device view,
     step.gained ∙ ap (device_gains 0) (none_sold facts device view),
   )),
   (λ both. record {
     poll = refl;
-    to = both.0 ∙ sym (same_behind facts heard device view);
+    to = both.0 ∙ sym (same_behind facts choice device view);
     gained = both.1 ∙ sym (ap (device_gains 0) (none_sold facts device view));
   }),
 )
 
-pub poll_rests : (facts : Facts) (heard : Bool) (reading : Reading) (state after : ReaderState)
+pub poll_rests : (facts : Facts) (choice : Choice) (state after : ReaderState)
     (gains : Gains) (unit : ReaderUnit) (act : Act) (command : Command) → act ≡ acts.Ack command
     → own unit command ≡ Some reader.Poll → state.holds ≡ false
-    → ReaderStep unit facts act heard reading state after gains
+    → ReaderStep unit facts act choice state after gains
     ↔ (after ≡ state) × (gains ≡ no_gains)
-poll_rests facts heard reading state after gains unit act command is found free =
+poll_rests facts choice state after gains unit act command is found free =
     let same : record { device = state.device; view = state.view; holds = false } ≡ state =
     same_state refl refl (sym free) in
-    subst (λ (a : Act). ReaderStep unit facts a heard reading state after gains
+    subst (λ (a : Act). ReaderStep unit facts a choice state after gains
     ↔ (after ≡ state) × (gains ≡ no_gains)) (sym is)
-    (subst (λ (o : Option ReaderCommand). ForOwn o (λ c. AckStep facts c heard) state after gains
+    (subst (λ (o : Option ReaderCommand). ForOwn o (λ c. AckStep facts c choice) state after gains
     ↔ (after ≡ state) × (gains ≡ no_gains)) (sym found)
-    (subst (λ (s : ReaderState). AckStep facts reader.Poll heard s after gains
+    (subst (λ (s : ReaderState). AckStep facts reader.Poll choice s after gains
     ↔ (after ≡ s) × (gains ≡ no_gains)) same
-    (rests_apart facts heard state.device state.view after gains)))
+    (rests_apart facts choice state.device state.view after gains)))
 
 -- what holds where a test says no
 pub where_not : {P : Type 0} (is : Bool) → (is ≡ false → P) → OnTrue (not is) P

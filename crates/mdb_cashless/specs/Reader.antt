@@ -9,9 +9,9 @@ use Rattle.mdb_msgs.specs.declared.reply.reader.ReaderMsg.{ReaderMsg}
 use Rattle.mdb_msgs.specs.declared.reply.reader.ReaderMsg.TheVariants as messages
 use Rattle.mdb_bus.specs.declared.act.Act.{Act}
 use Rattle.mdb_bus.specs.declared.act.Act.TheVariants as acts
+use Rattle.mdb_cash.specs.declared.choice.Choice.{Choice}
+use Rattle.mdb_cash.specs.declared.choice.Choice.TheVariants.{Lost, Restart}
 use Rattle.mdb_cash.specs.declared.gains.Gains.{Gains}
-use Rattle.mdb_cash.specs.declared.kept.Reading.{Reading}
-use Rattle.mdb_cash.specs.declared.kept.Reading.TheVariants.{Plain, Restart}
 use Rattle.mdb_cash.specs.Gains.{no_gains, controller_gains, device_gains}
 use Rattle.mdb_cash.specs.Kept.{Tells, held, holds_acked, holds_behind, kept_of}
 use Rattle.mdb_cash.specs.Pair.{Stays}
@@ -140,24 +140,25 @@ view_taken command before =
     ]
 
 -- the view behind an answer that takes a command, which the controller heard or didn't hear
-abbrev pub view_heard : Bool → ReaderCommand → View → View
-view_heard heard command before = if heard then view_taken command before else before
+abbrev pub view_heard : Choice → ReaderCommand → View → View
+view_heard Lost command before = before
+view_heard choice command before = view_taken command before
 
 -- The reader acknowledges, and by that takes the command; the controller may hear that. While the
 -- reader holds something, ACK is no answer to POLL.
-pub record AckStep (facts : Facts) (command : ReaderCommand) (heard : Bool)
+pub record AckStep (facts : Facts) (command : ReaderCommand) (choice : Choice)
     (before after : ReaderState) (gains : Gains) : Type 0 where
   pub poll : (is_poll command && before.holds) ≡ false
   pub to : after ≡ record (take facts command before) {
-    view = view_heard heard command before.view;
+    view = view_heard choice command before.view;
   }
   pub gained : gains ≡ device_gains 0 (sold facts command before)
 
 -- the state of the reader once a reply is read: behind a restart it is in its power-on state, and
 -- holds nothing; the controller doesn't know of that yet
-abbrev pub read : Reading → ReaderState → ReaderState
-read Plain before = before
+abbrev pub read : Choice → ReaderState → ReaderState
 read Restart before = record before { device = device.Inactive; holds = false }
+read choice before = before
 
 -- the command that the reader takes by a reply: none where the reply says that it came out of
 -- sequence
@@ -174,9 +175,9 @@ sold_any facts None before = 0
 sold_any facts (Some command) before = sold facts command before
 
 -- the state before the messages of a reply
-abbrev pub before_messages : Facts → ReaderCommand → Reply → Reading → ReaderState → ReaderState
-before_messages facts command reply reading before =
-    take_any facts (taken command reply) (read reading before)
+abbrev pub before_messages : Facts → ReaderCommand → Reply → Choice → ReaderState → ReaderState
+before_messages facts command reply choice before =
+    take_any facts (taken command reply) (read choice before)
 
 -- whether a reset message is owed where a command is taken, if one is: behind RESET it is (which is
 -- of no matter, since no kept message stands in an answer to RESET)
@@ -188,25 +189,25 @@ owes_reset facts command = resets (effect_of_own command) || facts.past.reset_ow
 abbrev pub last_transaction : Facts → Option ReaderCommand → Option Transaction
 last_transaction facts command = or_else (own_transaction command) facts.taken
 
--- The reader replies with data, which is read as plain or as telling of a restart. If it takes the
--- command by that, the command has its effect first. Then come the messages: behind those that it
--- holds stand the new ones, each of which has its effect. They are valued by the reply's own config
--- message, if it has one; a sale is not. A transaction command that is taken is already the last
--- one, and behind RESET a reset message is owed.
+-- The reader replies with data, which is read as it stands or as telling of a restart. If it takes
+-- the command by that, the command has its effect first. Then come the messages: behind those that
+-- it holds stand the new ones, each of which has its effect. They are valued by the reply's own
+-- config message, if it has one; a sale is not. A transaction command that is taken is already the
+-- last one, and behind RESET a reset message is owed.
 pub record ReplyStep (facts : Facts) (command : ReaderCommand) (reply : Reply)
-    (reading : Reading) (before after : ReaderState) (gains : Gains) : Type 0 where
+    (choice : Choice) (before after : ReaderState) (gains : Gains) : Type 0 where
   pub news : List ReaderReport
-  pub tells : Tells (is_poll command) reading (owes_reset facts (taken command reply))
-      (held (before_messages facts command reply reading before).holds facts.past.kept)
+  pub tells : Tells (is_poll command) choice (owes_reset facts (taken command reply))
+      (held (before_messages facts command reply choice before).holds facts.past.kept)
       (parts_of reply) news
   pub told : all_told (last_transaction facts (taken command reply)) news
-      (before_messages facts command reply reading before).device ≡ Some after.device
+      (before_messages facts command reply choice before).device ≡ Some after.device
   pub view : after.view ≡ before.view
   pub holds : after.holds ≡ holds_behind (kept_of (parts_of reply))
-      (before_messages facts command reply reading before).holds
+      (before_messages facts command reply choice before).holds
   pub gained : gains ≡ device_gains
       (all_approved (or_else (last_said config_in (messages_of reply)) facts.config) news)
-      (sold_any facts (taken command reply) (read reading before))
+      (sold_any facts (taken command reply) (read choice before))
 
 -- the view behind hearing that the reply's command was taken, if it was
 abbrev pub view_answered : Option ReaderCommand → View → View
@@ -215,12 +216,12 @@ view_answered (Some command) before = view_taken command before
 
 -- The controller acknowledges a reply: it has heard that the reader took the command, and then the
 -- messages in order. The reader may hear that.
-pub record VmcAckStep (facts : Facts) (command : ReaderCommand) (reply : Reply) (heard : Bool)
+pub record VmcAckStep (facts : Facts) (command : ReaderCommand) (reply : Reply) (choice : Choice)
     (before after : ReaderState) (gains : Gains) : Type 0 where
   pub to : after ≡ record {
     device = before.device;
     view = all_heard (messages_of reply) (view_answered (taken command reply) before.view);
-    holds = holds_acked heard (kept_of (parts_of reply)) before.holds;
+    holds = holds_acked choice (kept_of (parts_of reply)) before.holds;
   }
   pub gained : gains ≡ controller_gains
       (all_approved_to facts.config (view_answered (taken command reply) before.view)
@@ -233,23 +234,23 @@ abbrev pub ForOwn : Option ReaderCommand
 ForOwn None Step = Stays
 ForOwn (Some command) Step = Step command
 
--- A step of a reader and the controller, behind acts that leave these facts. Whether the act was
--- heard matters for an ACK alone, of either side, and the reading for a reply.
-abbrev pub ReaderStep : ReaderUnit → Facts → Act → Bool → Reading → ReaderState → ReaderState
-    → Gains → Type 0
-ReaderStep unit facts (acts.Ask command) heard reading =
+-- A step of a reader and the controller by an act that is taken so, after acts that leave these
+-- facts.
+abbrev pub ReaderStep : ReaderUnit → Facts → Act → Choice → ReaderState → ReaderState → Gains
+    → Type 0
+ReaderStep unit facts (acts.Ask command) choice =
     ForOwn (own unit command) (AskStep facts)
-ReaderStep unit facts (acts.Ack command) heard reading =
-    ForOwn (own unit command) (λ c. AckStep facts c heard)
-ReaderStep unit facts (acts.Reply command reply) heard reading =
-    ForOwn (own unit command) (λ c. ReplyStep facts c reply reading)
-ReaderStep unit facts (acts.VmcAck command reply) heard reading =
-    ForOwn (own unit command) (λ c. VmcAckStep facts c reply heard)
-ReaderStep unit facts (acts.Break length) heard reading =
+ReaderStep unit facts (acts.Ack command) choice =
+    ForOwn (own unit command) (λ c. AckStep facts c choice)
+ReaderStep unit facts (acts.Reply command reply) choice =
+    ForOwn (own unit command) (λ c. ReplyStep facts c reply choice)
+ReaderStep unit facts (acts.VmcAck command reply) choice =
+    ForOwn (own unit command) (λ c. VmcAckStep facts c reply choice)
+ReaderStep unit facts (acts.Break length) choice =
     λ before after gains. (after ≡ power_on) × (gains ≡ no_gains)
 -- NAK, RET, repeats and foreign traffic change nothing
-ReaderStep unit facts (acts.Nak command) heard reading = Stays
-ReaderStep unit facts (acts.VmcNak command reply) heard reading = Stays
-ReaderStep unit facts (acts.VmcRet command reply) heard reading = Stays
-ReaderStep unit facts (acts.Repeat command reply) heard reading = Stays
-ReaderStep unit facts acts.Foreign heard reading = Stays
+ReaderStep unit facts (acts.Nak command) choice = Stays
+ReaderStep unit facts (acts.VmcNak command reply) choice = Stays
+ReaderStep unit facts (acts.VmcRet command reply) choice = Stays
+ReaderStep unit facts (acts.Repeat command reply) choice = Stays
+ReaderStep unit facts acts.Foreign choice = Stays

@@ -1,6 +1,5 @@
--- That it matters for ACKs alone whether they were heard, for replies alone how they are read, and
--- that acts of other devices change nothing and tell nothing. This proves laws of the trait
--- `Pair` for the readers.
+-- That acts of other devices change nothing and tell nothing. This proves laws of the trait `Pair`
+-- for the readers.
 use Rattle.std.specs.Prelude.{◌≡◌, ◌↔◌, Bool, true, false, ◌||◌, List, [], ◌∷◌, map, Option, Some, None, refl, unwrap_or, if◌then◌else◌}
 use Rattle.std.proofs.Common.{ap, sym, ◌∙◌}
 use Rattle.mdb_msgs.specs.declared.command.Command.{Command}
@@ -13,11 +12,10 @@ use Rattle.mdb_msgs.specs.declared.reply.reader.ReaderMsg.{ReaderMsg}
 use Rattle.mdb_msgs.specs.Commands.{device_of}
 use Rattle.mdb_bus.specs.declared.act.Act.{Act}
 use Rattle.mdb_bus.specs.declared.act.Act.TheVariants as acts
-use Rattle.mdb_bus.specs.Choice.{IsAck}
+use Rattle.mdb_cash.specs.declared.choice.Choice.{Choice}
 use Rattle.mdb_cash.specs.declared.gains.Gains.{Gains}
-use Rattle.mdb_cash.specs.declared.kept.Reading.{Reading}
 use Rattle.mdb_cash.specs.Gains.{no_gains}
-use Rattle.mdb_cash.specs.Pair.{IsActOf, IsReply}
+use Rattle.mdb_cash.specs.Pair.{IsActOf}
 use Rattle.mdb_cashless.specs.declared.reader.state.ReaderState.{ReaderState}
 use Rattle.mdb_cashless.specs.Reader.{ForOwn, ReaderStep}
 use Rattle.mdb_cash.specs.declared.past.Effect.TheVariants as effects
@@ -28,38 +26,6 @@ use Rattle.mdb_cashless.specs.declared.reader.transaction.Transaction.{Transacti
 use Rattle.mdb_cashless.specs.ReaderFacts.{Facts, amount_by, asked_by, config_by, effect_of, effect_of_own, facts_of, last_taken, messages_by, own_of, own_transaction, parts_by, transaction_taken_by}
 use Rattle.mdb_cashless.specs.ReaderMessages.{amount_in, begin_session, config_in, last_said, messages_of, part_of}
 use Rattle.mdb_cashless.specs.Units.{device_of_unit, own}
-
-pub hearing : (unit : ReaderUnit) (facts : Facts) (act : Act) (one other : Bool)
-    (reading : Reading) (before after : ReaderState) (gains : Gains) → (IsAck act → ⊥)
-    → ReaderStep unit facts act one reading before after gains
-    → ReaderStep unit facts act other reading before after gains
-hearing unit facts (acts.Ask c) one other reading before after gains kind step = step
-hearing unit facts (acts.Ack c) one other reading before after gains kind step = absurd (kind tt)
-hearing unit facts (acts.Nak c) one other reading before after gains kind step = step
-hearing unit facts (acts.Reply c r) one other reading before after gains kind step = step
-hearing unit facts (acts.VmcAck c r) one other reading before after gains kind step =
-    absurd (kind tt)
-hearing unit facts (acts.VmcNak c r) one other reading before after gains kind step = step
-hearing unit facts (acts.VmcRet c r) one other reading before after gains kind step = step
-hearing unit facts (acts.Repeat c r) one other reading before after gains kind step = step
-hearing unit facts acts.Foreign one other reading before after gains kind step = step
-hearing unit facts (acts.Break n) one other reading before after gains kind step = step
-
-pub readings : (unit : ReaderUnit) (facts : Facts) (act : Act) (heard : Bool)
-    (one other : Reading) (before after : ReaderState) (gains : Gains) → (IsReply act → ⊥)
-    → ReaderStep unit facts act heard one before after gains
-    → ReaderStep unit facts act heard other before after gains
-readings unit facts (acts.Ask c) heard one other before after gains kind step = step
-readings unit facts (acts.Ack c) heard one other before after gains kind step = step
-readings unit facts (acts.Nak c) heard one other before after gains kind step = step
-readings unit facts (acts.Reply c r) heard one other before after gains kind step =
-    absurd (kind tt)
-readings unit facts (acts.VmcAck c r) heard one other before after gains kind step = step
-readings unit facts (acts.VmcNak c r) heard one other before after gains kind step = step
-readings unit facts (acts.VmcRet c r) heard one other before after gains kind step = step
-readings unit facts (acts.Repeat c r) heard one other before after gains kind step = step
-readings unit facts acts.Foreign heard one other before after gains kind step = step
-readings unit facts (acts.Break n) heard one other before after gains kind step = step
 
 -- a command to another device is none to this reader
 no_own : (unit : ReaderUnit) (command : Command)
@@ -81,30 +47,30 @@ still : (own_command : Option ReaderCommand)
 still None Step before after gains none = (λ step. step, λ step. step)
 still (Some c) Step before after gains none = absurd cc
 
-pub elsewhere : (unit : ReaderUnit) (facts : Facts) (act : Act) (heard : Bool)
-    (reading : Reading) (before after : ReaderState) (gains : Gains)
+pub elsewhere : (unit : ReaderUnit) (facts : Facts) (act : Act) (choice : Choice)
+    (before after : ReaderState) (gains : Gains)
     → (IsActOf (device_of_unit unit) act → ⊥)
-    → ReaderStep unit facts act heard reading before after gains
+    → ReaderStep unit facts act choice before after gains
     ↔ (after ≡ before) × (gains ≡ no_gains)
-elsewhere unit facts (acts.Ask c) heard reading before after gains other =
+elsewhere unit facts (acts.Ask c) choice before after gains other =
     still (own unit c) _ before after gains (no_own unit c other)
-elsewhere unit facts (acts.Ack c) heard reading before after gains other =
+elsewhere unit facts (acts.Ack c) choice before after gains other =
     still (own unit c) _ before after gains (no_own unit c other)
-elsewhere unit facts (acts.Reply c r) heard reading before after gains other =
+elsewhere unit facts (acts.Reply c r) choice before after gains other =
     still (own unit c) _ before after gains (no_own unit c other)
-elsewhere unit facts (acts.VmcAck c r) heard reading before after gains other =
+elsewhere unit facts (acts.VmcAck c r) choice before after gains other =
     still (own unit c) _ before after gains (no_own unit c other)
-elsewhere unit facts (acts.Nak c) heard reading before after gains other =
+elsewhere unit facts (acts.Nak c) choice before after gains other =
     (λ step. step, λ step. step)
-elsewhere unit facts (acts.VmcNak c r) heard reading before after gains other =
+elsewhere unit facts (acts.VmcNak c r) choice before after gains other =
     (λ step. step, λ step. step)
-elsewhere unit facts (acts.VmcRet c r) heard reading before after gains other =
+elsewhere unit facts (acts.VmcRet c r) choice before after gains other =
     (λ step. step, λ step. step)
-elsewhere unit facts (acts.Repeat c r) heard reading before after gains other =
+elsewhere unit facts (acts.Repeat c r) choice before after gains other =
     (λ step. step, λ step. step)
-elsewhere unit facts acts.Foreign heard reading before after gains other =
+elsewhere unit facts acts.Foreign choice before after gains other =
     (λ step. step, λ step. step)
-elsewhere unit facts (acts.Break n) heard reading before after gains other = absurd (other tt)
+elsewhere unit facts (acts.Break n) choice before after gains other = absurd (other tt)
 
 -- the facts behind one act more, by what that act is to the reader
 abbrev known_more : ReaderUnit → List Act → List ReaderMsg → Option Transaction

@@ -1,6 +1,6 @@
 //! Laws of the readers' machine. Each function's contract is the law.
 
-ghost use Rattle.std.specs.Prelude.{◌≡◌, ◌↔◌, ℕ, Bool, true, List, ◌∷◌, Some, None};
+ghost use Rattle.std.specs.Prelude.{◌≡◌, ◌↔◌, ℕ, true, List, ◌∷◌, Some, None};
 ghost use Rattle.mdb_msgs.specs.declared.command.Command.{Command};
 ghost use Rattle.mdb_msgs.specs.declared.command.Command.TheVariants as commands;
 ghost use Rattle.mdb_msgs.specs.declared.command.ReaderCommand.{ReaderCommand};
@@ -9,8 +9,8 @@ ghost use Rattle.mdb_msgs.specs.declared.command.ReaderUnit.{ReaderUnit};
 ghost use Rattle.mdb_msgs.specs.declared.command.ReaderUnit.TheVariants.{First, Second};
 ghost use Rattle.mdb_bus.specs.declared.act.Act.{Act};
 ghost use Rattle.mdb_bus.specs.declared.act.Act.TheVariants as acts;
+ghost use Rattle.mdb_cash.specs.declared.choice.Choice.{Choice};
 ghost use Rattle.mdb_cash.specs.declared.gains.Gains.{Gains};
-ghost use Rattle.mdb_cash.specs.declared.kept.Reading.{Reading};
 ghost use Rattle.mdb_cashless.specs.declared.reader.state.ReaderState.{ReaderState};
 ghost use Rattle.mdb_cashless.specs.declared.reader.transaction.Transaction.{Transaction};
 ghost use Rattle.mdb_cashless.specs.Reader.{ReaderStep};
@@ -41,10 +41,10 @@ pub fn commands_are_to_one_reader()
 /// What the controller's view tells of the sale under way stays true with each step, where the
 /// controller acknowledges no reply but the last.
 pub fn views_tell_of_the_sale()
-    ensures { (unit : ReaderUnit) (so_far : List Act) (act : Act) (heard : Bool)
-        (reading : Reading) (before after : ReaderState) (gains : Gains)
+    ensures { (unit : ReaderUnit) (so_far : List Act) (act : Act) (choice : Choice)
+        (before after : ReaderState) (gains : Gains)
         → AcksLastReply act so_far → TellsOfSale unit before.view so_far
-        → ReaderStep unit (facts_of unit so_far) act heard reading before after gains
+        → ReaderStep unit (facts_of unit so_far) act choice before after gains
         → TellsOfSale unit after.view (act ∷ so_far) }
 {
     transactions_with_the_same_fields_are_the_same();
@@ -52,11 +52,11 @@ pub fn views_tell_of_the_sale()
 
 /// The controller asks VEND SUCCESS only for a sale that the acts before it approve.
 pub fn views_allow_approved_sales_alone()
-    ensures { (unit : ReaderUnit) (so_far : List Act) (item : ℕ) (heard : Bool)
-        (reading : Reading) (before after : ReaderState) (gains : Gains)
+    ensures { (unit : ReaderUnit) (so_far : List Act) (item : ℕ) (choice : Choice)
+        (before after : ReaderState) (gains : Gains)
         → TellsOfSale unit before.view so_far
         → ReaderStep unit (facts_of unit so_far)
-        (acts.Ask (commands.Reader unit (readers.VendSuccess item))) heard reading before after
+        (acts.Ask (commands.Reader unit (readers.VendSuccess item))) choice before after
         gains → IsApproved unit item so_far }
 {
     transactions_with_the_same_fields_are_the_same();

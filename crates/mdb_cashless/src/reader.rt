@@ -23,10 +23,10 @@ pub(crate) mod view;
 
 use facts::ReaderFacts;
 use mdb_bus::Act;
-use mdb_cash::{Gains, Pair, Reading};
+use mdb_cash::{Choice, Gains, Pair};
 use mdb_msgs::Device;
 use state::ReaderState;
-use steps::{concerns, heeds_mark, rests, step};
+use steps::{concerns, heeds_choice, rests, step};
 use unit::{device_of, unit_of};
 
 /// A cashless reader and the controller's dealings with it (MDB/ICP 4.3, cashless device). `UNIT`
@@ -85,8 +85,8 @@ impl<const UNIT: usize> Pair for Reader<UNIT> {
     }
 
     #[inline(always)]
-    fn heeds_mark(act: &Act, state: ReaderState) -> bool {
-        heeds_mark(act, state)
+    fn heeds_choice(act: &Act, state: ReaderState) -> bool {
+        heeds_choice(act, state)
     }
 
     fn code(state: ReaderState) -> usize {
@@ -100,11 +100,10 @@ impl<const UNIT: usize> Pair for Reader<UNIT> {
     fn outcome(
         facts: &ReaderFacts,
         act: &Act,
-        heard: bool,
-        reading: Reading,
+        choice: Choice,
         before: ReaderState,
     ) -> Option<(ReaderState, Gains)> {
-        step(unit_of(UNIT), facts, act, heard, reading, before)
+        step(unit_of(UNIT), facts, act, choice, before)
     }
 
     ghost apart = { codes.apart };
@@ -112,12 +111,6 @@ impl<const UNIT: usize> Pair for Reader<UNIT> {
     ghost below = { codes.below };
 
     ghost whole = { codes.whole };
-
-    ghost hearing = { λ acts. ways.hearing (units.unit_of UNIT)
-        (facts_of (units.unit_of UNIT) acts) };
-
-    ghost readings = { λ acts. ways.readings (units.unit_of UNIT)
-        (facts_of (units.unit_of UNIT) acts) };
 
     ghost elsewhere = { λ acts. ways.elsewhere (units.unit_of UNIT)
         (facts_of (units.unit_of UNIT) acts) };

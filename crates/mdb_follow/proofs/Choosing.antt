@@ -1,25 +1,25 @@
--- Choices: whether each act was heard, and how it is read. Ways of machines, each with choices of its
--- own, are ways with one list of choices.
-use Rattle.std.proofs.Common.{sym, ap, ◌≡◌, Bool, List, [], ◌∷◌}
+-- How each act is taken. Ways of machines, each with choices of its own, are ways with one list of
+-- choices.
+use Rattle.std.proofs.Common.{◌≡◌, List, [], ◌∷◌}
 use Rattle.mdb_msgs.specs.declared.command.Device.{Device}
 use Rattle.mdb_bus.specs.declared.act.Act.{Act}
-use Rattle.mdb_bus.specs.Choice.{IsAck}
+use Rattle.mdb_cash.specs.declared.choice.Choice.{Choice}
 use Rattle.mdb_cash.specs.declared.gains.Gains.{Gains}
-use Rattle.mdb_cash.specs.declared.kept.Reading.{Reading}
-use Rattle.mdb_cash.specs.Pair.{IsActOf, IsReply}
+use Rattle.mdb_cash.specs.Choices.{CanStand}
+use Rattle.mdb_cash.specs.Pair.{IsActOf}
 use Rattle.mdb_follow.specs.Arrivals.{Arrives}
 use Rattle.mdb_follow.specs.Sums.{Sums, added, no_sums}
-use Rattle.mdb_follow.proofs.Machines.{IsMachineOf, Steps, step_as, whose, whose_ack, whose_reply}
+use Rattle.mdb_follow.proofs.Machines.{IsMachineOf, Steps, elsewhere_as, same_choice, whose}
 
--- for each act of a list whether it was heard, and how it is read
-pub record ChoicesBy (Before : Type 0) : Type 0 where
-  pub heard : Bool
-  pub reading : Reading
+-- for each act of a list a choice that can stand on it
+pub record ChoicesBy (act : Act) (Before : Type 0) : Type 0 where
+  pub choice : Choice
+  pub stands : CanStand act choice
   pub before : Before
 
 abbrev pub Choices : List Act → Type 0
 Choices [] = Unit {0}
-Choices (act ∷ acts) = ChoicesBy (Choices acts)
+Choices (act ∷ acts) = ChoicesBy act (Choices acts)
 
 -- a way with these choices
 pub record FollowsBy {State : Type 0} (Before : State → Sums → Type 0)
@@ -35,8 +35,7 @@ abbrev pub Follows : {State : Type 0} → Steps State → State → (acts : List
     → State → Sums → Type 0
 Follows Step first [] choices state sums = (state ≡ first) × (sums ≡ no_sums)
 Follows Step first (act ∷ acts) choices state sums =
-    FollowsBy (Follows Step first acts choices.before)
-    (Step acts act choices.heard choices.reading) state sums
+    FollowsBy (Follows Step first acts choices.before) (Step acts act choices.choice) state sums
 
 -- each way is one with its choices
 pub chosen : {State : Type 0} (Step : Steps State) (first : State) (acts : List Act)
@@ -45,7 +44,7 @@ pub chosen : {State : Type 0} (Step : Steps State) (first : State) (acts : List 
 chosen Step first [] state sums way = (tt, way)
 chosen Step first (act ∷ acts) state sums way =
     let earlier = chosen Step first acts way.before way.sums_before way.way in (
-      record { heard = way.heard; reading = way.reading; before = earlier.0 },
+      record { choice = way.choice; stands = way.stands; before = earlier.0 },
       record {
         before = way.before;
         sums_before = way.sums_before;
@@ -60,8 +59,7 @@ chosen Step first (act ∷ acts) state sums way =
 abbrev pub AgreeFor : Device → (acts : List Act) → Choices acts → Choices acts → Type 0
 AgreeFor device [] one other = Unit {0}
 AgreeFor device (act ∷ acts) one other =
-    (IsActOf device act
-    → (IsAck act → one.heard ≡ other.heard) × (IsReply act → one.reading ≡ other.reading))
+    (IsActOf device act → one.choice ≡ other.choice)
     × AgreeFor device acts one.before other.before
 
 -- then its ways with the one are ways with the other
@@ -77,8 +75,8 @@ follows_as {device} {State} {Step} machine first (act ∷ acts) one other same s
       gains = way.gains;
       way = follows_as machine first acts one.before other.before same.1
           way.before way.sums_before way.way;
-      step = step_as machine acts act one.heard other.heard one.reading
-          other.reading same.0 way.before state way.gains way.step;
+      step = elsewhere_as machine acts act one.choice other.choice same.0 way.before state
+          way.gains way.step;
       adds = way.adds;
     }
 
@@ -86,8 +84,8 @@ follows_as {device} {State} {Step} machine first (act ∷ acts) one other same s
 abbrev pub merged : (acts : List Act) → (Device → Choices acts) → Choices acts
 merged [] all = tt
 merged (act ∷ acts) all = record {
-  heard = (all (whose act)).heard;
-  reading = (all (whose act)).reading;
+  choice = (all (whose act)).choice;
+  stands = (all (whose act)).stands;
   before = merged acts (λ device. (all device).before);
 }
 
@@ -95,9 +93,6 @@ pub merged_agrees : (acts : List Act) (all : Device → Choices acts) (device : 
     → AgreeFor device acts (all device) (merged acts all)
 merged_agrees [] all device = tt
 merged_agrees (act ∷ acts) all device = (
-  (λ own. (
-    (λ ack. ap (λ d. (all d).heard) (sym (whose_ack device act own ack))),
-    (λ reply. ap (λ d. (all d).reading) (sym (whose_reply device act own reply))),
-  )),
+  same_choice device act (λ d. (all d).choice) (λ d. (all d).stands),
   merged_agrees acts (λ d. (all d).before) device,
 )

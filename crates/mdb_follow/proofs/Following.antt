@@ -134,16 +134,16 @@ stuck : (rule : Rule) (act : Act) (before : List Act) → NoStep rule act before
     → (states : States) (sums : AllSums) → EachArrives (act ∷ before) states sums → ⊥
 stuck rule act before (ByChanger none) states sums ways =
     let way = ways.changer in
-    none way.before way.sums_before way.way way.heard way.reading states.changer way.gains way.step
+    none way.before way.sums_before way.way way.choice way.stands states.changer way.gains way.step
 stuck rule act before (ByBill none) states sums ways =
     let way = ways.bill in
-    none way.before way.sums_before way.way way.heard way.reading states.bill way.gains way.step
+    none way.before way.sums_before way.way way.choice way.stands states.bill way.gains way.step
 stuck rule act before (ByReader First none) states sums ways =
     let way = ways.cashless in
-    none way.before way.sums_before way.way way.heard way.reading states.cashless way.gains way.step
+    none way.before way.sums_before way.way way.choice way.stands states.cashless way.gains way.step
 stuck rule act before (ByReader Second none) states sums ways =
     let way = ways.cashless2 in
-    none way.before way.sums_before way.way way.heard way.reading states.cashless2 way.gains
+    none way.before way.sums_before way.way way.choice way.stands states.cashless2 way.gains
     way.step
 
 -- and rows with such acts aren't reached

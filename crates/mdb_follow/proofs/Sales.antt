@@ -1,5 +1,5 @@
 -- That each sale in a run follows its approval.
-use Rattle.std.proofs.Common.{sym, ap, subst, ◌≡◌, ◌⊎◌, inl, inr, ℕ, Bool, List, [], ◌∷◌, ◌++◌}
+use Rattle.std.proofs.Common.{sym, ap, subst, ◌≡◌, ◌⊎◌, inl, inr, ℕ, List, [], ◌∷◌, ◌++◌}
 use Rattle.std.proofs.lemmas.List.Elements.{All-cons, All-nil}
 use Rattle.mdb_words.specs.declared.event.Event.{Event}
 use Rattle.mdb_msgs.specs.declared.command.Command.{Command}
@@ -12,7 +12,7 @@ use Rattle.mdb_bus.specs.declared.act.Act.{Act}
 use Rattle.mdb_bus.specs.declared.act.Act.TheVariants as acts
 use Rattle.mdb_bus.specs.ActLists.{ArePieces, Piece, Position, Whole, AskTail, ReplyTail, RepeatTail, Replied, Returned, acts_of, position_of}
 use Rattle.mdb_cash.specs.declared.gains.Gains.{Gains}
-use Rattle.mdb_cash.specs.declared.kept.Reading.{Reading}
+use Rattle.mdb_cash.specs.declared.choice.Choice.{Choice}
 use Rattle.mdb_cashless.specs.declared.reader.state.ReaderState.{ReaderState}
 use Rattle.mdb_cashless.specs.Reader.{ReaderStep}
 use Rattle.mdb_cashless.specs.ReaderFacts.{facts_of}
@@ -104,10 +104,10 @@ acks_fit (RepeatTail c r words events ∷ pieces) are = acks_fit pieces are.2
 
 -- the laws of the views
 pub record ViewLaws : Type 0 where
-  pub tells : (unit : ReaderUnit) (so_far : List Act) (act : Act) (heard : Bool) (reading : Reading) (before after : ReaderState) (gains : Gains) → AcksLastReply act so_far → TellsOfSale unit before.view so_far
-      → ReaderStep unit (facts_of unit so_far) act heard reading before after gains → TellsOfSale unit after.view (act ∷ so_far)
-  pub approved : (unit : ReaderUnit) (so_far : List Act) (item : ℕ) (heard : Bool) (reading : Reading) (before after : ReaderState) (gains : Gains) → TellsOfSale unit before.view so_far
-      → ReaderStep unit (facts_of unit so_far) (acts.Ask (commands.Reader unit (readers.VendSuccess item))) heard reading before after gains → IsApproved unit item so_far
+  pub tells : (unit : ReaderUnit) (so_far : List Act) (act : Act) (choice : Choice) (before after : ReaderState) (gains : Gains) → AcksLastReply act so_far → TellsOfSale unit before.view so_far
+      → ReaderStep unit (facts_of unit so_far) act choice before after gains → TellsOfSale unit after.view (act ∷ so_far)
+  pub approved : (unit : ReaderUnit) (so_far : List Act) (item : ℕ) (choice : Choice) (before after : ReaderState) (gains : Gains) → TellsOfSale unit before.view so_far
+      → ReaderStep unit (facts_of unit so_far) (acts.Ask (commands.Reader unit (readers.VendSuccess item))) choice before after gains → IsApproved unit item so_far
 
 -- before the first act there is no sale
 none_sold : (unit : ReaderUnit) (item : ℕ) (later before : List Act) → [] ≡ later ++ (acts.Ask (commands.Reader unit (readers.VendSuccess item)) ∷ before) → IsApproved unit item before
@@ -130,10 +130,10 @@ all_sold laws unit [] state sums fit way = (
 )
 all_sold laws unit (act ∷ so_far) state sums fit way =
     let earlier = all_sold laws unit so_far way.before way.sums_before fit.1 way.way in (
-      laws.tells unit so_far act way.heard way.reading way.before state way.gains fit.0 earlier.0 way.step,
+      laws.tells unit so_far act way.choice way.before state way.gains fit.0 earlier.0 way.step,
       one_more unit act so_far
-          (λ item is. laws.approved unit so_far item way.heard way.reading way.before state way.gains earlier.0
-          (subst (λ (a : Act). ReaderStep unit (facts_of unit so_far) a way.heard way.reading way.before state way.gains) is way.step))
+          (λ item is. laws.approved unit so_far item way.choice way.before state way.gains earlier.0
+          (subst (λ (a : Act). ReaderStep unit (facts_of unit so_far) a way.choice way.before state way.gains) is way.step))
           earlier.1,
     )
 

@@ -1,5 +1,5 @@
 -- A side goes on by an act in which its device has no part.
-use Rattle.std.proofs.Common.{◌≡◌, ◌↔◌, ◌+◌, ◌^◌, ℕ, Bool, List, ◌∷◌, arith, subst, sym, Ok, Err, Result}
+use Rattle.std.proofs.Common.{◌≡◌, ◌↔◌, ◌+◌, ◌^◌, ℕ, List, ◌∷◌, arith, subst, sym, Ok, Err, Result}
 use Rattle.std.specs.Prelude.{IfErr, OnErr}
 use Rattle.mdb_msgs.specs.declared.command.Device.{Device}
 use Rattle.mdb_msgs.specs.declared.command.Device.TheVariants as devices
@@ -10,7 +10,7 @@ use Rattle.mdb_bus.specs.declared.fault.Rule.{Rule}
 use Rattle.mdb_cash.specs.declared.bill.facts.BillFacts.{BillFacts}
 use Rattle.mdb_cash.specs.declared.changer.facts.ChangerFacts.{ChangerFacts}
 use Rattle.mdb_cash.specs.declared.gains.Gains.{Gains}
-use Rattle.mdb_cash.specs.declared.kept.Reading.{Reading}
+use Rattle.mdb_cash.specs.declared.choice.Choice.{Choice}
 use Rattle.mdb_cash.specs.BillFacts as bill_facts
 use Rattle.mdb_cash.specs.BillValues as bill_values
 use Rattle.mdb_cash.specs.BillWays as bill_ways
@@ -33,11 +33,11 @@ use Rattle.mdb_follow.proofs.Limits.{table-within-weaker}
 use Rattle.mdb_follow.proofs.Ways.{table-same}
 
 side-still : {Facts State : Type 0} {N : ℕ} (stands_for : Facts → List Act → Type 0)
-    (code_of : State → ℕ) (Step : List Act → Act → Bool → Reading → State → State → Gains → Type 0)
+    (code_of : State → ℕ) (Step : List Act → Act → Choice → State → State → Gains → Type 0)
     (first : State) (side : Side Facts N) (act : Act) (acts : List Act)
     → (stands_for side.facts acts → stands_for side.facts (act ∷ acts))
-    → ((acts : List Act) (heard : Bool) (reading : Reading) (before after : State) (gains : Gains)
-    → Step acts act heard reading before after gains ↔ (after ≡ before) × (gains ≡ no_gains))
+    → ((acts : List Act) (choice : Choice) (before after : State) (gains : Gains)
+    → Step acts act choice before after gains ↔ (after ≡ before) × (gains ≡ no_gains))
     → IsSide stands_for code_of Step first side acts
     → IsSide stands_for code_of Step first side (act ∷ acts)
 side-still stands_for code_of Step first side act acts unmoved elsewhere on = record {
@@ -50,16 +50,16 @@ pub changer-still : {N : ℕ} (side : Side ChangerFacts N) (act : Act) (acts : L
 changer-still side act acts other =
     side-still _ _ _ _ side act acts
     (changer_ways.unmoved (changer_values.facts_in side.facts) acts act other)
-    (λ acts heard reading before after gains.
-    changer_ways.elsewhere (changer_facts.facts_of acts) act heard reading before after gains other)
+    (λ acts choice before after gains.
+    changer_ways.elsewhere (changer_facts.facts_of acts) act choice before after gains other)
 
 pub bill-still : {N : ℕ} (side : Side BillFacts N) (act : Act) (acts : List Act)
     → (IsActOf devices.Bill act → ⊥) → IsBillSide side acts → IsBillSide side (act ∷ acts)
 bill-still side act acts other =
     side-still _ _ _ _ side act acts
     (bill_ways.unmoved (bill_values.facts_in side.facts) acts act other)
-    (λ acts heard reading before after gains.
-    bill_ways.elsewhere (bill_facts.facts_of acts) act heard reading before after gains other)
+    (λ acts choice before after gains.
+    bill_ways.elsewhere (bill_facts.facts_of acts) act choice before after gains other)
 
 pub reader-still : {N : ℕ} (unit : ReaderUnit) (side : Side ReaderFacts N) (act : Act)
     (acts : List Act) → (IsActOf (device_of_unit unit) act → ⊥)
@@ -67,8 +67,8 @@ pub reader-still : {N : ℕ} (unit : ReaderUnit) (side : Side ReaderFacts N) (ac
 reader-still unit side act acts other =
     side-still _ _ _ _ side act acts
     (reader_ways.unmoved unit (reader_values.facts_in side.facts) acts act other)
-    (λ acts heard reading before after gains.
-    reader_ways.elsewhere unit (reader_facts.facts_of unit acts) act heard reading before after gains
+    (λ acts choice before after gains.
+    reader_ways.elsewhere unit (reader_facts.facts_of unit acts) act choice before after gains
     other)
 
 weaker : (limit : ℕ) (entries : List (ℕ × Cell)) → IsTableWithin limit entries

@@ -1,15 +1,16 @@
 -- The moves that two steps are.
-use Rattle.std.proofs.Common.{◌≡◌, ◌⊎◌, inl, inr, ℕ, Bool, true, false, ◌∙◌, sym, ap, subst, List, [], ◌∷◌, ◌++◌, Option, Some, None}
+use Rattle.std.proofs.Common.{◌≡◌, ◌⊎◌, inl, inr, ℕ, ◌∙◌, sym, ap, subst, List, [], ◌∷◌, ◌++◌, Option, Some, None}
 use Rattle.std.specs.Prelude.{Contains, ◌↔◌}
 use Rattle.std.proofs.lemmas.List.Elements.{Contains-append_cases, Contains-append_left, Contains-append_right}
 use Rattle.std.proofs.lemmas.Option.{none-some, same_Some}
 use Rattle.mdb_msgs.specs.declared.command.Device.{Device}
 use Rattle.mdb_bus.specs.declared.act.Act.{Act}
+use Rattle.mdb_cash.specs.declared.choice.Choice.{Choice}
+use Rattle.mdb_cash.specs.declared.choice.Choice.TheVariants.{Plain}
 use Rattle.mdb_cash.specs.declared.gains.Gains.{Gains}
-use Rattle.mdb_cash.specs.declared.kept.Reading.{Reading}
-use Rattle.mdb_cash.specs.declared.kept.Reading.TheVariants.{Plain, Restart}
-use Rattle.mdb_cash.specs.Pair.{IsMarkedStep, IsMove}
-use Rattle.mdb_cash.proofs.Ways.{Laws, marked_one, two_ways}
+use Rattle.mdb_cash.specs.Choices.{CanStand}
+use Rattle.mdb_cash.specs.Pair.{IsChosenStep, IsMove, IsOtherMove, IsStep}
+use Rattle.mdb_cash.proofs.Ways.{plain_or_not}
 use Rattle.mdb_follow.specs.declared.cell.Cell.{Cell}
 use Rattle.mdb_follow.specs.Entries.{AreMoves, LeadTo, moves_of, with_moves}
 use Rattle.mdb_follow.proofs.Listed.{contains-cases, contains-here, contains-none}
@@ -90,74 +91,59 @@ lead-both cell one other move second after is so made =
     (subst (λ o. LeadTo cell (Some move) o after) (sym so)
     (move ∷ second ∷ [], two-moves (Some move) (Some second), made))
 
--- the moves by an act: its step without a mark, and that with a mark where that isn't one without
--- a mark too
-pub either-moves : {State : Type 0} (device : Device) (code_of : State → ℕ)
-    (Step : Bool → Reading → State → State → Gains → Type 0) (act : Act) (laws : Laws act Step)
-    (code : ℕ) (plain marked : Option (ℕ × Gains)) (moves : List (ℕ × Gains))
+-- the moves by an act: its plain step, and that by its other choice where that isn't a plain one too
+pub either-moves : {State : Type 0} (device : Device) (act : Act) (code_of : State → ℕ)
+    (Step : Choice → State → State → Gains → Type 0) (code : ℕ)
+    (plain other : Option (ℕ × Gains)) (moves : List (ℕ × Gains))
     → ((next : ℕ) (gains : Gains) → (plain ≡ Some (next, gains))
-    ↔ IsMarkedStep device act code_of Step false code next gains)
-    → ((next : ℕ) (gains : Gains) → marked ≡ Some (next, gains)
-    → IsMarkedStep device act code_of Step true code next gains)
-    → ((next : ℕ) (gains : Gains) → IsMarkedStep device act code_of Step true code next gains
-    → (marked ≡ Some (next, gains)) ⊎ IsMarkedStep device act code_of Step false code next gains)
-    → AreMoves moves plain marked
+    ↔ IsChosenStep device act code_of Step Plain code next gains)
+    → ((next : ℕ) (gains : Gains) → other ≡ Some (next, gains)
+    → IsMove act code_of Step code next gains)
+    → ((next : ℕ) (gains : Gains) → IsMove act code_of Step code next gains
+    → (other ≡ Some (next, gains)) ⊎ IsStep code_of (Step Plain) code next gains)
+    → AreMoves moves plain other
     → (next : ℕ) (gains : Gains) → Contains moves (next, gains)
-    ↔ IsMove code_of Step code next gains
-either-moves device code_of Step act laws code plain marked moves plain_is sound whole lists next gains = (
+    ↔ IsMove act code_of Step code next gains
+either-moves device act code_of Step code plain other moves plain_is sound whole lists next gains = (
   λ among. elim ((lists (next, gains)).0 among) [
-    | inl is ↦ (true, Plain, ((plain_is next gains).0 is).1)
-    | inr is ↦ (false, Restart, (sound next gains is).1)
+    | inl is ↦ (Plain, tt, ((plain_is next gains).0 is).1)
+    | inr is ↦ sound next gains is
   ],
-  λ move.
-      let by = move.2 in
-      (lists (next, gains)).1
-      (elim (two_ways act laws move.0 move.1 by.before by.after gains by.step) [
-        | inl step ↦ inl ((plain_is next gains).1 (
-          λ no. absurd cc,
-          record {
-            before = by.before;
-            after = by.after;
-            starts = by.starts;
-            ends = by.ends;
-            step = step;
-          },
-        ))
-        | inr marked ↦
-            elim (whole next gains (
-              λ _. marked_one device act marked.0,
-              record {
-                before = by.before;
-                after = by.after;
-                starts = by.starts;
-                ends = by.ends;
-                step = marked.1;
-              },
-            )) [
-              | inl is ↦ inr is
-              | inr other ↦ inl ((plain_is next gains).1 other)
-            ]
-      ]),
+  λ move. (lists (next, gains)).1 (elim (whole next gains move) [
+    | inl is ↦ inr is
+    | inr step ↦ inl ((plain_is next gains).1 (inl tt, step))
+  ]),
 )
 
--- a step with a mark is one without a mark too, where a mark leads nowhere else
-pub unmarked : {State : Type 0} (device : Device) (act : Act) (code_of : State → ℕ)
-    (Step : Bool → Reading → State → State → Gains → Type 0) (code : ℕ) (state : State)
+-- a move is the step by the other choice, or a plain one
+pub other-or-plain : {State : Type 0} (act : Act) (code_of : State → ℕ)
+    (Step : Choice → State → State → Gains → Type 0) (code : ℕ) (other : Option (ℕ × Gains))
+    (next : ℕ) (gains : Gains)
+    → (other ≡ Some (next, gains)) ↔ IsOtherMove act code_of Step code next gains
+    → IsMove act code_of Step code next gains
+    → (other ≡ Some (next, gains)) ⊎ IsStep code_of (Step Plain) code next gains
+other-or-plain act code_of Step code other next gains is move =
+    elim (plain_or_not move.0) [
+      | inl same ↦ inr (subst (λ c. IsStep code_of (Step c) code next gains) same move.2)
+      | inr not ↦ inl (is.1 (move.0, move.1, not, move.2))
+    ]
+
+-- where it is of no matter how an act is taken, each move is a plain step
+pub unheeded : {State : Type 0} (act : Act) (code_of : State → ℕ)
+    (Step : Choice → State → State → Gains → Type 0) (code : ℕ) (state : State)
     → ((one other : State) → code_of one ≡ code_of other → one ≡ other) → code_of state ≡ code
-    → ((after : State) (gains : Gains) → Step false Restart state after gains
-    → Step true Plain state after gains)
-    → (next : ℕ) (gains : Gains) → IsMarkedStep device act code_of Step true code next gains
-    → IsMarkedStep device act code_of Step false code next gains
-unmarked device act code_of Step code state apart its unheeded next gains marked =
-    let step = marked.1 in
-    let same : step.before ≡ state = apart step.before state (step.starts ∙ sym its) in (
-      λ no. absurd cc,
-      record {
-        before = state;
-        after = step.after;
-        starts = its;
-        ends = step.ends;
-        step = unheeded step.after gains
-            (subst (λ s. Step false Restart s step.after gains) same step.step);
-      },
-    )
+    → ((choice : Choice) (after : State) (gains : Gains) → CanStand act choice
+    → Step choice state after gains → Step Plain state after gains)
+    → (next : ℕ) (gains : Gains) → IsMove act code_of Step code next gains
+    → IsStep code_of (Step Plain) code next gains
+unheeded act code_of Step code state apart its matters_not next gains move =
+    let step = move.2 in
+    let same : step.before ≡ state = apart step.before state (step.starts ∙ sym its) in
+    record {
+      before = state;
+      after = step.after;
+      starts = its;
+      ends = step.ends;
+      step = matters_not move.0 step.after gains move.1
+          (subst (λ s. Step move.0 s step.after gains) same step.step);
+    }

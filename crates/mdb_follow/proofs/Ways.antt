@@ -1,10 +1,10 @@
 -- Ways through one act more.
-use Rattle.std.proofs.Common.{◌<◌, ◌+◌, length, take, ◌≡◌, ◌⊎◌, inl, inr, ℕ, refl, sym, ◌∙◌, ap, subst, add-zero, Bool, true, List, [], ◌∷◌}
+use Rattle.std.proofs.Common.{◌<◌, ◌+◌, length, take, ◌≡◌, ◌⊎◌, inl, inr, ℕ, refl, sym, ◌∙◌, ap, subst, add-zero, List, [], ◌∷◌}
 use Rattle.std.specs.Prelude.{All, Contains, slice_index_or, ◌↔◌}
 use Rattle.mdb_bus.specs.declared.act.Act.{Act}
+use Rattle.mdb_cash.specs.declared.choice.Choice.{Choice}
+use Rattle.mdb_cash.specs.declared.choice.Choice.TheVariants.{Plain}
 use Rattle.mdb_cash.specs.declared.gains.Gains.{Gains}
-use Rattle.mdb_cash.specs.declared.kept.Reading.{Reading}
-use Rattle.mdb_cash.specs.declared.kept.Reading.TheVariants.{Plain}
 use Rattle.mdb_cash.specs.Gains.{no_gains}
 use Rattle.mdb_cash.specs.Pair.{IsMove}
 use Rattle.mdb_follow.specs.declared.cell.Cell.{Cell}
@@ -22,12 +22,12 @@ use Rattle.mdb_follow.proofs.Listed.{bounds-same, contains-cases, contains-here,
 
 -- The steps from the entries of a table lead to what arrives behind one act more.
 pub table-led : {State : Type 0} (code_of : State → ℕ)
-    (Step : List Act → Act → Bool → Reading → State → State → Gains → Type 0) (first : State)
+    (Step : List Act → Act → Choice → State → State → Gains → Type 0) (first : State)
     (act : Act) (acts : List Act) (from into : List (ℕ × Cell))
     → ((one other : State) → code_of one ≡ code_of other → one ≡ other)
     → IsTable code_of Step first acts from
     → Bounds (Led (ArrivesAt code_of (Arrives Step first acts))
-    (IsMove code_of (Step acts act)) from) into
+    (IsMove act code_of (Step acts act)) from) into
     → Bounds (ArrivesAt code_of (Arrives Step first (act ∷ acts))) into
 table-led {State} code_of Step first act acts from into apart table led =
     bounds-same _ _ into
@@ -35,8 +35,8 @@ table-led {State} code_of Step first act acts from into apart table led =
       state = l.move.2.after;
       is = l.move.2.ends;
       way = record {
-        heard = l.move.0;
-        reading = l.move.1;
+        choice = l.move.0;
+        stands = l.move.1;
         before = l.move.2.before;
         sums_before = l.moved.before;
         gains = l.gains;
@@ -58,8 +58,8 @@ table-led {State} code_of Step first act acts from into apart table led =
       listed = there.1;
       gains = a.way.gains;
       move = (
-        a.way.heard,
-        a.way.reading,
+        a.way.choice,
+        a.way.stands,
         record {
           before = a.way.before;
           after = a.state;
@@ -77,24 +77,24 @@ no-gains sums = simp add-zero
 
 -- An act that changes nothing wherever a way leads leaves what arrives.
 table-still : {State : Type 0} (code_of : State → ℕ)
-    (Step : List Act → Act → Bool → Reading → State → State → Gains → Type 0) (first : State)
+    (Step : List Act → Act → Choice → State → State → Gains → Type 0) (first : State)
     (act : Act) (acts : List Act) (entries : List (ℕ × Cell))
-    → ((before : State) (sums : Sums) → Arrives Step first acts before sums → (heard : Bool)
-    (reading : Reading) (after : State) (gains : Gains)
-    → Step acts act heard reading before after gains ↔ (after ≡ before) × (gains ≡ no_gains))
+    → ((before : State) (sums : Sums) → Arrives Step first acts before sums → (choice : Choice)
+    (after : State) (gains : Gains)
+    → Step acts act choice before after gains ↔ (after ≡ before) × (gains ≡ no_gains))
     → IsTable code_of Step first acts entries → IsTable code_of Step first (act ∷ acts) entries
 table-still {State} code_of Step first act acts entries steps table = record {
   some = (
     table.some.0,
     table.some.1,
     record {
-      heard = true;
-      reading = Plain;
+      choice = Plain;
+      stands = tt;
       before = table.some.0;
       sums_before = table.some.1;
       gains = no_gains;
       way = table.some.2;
-      step = (steps table.some.0 table.some.1 table.some.2 true Plain table.some.0 no_gains).1
+      step = (steps table.some.0 table.some.1 table.some.2 Plain table.some.0 no_gains).1
           (refl, refl);
       adds = no-gains table.some.1;
     },
@@ -104,18 +104,18 @@ table-still {State} code_of Step first act acts entries steps table = record {
         state = a.state;
         is = a.is;
         way = record {
-          heard = true;
-          reading = Plain;
+          choice = Plain;
+          stands = tt;
           before = a.state;
           sums_before = sums;
           gains = no_gains;
           way = a.way;
-          step = (steps a.state sums a.way true Plain a.state no_gains).1 (refl, refl);
+          step = (steps a.state sums a.way Plain a.state no_gains).1 (refl, refl);
           adds = no-gains sums;
         };
       })
       (λ code sums a.
-      let s = (steps a.way.before a.way.sums_before a.way.way a.way.heard a.way.reading a.state
+      let s = (steps a.way.before a.way.sums_before a.way.way a.way.choice a.state
       a.way.gains).0 a.way.step in
       record {
         state = a.state;
@@ -129,53 +129,53 @@ table-still {State} code_of Step first act acts entries steps table = record {
 
 -- An act that is no matter of the pair is one.
 pub table-same : {State : Type 0} (code_of : State → ℕ)
-    (Step : List Act → Act → Bool → Reading → State → State → Gains → Type 0) (first : State)
+    (Step : List Act → Act → Choice → State → State → Gains → Type 0) (first : State)
     (act : Act) (acts : List Act) (entries : List (ℕ × Cell))
-    → ((acts : List Act) (heard : Bool) (reading : Reading) (before after : State) (gains : Gains)
-    → Step acts act heard reading before after gains ↔ (after ≡ before) × (gains ≡ no_gains))
+    → ((acts : List Act) (choice : Choice) (before after : State) (gains : Gains)
+    → Step acts act choice before after gains ↔ (after ≡ before) × (gains ≡ no_gains))
     → IsTable code_of Step first acts entries → IsTable code_of Step first (act ∷ acts) entries
 table-same code_of Step first act acts entries steps table =
     table-still code_of Step first act acts entries
-    (λ before sums way heard reading after gains. steps acts heard reading before after gains) table
+    (λ before sums way choice after gains. steps acts choice before after gains) table
 
 -- So is an act that leaves the states of all entries.
 pub table-rests : {State : Type 0} (code_of : State → ℕ)
-    (Step : List Act → Act → Bool → Reading → State → State → Gains → Type 0) (first : State)
+    (Step : List Act → Act → Choice → State → State → Gains → Type 0) (first : State)
     (act : Act) (acts : List Act) (entries : List (ℕ × Cell))
     → AllRest code_of Step act entries
     → IsTable code_of Step first acts entries → IsTable code_of Step first (act ∷ acts) entries
 table-rests code_of Step first act acts entries rests table =
     table-still code_of Step first act acts entries
-    (λ before sums way heard reading after gains.
+    (λ before sums way choice after gains.
     let there = table.bounds.whole (code_of before) sums
     (record { state = before; is = refl; way = way }) in
     All-contains (λ (entry : ℕ × Cell). RestsAt code_of Step act entry.0) entries
-    (code_of before, there.0) rests there.1 acts heard reading before after gains refl)
+    (code_of before, there.0) rests there.1 acts choice before after gains refl)
     table
 
 -- One entry more rests.
 pub rests-more : {State : Type 0} (code_of : State → ℕ)
-    (Step : List Act → Act → Bool → Reading → State → State → Gains → Type 0) (act : Act)
+    (Step : List Act → Act → Choice → State → State → Gains → Type 0) (act : Act)
     (entries : List (ℕ × Cell)) (i : ℕ) (d : ℕ × Cell) (state : State) → i < length entries
     → ((one other : State) → code_of one ≡ code_of other → one ≡ other)
     → code_of state ≡ (slice_index_or entries i d).0
-    → ((acts : List Act) (heard : Bool) (reading : Reading) (after : State) (gains : Gains)
-    → Step acts act heard reading state after gains ↔ (after ≡ state) × (gains ≡ no_gains))
+    → ((acts : List Act) (choice : Choice) (after : State) (gains : Gains)
+    → Step acts act choice state after gains ↔ (after ≡ state) × (gains ≡ no_gains))
     → AllRest code_of Step act (take i entries) → AllRest code_of Step act (take (i + 1) entries)
 rests-more {State} code_of Step act entries i d state within apart is here before =
     let Rests : ℕ × Cell → Type 0 = λ entry. RestsAt code_of Step act entry.0 in
     let one : RestsAt code_of Step act (slice_index_or entries i d).0 =
-    λ acts heard reading other after gains same.
-    subst (λ (s : State). Step acts act heard reading s after gains
+    λ acts choice other after gains same.
+    subst (λ (s : State). Step acts act choice s after gains
     ↔ (after ≡ s) × (gains ≡ no_gains)) (apart state other (is ∙ sym same))
-    (here acts heard reading after gains) in
+    (here acts choice after gains) in
     subst (All Rests) (sym (take_more entries i d within))
     (All-append Rests (take i entries) (slice_index_or entries i d ∷ []) before
     (All-cons Rests _ [] one (All-nil Rests)))
 
 -- Where there is no entry, nothing arrives.
 pub nothing-arrives : {State : Type 0} (code_of : State → ℕ)
-    (Step : List Act → Act → Bool → Reading → State → State → Gains → Type 0) (first : State)
+    (Step : List Act → Act → Choice → State → State → Gains → Type 0) (first : State)
     (acts : List Act) (entries : List (ℕ × Cell))
     → Bounds (ArrivesAt code_of (Arrives Step first acts)) entries → entries ≡ []
     → (state : State) (sums : Sums) → Arrives Step first acts state sums → ⊥
@@ -187,7 +187,7 @@ nothing-arrives code_of Step first acts entries bounds none state sums way =
 
 -- Where there is an entry, something arrives.
 pub table-some : {State : Type 0} (code_of : State → ℕ)
-    (Step : List Act → Act → Bool → Reading → State → State → Gains → Type 0) (first : State)
+    (Step : List Act → Act → Choice → State → State → Gains → Type 0) (first : State)
     (acts : List Act) (entries : List (ℕ × Cell))
     → Bounds (ArrivesAt code_of (Arrives Step first acts)) entries → (entries ≡ [] → ⊥)
     → IsTable code_of Step first acts entries
@@ -255,7 +255,7 @@ cells-joined Comes (entry ∷ entries) Kind cell is exact =
 
 -- The join of all entries of a table has what arrives anywhere.
 pub table-joined : {State : Type 0} (code_of : State → ℕ)
-    (Step : List Act → Act → Bool → Reading → State → State → Gains → Type 0) (first : State)
+    (Step : List Act → Act → Choice → State → State → Gains → Type 0) (first : State)
     (acts : List Act) (entries : List (ℕ × Cell)) (result : Cell)
     → ((entry : ℕ × Cell) (rest : List (ℕ × Cell)) → entries ≡ entry ∷ rest
     → result ≡ joined_cells entry.1 rest)

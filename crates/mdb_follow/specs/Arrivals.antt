@@ -1,29 +1,29 @@
 -- The ways through acts: which state of a device and the controller each leads to, and what the
 -- accounts have come to then. The acts stand newest first.
-use Rattle.std.specs.Prelude.{◌≡◌, Bool, List, [], ◌∷◌}
+use Rattle.std.specs.Prelude.{◌≡◌, List, [], ◌∷◌}
 use Rattle.mdb_bus.specs.declared.act.Act.{Act}
+use Rattle.mdb_cash.specs.declared.choice.Choice.{Choice}
 use Rattle.mdb_cash.specs.declared.gains.Gains.{Gains}
-use Rattle.mdb_cash.specs.declared.kept.Reading.{Reading}
+use Rattle.mdb_cash.specs.Choices.{CanStand}
 use Rattle.mdb_follow.specs.Sums.{Sums, added, no_sums}
 
--- One act more: a way through the acts before it leads to a state, and a step by the act, heard or
--- not and in one of its readings, leads on from there and adds its gains.
-pub record ArrivesBy {State : Type 0} (Before : State → Sums → Type 0)
-    (Step : Bool → Reading → State → State → Gains → Type 0) (state : State)
-    (sums : Sums) : Type 0 where
-  pub heard : Bool
-  pub reading : Reading
+-- One act more: a way through the acts before it leads to a state, and a step by the act, taken as
+-- it can be, leads on from there and adds its gains.
+pub record ArrivesBy {State : Type 0} (act : Act) (Before : State → Sums → Type 0)
+    (Step : Choice → State → State → Gains → Type 0) (state : State) (sums : Sums) : Type 0 where
+  pub choice : Choice
+  pub stands : CanStand act choice
   pub before : State
   pub sums_before : Sums
   pub gains : Gains
   pub way : Before before sums_before
-  pub step : Step heard reading before state gains
+  pub step : Step choice before state gains
   pub adds : sums ≡ added sums_before gains
 
 -- A way through the acts, from the first state, leads to this state with these sums.
 abbrev pub Arrives : {State : Type 0}
-    → (List Act → Act → Bool → Reading → State → State → Gains → Type 0)
+    → (List Act → Act → Choice → State → State → Gains → Type 0)
     → State → List Act → State → Sums → Type 0
 Arrives Step first [] state sums = (state ≡ first) × (sums ≡ no_sums)
 Arrives Step first (act ∷ acts) state sums =
-    ArrivesBy (Arrives Step first acts) (Step acts act) state sums
+    ArrivesBy act (Arrives Step first acts) (Step acts act) state sums

@@ -1,10 +1,10 @@
 -- The entries of a table. `AreBelow` stands in what a public `Table` is: its codes are those of
 -- states. The rest, how entries are made, serves private functions.
-use Rattle.std.specs.Prelude.{◌≡◌, ◌==◌, ◌<◌, ◌⊎◌, ◌↔◌, ℕ, Bool, List, [], ◌∷◌, All, Contains, Option, Some, None, fold, if◌then◌else◌}
+use Rattle.std.specs.Prelude.{◌≡◌, ◌==◌, ◌<◌, ◌⊎◌, ◌↔◌, ℕ, List, [], ◌∷◌, All, Contains, Option, Some, None, fold, if◌then◌else◌}
 use Rattle.std.specs.Prelude.{length, slice_index, slice_index_or}
 use Rattle.mdb_bus.specs.declared.act.Act.{Act}
+use Rattle.mdb_cash.specs.declared.choice.Choice.{Choice}
 use Rattle.mdb_cash.specs.declared.gains.Gains.{Gains}
-use Rattle.mdb_cash.specs.declared.kept.Reading.{Reading}
 use Rattle.mdb_cash.specs.Gains.{no_gains}
 use Rattle.mdb_follow.specs.declared.cell.Cell.{Cell}
 use Rattle.mdb_follow.specs.Cells.{joined_cell, moved_cell}
@@ -70,17 +70,16 @@ LeadTo cell one other entries =
 abbrev pub joined_cells : Cell → List (ℕ × Cell) → Cell
 joined_cells cell entries = fold (λ all entry. joined_cell all entry.1) cell entries
 
--- An act leaves the states that have a code, and the sums, behind whatever acts, heard or not and
--- however it is read.
+-- An act leaves the states that have a code, and the sums, behind whatever acts and however it is
+-- taken.
 abbrev pub RestsAt : {State : Type 0} → (State → ℕ)
-    → (List Act → Act → Bool → Reading → State → State → Gains → Type 0) → Act → ℕ → Type 0
+    → (List Act → Act → Choice → State → State → Gains → Type 0) → Act → ℕ → Type 0
 RestsAt {State} code_of Step act code =
-    (acts : List Act) (heard : Bool) (reading : Reading) (before after : State) (gains : Gains)
+    (acts : List Act) (choice : Choice) (before after : State) (gains : Gains)
     → code_of before ≡ code
-    → Step acts act heard reading before after gains ↔ (after ≡ before) × (gains ≡ no_gains)
+    → Step acts act choice before after gains ↔ (after ≡ before) × (gains ≡ no_gains)
 
 -- and those of all entries
 abbrev pub AllRest : {State : Type 0} → (State → ℕ)
-    → (List Act → Act → Bool → Reading → State → State → Gains → Type 0) → Act → List (ℕ × Cell)
-    → Type 0
+    → (List Act → Act → Choice → State → State → Gains → Type 0) → Act → List (ℕ × Cell) → Type 0
 AllRest code_of Step act entries = All (λ entry. RestsAt code_of Step act entry.0) entries

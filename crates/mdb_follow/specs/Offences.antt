@@ -1,5 +1,5 @@
 -- The first row that cannot be, and why.
-use Rattle.std.specs.Prelude.{◌≡◌, ◌⊎◌, ◌+◌, ◌++◌, Bool, List, [], ◌∷◌, length}
+use Rattle.std.specs.Prelude.{◌≡◌, ◌⊎◌, ◌+◌, ◌++◌, List, [], ◌∷◌, length}
 use Rattle.mdb_words.specs.declared.event.Event.{Event}
 use Rattle.mdb_msgs.specs.declared.command.ReaderUnit.{ReaderUnit}
 use Rattle.mdb_bus.specs.declared.act.Act.{Act}
@@ -8,12 +8,13 @@ use Rattle.mdb_bus.specs.declared.fault.Rule.{Rule}
 use Rattle.mdb_bus.specs.declared.fault.Rule.TheVariants as rule
 use Rattle.mdb_bus.specs.ActLists.{Piece, Whole, IsActList, acts_of}
 use Rattle.mdb_bus.specs.LinkFaults.{IsLinkFault}
+use Rattle.mdb_cash.specs.declared.choice.Choice.{Choice}
 use Rattle.mdb_cash.specs.declared.gains.Gains.{Gains}
-use Rattle.mdb_cash.specs.declared.kept.Reading.{Reading}
 use Rattle.mdb_cash.specs.Bill as bill
 use Rattle.mdb_cash.specs.BillFacts as bill_facts
 use Rattle.mdb_cash.specs.Changer as changer
 use Rattle.mdb_cash.specs.ChangerFacts as changer_facts
+use Rattle.mdb_cash.specs.Choices.{CanStand}
 use Rattle.mdb_cashless.specs.Reader as reader
 use Rattle.mdb_cashless.specs.ReaderFacts as reader_facts
 use Rattle.mdb_follow.specs.Arrivals.{Arrives}
@@ -29,15 +30,14 @@ pub record BreaksLink (events : List Event) (row : Event) (broken : Rule)
   pub act_list : IsActList pieces events
   pub fault : IsLinkFault pieces row broken blamed
 
--- From no state to which a way through the acts before leads is there a step by an act, heard or
--- not, in whatever reading.
+-- From no state to which a way through the acts before leads is there a step by an act, however it
+-- can be taken.
 abbrev pub HasNoStep : {State : Type 0}
-    → (List Act → Act → Bool → Reading → State → State → Gains → Type 0) → State → Act → List Act
-    → Type 0
+    → (List Act → Act → Choice → State → State → Gains → Type 0) → State → Act → List Act → Type 0
 HasNoStep {State} Step first act before =
-    (state : State) (sums : Sums) → Arrives Step first before state sums → (heard : Bool)
-    (reading : Reading) (after : State) (gains : Gains)
-    → Step before act heard reading state after gains → ⊥
+    (state : State) (sums : Sums) → Arrives Step first before state sums → (choice : Choice)
+    → CanStand act choice → (after : State) (gains : Gains)
+    → Step before act choice state after gains → ⊥
 
 -- A machine that a rule is of has no step by an act. Both readers have one rule.
 pub data NoStep : Rule → Act → List Act → Type 0 where

@@ -1,6 +1,6 @@
 -- Runs: what the devices and the controller may have done behind the rows of a transcript, and the
 -- money that moved by it (this profile). Pieces and acts stand newest first.
-use Rattle.std.specs.Prelude.{◌≡◌, ◌↔◌, ℕ, Bool, true, List, [], ◌∷◌, length}
+use Rattle.std.specs.Prelude.{◌≡◌, ◌↔◌, ℕ, List, [], ◌∷◌, length}
 use Rattle.mdb_words.specs.declared.event.Event.{Event}
 use Rattle.mdb_msgs.specs.declared.command.ReaderUnit.TheVariants.{First, Second}
 use Rattle.mdb_bus.specs.declared.act.Act.{Act}
@@ -9,14 +9,16 @@ use Rattle.mdb_bus.specs.Choice.{IsAck}
 use Rattle.mdb_bus.specs.Loss.{IsHeard, Loss, LossFits}
 use Rattle.mdb_cash.specs.declared.bill.state.BillState.{BillState}
 use Rattle.mdb_cash.specs.declared.changer.state.ChangerState.{ChangerState}
+use Rattle.mdb_cash.specs.declared.choice.Choice.{Choice}
+use Rattle.mdb_cash.specs.declared.choice.Choice.TheVariants.{Lost}
 use Rattle.mdb_cash.specs.declared.gains.Gains.{Gains}
-use Rattle.mdb_cash.specs.declared.kept.Reading.{Reading}
 use Rattle.mdb_cash.specs.Bill as bill
 use Rattle.mdb_cash.specs.Bill.{BillStep}
 use Rattle.mdb_cash.specs.BillFacts as bill_facts
 use Rattle.mdb_cash.specs.Changer as changer
 use Rattle.mdb_cash.specs.Changer.{ChangerStep}
 use Rattle.mdb_cash.specs.ChangerFacts as changer_facts
+use Rattle.mdb_cash.specs.Choices.{CanStand}
 use Rattle.mdb_cashless.specs.declared.reader.state.ReaderState.{ReaderState}
 use Rattle.mdb_cashless.specs.Reader as reader
 use Rattle.mdb_cashless.specs.Reader.{ReaderStep}
@@ -61,29 +63,31 @@ pub record Goes {State : Type 0} (Step : State → State → Gains → Type 0) (
   pub step : Step before after gains
   pub adds : sums ≡ added sums_before gains
 
--- A step of all by an act, behind other acts: each device and the controller by its machine.
-pub record AllGo (acts : List Act) (act : Act) (heard : Bool) (reading : Reading)
-    (before after : States) (sums_before sums : AllSums) : Type 0 where
-  pub changer : Goes (ChangerStep (changer_facts.facts_of acts) act heard reading) before.changer
+-- A step of all by an act that is taken so, after other acts: each device and the controller by its
+-- machine.
+pub record AllGo (acts : List Act) (act : Act) (choice : Choice) (before after : States)
+    (sums_before sums : AllSums) : Type 0 where
+  pub changer : Goes (ChangerStep (changer_facts.facts_of acts) act choice) before.changer
       after.changer sums_before.changer sums.changer
-  pub bill : Goes (BillStep (bill_facts.facts_of acts) act heard reading) before.bill
-      after.bill sums_before.bill sums.bill
-  pub cashless : Goes (ReaderStep First (reader_facts.facts_of First acts) act heard reading)
+  pub bill : Goes (BillStep (bill_facts.facts_of acts) act choice) before.bill after.bill
+      sums_before.bill sums.bill
+  pub cashless : Goes (ReaderStep First (reader_facts.facts_of First acts) act choice)
       before.cashless after.cashless sums_before.cashless sums.cashless
-  pub cashless2 : Goes (ReaderStep Second (reader_facts.facts_of Second acts) act heard reading)
+  pub cashless2 : Goes (ReaderStep Second (reader_facts.facts_of Second acts) act choice)
       before.cashless2 after.cashless2 sums_before.cashless2 sums.cashless2
 
--- A way goes on by one act: it was heard or not, as the loss of its rows has it, and is read in
--- one of its readings.
+-- A way goes on by one act, which is taken as it can be: an ACK as one that its receiver didn't
+-- hear exactly where the loss of its rows has it so.
 pub record GoesOnBy (loss : Loss) (pieces : List Piece) (act : Act) (count : ℕ)
     (Before : States → AllSums → Type 0) (states : States) (sums : AllSums) : Type 0 where
-  pub heard : Bool
-  pub reading : Reading
+  pub choice : Choice
+  pub stands : CanStand act choice
+  pub as_lost : IsAck act
+      → (choice ≡ Lost) ↔ (IsHeard loss act (length (events_of pieces)) count → ⊥)
   pub before : States
   pub sums_before : AllSums
   pub way : Before before sums_before
-  pub as_lost : (heard ≡ true) ↔ IsHeard loss act (length (events_of pieces)) count
-  pub go : AllGo (acts_of pieces) act heard reading before states sums_before sums
+  pub go : AllGo (acts_of pieces) act choice before states sums_before sums
 
 -- A way through pieces under a loss, from power-on, leads to these states with these sums. Tails
 -- change nothing.

@@ -1,13 +1,13 @@
 -- What a side of a follower stands for: a device and the controller.
-use Rattle.std.specs.Prelude.{◌≡◌, ℕ, Bool, List, ◌∷◌}
+use Rattle.std.specs.Prelude.{◌≡◌, ℕ, List, ◌∷◌}
 use Rattle.mdb_msgs.specs.declared.command.ReaderUnit.{ReaderUnit}
 use Rattle.mdb_msgs.specs.declared.command.ReaderUnit.TheVariants.{First, Second}
 use Rattle.mdb_bus.specs.declared.act.Act.{Act}
 use Rattle.mdb_bus.specs.declared.fault.Rule.{Rule}
 use Rattle.mdb_cash.specs.declared.bill.facts.BillFacts.{BillFacts}
 use Rattle.mdb_cash.specs.declared.changer.facts.ChangerFacts.{ChangerFacts}
+use Rattle.mdb_cash.specs.declared.choice.Choice.{Choice}
 use Rattle.mdb_cash.specs.declared.gains.Gains.{Gains}
-use Rattle.mdb_cash.specs.declared.kept.Reading.{Reading}
 use Rattle.mdb_cash.specs.Bill as bill
 use Rattle.mdb_cash.specs.BillCodes as bill_codes
 use Rattle.mdb_cash.specs.BillFacts as bill_facts
@@ -31,7 +31,7 @@ use Rattle.mdb_follow.specs.Tables.{IsTable}
 -- states that the ways through them lead to.
 pub record IsSide {Facts State : Type 0} {N : ℕ} (stands_for : Facts → List Act → Type 0)
     (code_of : State → ℕ)
-    (Step : List Act → Act → Bool → Reading → State → State → Gains → Type 0) (first : State)
+    (Step : List Act → Act → Choice → State → State → Gains → Type 0) (first : State)
     (side : Side Facts N) (acts : List Act) : Type 0 where
   pub facts : stands_for side.facts acts
   pub table : IsTable code_of Step first acts side.table

@@ -1,8 +1,8 @@
 -- What a table says of the ways through acts. It has states by their codes.
-use Rattle.std.specs.Prelude.{◌≡◌, ℕ, Bool, List, Contains}
+use Rattle.std.specs.Prelude.{◌≡◌, ℕ, List, Contains}
 use Rattle.mdb_bus.specs.declared.act.Act.{Act}
+use Rattle.mdb_cash.specs.declared.choice.Choice.{Choice}
 use Rattle.mdb_cash.specs.declared.gains.Gains.{Gains}
-use Rattle.mdb_cash.specs.declared.kept.Reading.{Reading}
 use Rattle.mdb_follow.specs.declared.cell.Cell.{Cell}
 use Rattle.mdb_follow.specs.Arrivals.{Arrives}
 use Rattle.mdb_follow.specs.Ranges.{IsCell}
@@ -32,7 +32,7 @@ pub record Bounds (Comes : ℕ → Sums → Type 0) (entries : List (ℕ × Cell
 -- the table are those of the states that the ways lead to, each with the exact ranges of the sums
 -- there.
 pub record IsTable {State : Type 0} (code_of : State → ℕ)
-    (Step : List Act → Act → Bool → Reading → State → State → Gains → Type 0) (first : State)
+    (Step : List Act → Act → Choice → State → State → Gains → Type 0) (first : State)
     (acts : List Act) (entries : List (ℕ × Cell)) : Type 0 where
   pub some : (state : State) × (sums : Sums) × Arrives Step first acts state sums
   pub bounds : Bounds (ArrivesAt code_of (Arrives Step first acts)) entries

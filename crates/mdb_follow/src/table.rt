@@ -1,11 +1,12 @@
 //! The states that are possible now, with what the sums may be.
 
-ghost use Rattle.std.specs.Prelude.{◌≡◌, ◌<◌, ◌+◌, ◌^◌, ◌↔◌, ◌⊎◌, ℕ, false, true, List, [], ◌∷◌, All, None, Some, IfSome, length};
+ghost use Rattle.std.specs.Prelude.{◌≡◌, ◌<◌, ◌+◌, ◌^◌, ◌↔◌, ◌⊎◌, ℕ, List, [], ◌∷◌, All, None, Some, IfSome, length};
 ghost use Rattle.std.specs.Bool.{OnFalse, OnTrue};
 ghost use Rattle.mdb_bus.specs.declared.act.Act.{Act};
+ghost use Rattle.mdb_cash.specs.declared.choice.Choice.TheVariants.{Plain};
 ghost use Rattle.mdb_cash.specs.declared.gains.Gains.{Gains};
 ghost use Rattle.mdb_cash.specs.Gains.{IsSmall};
-ghost use Rattle.mdb_cash.specs.Pair.{IsMarkedStep};
+ghost use Rattle.mdb_cash.specs.Pair.{IsMove, IsStep};
 ghost use Rattle.mdb_follow.specs.Arrivals.{Arrives};
 ghost use Rattle.mdb_follow.specs.Limits.{IsTableWithin};
 ghost use Rattle.mdb_follow.specs.Ranges.{IsCell};
@@ -17,7 +18,7 @@ use crate::Cell;
 use crate::entries::{add_steps, join_all, lead_only};
 use crate::list::Entries;
 use mdb_bus::Act;
-use mdb_cash::{Gains, Pair};
+use mdb_cash::{Choice, Gains, Pair};
 use std::marker::Model;
 
 /// The states of a pair that are possible now, by their codes, each with what the sums may be.
@@ -201,9 +202,9 @@ fn lead_alone<P: Pair, const N: usize>(
         → IsTableWithin (limit + 2 ^ 32) entries.new }
 {
     let code = entries.as_slice()[0].0;
-    let plain = P::step(facts, act, code, false);
-    let marked = marked_step::<P>(facts, act, code);
-    lead_only(entries, &plain, &marked)
+    let plain = P::step(facts, act, code, Choice::Plain);
+    let second = second_step::<P>(facts, act, code);
+    lead_only(entries, &plain, &second)
 }
 
 /// Makes the entries behind an act from those before it. What the places hold at first is no
@@ -229,30 +230,29 @@ fn fill<P: Pair, const N: usize>(
     into.clear();
     for (code, cell) in from {
         // The moves of `P::moves`, without a list of them.
-        let plain = P::step(facts, act, *code, false);
-        let marked = marked_step::<P>(facts, act, *code);
-        add_steps(into, places, cell, &plain, &marked);
+        let plain = P::step(facts, act, *code, Choice::Plain);
+        let second = second_step::<P>(facts, act, *code);
+        add_steps(into, places, cell, &plain, &second);
     }
 }
 
-/// The step that an act with a mark is, from the state of a code. `None` where there is no such
-/// step, and it may be where a mark leads nowhere else.
+/// The step that an act is by its other choice than the plain one, from the state of a code. `None`
+/// where there is no such step, and it may be where it is of no matter how the act is taken.
 // Not inlined, so that the step is made where it is looked at, and not moved there.
 #[inline(never)]
-fn marked_step<P: Pair>(facts: &P::Facts, act: &Act, code: usize) -> Option<(usize, Gains)>
+fn second_step<P: Pair>(facts: &P::Facts, act: &Act, code: usize) -> Option<(usize, Gains)>
     requires { code < P.CODES }
     ensures sound { (acts : List Act) → P.stands_for facts.now acts → (next : ℕ) (gains : Gains)
         → result ≡ Some (next, gains)
-        → IsMarkedStep P.device act.now P.code_of (P.may_step acts act.now) true code next gains }
+        → IsMove act.now P.code_of (P.may_step acts act.now) code next gains }
     ensures whole { (acts : List Act) → P.stands_for facts.now acts → (next : ℕ) (gains : Gains)
-        → IsMarkedStep P.device act.now P.code_of (P.may_step acts act.now) true code next gains
+        → IsMove act.now P.code_of (P.may_step acts act.now) code next gains
         → (result ≡ Some (next, gains))
-        ⊎ IsMarkedStep P.device act.now P.code_of (P.may_step acts act.now) false code next
-        gains }
+        ⊎ IsStep P.code_of (P.may_step acts act.now Plain) code next gains }
     ensures below { IfSome result (λ move. (move.0 < P.CODES) × IsSmall move.1) }
 {
-    if P::heeds_mark(act, P::state(code)) {
-        P::step(facts, act, code, true)
+    if P::heeds_choice(act, P::state(code)) {
+        P::other_step(facts, act, code)
     } else {
         None
     }

@@ -2,7 +2,7 @@
 
 ghost use Rattle.std.specs.Prelude.{◌≡◌, ◌<◌, ◌≤◌, ◌↔◌, IfSome, IfNone, IsTrue};
 
-use crate::kept::Reading;
+use crate::choice::Choice;
 
 /// A type of bills, 0 to 15 (MDB/ICP 4.3, bill validator).
 #[derive(Clone, Copy, PartialEq, Eq, Debug)]
@@ -96,12 +96,12 @@ impl Escrow {
     }
 
     /// What it is once a reply is read.
-    pub(crate) fn read(self, reading: Reading) -> Escrow
-        ensures { result ≡ spec.escrow_read reading self }
+    pub(crate) fn read(self, choice: Choice) -> Escrow
+        ensures { result ≡ spec.escrow_read choice self }
     {
-        match reading {
-            Reading::Plain => self,
-            Reading::Restart => Escrow::Empty,
+        match choice {
+            Choice::Plain | Choice::Lost => self,
+            Choice::Restart => Escrow::Empty,
         }
     }
 

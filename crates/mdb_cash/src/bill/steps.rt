@@ -10,31 +10,31 @@ use super::facts::BillFacts;
 use super::report::{BillReport, messages_in, summary_of};
 use super::state::{BillState, BillType, Escrow};
 use super::values::all_stacked;
+use crate::choice::Choice;
 use crate::gains::Gains;
-use crate::kept::{Reading, held, holds_acked, holds_behind, holds_read, may_be_read};
+use crate::kept::{held, holds_acked, holds_behind, holds_read, may_be_read};
 use mdb_bus::Act;
 use mdb_msgs::{BillCommand, Command, Reply};
 
-/// The step by an act that was heard or not, in a reading, from a state: the state behind it, and
-/// its gains. `None` where there is no such step.
+/// The step by an act that is taken so, from a state: the state after it, and its gains. `None`
+/// where there is no such step.
 pub(crate) fn step(
     facts: &BillFacts,
     act: &Act,
-    heard: bool,
-    reading: Reading,
+    choice: Choice,
     before: BillState,
 ) -> Option<(BillState, Gains)>
-    ensures outcome { IsOutcome (spec.BillStep (facts_in facts.now) act.now heard reading before)
+    ensures outcome { IsOutcome (spec.BillStep (facts_in facts.now) act.now choice before)
         result }
     ensures small { IfSome result (λ outcome. IsSmall outcome.1) }
 {
     match act {
         Act::Ack(Command::Bill(command)) => ack(*command, before),
         Act::Reply(Command::Bill(command), reply) => {
-            answer(facts, *command, reply, reading, before)
+            answer(facts, *command, reply, choice, before)
         }
         Act::VmcAck(Command::Bill(command), reply) => {
-            Some(vmc_ack(facts, *command, reply, heard, before))
+            Some(vmc_ack(facts, *command, reply, choice, before))
         }
         Act::Break(_) => Some((BillState::power_on(), Gains::none())),
         _ => Some((before, Gains::none())),
@@ -65,22 +65,22 @@ fn answer(
     facts: &BillFacts,
     command: BillCommand,
     reply: &Reply,
-    reading: Reading,
+    choice: Choice,
     before: BillState,
 ) -> Option<(BillState, Gains)>
     ensures outcome { IsOutcome
-        (spec.ReplyStep (facts_in facts.now) command reply.now reading before) result }
+        (spec.ReplyStep (facts_in facts.now) command reply.now choice before) result }
     ensures small { IfSome result (λ outcome. IsSmall outcome.1) }
 {
     let messages = messages_in(reply);
-    if !may_be_read(reading, messages) {
+    if !may_be_read(choice, messages) {
         return None;
     }
     let summary = summary_of(messages);
-    let holds = holds_read(reading, before.holds);
+    let holds = holds_read(choice, before.holds);
     let held = held(holds, facts.past.kept.as_slice());
-    let new = summary.told(is_poll(command), reading, facts.past.reset_owed, held)?;
-    let escrow = take_all(facts, new, before.escrow.read(reading))?;
+    let new = summary.told(is_poll(command), choice, facts.past.reset_owed, held)?;
+    let escrow = take_all(facts, new, before.escrow.read(choice))?;
     let after = BillState {
         escrow,
         holds: holds_behind(summary.kept.as_slice(), holds),
@@ -137,10 +137,10 @@ fn vmc_ack(
     facts: &BillFacts,
     command: BillCommand,
     reply: &Reply,
-    heard: bool,
+    choice: Choice,
     before: BillState,
 ) -> (BillState, Gains)
-    ensures outcome { spec.VmcAckStep (facts_in facts.now) command reply.now heard before
+    ensures outcome { spec.VmcAckStep (facts_in facts.now) command reply.now choice before
         result.0 result.1 }
     ensures small { IsSmall result.1 }
 {
@@ -148,7 +148,7 @@ fn vmc_ack(
     let kept = summary.kept.as_slice();
     let after = BillState {
         escrow: before.escrow,
-        holds: holds_acked(heard, kept, before.holds),
+        holds: holds_acked(choice, kept, before.holds),
     };
     let gains = if is_poll(command) {
         Gains::of_controller(all_stacked(&facts.setup, kept), 0)

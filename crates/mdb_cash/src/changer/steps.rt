@@ -10,32 +10,32 @@ use super::facts::ChangerFacts;
 use super::report::{messages_in, summary_of};
 use super::state::ChangerState;
 use super::values::{all_deposited, all_paid_by_hand, dispensed_value};
+use crate::choice::Choice;
 use crate::gains::Gains;
-use crate::kept::{Reading, held, holds_acked, holds_behind, holds_read, may_be_read};
+use crate::kept::{held, holds_acked, holds_behind, holds_read, may_be_read};
 use mdb_bus::Act;
 use mdb_msgs::{ChangerCommand, Command, Reply};
 
-/// The step by an act that was heard or not, in a reading, from a state: the state behind it, and
-/// its gains. `None` where there is no such step.
+/// The step by an act that is taken so, from a state: the state after it, and its gains. `None`
+/// where there is no such step.
 pub(crate) fn step(
     facts: &ChangerFacts,
     act: &Act,
-    heard: bool,
-    reading: Reading,
+    choice: Choice,
     before: ChangerState,
 ) -> Option<(ChangerState, Gains)>
-    ensures outcome { IsOutcome (spec.ChangerStep (facts_in facts.now) act.now heard reading before)
+    ensures outcome { IsOutcome (spec.ChangerStep (facts_in facts.now) act.now choice before)
         result }
     ensures small { IfSome result (λ outcome. IsSmall outcome.1) }
 {
     match act {
         Act::Ask(Command::Changer(command)) => Some(ask(facts, *command, before)),
-        Act::Ack(Command::Changer(command)) => ack(facts, *command, heard, before),
+        Act::Ack(Command::Changer(command)) => ack(facts, *command, choice, before),
         Act::Reply(Command::Changer(command), reply) => {
-            answer(facts, *command, reply, reading, before)
+            answer(facts, *command, reply, choice, before)
         }
         Act::VmcAck(Command::Changer(command), reply) => {
-            Some(vmc_ack(facts, *command, reply, heard, before))
+            Some(vmc_ack(facts, *command, reply, choice, before))
         }
         Act::Break(_) => Some((ChangerState::power_on(), Gains::none())),
         _ => Some((before, Gains::none())),
@@ -83,10 +83,10 @@ fn ask_for_coins(facts: &ChangerFacts, coins: u8, before: ChangerState) -> (Chan
 fn ack(
     facts: &ChangerFacts,
     command: ChangerCommand,
-    heard: bool,
+    choice: Choice,
     before: ChangerState,
 ) -> Option<(ChangerState, Gains)>
-    ensures outcome { IsOutcome (spec.AckStep (facts_in facts.now) command heard before) result }
+    ensures outcome { IsOutcome (spec.AckStep (facts_in facts.now) command choice before) result }
     ensures small { IfSome result (λ outcome. IsSmall outcome.1) }
 {
     match command {
@@ -100,7 +100,7 @@ fn ack(
         ChangerCommand::Dispense(coins) => {
             let after = ChangerState {
                 holds: before.holds,
-                owed: before.owed && !heard,
+                owed: owed_acked(choice, before.owed),
             };
             Some((
                 after,
@@ -112,26 +112,36 @@ fn ack(
     }
 }
 
+/// Whether the controller owes a DISPENSE after the changer's ACK.
+fn owed_acked(choice: Choice, owed: bool) -> bool
+    ensures { result ≡ spec.owed_acked choice owed }
+{
+    match choice {
+        Choice::Lost => owed,
+        Choice::Plain | Choice::Restart => false,
+    }
+}
+
 /// The changer replies with data.
 fn answer(
     facts: &ChangerFacts,
     command: ChangerCommand,
     reply: &Reply,
-    reading: Reading,
+    choice: Choice,
     before: ChangerState,
 ) -> Option<(ChangerState, Gains)>
     ensures outcome { IsOutcome
-        (spec.ReplyStep (facts_in facts.now) command reply.now reading before) result }
+        (spec.ReplyStep (facts_in facts.now) command reply.now choice before) result }
     ensures small { IfSome result (λ outcome. IsSmall outcome.1) }
 {
     let messages = messages_in(reply);
-    if !may_be_read(reading, messages) {
+    if !may_be_read(choice, messages) {
         return None;
     }
     let summary = summary_of(messages);
-    let holds = holds_read(reading, before.holds);
+    let holds = holds_read(choice, before.holds);
     let held = held(holds, facts.past.kept.as_slice());
-    let new = summary.told(is_poll(command), reading, facts.past.reset_owed, held)?;
+    let new = summary.told(is_poll(command), choice, facts.past.reset_owed, held)?;
     if !facts.may_be_new(new) {
         return None;
     }
@@ -151,17 +161,17 @@ fn vmc_ack(
     facts: &ChangerFacts,
     command: ChangerCommand,
     reply: &Reply,
-    heard: bool,
+    choice: Choice,
     before: ChangerState,
 ) -> (ChangerState, Gains)
-    ensures outcome { spec.VmcAckStep (facts_in facts.now) command reply.now heard before
+    ensures outcome { spec.VmcAckStep (facts_in facts.now) command reply.now choice before
         result.0 result.1 }
     ensures small { IsSmall result.1 }
 {
     let summary = summary_of(messages_in(reply));
     let kept = summary.kept.as_slice();
     let after = ChangerState {
-        holds: holds_acked(heard, kept, before.holds),
+        holds: holds_acked(choice, kept, before.holds),
         owed: before.owed && !(is_poll(command) && summary.reset),
     };
     if !is_poll(command) {

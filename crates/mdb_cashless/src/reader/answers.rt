@@ -26,7 +26,7 @@ use super::values::{all_approved, approved_to};
 use super::view::View;
 use mdb_cash::kept::{held, holds_behind};
 use mdb_cash::past::tells_out_of_sequence;
-use mdb_cash::{Gains, Reading};
+use mdb_cash::{Choice, Gains};
 use mdb_msgs::{ReaderCommand, ReaderIter, Reply};
 
 /// The command that the reader takes by a reply that refuses it or doesn't: that says that it came
@@ -41,12 +41,12 @@ fn taken(command: ReaderCommand, refused: bool) -> Option<ReaderCommand>
 
 /// The state of the reader once a reply is read.
 #[inline(always)]
-fn read(reading: Reading, before: ReaderState) -> ReaderState
-    ensures { result ≡ spec.read reading before }
+fn read(choice: Choice, before: ReaderState) -> ReaderState
+    ensures { result ≡ spec.read choice before }
 {
-    match reading {
-        Reading::Plain => before,
-        Reading::Restart => ReaderState {
+    match choice {
+        Choice::Plain | Choice::Lost => before,
+        Choice::Restart => ReaderState {
             device: DeviceState::Inactive,
             view: before.view,
             holds: false,
@@ -106,24 +106,24 @@ pub(crate) fn answer(
     facts: &ReaderFacts,
     command: ReaderCommand,
     reply: &Reply,
-    reading: Reading,
+    choice: Choice,
     before: ReaderState,
 ) -> Option<(ReaderState, Gains)>
     ensures outcome { IsOutcome
-        (spec.ReplyStep (facts_in facts.now) command reply.now reading before) result }
+        (spec.ReplyStep (facts_in facts.now) command reply.now choice before) result }
     ensures small { IfSome result (λ outcome. IsSmall outcome.1) }
 {
-    if !may_be_read(reading, reply) {
+    if !may_be_read(choice, reply) {
         return None;
     }
     let mut said = Said::nothing();
     said.read(messages_of(reply));
     let summary = &said.summary;
     let taken = taken(command, said.refused);
-    let start = read(reading, before);
+    let start = read(choice, before);
     let middle = take_any(facts, taken, start);
     let held = held(middle.holds, facts.past.kept.as_slice());
-    let new = summary.told(is_poll(command), reading, owes_reset(facts, taken), held)?;
+    let new = summary.told(is_poll(command), choice, owes_reset(facts, taken), held)?;
     let device = all_told(last_transaction(facts, taken), new, middle.device)?;
     let after = ReaderState {
         device,
@@ -140,12 +140,12 @@ pub(crate) fn answer(
 
 /// Whether a reply may be read so, by what is quickly seen: none without a reset message tells of a
 /// restart. A yes promises nothing: `Summary::told` has the last word.
-fn may_be_read(reading: Reading, reply: &Reply) -> bool
-    ensures { OnFalse result (MayBeRead reading (parts_of reply.now) → ⊥) }
+fn may_be_read(choice: Choice, reply: &Reply) -> bool
+    ensures { OnFalse result (MayBeRead choice (parts_of reply.now) → ⊥) }
 {
-    match reading {
-        Reading::Plain => true,
-        Reading::Restart => tells_of_reset(reply),
+    match choice {
+        Choice::Plain | Choice::Lost => true,
+        Choice::Restart => tells_of_reset(reply),
     }
 }
 
@@ -180,10 +180,10 @@ pub(crate) fn vmc_ack(
     facts: &ReaderFacts,
     command: ReaderCommand,
     reply: &Reply,
-    heard: bool,
+    choice: Choice,
     before: ReaderState,
 ) -> (ReaderState, Gains)
-    ensures outcome { spec.VmcAckStep (facts_in facts.now) command reply.now heard before
+    ensures outcome { spec.VmcAckStep (facts_in facts.now) command reply.now choice before
         result.0 result.1 }
     ensures small { IsSmall result.1 }
 {
@@ -192,7 +192,7 @@ pub(crate) fn vmc_ack(
     let after = ReaderState {
         device: before.device,
         view: hearing.view,
-        holds: holds_on(heard, hearing.keeps, before.holds),
+        holds: holds_on(choice, hearing.keeps, before.holds),
     };
     (after, Gains::of_controller(hearing.approved, 0))
 }
@@ -234,9 +234,12 @@ fn hear(config: Option<ReaderConfig>, before: View, messages: ReaderIter<'_>) ->
 }
 
 /// Whether the reader holds behind the controller's ACK of messages of which it keeps one, or none.
-fn holds_on(heard: bool, keeps: bool, holds: bool) -> bool
+fn holds_on(choice: Choice, keeps: bool, holds: bool) -> bool
     ensures { (messages : List ReaderMsg) → keeps ≡ list_any is_kept messages
-        → result ≡ holds_acked heard (kept_of (map part_of messages)) holds }
+        → result ≡ holds_acked choice (kept_of (map part_of messages)) holds }
 {
-    holds & !(keeps & heard)
+    match choice {
+        Choice::Lost => holds,
+        Choice::Plain | Choice::Restart => holds & !keeps,
+    }
 }

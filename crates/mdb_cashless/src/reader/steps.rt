@@ -1,11 +1,12 @@
 //! The steps of a reader and the controller.
 
-ghost use Rattle.std.specs.Prelude.{◌≡◌, ◌≤◌, ◌↔◌, Bool, IfSome, false, true};
+ghost use Rattle.std.specs.Prelude.{◌≡◌, ◌≤◌, ◌↔◌, IfSome};
 ghost use Rattle.std.specs.Bool.{OnFalse, OnTrue};
 ghost use Rattle.mdb_msgs.specs.declared.command.ReaderUnit.{ReaderUnit};
+ghost use Rattle.mdb_cash.specs.declared.choice.Choice.{Choice};
+ghost use Rattle.mdb_cash.specs.declared.choice.Choice.TheVariants.{Plain};
 ghost use Rattle.mdb_cash.specs.declared.gains.Gains.{Gains};
-ghost use Rattle.mdb_cash.specs.declared.kept.Reading.{Reading};
-ghost use Rattle.mdb_cash.specs.declared.kept.Reading.TheVariants.{Plain, Restart};
+ghost use Rattle.mdb_cash.specs.Choices.{CanStand};
 ghost use Rattle.mdb_cash.specs.Gains.{IsSmall, no_gains};
 ghost use Rattle.mdb_cash.specs.Pair.{IsActOf, IsOutcome};
 ghost use Rattle.mdb_cashless.specs.declared.reader.state.ReaderState.{ReaderState};
@@ -24,22 +25,21 @@ use super::unit::own;
 use super::values::value;
 use super::view::View;
 use mdb_bus::Act;
-use mdb_cash::{Gains, Reading};
+use mdb_cash::{Choice, Gains};
 use mdb_msgs::{Command, ReaderCommand, ReaderUnit};
 
-/// The step by an act that was heard or not, in a reading, from a state: the state behind it, and
-/// its gains. `None` where there is no such step.
+/// The step by an act that is taken so, from a state: the state after it, and its gains. `None`
+/// where there is no such step.
 #[inline(always)]
 pub(crate) fn step(
     unit: ReaderUnit,
     facts: &ReaderFacts,
     act: &Act,
-    heard: bool,
-    reading: Reading,
+    choice: Choice,
     before: ReaderState,
 ) -> Option<(ReaderState, Gains)>
     ensures outcome { IsOutcome
-        (spec.ReaderStep unit (facts_in facts.now) act.now heard reading before) result }
+        (spec.ReaderStep unit (facts_in facts.now) act.now choice before) result }
     ensures small { IfSome result (λ outcome. IsSmall outcome.1) }
 {
     let stays = (before, Gains::none());
@@ -49,15 +49,15 @@ pub(crate) fn step(
             None => Some(stays),
         },
         Act::Ack(command) => match own(unit, command) {
-            Some(command) => ack(facts, command, heard, before),
+            Some(command) => ack(facts, command, choice, before),
             None => Some(stays),
         },
         Act::Reply(command, reply) => match own(unit, command) {
-            Some(command) => answer(facts, command, reply, reading, before),
+            Some(command) => answer(facts, command, reply, choice, before),
             None => Some(stays),
         },
         Act::VmcAck(command, reply) => match own(unit, command) {
-            Some(command) => Some(vmc_ack(facts, command, reply, heard, before)),
+            Some(command) => Some(vmc_ack(facts, command, reply, choice, before)),
             None => Some(stays),
         },
         Act::Break(_) => Some((ReaderState::power_on(), Gains::none())),
@@ -116,10 +116,10 @@ fn sold_to(facts: &ReaderFacts, command: ReaderCommand, view: View) -> u64
 fn ack(
     facts: &ReaderFacts,
     command: ReaderCommand,
-    heard: bool,
+    choice: Choice,
     before: ReaderState,
 ) -> Option<(ReaderState, Gains)>
-    ensures outcome { IsOutcome (spec.AckStep (facts_in facts.now) command heard before) result }
+    ensures outcome { IsOutcome (spec.AckStep (facts_in facts.now) command choice before) result }
     ensures small { IfSome result (λ outcome. IsSmall outcome.1) }
 {
     if is_poll(command) && before.holds {
@@ -128,7 +128,7 @@ fn ack(
     let taken = take(facts, command, before);
     let after = ReaderState {
         device: taken.device,
-        view: view_heard(heard, command, before.view),
+        view: view_heard(choice, command, before.view),
         holds: taken.holds,
     };
     let sold = sold(facts, command, before);
@@ -139,9 +139,9 @@ fn ack(
 #[inline(always)]
 pub(crate) fn concerns(unit: ReaderUnit, act: &Act) -> bool
     ensures own { OnTrue result (IsActOf (device_of_unit unit) act.now) }
-    ensures still { OnFalse result ((facts : Facts) (heard : Bool) (reading : Reading)
+    ensures still { OnFalse result ((facts : Facts) (choice : Choice)
         (before after : ReaderState) (gains : Gains)
-        → spec.ReaderStep unit facts act.now heard reading before after gains
+        → spec.ReaderStep unit facts act.now choice before after gains
         ↔ (after ≡ before) × (gains ≡ no_gains)) }
 {
     match act {
@@ -157,12 +157,11 @@ pub(crate) fn concerns(unit: ReaderUnit, act: &Act) -> bool
     }
 }
 
-/// Whether an act leaves a state and the sums, whether it was heard or not and however it is read:
-/// an ACK to POLL does, where nothing is held.
+/// Whether an act leaves a state and the sums, however it is taken: an ACK to POLL does, where
+/// nothing is held.
 pub(crate) fn rests(unit: ReaderUnit, act: &Act, state: ReaderState) -> bool
-    ensures { OnTrue result ((facts : Facts) (heard : Bool) (reading : Reading)
-        (after : ReaderState) (gains : Gains)
-        → spec.ReaderStep unit facts act.now heard reading state after gains
+    ensures { OnTrue result ((facts : Facts) (choice : Choice) (after : ReaderState)
+        (gains : Gains) → spec.ReaderStep unit facts act.now choice state after gains
         ↔ (after ≡ state) × (gains ≡ no_gains)) }
 {
     match act {
@@ -174,15 +173,14 @@ pub(crate) fn rests(unit: ReaderUnit, act: &Act, state: ReaderState) -> bool
     }
 }
 
-/// Whether a mark may lead an act from a state elsewhere than no mark does: an ACK that isn't
-/// heard, or a reply that tells of a restart.
+/// Whether it may matter, from a state, how an act is taken.
 // It doesn't look at whose the act is: acts that are no matter of the pair aren't asked about.
 #[inline(always)]
-pub(crate) fn heeds_mark(act: &Act, state: ReaderState) -> bool
-    ensures { OnFalse result ((unit : ReaderUnit) (facts : Facts) (after : ReaderState)
-        (gains : Gains)
-        → spec.ReaderStep unit facts act.now false Restart state after gains
-        → spec.ReaderStep unit facts act.now true Plain state after gains) }
+pub(crate) fn heeds_choice(act: &Act, state: ReaderState) -> bool
+    ensures { OnFalse result ((unit : ReaderUnit) (facts : Facts) (choice : Choice)
+        (after : ReaderState) (gains : Gains) → CanStand act.now choice
+        → spec.ReaderStep unit facts act.now choice state after gains
+        → spec.ReaderStep unit facts act.now Plain state after gains) }
 {
     match act {
         Act::Ack(Command::Reader(_, command)) => heeds_taking(*command, state.view),

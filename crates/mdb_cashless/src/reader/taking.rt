@@ -10,15 +10,19 @@ use super::state::ReaderState;
 use super::transaction::{is_again, transaction_of};
 use super::values::value;
 use super::view::View;
+use mdb_cash::Choice;
 use mdb_msgs::ReaderCommand;
 
 /// The view behind an answer that takes a command, which the controller heard or didn't hear.
-pub(crate) fn view_heard(heard: bool, command: ReaderCommand, view: View) -> View
-    ensures { result ≡ spec.view_heard heard command view }
+pub(crate) fn view_heard(choice: Choice, command: ReaderCommand, view: View) -> View
+    ensures { result ≡ spec.view_heard choice command view }
 {
-    match transaction_of(command) {
-        Some(_) if heard => view.taken(),
-        _ => view,
+    match choice {
+        Choice::Lost => view,
+        Choice::Plain | Choice::Restart => match transaction_of(command) {
+            Some(_) => view.taken(),
+            None => view,
+        },
     }
 }
 

@@ -3,10 +3,10 @@ use Rattle.mdb_follow.specs.Sums.{added}
 use Rattle.mdb_follow.proofs.side.follow.Goals as goal
 
 pub returns-then-not-advance-clause-none : goal.returns-then-not-advance-clause-none
-returns-then-not-advance-clause-none c p acts on state sums way heard reading after gains step =
+returns-then-not-advance-clause-none c p acts on state sums way choice stands after gains step =
     p.if-not-advance.ensures.none acts on.facts on.table after (added sums gains) (record {
-      heard = heard;
-      reading = reading;
+      choice = choice;
+      stands = stands;
       before = state;
       sums_before = sums;
       gains = gains;

@@ -30,7 +30,7 @@ add_steps-requires g c = (
       (
         step-below _ _ c.step-plain.result c.requires.size c.step-plain.ensures.below,
         (
-          step-below _ _ c.marked_step-marked.result c.requires.size c.marked_step-marked.ensures.below,
+          step-below _ _ c.second_step-second.result c.requires.size c.second_step-second.ensures.below,
           (c.loop-code.invariant.keyed, c.loop-code.invariant.placed),
         ),
       ),
@@ -43,8 +43,8 @@ loop-code-preserved g c =
     let p = g.P.Pair in
     let moves = c.add_steps.ensures.entries in
     let kept = small_moves (λ next gains. (next < p.CODES) × IsSmall gains)
-    c.step-plain.result c.marked_step-marked.result moves.0 c.step-plain.ensures.below
-    c.marked_step-marked.ensures.below moves.1 in
+    c.step-plain.result c.second_step-second.result moves.0 c.step-plain.ensures.below
+    c.second_step-second.ensures.below moves.1 in
     let small = moves-small _ moves.0 moves.0 refl kept in
     let below = moves-below g.row.N _ moves.0 moves.0 c.requires.size refl kept in
     record {
@@ -55,15 +55,11 @@ loop-code-preserved g c =
           c.loop-code.into c.add_steps.new.entries c.loop-code-test.true
           (table.bounds.exact _ _ (Contains-get_or c.args.from.now c.loop-code.code-index _
           c.loop-code-test.true))
-          (either-moves p.device p.code_of (p.may_step acts c.args.act.now) c.args.act.now
-          (record {
-            hearing = λ one other. g.met.P.Pair.hearing acts c.args.act.now one other;
-            readings = λ heard one. g.met.P.Pair.readings acts c.args.act.now heard one;
-          })
-          _ c.step-plain.result c.marked_step-marked.result moves.0
+          (either-moves p.device c.args.act.now p.code_of (p.may_step acts c.args.act.now)
+          _ c.step-plain.result c.second_step-second.result moves.0
           (c.step-plain.ensures.steps acts stands)
-          (c.marked_step-marked.ensures.sound acts stands)
-          (c.marked_step-marked.ensures.whole acts stands) moves.1)
+          (c.second_step-second.ensures.sound acts stands)
+          (c.second_step-second.ensures.whole acts stands) moves.1)
           refl below c.loop-code.invariant.keyed moves.2
           (c.loop-code.invariant.led acts stands table);
       within = λ limit all.
@@ -78,6 +74,6 @@ returns-clause-table g c acts stands table =
     table-led p.code_of p.may_step p.first c.args.act.now acts c.args.from.now
     c.loop-code.into g.met.P.Pair.apart table
     (subst (λ from. Bounds (Led (ArrivesAt p.code_of (Arrives p.may_step p.first acts))
-    (IsMove p.code_of (p.may_step acts c.args.act.now)) from) c.loop-code.into)
+    (IsMove c.args.act.now p.code_of (p.may_step acts c.args.act.now)) from) c.loop-code.into)
     (take_all c.loop-code.code-index c.args.from.now c.loop-code-test.false)
     (c.loop-code.invariant.led acts stands table))

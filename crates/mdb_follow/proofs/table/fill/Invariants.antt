@@ -17,7 +17,7 @@ invariant-loop-code g l =
       led : (acts : List Act) → p.stands_for l.facts acts
           → IsTable p.code_of p.may_step p.first acts l.from
           → Bounds (Led (ArrivesAt p.code_of (Arrives p.may_step p.first acts))
-          (IsMove p.code_of (p.may_step acts l.act)) (take l.code-index l.from)) l.into;
+          (IsMove l.act p.code_of (p.may_step acts l.act)) (take l.code-index l.from)) l.into;
       within : (limit : ℕ) → IsTableWithin limit l.from
           → IsTableWithin (limit + 2 ^ 32) l.into;
     }

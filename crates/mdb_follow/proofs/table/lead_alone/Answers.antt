@@ -24,23 +24,19 @@ arrives : (g : given.Over) (c : goal.After-lead_only g) (acts : List Act)
     (entry : ℕ × Cell) (after : List (ℕ × Cell)) → g.P.Pair.stands_for c.args.facts.now acts
     → IsTable g.P.Pair.code_of g.P.Pair.may_step g.P.Pair.first acts c.args.entries.now
     → c.args.entries.now ≡ entry ∷ []
-    → LeadTo entry.1 c.step-plain.result c.marked_step-marked.result after
+    → LeadTo entry.1 c.step-plain.result c.second_step-second.result after
     → Bounds (ArrivesAt g.P.Pair.code_of
     (Arrives g.P.Pair.may_step g.P.Pair.first (c.args.act.now ∷ acts))) after
 arrives g c acts entry after stands table only led =
     let p = g.P.Pair in
     alone-led p.device p.code_of p.may_step p.first c.args.act.now acts
-    (record {
-      hearing = λ one other. g.met.P.Pair.hearing acts c.args.act.now one other;
-      readings = λ heard one. g.met.P.Pair.readings acts c.args.act.now heard one;
-    })
     g.row.N p.CODES c.args.entries.now entry _ c.step-plain.result
-    c.marked_step-marked.result after only
+    c.second_step-second.result after only
     (code-is c.as_slice.result.now entry _ (c.as_slice.ensures ∙ only))
     g.met.P.Pair.apart c.requires.size c.step-plain.ensures.below
-    c.marked_step-marked.ensures.below (c.step-plain.ensures.steps acts stands)
-    (c.marked_step-marked.ensures.sound acts stands)
-    (c.marked_step-marked.ensures.whole acts stands) table led
+    c.second_step-second.ensures.below (c.step-plain.ensures.steps acts stands)
+    (c.second_step-second.ensures.sound acts stands)
+    (c.second_step-second.ensures.whole acts stands) table led
 
 table-told : (g : given.Over) (c : goal.After-lead_only g) → c.lead_only.result ≡ true
     → (acts : List Act) → g.P.Pair.stands_for c.args.facts.now acts
@@ -70,7 +66,7 @@ none-told g c is acts stands table state sums way =
     let none = OnFalse_at is c.lead_only.ensures.none in
     nothing-arrives p.code_of p.may_step p.first (c.args.act.now ∷ acts) []
     (arrives g c acts one.0 [] stands table one.1
-    (lead-none one.0.1 c.step-plain.result c.marked_step-marked.result none.0 none.1))
+    (lead-none one.0.1 c.step-plain.result c.second_step-second.result none.0 none.1))
     refl state sums way
 
 pub returns-clause-none : goal.returns-clause-none
@@ -83,8 +79,8 @@ returns-clause-below g c =
     c.lead_only.new.entries _ c.lead_only.ensures.led
     c.lead_only.ensures.same
     (λ led. alone-below g.row.N g.P.Pair.CODES one.0.1 c.step-plain.result
-    c.marked_step-marked.result c.lead_only.new.entries c.requires.size
-    c.step-plain.ensures.below c.marked_step-marked.ensures.below (led one.0 one.1))
+    c.second_step-second.result c.lead_only.new.entries c.requires.size
+    c.step-plain.ensures.below c.second_step-second.ensures.below (led one.0 one.1))
     c.requires.below
 
 pub returns-clause-within : goal.returns-clause-within
@@ -97,6 +93,6 @@ returns-clause-within g c limit all =
     c.lead_only.new.entries _ c.lead_only.ensures.led
     c.lead_only.ensures.same
     (λ led. alone-within limit g.row.N g.P.Pair.CODES one.0.1 c.step-plain.result
-    c.marked_step-marked.result c.lead_only.new.entries c.requires.size
-    c.step-plain.ensures.below c.marked_step-marked.ensures.below within (led one.0 one.1))
+    c.second_step-second.result c.lead_only.new.entries c.requires.size
+    c.step-plain.ensures.below c.second_step-second.ensures.below within (led one.0 one.1))
     (table-within-weaker limit (limit + 2 ^ 32) c.args.entries.now (omega arith) all)

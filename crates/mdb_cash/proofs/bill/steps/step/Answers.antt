@@ -13,11 +13,11 @@ pub returns-in-Reply-Bill-default-clause-outcome :
 returns-in-Reply-Bill-default-clause-outcome c =
     let act : c.args.act.now ≡ acts.Reply (commands.Bill c.in-Reply-Bill-default.command) c.in-Reply-Bill-default.reply =
     search rules in
-    subst (λ (a : Act). IsOutcome (BillStep (facts_in c.args.facts.now) a c.args.heard c.args.reading c.args.before) c.answer.result) (sym act) c.answer.ensures.outcome
+    subst (λ (a : Act). IsOutcome (BillStep (facts_in c.args.facts.now) a c.args.choice c.args.before) c.answer.result) (sym act) c.answer.ensures.outcome
 
 pub returns-in-VmcAck-Bill-default-clause-outcome :
     goal.returns-in-VmcAck-Bill-default-clause-outcome
 returns-in-VmcAck-Bill-default-clause-outcome c =
     let act : c.args.act.now ≡ acts.VmcAck (commands.Bill c.in-VmcAck-Bill-default.command) c.in-VmcAck-Bill-default.reply =
     search rules in
-    subst (λ (a : Act). IsOutcome (BillStep (facts_in c.args.facts.now) a c.args.heard c.args.reading c.args.before) (Some c.vmc_ack.result)) (sym act) (acknowledged c.vmc_ack.ensures.outcome)
+    subst (λ (a : Act). IsOutcome (BillStep (facts_in c.args.facts.now) a c.args.choice c.args.before) (Some c.vmc_ack.result)) (sym act) (acknowledged c.vmc_ack.ensures.outcome)

@@ -13,11 +13,11 @@ pub returns-in-Reply-Changer-default-clause-outcome :
 returns-in-Reply-Changer-default-clause-outcome c =
     let act : c.args.act.now ≡ acts.Reply (commands.Changer c.in-Reply-Changer-default.command) c.in-Reply-Changer-default.reply =
     search rules in
-    subst (λ (a : Act). IsOutcome (ChangerStep (facts_in c.args.facts.now) a c.args.heard c.args.reading c.args.before) c.answer.result) (sym act) c.answer.ensures.outcome
+    subst (λ (a : Act). IsOutcome (ChangerStep (facts_in c.args.facts.now) a c.args.choice c.args.before) c.answer.result) (sym act) c.answer.ensures.outcome
 
 pub returns-in-VmcAck-Changer-default-clause-outcome :
     goal.returns-in-VmcAck-Changer-default-clause-outcome
 returns-in-VmcAck-Changer-default-clause-outcome c =
     let act : c.args.act.now ≡ acts.VmcAck (commands.Changer c.in-VmcAck-Changer-default.command) c.in-VmcAck-Changer-default.reply =
     search rules in
-    subst (λ (a : Act). IsOutcome (ChangerStep (facts_in c.args.facts.now) a c.args.heard c.args.reading c.args.before) (Some c.vmc_ack.result)) (sym act) (acknowledged c.vmc_ack.ensures.outcome)
+    subst (λ (a : Act). IsOutcome (ChangerStep (facts_in c.args.facts.now) a c.args.choice c.args.before) (Some c.vmc_ack.result)) (sym act) (acknowledged c.vmc_ack.ensures.outcome)

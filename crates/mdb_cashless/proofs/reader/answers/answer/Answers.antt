@@ -12,7 +12,7 @@ pub returns-in_err-new-clause-outcome : goal.returns-in_err-new-clause-outcome
 returns-in_err-new-clause-outcome c =
     let said = subst (IsSaid c.read.new.self) c.messages_of.ensures.messages c.read.ensures in
     let summary = c.read.new.self.summary in
-    let looked : Looked (facts_in c.args.facts.now) c.args.command c.args.reply.now c.args.reading c.args.before c.is_poll.result c.owes_reset.result summary.reset summary.early c.take_any-middle.result c.held-held.result.now summary.kept.items =
+    let looked : Looked (facts_in c.args.facts.now) c.args.command c.args.reply.now c.args.choice c.args.before c.is_poll.result c.owes_reset.result summary.reset summary.early c.take_any-middle.result c.held-held.result.now summary.kept.items =
     record {
       polls = c.is_poll.ensures;
       owed_is = c.owes_reset.ensures ∙ ap (owes_reset (facts_in c.args.facts.now)) (c.taken-taken.ensures c.args.reply.now said.refused_is);
@@ -27,7 +27,7 @@ pub returns-clause-outcome : goal.returns-clause-outcome
 returns-clause-outcome c =
     let said = subst (IsSaid c.read.new.self) c.messages_of.ensures.messages c.read.ensures in
     let summary = c.read.new.self.summary in
-    let looked : Looked (facts_in c.args.facts.now) c.args.command c.args.reply.now c.args.reading c.args.before c.is_poll.result c.owes_reset.result summary.reset summary.early c.take_any-middle.result c.held-held.result.now summary.kept.items =
+    let looked : Looked (facts_in c.args.facts.now) c.args.command c.args.reply.now c.args.choice c.args.before c.is_poll.result c.owes_reset.result summary.reset summary.early c.take_any-middle.result c.held-held.result.now summary.kept.items =
     record {
       polls = c.is_poll.ensures;
       owed_is = c.owes_reset.ensures ∙ ap (owes_reset (facts_in c.args.facts.now)) (c.taken-taken.ensures c.args.reply.now said.refused_is);

@@ -11,6 +11,6 @@ returns-in-Some-Poll c =
     let poll : c.in-Some-Poll.field-0 ≡ reader.Poll = search rules in
     let found : own c.args.unit c.in-Ack.command ≡ Some reader.Poll =
     sym c.own.ensures ∙ c.in-Some-Poll.is ∙ ap Some poll in
-    where_not c.args.state.holds (λ free facts heard reading after gains.
-    poll_rests facts heard reading c.args.state after gains c.args.unit c.args.act.now c.in-Ack.command
+    where_not c.args.state.holds (λ free facts choice after gains.
+    poll_rests facts choice c.args.state after gains c.args.unit c.args.act.now c.in-Ack.command
     act found free)

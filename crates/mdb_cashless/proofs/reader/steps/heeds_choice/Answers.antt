@@ -1,8 +1,8 @@
 use Rattle.std.proofs.Common.{◌≡◌, rules}
 use Rattle.mdb_msgs.specs.declared.command.Command.TheVariants as commands
 use Rattle.mdb_bus.specs.declared.act.Act.TheVariants as acts
-use Rattle.mdb_cashless.proofs.Marks.{unheard, unread, untaken}
-use Rattle.mdb_cashless.proofs.reader.steps.heeds_mark.Goals as goal
+use Rattle.mdb_cashless.proofs.Choices.{unheard, unread, untaken}
+use Rattle.mdb_cashless.proofs.reader.steps.heeds_choice.Goals as goal
 
 pub returns-in-Ack-Reader : goal.returns-in-Ack-Reader
 returns-in-Ack-Reader c =

@@ -1,8 +1,8 @@
 use Rattle.std.proofs.Common.{◌≡◌, refl, rules}
 use Rattle.mdb_msgs.specs.declared.command.Command.TheVariants as commands
 use Rattle.mdb_bus.specs.declared.act.Act.TheVariants as acts
-use Rattle.mdb_cash.proofs.BillMarks.{unheard, unread}
-use Rattle.mdb_cash.proofs.bill.BillPair.heeds_mark.Goals as goal
+use Rattle.mdb_cash.proofs.BillChoices.{unheard, unread}
+use Rattle.mdb_cash.proofs.bill.BillPair.heeds_choice.Goals as goal
 
 pub returns-in-Reply-Bill-default : goal.returns-in-Reply-Bill-default
 returns-in-Reply-Bill-default c =

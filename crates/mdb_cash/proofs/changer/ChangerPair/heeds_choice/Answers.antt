@@ -1,8 +1,8 @@
 use Rattle.std.proofs.Common.{◌≡◌, refl, rules}
 use Rattle.mdb_msgs.specs.declared.command.Command.TheVariants as commands
 use Rattle.mdb_bus.specs.declared.act.Act.TheVariants as acts
-use Rattle.mdb_cash.proofs.ChangerMarks.{unheard, unread}
-use Rattle.mdb_cash.proofs.changer.ChangerPair.heeds_mark.Goals as goal
+use Rattle.mdb_cash.proofs.ChangerChoices.{unheard, unread}
+use Rattle.mdb_cash.proofs.changer.ChangerPair.heeds_choice.Goals as goal
 
 pub returns-in-Reply-Changer-default : goal.returns-in-Reply-Changer-default
 returns-in-Reply-Changer-default c =

@@ -1,4 +1,4 @@
--- Where a mark leads a reader nowhere else.
+-- Where it is of no matter how an act of a reader is taken.
 use Rattle.std.proofs.Common.{◌≡◌, ◌∙◌, Bool, true, false, List, [], ◌∷◌, Option, Some, None, refl, ap, sym, subst}
 use Rattle.std.specs.Bool.{OnFalse}
 use Rattle.std.specs.List.{list_any}
@@ -10,11 +10,15 @@ use Rattle.mdb_msgs.specs.declared.command.ReaderUnit.TheVariants.{First, Second
 use Rattle.mdb_msgs.specs.declared.reply.Reply.{Reply}
 use Rattle.mdb_bus.specs.declared.act.Act.{Act}
 use Rattle.mdb_bus.specs.declared.act.Act.TheVariants as acts
+use Rattle.mdb_cash.specs.declared.choice.Choice.{Choice}
+use Rattle.mdb_cash.specs.declared.choice.Choice.TheVariants.{Plain, Lost, Restart}
 use Rattle.mdb_cash.specs.declared.gains.Gains.{Gains}
-use Rattle.mdb_cash.specs.declared.kept.Reading.TheVariants.{Plain, Restart}
+use Rattle.mdb_cash.specs.Choices.{CanStand}
 use Rattle.mdb_cash.specs.Kept.{MayBeRead, holds_acked, is_reset, kept_of}
+use Rattle.mdb_cash.proofs.KeptLists.{free_acked}
 use Rattle.mdb_cashless.specs.declared.reader.state.ReaderState.{ReaderState}
-use Rattle.mdb_cashless.specs.Reader.{AckStep, ForOwn, ReaderStep, ReplyStep, VmcAckStep, take, taken, view_answered, view_taken}
+use Rattle.mdb_cashless.specs.declared.reader.view.View.{View}
+use Rattle.mdb_cashless.specs.Reader.{AckStep, ForOwn, ReaderStep, ReplyStep, VmcAckStep, take, taken, view_answered, view_heard, view_taken}
 use Rattle.mdb_cashless.specs.ReaderFacts.{Facts}
 use Rattle.mdb_cashless.specs.ReaderMessages.{messages_of, part_of, parts_of}
 use Rattle.mdb_cashless.specs.ReaderView.{all_heard}
@@ -22,11 +26,11 @@ use Rattle.mdb_cashless.specs.Units.{own}
 use Rattle.mdb_cashless.proofs.Resets.{no_restart}
 use Rattle.mdb_cashless.proofs.Steps.{denied}
 
--- each step with a mark, from a state, is one without a mark too
+-- each choice that can stand on an act leads nowhere else than the plain one
 abbrev pub IsUnheeded : Act → ReaderState → Type 0
-IsUnheeded act state = (unit : ReaderUnit) (facts : Facts) (after : ReaderState) (gains : Gains)
-    → ReaderStep unit facts act false Restart state after gains
-    → ReaderStep unit facts act true Plain state after gains
+IsUnheeded act state = (unit : ReaderUnit) (facts : Facts) (choice : Choice) (after : ReaderState)
+    (gains : Gains) → CanStand act choice → ReaderStep unit facts act choice state after gains
+    → ReaderStep unit facts act Plain state after gains
 
 -- of a command to this reader, or to another device
 own_still : (found : Option ReaderCommand)
@@ -38,14 +42,22 @@ own_still None One Other before after gains each step = step
 own_still (Some c) One Other before after gains each step = each c refl step
 
 -- an ACK whose hearing leaves the view
-ack_still : (facts : Facts) (command : ReaderCommand) (before after : ReaderState) (gains : Gains)
-    → view_taken command before.view ≡ before.view
-    → AckStep facts command false before after gains
-    → AckStep facts command true before after gains
-ack_still facts command before after gains still step =
+heard_still : (choice : Choice) (command : ReaderCommand) (before : View)
+    → view_taken command before ≡ before
+    → view_heard choice command before ≡ view_heard Plain command before
+heard_still Plain command before still = refl
+heard_still Lost command before still = sym still
+heard_still Restart command before still = refl
+
+ack_still : (facts : Facts) (command : ReaderCommand) (choice : Choice)
+    (before after : ReaderState) (gains : Gains) → view_taken command before.view ≡ before.view
+    → AckStep facts command choice before after gains
+    → AckStep facts command Plain before after gains
+ack_still facts command choice before after gains still step =
     record {
       poll = step.poll;
-      to = step.to ∙ ap (λ v. record (take facts command before) { view = v }) (sym still);
+      to = step.to ∙ ap (λ v. record (take facts command before) { view = v })
+          (heard_still choice command before.view still);
       gained = step.gained;
     }
 
@@ -63,14 +75,24 @@ pub untaken : (state : ReaderState) (act : Act) (of : ReaderUnit) (command : Rea
     → OnFalse may (IsUnheeded act state)
 untaken state act of command true is still = tt
 untaken state act of command false is still =
-    subst (λ (a : Act). IsUnheeded a state) (sym is) (λ unit facts after gains.
-    own_still (own unit (commands.Reader of command)) (λ c. AckStep facts c false)
-    (λ c. AckStep facts c true) state after gains
-    (λ c found. ack_still facts c state after gains
+    subst (λ (a : Act). IsUnheeded a state) (sym is) (λ unit facts choice after gains stands.
+    own_still (own unit (commands.Reader of command)) (λ c. AckStep facts c choice)
+    (λ c. AckStep facts c Plain) state after gains
+    (λ c found. ack_still facts c choice state after gains
     (subst (λ (m : ReaderCommand). view_taken m state.view ≡ state.view)
     (the_own unit of command c found) still)))
 
 -- a reply that tells of no restart
+plain_alone : (facts : Facts) (its : ReaderCommand) (command : Command) (reply : Reply)
+    (before after : ReaderState) (gains : Gains) → (MayBeRead Restart (parts_of reply) → ⊥)
+    → (choice : Choice) → CanStand (acts.Reply command reply) choice
+    → ReplyStep facts its reply choice before after gains
+    → ReplyStep facts its reply Plain before after gains
+plain_alone facts its command reply before after gains never Plain stands step = step
+plain_alone facts its command reply before after gains never Lost stands step = absurd stands
+plain_alone facts its command reply before after gains never Restart stands step =
+    absurd (never step.tells.read)
+
 pub unread : (state : ReaderState) (act : Act) (command : Command) (reply : Reply) (tells : Bool)
     → act ≡ acts.Reply command reply
     → tells ≡ list_any (λ m. is_reset (part_of m)) (messages_of reply)
@@ -79,26 +101,20 @@ unread state act command reply true is tells = tt
 unread state act command reply false is tells =
     let never : MayBeRead Restart (parts_of reply) → ⊥ =
     no_restart false part_of (messages_of reply) tells in
-    subst (λ (a : Act). IsUnheeded a state) (sym is) (λ unit facts after gains.
-    own_still (own unit command) (λ c. ReplyStep facts c reply Restart)
+    subst (λ (a : Act). IsUnheeded a state) (sym is) (λ unit facts choice after gains stands.
+    own_still (own unit command) (λ c. ReplyStep facts c reply choice)
     (λ c. ReplyStep facts c reply Plain) state after gains
-    (λ c found step. absurd (never step.tells.read)))
+    (λ c found. plain_alone facts c command reply state after gains never choice stands))
 
--- an ACK that a reader hears while it holds nothing, or doesn't hear, leaves it so
-free_acked : {M : Type 0} (heard : Bool) (kept : List M) → holds_acked heard kept false ≡ false
-free_acked heard [] = refl
-free_acked true (message ∷ kept) = refl
-free_acked false (message ∷ kept) = refl
-
-vmc_ack_still : (facts : Facts) (command : ReaderCommand) (reply : Reply)
+-- the controller's ACK while nothing is held
+vmc_ack_still : (facts : Facts) (command : ReaderCommand) (reply : Reply) (choice : Choice)
     (before after : ReaderState) (gains : Gains) → before.holds ≡ false
-    → VmcAckStep facts command reply false before after gains
-    → VmcAckStep facts command reply true before after gains
-vmc_ack_still facts command reply before after gains free step =
+    → VmcAckStep facts command reply choice before after gains
+    → VmcAckStep facts command reply Plain before after gains
+vmc_ack_still facts command reply choice before after gains free step =
     let kept = kept_of (parts_of reply) in
-    let holds : holds_acked false kept before.holds ≡ holds_acked true kept before.holds =
-    ap (holds_acked false kept) free ∙ free_acked false kept
-    ∙ sym (ap (holds_acked true kept) free ∙ free_acked true kept) in
+    let holds : holds_acked choice kept before.holds ≡ holds_acked Plain kept before.holds =
+    free_acked choice kept free ∙ sym (free_acked Plain kept free) in
     record {
       to = step.to ∙ ap (λ h. record {
         device = before.device;
@@ -108,11 +124,10 @@ vmc_ack_still facts command reply before after gains free step =
       gained = step.gained;
     }
 
--- the controller's ACK while nothing is held
 pub unheard : (state : ReaderState) (act : Act) (command : Command) (reply : Reply)
     → act ≡ acts.VmcAck command reply → OnFalse state.holds (IsUnheeded act state)
 unheard state act command reply is = denied state.holds (λ free.
-    subst (λ (a : Act). IsUnheeded a state) (sym is) (λ unit facts after gains.
-    own_still (own unit command) (λ c. VmcAckStep facts c reply false)
-    (λ c. VmcAckStep facts c reply true) state after gains
-    (λ c found. vmc_ack_still facts c reply state after gains free)))
+    subst (λ (a : Act). IsUnheeded a state) (sym is) (λ unit facts choice after gains stands.
+    own_still (own unit command) (λ c. VmcAckStep facts c reply choice)
+    (λ c. VmcAckStep facts c reply Plain) state after gains
+    (λ c found. vmc_ack_still facts c reply choice state after gains free)))
