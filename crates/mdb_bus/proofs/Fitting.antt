@@ -7,7 +7,8 @@ use Rattle.mdb_words.specs.declared.event.Event.{Event}
 use Rattle.mdb_bus.specs.declared.act.Act.{Act}
 use Rattle.mdb_bus.specs.declared.act.Act.TheVariants as acts
 use Rattle.mdb_bus.specs.ActLists.{Piece, Whole, ArePieces, MayCome, MayStand, Quiet, events_of, left_open, piece_events}
-use Rattle.mdb_bus.specs.Choice.{Choice, HearsFreeAsChosen, HearsAsChosen, IsAck, IsFree, nothing_told}
+use Rattle.mdb_bus.specs.Acts.{IsAck}
+use Rattle.mdb_bus.specs.Wish.{Wish, HearsFreeAsWished, HearsAsWished, IsFree, nothing_told}
 use Rattle.mdb_bus.specs.Loss.{AllArrive, FitsBehind, Heard, Hearing, IsAsTold, IsHeard, Loss, LossFits, Open, Unheard, told_by, told_by_block}
 
 -- the first of two tests or the second
@@ -15,21 +16,21 @@ abbrev pick : Bool → Bool → Bool → Bool
 pick true first second = first
 pick false first second = second
 
--- whether the rows of an act are damaged: as it is told, and where nothing is told, as it is chosen
+-- whether the rows of an act are damaged: as it is told, and where nothing is told, as it is wished
 abbrev is_damaged : Hearing → Bool → Bool
-is_damaged Heard chosen = false
-is_damaged Unheard chosen = true
+is_damaged Heard wished = false
+is_damaged Unheard wished = true
 is_damaged Open true = false
 is_damaged Open false = true
 
 -- The loss of pieces, where what is behind them tells so of their newest act. The rows of an act are all damaged, or
 -- none is.
-abbrev damage : Choice → List Piece → (Act → Hearing) → Loss
-damage choice [] tells = λ row. false
-damage choice (Whole act events ∷ pieces) tells = λ row.
-    pick (leb row (length (events_of pieces))) (damage choice pieces (told_by act) row)
-    (is_damaged (tells act) (choice (length (events_of pieces))))
-damage choice (piece ∷ pieces) tells = damage choice pieces nothing_told
+abbrev damage : Wish → List Piece → (Act → Hearing) → Loss
+damage wish [] tells = λ row. false
+damage wish (Whole act events ∷ pieces) tells = λ row.
+    pick (leb row (length (events_of pieces))) (damage wish pieces (told_by act) row)
+    (is_damaged (tells act) (wish (length (events_of pieces))))
+damage wish (piece ∷ pieces) tells = damage wish pieces nothing_told
 
 -- two losses agree on so many rows
 abbrev Agree : Loss → Loss → ℕ → Type 0
@@ -112,30 +113,30 @@ unheard_arrives : (act : Act) (loss : Loss) (before count : ℕ) → IsSparing U
 unheard_arrives (acts.Break length) loss before count sparing heard = let untold = sparing refl in cc
 unheard_arrives act loss before count sparing heard = heard
 
--- an act whose rows are damaged as it is told, and else as it is chosen, is heard as it is told
-is_told : (hearing : Hearing) (chosen : Bool) (loss : Loss) (act : Act) (before count : ℕ) → 1 ≤ count
-    → AreAll loss before count (is_damaged hearing chosen) → IsSparing hearing act
+-- an act whose rows are damaged as it is told, and else as it is wished, is heard as it is told
+is_told : (hearing : Hearing) (wished : Bool) (loss : Loss) (act : Act) (before count : ℕ) → 1 ≤ count
+    → AreAll loss before count (is_damaged hearing wished) → IsSparing hearing act
     → IsAsTold hearing (IsHeard loss act before count)
-is_told Heard chosen loss act before count some rows sparing = heard_where loss act before count rows
-is_told Unheard chosen loss act before count some rows sparing = λ heard.
+is_told Heard wished loss act before count some rows sparing = heard_where loss act before count rows
+is_told Unheard wished loss act before count some rows sparing = λ heard.
     none_arrive loss before count some rows (unheard_arrives act loss before count sparing heard)
-is_told Open chosen loss act before count some rows sparing = tt
+is_told Open wished loss act before count some rows sparing = tt
 
--- and where it is free, as it is chosen
-arrive_chosen : (hearing : Hearing) (chosen : Bool) (loss : Loss) (before count : ℕ) → 1 ≤ count
-    → AreAll loss before count (is_damaged hearing chosen) → hearing ≡ Open
-    → AllArrive loss before count ↔ (chosen ≡ true)
-arrive_chosen Open true loss before count some rows untold = (λ all. refl, λ is. rows)
-arrive_chosen Open false loss before count some rows untold =
+-- and where it is free, as it is wished
+arrive_wished : (hearing : Hearing) (wished : Bool) (loss : Loss) (before count : ℕ) → 1 ≤ count
+    → AreAll loss before count (is_damaged hearing wished) → hearing ≡ Open
+    → AllArrive loss before count ↔ (wished ≡ true)
+arrive_wished Open true loss before count some rows untold = (λ all. refl, λ is. rows)
+arrive_wished Open false loss before count some rows untold =
     (λ all. absurd (none_arrive loss before count some rows all), λ is. cc)
-arrive_chosen hearing chosen loss before count some rows untold = cc
+arrive_wished hearing wished loss before count some rows untold = cc
 
-is_chosen : (hearing : Hearing) (chosen : Bool) (loss : Loss) (act : Act) (before count : ℕ) → 1 ≤ count
-    → AreAll loss before count (is_damaged hearing chosen) → IsSparing hearing act → IsFree act hearing
-    → IsHeard loss act before count ↔ (chosen ≡ true)
-is_chosen hearing chosen loss act before count some rows sparing free =
+is_wished : (hearing : Hearing) (wished : Bool) (loss : Loss) (act : Act) (before count : ℕ) → 1 ≤ count
+    → AreAll loss before count (is_damaged hearing wished) → IsSparing hearing act → IsFree act hearing
+    → IsHeard loss act before count ↔ (wished ≡ true)
+is_wished hearing wished loss act before count some rows sparing free =
     let untold = free_open act hearing sparing free in
-    let arrive = arrive_chosen hearing chosen loss before count some rows untold in (
+    let arrive = arrive_wished hearing wished loss before count some rows untold in (
       λ heard. arrive.0 (free_arrives act hearing loss before count free heard),
       λ is. heard_where loss act before count (arrive.1 is),
     )
@@ -161,53 +162,53 @@ has_row : (pieces : List Piece) (act : Act) (events : List Event) → MayStand p
 has_row pieces act events stands = omega (arith, ap length stands.begins)
 
 -- the loss of the newest piece is as the act behind it tells
-fits_behind : (choice : Choice) (loss : Loss) (pieces : List Piece) (next : Act)
-    → Agree (damage choice pieces (told_by next)) loss (length (events_of pieces)) → ArePieces pieces
+fits_behind : (wish : Wish) (loss : Loss) (pieces : List Piece) (next : Act)
+    → Agree (damage wish pieces (told_by next)) loss (length (events_of pieces)) → ArePieces pieces
     → TellsSparingly (told_by next) pieces → FitsBehind loss pieces next
-fits_behind choice loss (Whole act rows ∷ pieces) next agree are sparing =
+fits_behind wish loss (Whole act rows ∷ pieces) next agree are sparing =
     let before = length (events_of pieces) in
-    is_told (told_by next act) (choice before) loss act before (length rows) (has_row pieces act rows are.1)
-    (agree_late (damage choice pieces (told_by act)) loss _ (events_of pieces) rows agree) sparing
-fits_behind choice loss _ next agree are sparing = tt
+    is_told (told_by next act) (wish before) loss act before (length rows) (has_row pieces act rows are.1)
+    (agree_late (damage wish pieces (told_by act)) loss _ (events_of pieces) rows agree) sparing
+fits_behind wish loss _ next agree are sparing = tt
 
 -- the loss fits, whatever is told of the newest act
-fits : (choice : Choice) (loss : Loss) (pieces : List Piece) (tells : Act → Hearing)
-    → Agree (damage choice pieces tells) loss (length (events_of pieces)) → ArePieces pieces → LossFits loss pieces
-fits choice loss [] tells agree are = tt
-fits choice loss (Whole act events ∷ pieces) tells agree are =
-    let early = agree_early (damage choice pieces (told_by act)) loss _ (events_of pieces) events agree in (
-      fits_behind choice loss pieces act early are.2 (next_sparing pieces act events are.1),
-      fits choice loss pieces (told_by act) early are.2,
+fits : (wish : Wish) (loss : Loss) (pieces : List Piece) (tells : Act → Hearing)
+    → Agree (damage wish pieces tells) loss (length (events_of pieces)) → ArePieces pieces → LossFits loss pieces
+fits wish loss [] tells agree are = tt
+fits wish loss (Whole act events ∷ pieces) tells agree are =
+    let early = agree_early (damage wish pieces (told_by act)) loss _ (events_of pieces) events agree in (
+      fits_behind wish loss pieces act early are.2 (next_sparing pieces act events are.1),
+      fits wish loss pieces (told_by act) early are.2,
     )
-fits choice loss (piece ∷ pieces) tells agree are =
-    fits choice loss pieces nothing_told
-    (agree_before (damage choice pieces nothing_told) loss (events_of pieces) (piece_events piece) agree) are.2
+fits wish loss (piece ∷ pieces) tells agree are =
+    fits wish loss pieces nothing_told
+    (agree_before (damage wish pieces nothing_told) loss (events_of pieces) (piece_events piece) agree) are.2
 
--- the free acts are heard as chosen
-chosen : (choice : Choice) (loss : Loss) (pieces : List Piece) (tells : Act → Hearing)
-    → Agree (damage choice pieces tells) loss (length (events_of pieces)) → ArePieces pieces
-    → TellsSparingly tells pieces → HearsFreeAsChosen loss choice tells pieces
-chosen choice loss [] tells agree are sparing = tt
-chosen choice loss (Whole act events ∷ pieces) tells agree are sparing =
+-- the free acts are heard as wished
+wished : (wish : Wish) (loss : Loss) (pieces : List Piece) (tells : Act → Hearing)
+    → Agree (damage wish pieces tells) loss (length (events_of pieces)) → ArePieces pieces
+    → TellsSparingly tells pieces → HearsFreeAsWished loss wish tells pieces
+wished wish loss [] tells agree are sparing = tt
+wished wish loss (Whole act events ∷ pieces) tells agree are sparing =
     let before = length (events_of pieces) in
-    let inner : Loss = damage choice pieces (told_by act) in (
-      is_chosen (tells act) (choice before) loss act before (length events) (has_row pieces act events are.1)
+    let inner : Loss = damage wish pieces (told_by act) in (
+      is_wished (tells act) (wish before) loss act before (length events) (has_row pieces act events are.1)
           (agree_late inner loss _ (events_of pieces) events agree) sparing,
-      chosen choice loss pieces (told_by act) (agree_early inner loss _ (events_of pieces) events agree) are.2
+      wished wish loss pieces (told_by act) (agree_early inner loss _ (events_of pieces) events agree) are.2
           (next_sparing pieces act events are.1),
     )
-chosen choice loss (piece ∷ pieces) tells agree are sparing =
-    chosen choice loss pieces nothing_told
-    (agree_before (damage choice pieces nothing_told) loss (events_of pieces) (piece_events piece) agree) are.2
+wished wish loss (piece ∷ pieces) tells agree are sparing =
+    wished wish loss pieces nothing_told
+    (agree_before (damage wish pieces nothing_told) loss (events_of pieces) (piece_events piece) agree) are.2
     (nothing_sparing pieces)
 
-pub fitting : (pieces : List Piece) → ArePieces pieces → (choice : Choice)
-    → (loss : Loss) × LossFits loss pieces × HearsFreeAsChosen loss choice nothing_told pieces
-fitting pieces are choice =
-    let loss : Loss = damage choice pieces nothing_told in (
+pub fitting : (pieces : List Piece) → ArePieces pieces → (wish : Wish)
+    → (loss : Loss) × LossFits loss pieces × HearsFreeAsWished loss wish nothing_told pieces
+fitting pieces are wish =
+    let loss : Loss = damage wish pieces nothing_told in (
       loss,
-      fits choice loss pieces nothing_told (λ row h. refl) are,
-      chosen choice loss pieces nothing_told (λ row h. refl) are (nothing_sparing pieces),
+      fits wish loss pieces nothing_told (λ row h. refl) are,
+      wished wish loss pieces nothing_told (λ row h. refl) are (nothing_sparing pieces),
     )
 
 -- an ACK is free
@@ -216,12 +217,12 @@ ack_free (acts.Ack command) hearing ack = tt
 ack_free (acts.VmcAck command reply) hearing ack = tt
 ack_free act hearing ack = absurd ack
 
--- so an ACK is heard as chosen, where each free act is
-pub acks_chosen : (loss : Loss) (choice : Choice) (tells : Act → Hearing) (pieces : List Piece)
-    → HearsFreeAsChosen loss choice tells pieces → HearsAsChosen loss choice pieces
-acks_chosen loss choice tells [] free = tt
-acks_chosen loss choice tells (Whole act events ∷ pieces) free = (
+-- so an ACK is heard as wished, where each free act is
+pub acks_wished : (loss : Loss) (wish : Wish) (tells : Act → Hearing) (pieces : List Piece)
+    → HearsFreeAsWished loss wish tells pieces → HearsAsWished loss wish pieces
+acks_wished loss wish tells [] free = tt
+acks_wished loss wish tells (Whole act events ∷ pieces) free = (
   λ ack. free.0 (ack_free act (tells act) ack),
-  acks_chosen loss choice (told_by act) pieces free.1,
+  acks_wished loss wish (told_by act) pieces free.1,
 )
-acks_chosen loss choice tells (piece ∷ pieces) free = acks_chosen loss choice nothing_told pieces free
+acks_wished loss wish tells (piece ∷ pieces) free = acks_wished loss wish nothing_told pieces free

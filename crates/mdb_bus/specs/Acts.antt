@@ -89,6 +89,12 @@ IsAct acts.Foreign events = IsForeign events
 IsAct (acts.Break length) events =
     (at : ℕ) × (events ≡ Break at length ∷ []) × (BREAK_LENGTH_MIN ≤ length)
 
+-- an ACK: a peripheral's, or the controller's
+abbrev pub IsAck : Act → Type 0
+IsAck (acts.Ack command) = Unit {0}
+IsAck (acts.VmcAck command reply) = Unit {0}
+IsAck _ = ⊥
+
 -- what an act says of a reply is of one that may answer its command
 abbrev pub NamesAReply : Act → Type 0
 NamesAReply (acts.Reply command reply) = IsReply command reply

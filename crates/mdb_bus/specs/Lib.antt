@@ -1,7 +1,7 @@
 pub mod Acts
 pub mod ActLists
 pub mod Bus
-pub mod Choice
+pub mod Wish
 pub mod LinkFaults
 pub mod Loss
 pub mod inner

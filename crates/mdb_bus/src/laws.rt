@@ -8,7 +8,7 @@ ghost use Rattle.mdb_bus.specs.declared.fault.Blame.{Blame};
 ghost use Rattle.mdb_bus.specs.declared.fault.Rule.{Rule};
 ghost use Rattle.mdb_bus.specs.Acts.{NamesAReply};
 ghost use Rattle.mdb_bus.specs.ActLists.{ArePieces, GoesOnFrom, HasActList, IsActList, Piece, Whole, events_of};
-ghost use Rattle.mdb_bus.specs.Choice.{Choice, HearsFreeAsChosen, HearsAsChosen, nothing_told};
+ghost use Rattle.mdb_bus.specs.Wish.{Wish, HearsFreeAsWished, HearsAsWished, nothing_told};
 ghost use Rattle.mdb_bus.specs.inner.Grammar.{Grammar};
 ghost use Rattle.mdb_bus.specs.LinkFaults.{IsFirstBroken, IsLinkFault, RowBreaks, situation_of};
 ghost use Rattle.mdb_bus.specs.Loss.{IsExplained, Loss, LossFits};
@@ -64,14 +64,14 @@ pub fn acts_name_replies_of_their_commands()
 /// Each act list has a loss that fits, whichever of its free acts are to be heard: nothing tells
 /// whether a free act was heard.
 pub fn free_acts_may_be_heard_or_not()
-    ensures { (pieces : List Piece) → ArePieces pieces → (choice : Choice) → (loss : Loss)
-        × LossFits loss pieces × HearsFreeAsChosen loss choice nothing_told pieces }
+    ensures { (pieces : List Piece) → ArePieces pieces → (wish : Wish) → (loss : Loss)
+        × LossFits loss pieces × HearsFreeAsWished loss wish nothing_told pieces }
 {}
 
 /// Each act list has a loss that fits, whichever of its ACKs are to be heard.
 pub fn acks_may_be_heard_or_not()
-    ensures { (pieces : List Piece) → ArePieces pieces → (choice : Choice) → (loss : Loss)
-        × LossFits loss pieces × HearsAsChosen loss choice pieces }
+    ensures { (pieces : List Piece) → ArePieces pieces → (wish : Wish) → (loss : Loss)
+        × LossFits loss pieces × HearsAsWished loss wish pieces }
 {
     free_acts_may_be_heard_or_not();
 }

@@ -1,7 +1,7 @@
 -- How an act may be taken, where the transcript doesn't tell it (this profile).
 use Rattle.mdb_bus.specs.declared.act.Act.{Act}
 use Rattle.mdb_bus.specs.declared.act.Act.TheVariants as acts
-use Rattle.mdb_bus.specs.Choice.{IsAck}
+use Rattle.mdb_bus.specs.Acts.{IsAck}
 use Rattle.mdb_cash.specs.declared.choice.Choice.{Choice}
 use Rattle.mdb_cash.specs.declared.choice.Choice.TheVariants.{Plain, Lost, Restart}
 

@@ -6,7 +6,8 @@ use Rattle.mdb_msgs.specs.declared.command.Device.TheVariants as devices
 use Rattle.mdb_msgs.specs.declared.command.ReaderUnit.TheVariants.{First, Second}
 use Rattle.mdb_bus.specs.declared.act.Act.{Act}
 use Rattle.mdb_bus.specs.ActLists.{ArePieces, Piece, Whole, AskTail, ReplyTail, RepeatTail, acts_of, events_of}
-use Rattle.mdb_bus.specs.Choice.{HearsAsChosen, IsAck}
+use Rattle.mdb_bus.specs.Acts.{IsAck}
+use Rattle.mdb_bus.specs.Wish.{HearsAsWished}
 use Rattle.mdb_bus.specs.Loss.{IsHeard, Loss, LossFits}
 use Rattle.mdb_cash.specs.Bill.{BillStep}
 use Rattle.mdb_cash.specs.Bill as bill
@@ -130,7 +131,7 @@ agrees : (choice : ℕ → Bool) (loss : Loss) (pieces : List Piece) (choices : 
     → ArePieces pieces
     → ((before : ℕ) → before < length (events_of pieces)
     → choice before ≡ chosen_at pieces choices before)
-    → HearsAsChosen loss choice pieces → Agrees loss pieces choices
+    → HearsAsWished loss choice pieces → Agrees loss pieces choices
 unfolding chosen_at
 agrees choice loss [] choices are same hears = tt
 agrees choice loss (Whole act events ∷ pieces) choices are same hears =
@@ -264,7 +265,7 @@ as_merged {device} {State} {Step} machine first acts all state sums way =
 
 -- and there is such a loss
 pub joined : ((pieces : List Piece) → ArePieces pieces → (choice : ℕ → Bool)
-    → (loss : Loss) × LossFits loss pieces × HearsAsChosen loss choice pieces)
+    → (loss : Loss) × LossFits loss pieces × HearsAsWished loss choice pieces)
     → (pieces : List Piece) (states : States) (sums : AllSums) → ArePieces pieces
     → EachArrives (acts_of pieces) states sums
     → (loss : Loss) × LossFits loss pieces × IsWay loss pieces states sums

@@ -1,4 +1,4 @@
--- any choice will do, as that every free act is heard
+-- any wish will do, as that every free act is heard
 use Rattle.std.proofs.Common.{true}
 use Rattle.mdb_bus.proofs.laws.act_lists_have_a_fitting_loss.Goals as goal
 
