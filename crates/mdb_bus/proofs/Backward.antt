@@ -10,7 +10,7 @@ use Rattle.mdb_blocks.specs.Block.{block_of, controller_words}
 use Rattle.mdb_msgs.specs.declared.answer.AnswerForm.{AnswerForm}
 use Rattle.mdb_msgs.specs.declared.command.Command.{Command}
 use Rattle.mdb_msgs.specs.declared.reply.Reply.{Reply}
-use Rattle.mdb_msgs.specs.declared.needs.Need.{Need}
+use Rattle.mdb_msgs.specs.declared.need.Need.{Need}
 use Rattle.mdb_msgs.specs.Commands.{IsByte, Spells, command_bytes}
 use Rattle.mdb_msgs.specs.Laws.{OpenIsAFront}
 use Rattle.mdb_msgs.specs.Needs.{IsShort}

@@ -13,7 +13,7 @@ use Rattle.mdb_msgs.specs.declared.command.BillCommand.TheVariants as bill
 use Rattle.mdb_msgs.specs.declared.command.ReaderUnit.TheVariants.{First, Second}
 use Rattle.mdb_msgs.specs.declared.command.ReaderCommand.{ReaderCommand}
 use Rattle.mdb_msgs.specs.declared.command.ReaderCommand.TheVariants as reader
-use Rattle.mdb_msgs.specs.declared.needs.Need.TheVariants.{More, Foreign}
+use Rattle.mdb_msgs.specs.declared.need.Need.TheVariants.{More, Foreign}
 use Rattle.mdb_msgs.specs.Commands.{HasBillFields, HasChangerFields, HasReaderFields, IsByte, IsNumber, Spells, bill_bytes, changer_bytes, command_bytes, reader_address, reader_bytes}
 use Rattle.mdb_msgs.specs.Needs.{bill_need, changer_need, is_for, needed, reader_need}
 use Rattle.mdb_msgs.specs.TwoBytes.{two_bytes}

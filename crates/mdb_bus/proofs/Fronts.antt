@@ -13,8 +13,8 @@ use Rattle.mdb_msgs.specs.declared.command.Command.TheVariants.{Changer, Bill, R
 use Rattle.mdb_msgs.specs.declared.command.ReaderCommand.{ReaderCommand}
 use Rattle.mdb_msgs.specs.declared.command.ReaderCommand.TheVariants as reader
 use Rattle.mdb_msgs.specs.declared.command.ReaderUnit.TheVariants.{First, Second}
-use Rattle.mdb_msgs.specs.declared.needs.Need.{Need}
-use Rattle.mdb_msgs.specs.declared.needs.Need.TheVariants as need
+use Rattle.mdb_msgs.specs.declared.need.Need.{Need}
+use Rattle.mdb_msgs.specs.declared.need.Need.TheVariants as need
 use Rattle.mdb_msgs.specs.Commands.{HasBillFields, HasChangerFields, HasFields, HasReaderFields, IsByte, bill_bytes, changer_bytes, command_bytes, reader_bytes}
 use Rattle.mdb_msgs.specs.Needs.{bill_need, changer_need, is_for, need as need_of, needed, reader_need}
 use Rattle.mdb_bus.specs.ActLists.{IsAskFront}

@@ -1,8 +1,8 @@
 -- What the needs of one byte, of two and of more bytes have to do with each other.
 use Rattle.std.proofs.Common.{◌≡◌, ◌<◌, ◌≤◌, ◌%◌, ℕ, List, [], ◌∷◌, ◌++◌, length, Bool, true, false, if◌then◌else◌, Option, Some, None, arith, refl}
 use Rattle.std.proofs.lemmas.Grind.{common_steps}
-use Rattle.mdb_msgs.specs.declared.needs.Need.{Need}
-use Rattle.mdb_msgs.specs.declared.needs.Need.TheVariants.{More, Exactly, Foreign}
+use Rattle.mdb_msgs.specs.declared.need.Need.{Need}
+use Rattle.mdb_msgs.specs.declared.need.Need.TheVariants.{More, Exactly, Foreign}
 use Rattle.mdb_msgs.specs.Needs.{bill_need, changer_need, is_for, need, needed, reader_need}
 
 -- How the need of a first byte goes with that of two. What the first byte tells stays, and what it leaves to the second

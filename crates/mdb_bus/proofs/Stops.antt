@@ -13,8 +13,8 @@ use Rattle.mdb_blocks.specs.declared.answer.Answer.TheVariants as answers
 use Rattle.mdb_msgs.specs.declared.command.Command.{Command}
 use Rattle.mdb_msgs.specs.declared.fault.MsgFault.{MsgFault}
 use Rattle.mdb_msgs.specs.declared.fault.MsgFault.TheVariants as reading
-use Rattle.mdb_msgs.specs.declared.needs.Need.{Need}
-use Rattle.mdb_msgs.specs.declared.needs.Need.TheVariants as need
+use Rattle.mdb_msgs.specs.declared.need.Need.{Need}
+use Rattle.mdb_msgs.specs.declared.need.Need.TheVariants as need
 use Rattle.mdb_msgs.specs.declared.reply.Reply.{Reply}
 use Rattle.mdb_msgs.specs.Commands.{Spells, command_bytes}
 use Rattle.mdb_msgs.specs.Needs.{IsTold, needed}

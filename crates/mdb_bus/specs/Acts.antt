@@ -11,7 +11,7 @@ use Rattle.mdb_blocks.specs.Block.{IsContent, block_of, words_on}
 use Rattle.mdb_blocks.specs.declared.answer.Answer.{Answer}
 use Rattle.mdb_blocks.specs.declared.answer.Answer.TheVariants as answers
 use Rattle.mdb_msgs.specs.declared.command.Command.{Command}
-use Rattle.mdb_msgs.specs.declared.needs.Need.TheVariants as need
+use Rattle.mdb_msgs.specs.declared.need.Need.TheVariants as need
 use Rattle.mdb_msgs.specs.declared.reply.Reply.{Reply}
 use Rattle.mdb_msgs.specs.Commands.{IsByte, Spells, command_bytes}
 use Rattle.mdb_msgs.specs.Needs.{needed}

@@ -4,7 +4,7 @@ use Rattle.mdb_blocks.specs.Block.{block_of}
 use Rattle.mdb_msgs.specs.declared.command.ReaderUnit.{ReaderUnit}
 use Rattle.mdb_msgs.specs.declared.command.ReaderUnit.TheVariants.{First, Second}
 use Rattle.mdb_msgs.specs.declared.fault.MsgFault.{MsgFault}
-use Rattle.mdb_msgs.specs.declared.needs.Need.{Need}
+use Rattle.mdb_msgs.specs.declared.need.Need.{Need}
 use Rattle.mdb_msgs.specs.CommandFaults.{IsCommandFault, IsRefused}
 use Rattle.mdb_msgs.specs.Commands.{reader_address}
 use Rattle.mdb_msgs.specs.Needs.{need, needed, reader_need}

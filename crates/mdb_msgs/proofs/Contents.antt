@@ -14,7 +14,7 @@ use Rattle.mdb_msgs.specs.declared.command.ReaderCommand.{ReaderCommand}
 use Rattle.mdb_msgs.specs.declared.command.ReaderCommand.TheVariants as reader
 use Rattle.mdb_msgs.specs.declared.command.ReaderUnit.{ReaderUnit}
 use Rattle.mdb_msgs.specs.declared.command.ReaderUnit.TheVariants.{First, Second}
-use Rattle.mdb_msgs.specs.declared.needs.Need.TheVariants.{Exactly, Foreign}
+use Rattle.mdb_msgs.specs.declared.need.Need.TheVariants.{Exactly, Foreign}
 use Rattle.mdb_msgs.specs.Commands.{IsByte, HasBillFields, HasChangerFields, HasReaderFields, Spells, bill_bytes, changer_bytes, reader_address, reader_bytes}
 use Rattle.mdb_msgs.specs.Needs.{bill_need, changer_need, is_for, needed, reader_need}
 

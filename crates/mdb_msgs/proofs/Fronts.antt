@@ -5,8 +5,8 @@ use Rattle.std.proofs.lemmas.List.{length-replicate}
 use Rattle.std.proofs.lemmas.List.Elements.{All-append, All-replicate}
 use Rattle.mdb_blocks.specs.Block.{block_of}
 use Rattle.mdb_msgs.specs.declared.command.Command.{Command}
-use Rattle.mdb_msgs.specs.declared.needs.Need.{Need}
-use Rattle.mdb_msgs.specs.declared.needs.Need.TheVariants.{More, Exactly, Foreign, Outside}
+use Rattle.mdb_msgs.specs.declared.need.Need.{Need}
+use Rattle.mdb_msgs.specs.declared.need.Need.TheVariants.{More, Exactly, Foreign, Outside}
 use Rattle.mdb_msgs.specs.Commands.{IsByte, Spells}
 use Rattle.mdb_msgs.specs.Needs.{IsOpen, IsShort, IsTold, bill_need, changer_need, is_for, need, needed, reader_need}
 use Rattle.mdb_msgs.proofs.Contents.{spelled}

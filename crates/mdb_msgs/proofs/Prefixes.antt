@@ -6,7 +6,7 @@ use Rattle.mdb_msgs.specs.declared.command.Command.TheVariants.{Changer, Bill, R
 use Rattle.mdb_msgs.specs.declared.command.BillCommand.TheVariants as bill
 use Rattle.mdb_msgs.specs.declared.command.ReaderCommand.TheVariants as reader
 use Rattle.mdb_msgs.specs.declared.command.ReaderUnit.TheVariants.{First, Second}
-use Rattle.mdb_msgs.specs.declared.needs.Need.TheVariants.{Exactly}
+use Rattle.mdb_msgs.specs.declared.need.Need.TheVariants.{Exactly}
 use Rattle.mdb_msgs.specs.Commands.{Spells}
 use Rattle.mdb_msgs.specs.Needs.{IsTold, TellsLength, need, needed}
 

@@ -1,7 +1,7 @@
 -- Why a block is no command (this profile).
 use Rattle.std.specs.Prelude.{◌≡◌, ℕ, List, length}
-use Rattle.mdb_msgs.specs.declared.needs.Need.{Need}
-use Rattle.mdb_msgs.specs.declared.needs.Need.TheVariants.{Exactly, Foreign, Outside}
+use Rattle.mdb_msgs.specs.declared.need.Need.{Need}
+use Rattle.mdb_msgs.specs.declared.need.Need.TheVariants.{Exactly, Foreign, Outside}
 use Rattle.mdb_msgs.specs.declared.fault.MsgFault.{MsgFault}
 use Rattle.mdb_msgs.specs.declared.fault.MsgFault.TheVariants.{Length, Profile}
 use Rattle.mdb_msgs.specs.Needs.{needed}

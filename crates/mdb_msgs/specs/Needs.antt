@@ -1,8 +1,8 @@
 -- What the first bytes of a block of the controller tell (MDB/ICP 4.3, commands of the four
 -- devices; what is outside and what is foreign, this profile).
 use Rattle.std.specs.Prelude.{◌≡◌, ◌<◌, ℕ, length, ◌/◌, ◌%◌, ◌==◌, Bool, List, Option, Some, None, slice_index, slice_get, if◌then◌else◌}
-use Rattle.mdb_msgs.specs.declared.needs.Need.{Need}
-use Rattle.mdb_msgs.specs.declared.needs.Need.TheVariants.{More, Exactly, Foreign, Outside}
+use Rattle.mdb_msgs.specs.declared.need.Need.{Need}
+use Rattle.mdb_msgs.specs.declared.need.Need.TheVariants.{More, Exactly, Foreign, Outside}
 
 -- what a subcommand tells, once it is there
 abbrev pub by_subcommand : (ℕ → Need) → Option ℕ → Need

@@ -1,6 +1,6 @@
 //! What the first byte of a block of the controller tells.
 
-use crate::needs::Need;
+use crate::need::Need;
 
 /// What a block needs by its first byte alone.
 pub(crate) static FIRST: [Need; 256] = [

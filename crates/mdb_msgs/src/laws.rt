@@ -3,7 +3,7 @@
 ghost use Rattle.std.specs.Prelude.{◌≡◌, ◌<◌, ◌+◌, ◌++◌, List, ℕ, length, All};
 ghost use Rattle.mdb_blocks.specs.Block.{block_of};
 ghost use Rattle.mdb_msgs.specs.declared.command.Command.{Command};
-ghost use Rattle.mdb_msgs.specs.declared.needs.Need.TheVariants.{Exactly};
+ghost use Rattle.mdb_msgs.specs.declared.need.Need.TheVariants.{Exactly};
 ghost use Rattle.mdb_msgs.specs.Commands.{IsByte, Spells};
 ghost use Rattle.mdb_msgs.specs.Needs.{TellsLength, needed};
 ghost use Rattle.mdb_msgs.specs.Laws.{OpenIsAFront, FrontIsOpen, BlockHasOneReply, ReplyHasItsLength, DataFitsABlock, SpelledReplyIsContent, DataIsAReplyOrHasAFault, ReplyHasNoFault, BytesHaveOneFault, ReplyHasOneWriteFault, WrittenHasNoFault, ListFaultIsAWriteFault, WriteFaultIsAListFault, AnswerIsReadFromItsBytes};

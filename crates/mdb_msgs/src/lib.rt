@@ -8,6 +8,7 @@ mod command_writing;
 mod fault;
 mod first_needs;
 pub mod laws;
+mod need;
 mod needs;
 mod reply;
 mod two_bytes;
@@ -17,7 +18,8 @@ pub use command::{BillCommand, ChangerCommand, Command, Device, ReaderCommand, R
 pub use command_reading::{command_of, polled, read_command};
 pub use command_writing::write_command;
 pub use fault::MsgFault;
-pub use needs::{Need, need_of};
+pub use need::Need;
+pub use needs::need_of;
 pub use reply::bill::BillMsg;
 pub use reply::changer::ChangerMsg;
 pub use reply::reader::{ReaderIter, ReaderList, ReaderMsg};

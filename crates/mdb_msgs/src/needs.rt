@@ -4,19 +4,7 @@ ghost use Rattle.std.specs.Prelude.{◌≡◌, ◌<◌, ◌≤◌, length};
 ghost use Rattle.mdb_msgs.specs.Needs.{bill_need, changer_need, needed, reader_need};
 
 use crate::first_needs::FIRST;
-
-/// What the first bytes of a block of the controller tell of the rest of it.
-#[derive(Clone, Copy, PartialEq, Eq, Debug)]
-pub enum Need {
-    /// The subcommand, the second byte, decides.
-    More,
-    /// The block has this many bytes, its sum included.
-    Exactly(usize),
-    /// It is for another device, or one of an EXPANSION that this profile does not know.
-    Foreign,
-    /// It is for a device of this profile, which leaves it out.
-    Outside,
-}
+use crate::need::Need;
 
 /// What a block that begins with these bytes needs. At most the first two bytes count (MDB/ICP 4.3,
 /// commands of the coin changer, the bill validator and the cashless device, as far as this profile

@@ -13,7 +13,7 @@ use Rattle.mdb_msgs.specs.declared.command.Device.{Device}
 use Rattle.mdb_msgs.specs.declared.reply.Reply.{Reply}
 use Rattle.mdb_msgs.specs.declared.fault.MsgFault.{MsgFault}
 use Rattle.mdb_msgs.specs.declared.fault.MsgFault.TheVariants as reading
-use Rattle.mdb_msgs.specs.declared.needs.Need.TheVariants as need
+use Rattle.mdb_msgs.specs.declared.need.Need.TheVariants as need
 use Rattle.mdb_msgs.specs.Answers.{HasDataAnswer, MayHaveData}
 use Rattle.mdb_msgs.specs.Commands.{Spells, device_of}
 use Rattle.mdb_msgs.specs.Needs.{IsOpen, needed}

@@ -2,7 +2,7 @@
 
 ghost use Rattle.std.specs.Prelude.{◌≡◌, ◌+◌, ◌<◌, ◌≤◌, ◌^◌, ◌∷◌, [], ℕ, List, length, IfOk};
 ghost use Rattle.mdb_words.specs.declared.event.Event.{Event};
-ghost use Rattle.mdb_msgs.specs.declared.needs.Need.TheVariants.{Exactly};
+ghost use Rattle.mdb_msgs.specs.declared.need.Need.TheVariants.{Exactly};
 ghost use Rattle.mdb_msgs.specs.Needs.{IsOpen, needed};
 ghost use Rattle.mdb_bus.specs.declared.levels.Levels.{Levels};
 ghost use Rattle.mdb_bus.specs.declared.phase.Phase.{Phase};

@@ -1,5 +1,5 @@
 use Rattle.std.proofs.Common.{rules, arith, ◌%◌, ap, ◌≡◌, ◌≤◌, ◌+◌, ◌++◌, ◌∷◌, [], length, sym, subst, ◌∙◌, List, ℕ}
-use Rattle.mdb_msgs.specs.declared.needs.Need.TheVariants.{Exactly}
+use Rattle.mdb_msgs.specs.declared.need.Need.TheVariants.{Exactly}
 use Rattle.mdb_msgs.specs.Needs.{needed}
 use Rattle.mdb_bus.specs.ActLists.{IsAskFront}
 use Rattle.mdb_bus.proofs.Verdicts.{are_bytes, further_end, further_front}

@@ -1,5 +1,5 @@
 use Rattle.std.proofs.Common.{rules, refl, ◌≡◌, ◌%◌}
-use Rattle.mdb_msgs.specs.declared.needs.Need.TheVariants.{Exactly}
+use Rattle.mdb_msgs.specs.declared.need.Need.TheVariants.{Exactly}
 use Rattle.mdb_bus.proofs.Verdicts.{second_foreign, second_front, second_outside}
 use Rattle.mdb_bus.proofs.judging.asking.second_byte.Goals as goal
 
