@@ -6,6 +6,7 @@ pub mod Headline
 pub mod OneAnswer
 pub mod OneShowing
 pub mod Outputs
+pub mod Refusals
 pub mod Rows
 pub mod SameFault
 pub mod ShowSteps

@@ -1,7 +1,6 @@
 -- What the statuses of the program say.
 use Rattle.std.proofs.Common.{arith, refl, ap, sym, subst, inl, inr, ◌≡◌, ◌≢◌, ℕ, List, [], Option, Some, None, Result, Ok, Err, IfOk, IfErr, IfSome, length, ◌<◌}
 use Rattle.std.proofs.lemmas.List.{append-nil}
-use Rattle.std.specs.Prelude.{codes}
 use Rattle.std.specs.Io.KnownBytes.{Appends}
 use Rattle.csv.specs.Reading.{default_config, records, strip_bom}
 use Rattle.mdb_bus.specs.declared.fault.LinkFault.{LinkFault}
@@ -10,7 +9,7 @@ use Rattle.mdb_check.specs.declared.outcome.Outcome.{Outcome}
 use Rattle.mdb_check.specs.declared.outcome.Outcome.TheVariants.{Yes, No}
 use Rattle.mdb_check.specs.declared.outcome.RunFault.{RunFault}
 use Rattle.mdb_check.specs.declared.outcome.RunFault.TheVariants.{Write}
-use Rattle.mdb_check.specs.Program.{NamesTask, Says, SaysChecked, SaysShown, show_status_of, status_of}
+use Rattle.mdb_check.specs.Program.{Says, SaysChecked, SaysShown, refused, show_status_of, status_of}
 use Rattle.mdb_check.specs.Show.{Shows}
 use Rattle.mdb_check.specs.Text.{IsCutReport, report_text}
 use Rattle.mdb_check.specs.Verdict.{IsAnswer, IsNoYes}
@@ -22,29 +21,36 @@ says_checked : {W : Type 0} (contents : W → Option (List ℕ)) (all : List (Li
     → IfErr answer (λ fault. fault ≢ Write → new ≡ old) → (answer ≡ Err Write → IsCutReport ROWS_MAX all (contents old) (contents new))
     → SaysChecked all (contents old) (contents new) (status_of answer)
 says_checked contents all old new (Ok (Yes report)) is written kept cut =
-    ((λ e. (report, is, written)), (λ e. absurd (omega (arith, e))), (λ e. absurd (omega (arith, e))))
+    record { possible = λ e. (report, is, written); impossible = λ e. absurd (omega (arith, e)); unanswered = λ e. absurd (omega (arith, e)) }
 says_checked contents all old new (Ok (No offence)) is written kept cut =
-    ((λ e. absurd (omega (arith, e))), (λ e. (offence, is, written)), (λ e. absurd (omega (arith, e))))
+    record { possible = λ e. absurd (omega (arith, e)); impossible = λ e. (offence, is, written); unanswered = λ e. absurd (omega (arith, e)) }
 says_checked contents all old new (Err Write) is written kept cut =
-    ((λ e. absurd (omega (arith, e))), (λ e. absurd (omega (arith, e))), (λ e. inr (cut refl)))
+    record { possible = λ e. absurd (omega (arith, e)); impossible = λ e. absurd (omega (arith, e)); unanswered = λ e. inr (cut refl) }
 says_checked contents all old new (Err fault) is written kept cut =
-    ((λ e. absurd (omega (arith, e))), (λ e. absurd (omega (arith, e))), (λ e. inl (ap contents (kept (λ same. absurd (cc))))))
+    record { possible = λ e. absurd (omega (arith, e)); impossible = λ e. absurd (omega (arith, e)); unanswered = λ e. inl (ap contents (kept (λ same. absurd (cc)))) }
 
 -- a text that was written whole is a front of itself
 taken_whole : (before after : Option (List ℕ)) (text : List ℕ) → Appends before after text → HasTaken before after text
 taken_whole before after text written = record { front = text; rest = []; parts = sym (append-nil text); grown = written }
 
 says_shown : (all : List (List (List ℕ))) (before after : Option (List ℕ)) (answer : Result (Option LinkFault) RunFault) → Shows all before after answer → SaysShown all before after (show_status_of answer)
-says_shown all before after (Ok None) (inl shows) = ((λ e. shows), (λ e. absurd (omega (arith, e))), (λ e. absurd (omega (arith, e))))
-says_shown all before after (Ok (Some fault)) (inl shows) = ((λ e. absurd (omega (arith, e))), (λ e. (fault, shows.0, shows.1, shows.2)), (λ e. absurd (omega (arith, e))))
+says_shown all before after (Ok None) (inl shows) =
+    record { whole = λ e. shows; to_fault = λ e. absurd (omega (arith, e)); unanswered = λ e. absurd (omega (arith, e)) }
+says_shown all before after (Ok (Some fault)) (inl shows) =
+    record { whole = λ e. absurd (omega (arith, e)); to_fault = λ e. (fault, shows.0, shows.1, shows.2); unanswered = λ e. absurd (omega (arith, e)) }
 says_shown all before after (Ok showing) (inr cut) = absurd (cc (cut.0))
 says_shown all before after (Err fault) (inl shows) =
-    ((λ e. absurd (omega (arith, e))), (λ e. absurd (omega (arith, e))), (λ e. record { answer = Err fault; text = shows.0; showing = shows.1; taken = taken_whole before after shows.0 shows.2 }))
-says_shown all before after (Err fault) (inr cut) = ((λ e. absurd (omega (arith, e))), (λ e. absurd (omega (arith, e))), (λ e. cut.1))
+    record {
+      whole = λ e. absurd (omega (arith, e));
+      to_fault = λ e. absurd (omega (arith, e));
+      unanswered = λ e. record { answer = Err fault; text = shows.0; showing = shows.1; taken = taken_whole before after shows.0 shows.2 };
+    }
+says_shown all before after (Err fault) (inr cut) =
+    record { whole = λ e. absurd (omega (arith, e)); to_fault = λ e. absurd (omega (arith, e)); unanswered = λ e. cut.1 }
 
 -- a text that isn't one of a yes has another status, and so has one that isn't shown whole
 pub not_yes : (answer : Result Outcome RunFault) → IsNoYes answer → status_of answer ≢ 0
-not_yes (Ok (Yes report)) refused = absurd refused
+not_yes (Ok (Yes report)) none = absurd none
 not_yes (Ok (No offence)) _ = λ e. absurd (omega (arith, e))
 not_yes (Err fault) _ = λ e. absurd (omega (arith, e))
 
@@ -60,34 +66,32 @@ too_long None limit status over other = tt
 too_long (Some text) limit status over other = λ long. other (over long)
 
 -- what the status of a checked text says
-pub ran : {W : Type 0} (contents : W → Option (List ℕ)) (known : Option (List ℕ)) (words : List (List ℕ)) (old new : W) (answer : Result Outcome RunFault) (status : ℕ)
-    → NamesTask words (codes "check")
+pub checked_says : {W : Type 0} (contents : W → Option (List ℕ)) (known : Option (List ℕ)) (old new : W) (answer : Result Outcome RunFault) (status : ℕ)
     → IfSome known (λ text. IsAnswer ROWS_MAX (records default_config (strip_bom text)) answer)
     → IfOk answer (λ outcome. Appends (contents old) (contents new) (report_text outcome))
     → IfErr answer (λ fault. fault ≢ Write → new ≡ old)
     → IfSome known (λ text. answer ≡ Err Write → IsCutReport ROWS_MAX (records default_config (strip_bom text)) (contents old) (contents new))
     → status ≡ status_of answer
-    → IfSome known (λ text. Says words (records default_config (strip_bom text)) (contents old) (contents new) status)
-ran contents None words old new answer status names is written kept cut same = tt
-ran contents (Some text) words old new answer status names is written kept cut same =
+    → IfSome known (λ text. SaysChecked (records default_config (strip_bom text)) (contents old) (contents new) status)
+checked_says contents None old new answer status is written kept cut same = tt
+checked_says contents (Some text) old new answer status is written kept cut same =
     let all : List (List (List ℕ)) = records default_config (strip_bom text) in
     let P : ℕ → Type 0 = λ n. SaysChecked all (contents old) (contents new) n in
-    inl (names, subst P (sym same) (says_checked contents all old new answer is written kept cut))
+    subst P (sym same) (says_checked contents all old new answer is written kept cut)
 
 -- what the status of a text that was shown says
-pub shown : (known : Option (List ℕ)) (words : List (List ℕ)) (before after : Option (List ℕ)) (answer : Result (Option LinkFault) RunFault) (status : ℕ)
-    → NamesTask words (codes "show")
+pub shown_says : (known : Option (List ℕ)) (before after : Option (List ℕ)) (answer : Result (Option LinkFault) RunFault) (status : ℕ)
     → IfSome known (λ text. Shows (records default_config (strip_bom text)) before after answer)
     → status ≡ show_status_of answer
-    → IfSome known (λ text. Says words (records default_config (strip_bom text)) before after status)
-shown None words before after answer status names shows same = tt
-shown (Some text) words before after answer status names shows same =
+    → IfSome known (λ text. SaysShown (records default_config (strip_bom text)) before after status)
+shown_says None before after answer status shows same = tt
+shown_says (Some text) before after answer status shows same =
     let all : List (List (List ℕ)) = records default_config (strip_bom text) in
     let P : ℕ → Type 0 = λ n. SaysShown all before after n in
-    inr (inl (names, subst P (sym same) (says_shown all before after answer shows)))
+    subst P (sym same) (says_shown all before after answer shows)
 
 -- what the status of a refused command line says
-pub not_run : (known : Option (List ℕ)) (words : List (List ℕ)) (before after : Option (List ℕ)) (status : ℕ) → status ≡ 2 → after ≡ before
+pub refused_says : (known : Option (List ℕ)) (words : List (List ℕ)) (before after : Option (List ℕ)) (status : ℕ) → status ≡ 2 → after ≡ before
     → IfSome known (λ text. Says words (records default_config (strip_bom text)) before after status)
-not_run None words before after status same kept = tt
-not_run (Some text) words before after status same kept = inr (inr (same, kept))
+refused_says None words before after status same kept = tt
+refused_says (Some text) words before after status same kept = refused same kept

@@ -9,6 +9,7 @@ ghost use Rattle.mdb_check.specs.declared.verdict.TheConstants.{BYTES_MAX};
 ghost use Rattle.mdb_check.specs.declared.outcome.Outcome.{Outcome};
 ghost use Rattle.mdb_check.specs.declared.outcome.RunFault.{RunFault};
 ghost use Rattle.mdb_check.specs.Headline.{Headline};
+ghost use Rattle.mdb_check.specs.Program.{NamesTask};
 ghost use Rattle.mdb_check.specs.Show.{IsOwnShowing, IsShowing, IsShownToFault};
 ghost use Rattle.mdb_check.specs.ShownFault.{IsNoUpTo};
 ghost use Rattle.mdb_check.specs.Verdict.{IsAnswer, IsOwnAnswer};
@@ -70,6 +71,15 @@ pub fn shown_faults_are_those_of_verdicts()
     links::rows_have_one_fault();
     links::rows_that_break_a_rule_end_the_act_list();
 }
+
+/// The words of a command line name one task at most.
+///
+/// So where they name one, the status of the program says what it says of that task, or the words
+/// weren't read for want of memory.
+pub fn command_lines_name_one_task()
+    ensures { (words : List (List ℕ)) (a b : List ℕ) → NamesTask words a → NamesTask words b
+        → a ≡ b }
+{}
 
 /// The limits of a transcript (this profile).
 pub fn limits_are_those_of_this_profile()

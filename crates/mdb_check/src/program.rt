@@ -1,9 +1,9 @@
 //! The program over its words.
 
-ghost use Rattle.std.specs.Prelude.{◌≡◌, ◌≢◌, ◌<◌, ◌⊎◌, ℕ, List, [], ◌∷◌, IfErr, IfOk, IfSome, length, map, string_bytes};
+ghost use Rattle.std.specs.Prelude.{◌≡◌, ◌≢◌, ◌<◌, ◌⊎◌, IfErr, IfOk, IfSome, length, map, string_bytes};
 ghost use Rattle.clap.specs.Words.{FailsBy, app_of, fault_of, kind_of};
-ghost use Rattle.mdb_check.specs.CommandLine.{mdbcheck};
-ghost use Rattle.mdb_check.specs.Program.{NameATask, NamesTask, Says, show_status_of, status_of, task_word};
+ghost use Rattle.mdb_check.specs.CommandLine.{AsksFor, mdbcheck};
+ghost use Rattle.mdb_check.specs.Program.{NameATask, Says, SaysChecked, SaysShown, show_status_of, status_of};
 ghost use Rattle.mdb_check.specs.declared.verdict.TheConstants.{BYTES_MAX};
 ghost use Rattle.mdb_records.specs.ToCome.{IsOverLimit, ToCome, limit_of};
 ghost use Rattle.csv.specs.Reading.{default_config, records, strip_bom};
@@ -76,18 +76,50 @@ pub fn run<R: Read + Drop, W: Write, E: Write>(
     ensures silent { result < 2 → err.new ≡ err.old }
 {
     match task_of(alloc, words.as_slice()) {
-        Ok(Task::Check) => {
-            let mut records = input_of(alloc, reader);
-            let answer = check_records(alloc, &mut records, out, ROWS_MAX);
-            finish_check(alloc, answer, &records, err)
-        }
-        Ok(Task::Show) => {
-            let mut records = input_of(alloc, reader);
-            let answer = show_records(alloc, &mut records, out);
-            finish_show(alloc, answer, &records, err)
-        }
-        Err(kind) => refuse(kind, err),
+        Ok(Task::Check) => run_check(alloc, reader, out, err),
+        Ok(Task::Show) => run_show(alloc, reader, out, err),
+        Err(error) => refuse(error.kind(), err),
     }
+}
+
+/// Gives the verdict on the text that the reader has left.
+fn run_check<R: Read + Drop, W: Write, E: Write>(
+    alloc: Global,
+    reader: R,
+    out: &mut W,
+    err: &mut E,
+) -> u8
+    ensures status { result < 3 }
+    ensures says { IfSome (R.remaining reader) (λ text. SaysChecked
+        (records default_config (strip_bom text)) (W.contents out.old) (W.contents out.new)
+        result) }
+    ensures whole { IfSome (R.remaining reader) (λ text. BYTES_MAX < length text
+        → result ≢ POSSIBLE) }
+    ensures silent { result < 2 → err.new ≡ err.old }
+{
+    let mut records = input_of(alloc, reader);
+    let answer = check_records(alloc, &mut records, out, ROWS_MAX);
+    finish_check(alloc, answer, &records, err)
+}
+
+/// Shows the acts of the text that the reader has left.
+fn run_show<R: Read + Drop, W: Write, E: Write>(
+    alloc: Global,
+    reader: R,
+    out: &mut W,
+    err: &mut E,
+) -> u8
+    ensures status { result < 3 }
+    ensures says { IfSome (R.remaining reader) (λ text. SaysShown
+        (records default_config (strip_bom text)) (W.contents out.old) (W.contents out.new)
+        result) }
+    ensures whole { IfSome (R.remaining reader) (λ text. BYTES_MAX < length text
+        → result ≢ POSSIBLE) }
+    ensures silent { result < 2 → err.new ≡ err.old }
+{
+    let mut records = input_of(alloc, reader);
+    let answer = show_records(alloc, &mut records, out);
+    finish_show(alloc, answer, &records, err)
 }
 
 /// The records of the text that the reader has left, of which at most [`BYTES_MAX`] bytes are read.
@@ -101,26 +133,20 @@ fn input_of<R: Read + Drop>(alloc: Global, reader: R) -> Records<R>
     Records::new(alloc, reader, BYTES_MAX)
 }
 
-/// What the words ask for, or in which way they are no command of the program.
-fn task_of(alloc: Global, words: &[String]) -> Result<Task, ErrorKind>
-    ensures { IfOk result (λ task. NamesTask (map string_bytes words.now) (task_word task)) }
-{
-    match accept(alloc, words) {
-        Ok(()) => named(words),
-        Err(error) => Err(error.kind()),
-    }
-}
-
-/// Whether `clap` takes the words for a command of the program: exactly those without a fault of its
-/// own, if memory suffices. `check` and `show` have none where they stand alone.
-fn accept(alloc: Global, words: &[String]) -> Result<(), Error>
+/// What the words ask for, as `clap` reads them. Those that it refuses are no task's, unless memory
+/// was refused.
+fn task_of(alloc: Global, words: &[String]) -> Result<Task, Error>
+    ensures asked { IfOk result (AsksFor (map string_bytes words.now)) }
+    ensures refused { IfErr result (λ error. (task : Task)
+        → AsksFor (map string_bytes words.now) task → kind_of error ≡ ErrorKind.OutOfMemory) }
     ensures faults { FailsBy (fault_of mdbcheck (map string_bytes words.now)) result }
-    ensures alone { IfErr result (λ error. (program : List ℕ) (task : Task)
-        → map string_bytes words.now ≡ program ∷ task_word task ∷ []
-        → kind_of error ≡ ErrorKind.OutOfMemory) }
 {
-    command(alloc)?.try_get_matches_from(words)?;
-    Ok(())
+    let matches = command(alloc)?.try_get_matches_from(words)?;
+    match matches.subcommand() {
+        Some(("check", _)) => Ok(Task::Check),
+        Some(("show", _)) => Ok(Task::Show),
+        _ => unreachable!(),
+    }
 }
 
 /// The program's command, as `clap` has it.
@@ -134,20 +160,6 @@ fn command<'a>(alloc: Global) -> Result<Command<'a>, AllocError>
         .subcommand_required(true)
         .subcommand(check)?
         .subcommand(show)
-}
-
-/// The task that the word behind the program's name is.
-fn named(words: &[String]) -> Result<Task, ErrorKind>
-    ensures { IfOk result (λ task. NamesTask (map string_bytes words.now) (task_word task)) }
-{
-    let [_, word, ..] = words else {
-        return Err(ErrorKind::MissingSubcommand);
-    };
-    match word.as_str() {
-        "check" => Ok(Task::Check),
-        "show" => Ok(Task::Show),
-        _ => Err(ErrorKind::MissingSubcommand),
-    }
 }
 
 /// The status of a verdict; a fault is told.
