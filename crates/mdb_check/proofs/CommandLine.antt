@@ -1,5 +1,5 @@
 -- What `clap` makes of the program's command.
-use Rattle.std.proofs.Common.{ap, ap₂, fold, refl, subst, sym, true, false, ◌∙◌, ◌≡◌, ◌≢◌, ◌⊎◌, ℕ, Bool, List, [], ◌∷◌, ◌++◌, inl, inr, codes, Option, Some, None, option_map, unwrap_or, Global}
+use Rattle.std.proofs.Common.{ap, ap₂, fold, refl, subst, sym, true, false, ◌∙◌, ◌≡◌, ◌≢◌, ◌⊎◌, Bool, List, [], ◌∷◌, ◌++◌, inl, inr, codes, Option, Some, None, option_map, unwrap_or, Global}
 use Rattle.std.specs.Prelude.{Box, if◌then◌else◌}
 use Rattle.std.specs.Box.{box_value}
 use Rattle.std.specs.Borrow.{Bor}

@@ -1,4 +1,4 @@
-use Rattle.std.proofs.Common.{ap, refl, sym, ◌∙◌, ◌≡◌, ℕ, List, inl, inr, Option, Some, unwrap_or}
+use Rattle.std.proofs.Common.{ap, sym, ◌∙◌, ◌≡◌, ℕ, List, inl, inr, Option, Some, unwrap_or}
 use Rattle.std.specs.Prelude.{slice_get}
 use Rattle.mdb_check.specs.Program.{NamesTask}
 use Rattle.mdb_check.proofs.laws.command_lines_name_one_task.Goals as goal

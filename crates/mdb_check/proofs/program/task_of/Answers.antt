@@ -1,4 +1,4 @@
-use Rattle.std.proofs.Common.{[], arith, map, string_bytes, subst, sym, ◌≡◌, inl, inr}
+use Rattle.std.proofs.Common.{[], arith, map, string_bytes, subst, ◌≡◌, inl, inr}
 use Rattle.clap.specs.Words.{HasKind, Kinds}
 use Rattle.clap.proofs.TakesLemmas.{passed_up}
 use Rattle.mdb_check.proofs.CommandLine.{Entered, are_entered, fails_by, names_check, names_show, not_none, wants_memory}
