@@ -1,18 +1,20 @@
 -- A verdict says what the headline has of it.
-use Rattle.std.proofs.Common.{get_or, Ok, arith, refl, ap, sym, subst, ◌∙◌, ◌≡◌, ◌≤◌, ℕ, zero, suc, List, [], ◌∷◌, ◌++◌, length, take, drop, length-append, append_assoc}
+use Rattle.std.proofs.Common.{Ok, arith, refl, ap, sym, subst, ◌∙◌, ◌≡◌, ◌≤◌, ℕ, zero, suc, List, [], ◌∷◌, ◌++◌, length, take, drop, length-append, append_assoc}
 use Rattle.std.proofs.lemmas.List.{length-take-le, take-append-drop, take_all, take_at}
 use Rattle.mdb_words.specs.declared.event.Event.{Event}
+use Rattle.mdb_follow.specs.declared.account_name.AccountName.{AccountName}
 use Rattle.mdb_follow.specs.declared.cell.Account.{Account}
 use Rattle.mdb_follow.specs.declared.offence.Offence.{Offence}
 use Rattle.mdb_follow.specs.declared.report.Report.{Report}
+use Rattle.mdb_follow.specs.AccountNames.{sums_of}
 use Rattle.mdb_follow.specs.Ranges.{IsAccount, IsRange}
-use Rattle.mdb_follow.specs.Report.{Accounts, AreAccounts, IsReport, listed, no_account}
+use Rattle.mdb_follow.specs.Report.{IsReport, account_of}
 use Rattle.mdb_follow.specs.Runs.{AllSums, IsReached, Run}
 use Rattle.mdb_follow.specs.Sales.{SalesFollowApprovals}
 use Rattle.mdb_follow.specs.Sums.{AccountSums}
 use Rattle.mdb_check.specs.declared.outcome.Outcome.{Outcome}
 use Rattle.mdb_check.specs.declared.outcome.Outcome.TheVariants.{Yes, No}
-use Rattle.mdb_check.specs.Accounts.{AccountSide, Approved, Approved2, BillsIn, CoinsIn, OfController, OfDevice, OfDifference, PaidOut, ReportedAccount, Sold, Sold2, account_of, account_place, range_of, sums_of, value_of}
+use Rattle.mdb_check.specs.Accounts.{AccountSide, OfController, OfDevice, OfDifference, range_of, value_of}
 use Rattle.mdb_check.specs.Headline.{AreFirstRows, HasApprovedSales, HasBounds, HaveRun, Headline, NamesFirstRow}
 use Rattle.mdb_check.specs.Verdict.{AreRows, IsAnswer, IsImpossible, IsPossible}
 use Rattle.mdb_check.proofs.OneAnswer.{row_one}
@@ -84,29 +86,17 @@ on_side sums account is OfDevice = is.device
 on_side sums account is OfController = is.controller
 on_side sums account is OfDifference = is.difference
 
--- the accounts by their places
-in_place : {Kind : AllSums → Type 0} (accounts : Accounts) → AreAccounts Kind accounts → (account : ReportedAccount)
-    → IsAccount Kind (λ s. sums_of account s) (get_or (listed accounts) (account_place account) no_account)
-in_place accounts are CoinsIn = are.coins_in
-in_place accounts are BillsIn = are.bills_in
-in_place accounts are PaidOut = are.paid_out
-in_place accounts are Approved = are.approved
-in_place accounts are Sold = are.sold
-in_place accounts are Approved2 = are.approved2
-in_place accounts are Sold2 = are.sold2
+-- what the law of a report's accounts says
+abbrev pub AccountsAreOfRuns : Type 0
+AccountsAreOfRuns =
+    (rows : List Event) (report : Report) → IsReport rows report → (account : AccountName)
+    → IsAccount (Run rows) (sums_of account) (account_of account report)
 
 -- the ranges of a report are exact
-bounds_of : (rows : List Event) (report : Report) → IsReport rows report → (account : ReportedAccount) (side : AccountSide)
-    → IsRange (Run rows) (λ s. value_of side (sums_of account s)) (range_of side (account_of account report))
-bounds_of rows report is account side =
-    let same : report.accounts ≡ listed is.accounts = ap (λ r. r.accounts) is.telling in
-    let P : List Account → Type 0 = λ accounts. IsRange (Run rows) (λ s. value_of side (sums_of account s)) (range_of side (get_or accounts (account_place account) no_account)) in
-    subst P (sym same) (on_side (λ s. sums_of account s) (get_or (listed is.accounts) (account_place account) no_account) (in_place is.accounts is.of_runs account) side)
-
-has_bounds : (limit : ℕ) (records : List (List (List ℕ))) (report : Report) → IsPossible limit records report → HasBounds records report
-has_bounds limit records report is rows told account side =
+has_bounds : AccountsAreOfRuns → (limit : ℕ) (records : List (List (List ℕ))) (report : Report) → IsPossible limit records report → HasBounds records report
+has_bounds accounts limit records report is rows told account side =
     let P : List Event → Type 0 = λ es. IsRange (Run es) (λ s. value_of side (sums_of account s)) (range_of side (account_of account report)) in
-    subst P (one_list records is.rows rows is.told told) (bounds_of is.rows report is.is account side)
+    subst P (one_list records is.rows rows is.told told) (on_side (sums_of account) (account_of account report) (accounts is.rows report is.is account) side)
 
 -- the records up to the row that is named, and these rows
 up_to : (limit : ℕ) (records : List (List (List ℕ))) (offence : Offence) (is : IsImpossible limit records offence) → AreFirstRows records offence.row (is.rows ++ is.row ∷ [])
@@ -175,14 +165,14 @@ approved_sales limit records report is rows told =
     subst P (one_list records is.rows rows is.told told) is.sales
 
 -- what a verdict says
-pub headline_of : FrontsAreReached → (limit : ℕ) (records : List (List (List ℕ))) (outcome : Outcome) → IsAnswer limit records (Ok outcome) → Headline limit records outcome
-headline_of fronts limit records (Yes report) is = record {
+pub headline_of : FrontsAreReached → AccountsAreOfRuns → (limit : ℕ) (records : List (List (List ℕ))) (outcome : Outcome) → IsAnswer limit records (Ok outcome) → Headline limit records outcome
+headline_of fronts accounts limit records (Yes report) is = record {
   yes = (λ said. yes_has_run limit records report is, λ has. tt);
   sales = approved_sales limit records report is;
-  bounds = has_bounds limit records report is;
+  bounds = has_bounds accounts limit records report is;
   first_row = tt;
 }
-headline_of fronts limit records (No offence) is = record {
+headline_of fronts accounts limit records (No offence) is = record {
   yes = (λ said. absurd said, λ has. absurd (no_has_none fronts limit records offence is has.1));
   sales = tt;
   bounds = tt;

@@ -1,6 +1,7 @@
 -- Texts that are written in parts.
-use Rattle.std.proofs.Common.{ap, sym, ◌∙◌, ◌≡◌, ◌-◌, ℕ, List, ◌++◌, Option, Some, None, Result, Ok, Err, append_assoc, drop, length, take, take-append-drop}
-use Rattle.std.proofs.lemmas.List.{take_rest}
+use Rattle.std.proofs.Common.{ap, sym, ◌∙◌, ◌≡◌, ◌-◌, ℕ, List, ◌++◌, Option, Some, None, Result, Ok, Err, append_assoc, drop, get_or, length, ◌+◌, ◌<◌, ◌≤◌, subst, take, take-append-drop}
+use Rattle.std.proofs.lemmas.List.{flat_map_more, take_all, take_more, take_rest}
+use Rattle.std.specs.List.{flat_map}
 use Rattle.std.specs.Prelude.{OnOk}
 use Rattle.std.specs.Io.KnownBytes.{Appends, Keeps}
 
@@ -27,3 +28,17 @@ taken_more text done rest now n parts is =
 pub on_ok : {T E : Type 0} (r : Result T E) (P Q : Type 0) → (P → Q) → OnOk r P → OnOk r Q
 on_ok (Ok x) P Q weaker h = weaker h
 on_ok (Err e) P Q weaker h = tt
+
+-- a text that is made of a list, with one part more
+pub one_part_more : {X : Type 0} (part : X → List ℕ) (a b c : Option (List ℕ)) (head : List ℕ) (xs : List X) (i : ℕ) (d : X) (text : List ℕ) → i < length xs
+    → Appends a b (head ++ flat_map part (take i xs)) → text ≡ part (get_or xs i d) → Appends b c text → Appends a c (head ++ flat_map part (take (i + 1) xs))
+one_part_more part a b c head xs i d text below so_far is more =
+    subst (λ text. Appends a c text)
+    (flat_map_more part head (take i xs) (get_or xs i d) ∙ ap (λ ys. head ++ flat_map part ys) (sym (take_more xs i d below)))
+    (appended a b c (head ++ flat_map part (take i xs)) (part (get_or xs i d)) so_far (subst (λ text. Appends b c text) is more))
+
+-- and with all of them
+pub all_parts : {X : Type 0} (part : X → List ℕ) (a b : Option (List ℕ)) (head : List ℕ) (xs : List X) (i : ℕ) → length xs ≤ i
+    → Appends a b (head ++ flat_map part (take i xs)) → Appends a b (head ++ flat_map part xs)
+all_parts part a b head xs i past so_far =
+    subst (λ ys. Appends a b (head ++ flat_map part ys)) (take_all i xs past) so_far

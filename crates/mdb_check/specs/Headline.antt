@@ -10,15 +10,18 @@
 -- loss, and a way of changer, validator and both readers, each with the controller, through it.
 use Rattle.std.specs.Prelude.{◌≡◌, ◌↔◌, ◌<◌, ◌≤◌, ℕ, List, [], ◌∷◌, ◌++◌, length, take, ⊤}
 use Rattle.mdb_words.specs.declared.event.Event.{Event}
+use Rattle.mdb_follow.specs.declared.account_name.AccountName.{AccountName}
 use Rattle.mdb_follow.specs.declared.offence.Offence.{Offence}
 use Rattle.mdb_follow.specs.declared.report.Report.{Report}
+use Rattle.mdb_follow.specs.AccountNames.{sums_of}
 use Rattle.mdb_follow.specs.Offences.{IsOffence}
 use Rattle.mdb_follow.specs.Ranges.{IsRange}
+use Rattle.mdb_follow.specs.Report.{account_of}
 use Rattle.mdb_follow.specs.Runs.{AllSums, Run}
 use Rattle.mdb_follow.specs.Sales.{SalesFollowApprovals}
 use Rattle.mdb_check.specs.declared.outcome.Outcome.{Outcome}
 use Rattle.mdb_check.specs.declared.outcome.Outcome.TheVariants.{Yes, No}
-use Rattle.mdb_check.specs.Accounts.{AccountSide, ReportedAccount, account_of, range_of, sums_of, value_of}
+use Rattle.mdb_check.specs.Accounts.{AccountSide, range_of, value_of}
 use Rattle.mdb_check.specs.Verdict.{AreRows}
 
 -- the first so many records of a text are rows, and these are their events
@@ -59,7 +62,7 @@ HasApprovedSales records =
 -- records comes to either end, and none goes beyond. (By `yes` the records are rows.)
 abbrev pub HasBounds : List (List (List ℕ)) → Report → Type 0
 HasBounds records report =
-    (rows : List Event) → AreRows records rows → (account : ReportedAccount) (side : AccountSide)
+    (rows : List Event) → AreRows records rows → (account : AccountName) (side : AccountSide)
     → IsRange (Run rows) (λ sums. value_of side (sums_of account sums))
     (range_of side (account_of account report))
 

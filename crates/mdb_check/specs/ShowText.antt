@@ -1,28 +1,22 @@
 -- The lines that `show` writes of a transcript: one for each act, each tail and the fault (this
 -- profile).
-use Rattle.std.specs.Prelude.{◌+◌, ◌/◌, ◌%◌, ℕ, true, List, [], ◌∷◌, ◌++◌, length, codes, Some}
+use Rattle.std.specs.Prelude.{◌+◌, ◌/◌, ◌%◌, ℕ, true, List, [], ◌∷◌, ◌++◌, length, codes}
 use Rattle.std.specs.Fmt.{decimal, digit_glyph}
 use Rattle.mdb_blocks.specs.Block.{block_of}
 use Rattle.mdb_msgs.specs.declared.command.Command.{Command}
-use Rattle.mdb_msgs.specs.declared.command.Device.{Device}
 use Rattle.mdb_msgs.specs.Commands.{command_bytes, device_of}
 use Rattle.mdb_msgs.specs.Replies.{reply_bytes}
 use Rattle.mdb_bus.specs.declared.act.Act.{Act}
 use Rattle.mdb_bus.specs.declared.act.Act.TheVariants as acts
 use Rattle.mdb_bus.specs.declared.fault.LinkFault.{LinkFault}
 use Rattle.mdb_bus.specs.ActLists.{Piece, Whole, AskTail, ReplyTail, RepeatTail, events_of, piece_events}
-use Rattle.mdb_bus.specs.LinkFaults.{blame_on}
-use Rattle.mdb_check.specs.Text.{blame_word, line, rule_word}
+use Rattle.mdb_check.specs.Text.{blame_word, device_word, line, rule_word}
 
 -- the bytes of a block, each as a space and two hexadecimal digits
 abbrev pub bytes_text : List ℕ → List ℕ
 bytes_text [] = []
 bytes_text (byte ∷ bytes) =
     32 ∷ digit_glyph true (byte / 16) ∷ digit_glyph true (byte % 16) ∷ bytes_text bytes
-
--- the word of a device: that of the blame for what it says
-abbrev pub device_word : Device → List ℕ
-device_word device = blame_word (blame_on (Some device))
 
 -- the word of an act, and the device of its command
 abbrev pub deed_text : List ℕ → Command → List ℕ

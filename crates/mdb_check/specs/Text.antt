@@ -1,16 +1,24 @@
 -- The text of an outcome.
-use Rattle.std.specs.Prelude.{ℕ, List, [], ◌∷◌, ◌++◌, Option, Some, None, Ok, codes, get_or}
+use Rattle.std.specs.Prelude.{ℕ, List, [], ◌∷◌, ◌++◌, Option, Some, None, Ok, codes}
 use Rattle.std.specs.Fmt.{decimal, signed_decimal}
+use Rattle.std.specs.List.{flat_map}
+use Rattle.mdb_msgs.specs.declared.command.Device.{Device}
 use Rattle.mdb_bus.specs.declared.fault.Rule.{Rule}
 use Rattle.mdb_bus.specs.declared.fault.Rule.TheVariants as rule
 use Rattle.mdb_bus.specs.declared.fault.Blame.{Blame}
 use Rattle.mdb_bus.specs.declared.fault.Blame.TheVariants as blame
+use Rattle.mdb_bus.specs.LinkFaults.{blame_on}
+use Rattle.mdb_follow.specs.declared.account_name.AccountName.{AccountName}
+use Rattle.mdb_follow.specs.declared.account_name.TheConstants.AccountName.{ALL}
 use Rattle.mdb_follow.specs.declared.cell.Account.{Account}
 use Rattle.mdb_follow.specs.declared.range.Range.{Range}
 use Rattle.mdb_follow.specs.declared.report.Report.{Report}
+use Rattle.mdb_follow.specs.declared.report.TheConstants.Report.{DEVICES}
+use Rattle.mdb_follow.specs.AccountNames.{account_word}
+use Rattle.mdb_follow.specs.Report.{account_of, device_decimals, device_silences}
 use Rattle.mdb_check.specs.declared.outcome.Outcome.{Outcome}
 use Rattle.mdb_check.specs.declared.outcome.Outcome.TheVariants.{Yes, No}
-use Rattle.mdb_check.specs.Accounts.{Approved, Approved2, BillsIn, CoinsIn, OfController, OfDevice, OfDifference, PaidOut, ReportedAccount, Sold, Sold2, account_of, account_word, range_of, side_word}
+use Rattle.mdb_check.specs.Accounts.{OfController, OfDevice, OfDifference, range_of, side_word}
 use Rattle.mdb_check.specs.Verdict.{IsAnswer}
 use Rattle.mdb_check.specs.Written.{HasTaken}
 
@@ -42,34 +50,35 @@ blame_word blame.Cashless = codes "cashless"
 blame_word blame.Cashless2 = codes "cashless-2"
 blame_word blame.Other = codes "other"
 
+-- the word of a device: that of the blame for what it says
+abbrev pub device_word : Device → List ℕ
+device_word device = blame_word (blame_on (Some device))
+
 -- a line of a text
 abbrev pub line : List ℕ → List ℕ
 line words = words ++ 10 ∷ []
 
--- How many decimal places a device told of, behind its word; a device that told of none has a dash.
-abbrev pub places_text : List ℕ → Option ℕ → List ℕ
-places_text word (Some places) = codes " " ++ word ++ codes " " ++ decimal places
-places_text word None = codes " " ++ word ++ codes " -"
+-- how many decimal places a device told of, after its word, or a dash where it told of none
+abbrev pub places_text : Device → Option ℕ → List ℕ
+places_text device (Some places) =
+    codes " " ++ device_word device ++ codes " " ++ decimal places
+places_text device None = codes " " ++ device_word device ++ codes " -"
 
--- the line of the decimals: changer, validator, the reader at 10H and the reader at 60H
-abbrev pub decimals_line : List (Option ℕ) → List ℕ
-decimals_line decimals =
-    line (codes "decimals" ++ places_text (codes "changer") (get_or decimals 0 None)
-    ++ places_text (codes "bill") (get_or decimals 1 None)
-    ++ places_text (codes "cashless") (get_or decimals 2 None)
-    ++ places_text (codes "cashless-2") (get_or decimals 3 None))
+-- the line of the decimals
+abbrev pub decimals_line : Report → List ℕ
+decimals_line report =
+    line (codes "decimals"
+    ++ flat_map (λ device. places_text device (device_decimals device report)) DEVICES)
 
--- a count of a device, behind its word
-abbrev pub count_text : List ℕ → ℕ → List ℕ
-count_text word count = codes " " ++ word ++ codes " " ++ decimal count
+-- a count of a device, after its word
+abbrev pub count_text : Device → ℕ → List ℕ
+count_text device count = codes " " ++ device_word device ++ codes " " ++ decimal count
 
--- the line of the silences, in the same order
-abbrev pub silences_line : List ℕ → List ℕ
-silences_line silences =
-    line (codes "silences" ++ count_text (codes "changer") (get_or silences 0 0)
-    ++ count_text (codes "bill") (get_or silences 1 0)
-    ++ count_text (codes "cashless") (get_or silences 2 0)
-    ++ count_text (codes "cashless-2") (get_or silences 3 0))
+-- the line of the silences
+abbrev pub silences_line : Report → List ℕ
+silences_line report =
+    line (codes "silences"
+    ++ flat_map (λ device. count_text device (device_silences device report)) DEVICES)
 
 -- what an account comes to on one side: the least and the greatest
 abbrev pub side_text : List ℕ → Range → List ℕ
@@ -77,16 +86,16 @@ side_text word range =
     codes " " ++ word ++ codes " " ++ signed_decimal range.least ++ codes ".."
     ++ signed_decimal range.greatest
 
--- the line of an account, by its word
-abbrev pub account_line : List ℕ → Account → List ℕ
-account_line word account =
-    line (word ++ side_text (side_word OfDevice) (range_of OfDevice account)
+-- the line of an account
+abbrev pub account_line : AccountName → Account → List ℕ
+account_line name account =
+    line (account_word name ++ side_text (side_word OfDevice) (range_of OfDevice account)
     ++ side_text (side_word OfController) (range_of OfController account)
     ++ side_text (side_word OfDifference) (range_of OfDifference account))
 
--- the line that a report has of an account
-abbrev pub reported_line : Report → ReportedAccount → List ℕ
-reported_line report account = account_line (account_word account) (account_of account report)
+-- the lines of all accounts of a report
+abbrev pub accounts_text : Report → List ℕ
+accounts_text report = flat_map (λ name. account_line name (account_of name report)) ALL
 
 -- the first lines of a yes
 abbrev pub head_text : ℕ → List ℕ
@@ -95,16 +104,7 @@ head_text rows = line (codes "verdict yes") ++ line (codes "rows " ++ decimal ro
 -- what is written for an outcome
 abbrev pub report_text : Outcome → List ℕ
 report_text (Yes report) =
-    head_text report.rows
-    ++ decimals_line report.decimals
-    ++ reported_line report CoinsIn
-    ++ reported_line report BillsIn
-    ++ reported_line report PaidOut
-    ++ reported_line report Approved
-    ++ reported_line report Sold
-    ++ reported_line report Approved2
-    ++ reported_line report Sold2
-    ++ silences_line report.silences
+    head_text report.rows ++ decimals_line report ++ accounts_text report ++ silences_line report
 report_text (No offence) =
     line (codes "verdict no") ++ line (codes "row " ++ decimal offence.row)
     ++ line (codes "rule " ++ rule_word offence.rule)

@@ -28,6 +28,7 @@ pub fn verdicts_say_the_headline()
         → IsAnswer limit records (Ok outcome) → Headline limit records outcome }
 {
     laws::fronts_of_reached_rows_are_reached();
+    laws::reports_name_the_accounts_of_runs();
 }
 
 /// The records of a text have at most one answer of their own: a yes with its report, a no with its

@@ -10,8 +10,8 @@ ghost use Rattle.mdb_msgs.specs.Replies.{reply_bytes};
 ghost use Rattle.mdb_check.specs.ShowText.{act_text, bytes_text, deed_text, fault_line, rows_line, rows_text};
 ghost use Rattle.mdb_check.specs.ShowSteps.{cut_text, ended_text};
 
-use super::text::{word_of_blame, word_of_rule};
-use mdb_bus::{Act, Blame, LinkFault};
+use super::text::{word_of_blame, word_of_device, word_of_rule};
+use mdb_bus::{Act, LinkFault};
 use mdb_msgs::{Command, Reply, write_command, write_reply};
 use std::alloc::AllocError;
 
@@ -142,9 +142,8 @@ fn push_reply(
 fn push_deed(text: &mut Vec<u8>, deed: &[u8], command: &Command) -> Result<(), AllocError>
     ensures { OnOk result (text.new.items ≡ text.old.items ++ deed_text deed.now command.now) }
 {
-    let device = word_of_blame(Blame::on(Some(command.device())));
     text.extend_from_slice(deed)?;
-    text.extend_from_slice(device.as_bytes())
+    text.extend_from_slice(word_of_device(command.device()).as_bytes())
 }
 
 /// Appends the bytes of a block.

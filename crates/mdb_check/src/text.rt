@@ -2,11 +2,12 @@
 
 ghost use Rattle.std.specs.Prelude.{◌≡◌, IfOk, OnOk};
 ghost use Rattle.std.specs.Io.KnownBytes.{Appends};
-ghost use Rattle.mdb_check.specs.Text.{account_line, blame_word, count_text, decimals_line, head_text, places_text, report_text, rule_word, side_text, silences_line};
+ghost use Rattle.mdb_check.specs.Text.{account_line, accounts_text, blame_word, count_text, decimals_line, device_word, head_text, places_text, report_text, rule_word, side_text, silences_line};
 
 use super::outcome::Outcome;
 use mdb_bus::{Blame, Rule};
-use mdb_follow::{Account, Offence, Range, Report};
+use mdb_follow::{Account, AccountName, Offence, Range, Report};
+use mdb_msgs::Device;
 use std::alloc::Global;
 use std::io;
 use std::io::Write;
@@ -49,6 +50,13 @@ pub(crate) fn word_of_blame(blame: Blame) -> &'static str
     }
 }
 
+/// The word of a device: that of the blame for what it says.
+pub(crate) fn word_of_device(device: Device) -> &'static str
+    ensures { result.now ≡ device_word device }
+{
+    word_of_blame(Blame::on(Some(device)))
+}
+
 /// The text of an outcome as bytes: what `check` writes of it. Only want of memory is an error here.
 pub fn text_of(alloc: Global, outcome: &Outcome) -> io::Result<Vec<u8>>
     ensures { IfOk result (λ text. text.items ≡ report_text outcome.now) }
@@ -76,15 +84,9 @@ fn write_report<W: Write>(writer: &mut W, report: &Report) -> io::Result<()>
         (W.contents writer.new) (report_text (Outcome.Yes report.now))) }
 {
     write_head(writer, report.rows)?;
-    write_decimals(writer, &report.decimals)?;
-    write_account(writer, "coins-in", &report.accounts[0])?;
-    write_account(writer, "bills-in", &report.accounts[1])?;
-    write_account(writer, "paid-out", &report.accounts[2])?;
-    write_account(writer, "approved", &report.accounts[3])?;
-    write_account(writer, "sold", &report.accounts[4])?;
-    write_account(writer, "approved-2", &report.accounts[5])?;
-    write_account(writer, "sold-2", &report.accounts[6])?;
-    write_silences(writer, &report.silences)
+    write_decimals(writer, report)?;
+    write_accounts(writer, report)?;
+    write_silences(writer, report)
 }
 
 /// Writes the first two lines of a yes.
@@ -96,36 +98,48 @@ fn write_head<W: Write>(writer: &mut W, rows: u64) -> io::Result<()>
 }
 
 /// Writes the line of the decimals.
-fn write_decimals<W: Write>(writer: &mut W, decimals: &[Option<u8>; 4]) -> io::Result<()>
+fn write_decimals<W: Write>(writer: &mut W, report: &Report) -> io::Result<()>
     ensures { OnOk result
         (Appends (W.contents writer.old)
-        (W.contents writer.new) (decimals_line decimals.now)) }
+        (W.contents writer.new) (decimals_line report.now)) }
 {
     write!(writer, "decimals")?;
-    write_places(writer, "changer", decimals[0])?;
-    write_places(writer, "bill", decimals[1])?;
-    write_places(writer, "cashless", decimals[2])?;
-    write_places(writer, "cashless-2", decimals[3])?;
+    for device in Report::DEVICES {
+        write_places(writer, device, report.device_decimals(device))?;
+    }
     write!(writer, "\n")
 }
 
-/// Writes how many decimal places a device told of, behind its word, or that it told of none.
-fn write_places<W: Write>(writer: &mut W, word: &str, places: Option<u8>) -> io::Result<()>
+/// Writes how many decimal places a device told of, after its word, or that it told of none.
+fn write_places<W: Write>(writer: &mut W, device: Device, places: Option<u8>) -> io::Result<()>
     ensures { OnOk result
         (Appends (W.contents writer.old)
-        (W.contents writer.new) (places_text word.now places)) }
+        (W.contents writer.new) (places_text device places)) }
 {
+    let word = word_of_device(device);
     match places {
         Some(places) => write!(writer, " {word} {places}"),
         None => write!(writer, " {word} -"),
     }
 }
 
-/// Writes the line of an account.
-fn write_account<W: Write>(writer: &mut W, name: &str, account: &Account) -> io::Result<()>
+/// Writes the lines of all accounts.
+fn write_accounts<W: Write>(writer: &mut W, report: &Report) -> io::Result<()>
     ensures { OnOk result
         (Appends (W.contents writer.old)
-        (W.contents writer.new) (account_line name.now account.now)) }
+        (W.contents writer.new) (accounts_text report.now)) }
+{
+    for name in AccountName::ALL {
+        write_account(writer, name, &report.account(name))?;
+    }
+    Ok(())
+}
+
+/// Writes the line of an account.
+fn write_account<W: Write>(writer: &mut W, name: AccountName, account: &Account) -> io::Result<()>
+    ensures { OnOk result
+        (Appends (W.contents writer.old)
+        (W.contents writer.new) (account_line name account.now)) }
 {
     write!(writer, "{name}")?;
     write_side(writer, "device", account.device)?;
@@ -145,25 +159,25 @@ fn write_side<W: Write>(writer: &mut W, word: &str, range: Range) -> io::Result<
 }
 
 /// Writes the line of the silences.
-fn write_silences<W: Write>(writer: &mut W, silences: &[u64; 4]) -> io::Result<()>
+fn write_silences<W: Write>(writer: &mut W, report: &Report) -> io::Result<()>
     ensures { OnOk result
         (Appends (W.contents writer.old)
-        (W.contents writer.new) (silences_line silences.now)) }
+        (W.contents writer.new) (silences_line report.now)) }
 {
     write!(writer, "silences")?;
-    write_count(writer, "changer", silences[0])?;
-    write_count(writer, "bill", silences[1])?;
-    write_count(writer, "cashless", silences[2])?;
-    write_count(writer, "cashless-2", silences[3])?;
+    for device in Report::DEVICES {
+        write_count(writer, device, report.device_silences(device))?;
+    }
     write!(writer, "\n")
 }
 
-/// Writes a count of a device behind its word.
-fn write_count<W: Write>(writer: &mut W, word: &str, count: u64) -> io::Result<()>
+/// Writes a count of a device after its word.
+fn write_count<W: Write>(writer: &mut W, device: Device, count: u64) -> io::Result<()>
     ensures { OnOk result
         (Appends (W.contents writer.old)
-        (W.contents writer.new) (count_text word.now count)) }
+        (W.contents writer.new) (count_text device count)) }
 {
+    let word = word_of_device(device);
     write!(writer, " {word} {count}")
 }
 

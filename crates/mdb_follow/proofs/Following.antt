@@ -15,6 +15,8 @@ use Rattle.mdb_bus.specs.ActLists.{HasActList, IsActList, Piece, Whole, AskTail,
 use Rattle.mdb_bus.specs.Bus as link
 use Rattle.mdb_bus.specs.Bus.{GoesOn}
 use Rattle.mdb_bus.specs.LinkFaults.{IsLinkFault}
+use Rattle.mdb_follow.specs.declared.account_name.AccountName.{AccountName}
+use Rattle.mdb_follow.specs.declared.account_name.AccountName.TheVariants.{CoinsIn, BillsIn, PaidOut, Approved, Sold}
 use Rattle.mdb_follow.specs.declared.cell.Cell.{Cell}
 use Rattle.mdb_follow.specs.declared.follower.Follower.{Follower}
 use Rattle.mdb_follow.specs.declared.offence.Offence.{Offence}
@@ -26,7 +28,7 @@ use Rattle.mdb_follow.specs.Ranges.{IsAccount, IsCell, IsRange}
 use Rattle.mdb_follow.specs.Sums.{AccountSums, Sums}
 use Rattle.mdb_follow.specs.Tables.{ArrivesAnywhere}
 use Rattle.mdb_follow.specs.Offences.{HasOffence, IsOffence}
-use Rattle.mdb_follow.specs.Report.{Accounts, IsReport, listed, report_of}
+use Rattle.mdb_follow.specs.Report.{AreAccounts, IsReport, report_of}
 use Rattle.mdb_follow.specs.declared.cell.Account.{Account}
 use Rattle.mdb_follow.specs.Runs.{AllSums, IsReached, Run, States}
 use Rattle.mdb_follow.specs.Machines.{EachArrives, BillArrives, ChangerArrives, ReaderArrives}
@@ -389,16 +391,41 @@ cashless2-are one joins rows pieces list some = record {
 }
 
 -- the accounts of the sides
-abbrev pub accounts_in : Cell → Cell → Cell → Cell → Accounts
-accounts_in changer bill cashless cashless2 = record {
-  coins_in = changer.first;
-  bills_in = bill.first;
-  paid_out = changer.second;
-  approved = cashless.first;
-  sold = cashless.second;
-  approved2 = cashless2.first;
-  sold2 = cashless2.second;
-}
+abbrev pub accounts_in : Cell → Cell → Cell → Cell → AccountName → Account
+accounts_in changer bill cashless cashless2 CoinsIn = changer.first
+accounts_in changer bill cashless cashless2 BillsIn = bill.first
+accounts_in changer bill cashless cashless2 PaidOut = changer.second
+accounts_in changer bill cashless cashless2 (Approved First) = cashless.first
+accounts_in changer bill cashless cashless2 (Sold First) = cashless.second
+accounts_in changer bill cashless cashless2 (Approved Second) = cashless2.first
+accounts_in changer bill cashless cashless2 (Sold Second) = cashless2.second
+
+-- a cell has the ranges of the sums that a device has in runs
+abbrev pub IsCellOf : List Event → (AllSums → Sums) → Cell → Type 0
+IsCellOf rows of cell =
+    IsAccount (Run rows) (λ sums. (of sums).first) cell.first
+    × IsAccount (Run rows) (λ sums. (of sums).second) cell.second
+
+cell-of-runs : (rows : List Event) (Kind : Sums → Type 0) (of : AllSums → Sums)
+    → AreOf rows Kind of → (cell : Cell) → IsCell Kind cell → IsCellOf rows of cell
+cell-of-runs rows Kind of are cell is = (
+  account-of-runs rows Kind of are (λ sums. sums.first) cell.first is.first,
+  account-of-runs rows Kind of are (λ sums. sums.second) cell.second is.second,
+)
+
+-- so the accounts are those of the runs
+accounts-of-cells : (rows : List Event) (changer bill cashless cashless2 : Cell)
+    → IsCellOf rows (λ sums. sums.changer) changer → IsCellOf rows (λ sums. sums.bill) bill
+    → IsCellOf rows (λ sums. sums.cashless) cashless
+    → IsCellOf rows (λ sums. sums.cashless2) cashless2
+    → AreAccounts (Run rows) (accounts_in changer bill cashless cashless2)
+accounts-of-cells rows changer bill cashless cashless2 p q r s CoinsIn = p.0
+accounts-of-cells rows changer bill cashless cashless2 p q r s BillsIn = q.0
+accounts-of-cells rows changer bill cashless cashless2 p q r s PaidOut = p.1
+accounts-of-cells rows changer bill cashless cashless2 p q r s (Approved First) = r.0
+accounts-of-cells rows changer bill cashless cashless2 p q r s (Sold First) = r.1
+accounts-of-cells rows changer bill cashless cashless2 p q r s (Approved Second) = s.0
+accounts-of-cells rows changer bill cashless cashless2 p q r s (Sold Second) = s.1
 
 -- what a follower reports
 pub reported : OneActList → Joins → (follower : Follower) (events : List Event)
@@ -407,37 +434,27 @@ pub reported : OneActList → Joins → (follower : Follower) (events : List Eve
     → IsCell (ArrivesAnywhere (BillArrives (acts_of on.pieces))) bill
     → IsCell (ArrivesAnywhere (ReaderArrives First (acts_of on.pieces))) cashless
     → IsCell (ArrivesAnywhere (ReaderArrives Second (acts_of on.pieces))) cashless2
-    → report ≡ report_of follower.rows on.pieces
-    (listed (accounts_in changer bill cashless cashless2))
+    → report ≡ report_of follower.rows on.pieces (accounts_in changer bill cashless cashless2)
     → IsReport events report
 reported one joins follower events report changer bill cashless cashless2 on of_changer of_bill
     of_cashless of_cashless2 telling =
     let list = list-of follower events on in
     let some = some-ways follower events on in
-    let changers = account-of-runs events (ArrivesAnywhere (ChangerArrives (acts_of on.pieces)))
-    (λ sums. sums.changer) (changer-are one joins events on.pieces list some) in
-    let bills = account-of-runs events (ArrivesAnywhere (BillArrives (acts_of on.pieces)))
-    (λ sums. sums.bill) (bill-are one joins events on.pieces list some) in
-    let ones = account-of-runs events (ArrivesAnywhere (ReaderArrives First (acts_of on.pieces)))
-    (λ sums. sums.cashless) (cashless-are one joins events on.pieces list some) in
-    let twos = account-of-runs events (ArrivesAnywhere (ReaderArrives Second (acts_of on.pieces)))
-    (λ sums. sums.cashless2) (cashless2-are one joins events on.pieces list some) in
     record {
       reached = reached-by joins follower events on;
       pieces = on.pieces;
       act_list = list;
       accounts = accounts_in changer bill cashless cashless2;
-      of_runs = record {
-        coins_in = changers (λ sums. sums.first) changer.first of_changer.first;
-        bills_in = bills (λ sums. sums.first) bill.first of_bill.first;
-        paid_out = changers (λ sums. sums.second) changer.second of_changer.second;
-        approved = ones (λ sums. sums.first) cashless.first of_cashless.first;
-        sold = ones (λ sums. sums.second) cashless.second of_cashless.second;
-        approved2 = twos (λ sums. sums.first) cashless2.first of_cashless2.first;
-        sold2 = twos (λ sums. sums.second) cashless2.second of_cashless2.second;
-      };
+      of_runs = accounts-of-cells events changer bill cashless cashless2
+          (cell-of-runs events _ _ (changer-are one joins events on.pieces list some) changer
+          of_changer)
+          (cell-of-runs events _ _ (bill-are one joins events on.pieces list some) bill of_bill)
+          (cell-of-runs events _ _ (cashless-are one joins events on.pieces list some) cashless
+          of_cashless)
+          (cell-of-runs events _ _ (cashless2-are one joins events on.pieces list some) cashless2
+          of_cashless2);
       telling = telling ∙ ap (λ rows. report_of rows on.pieces
-          (listed (accounts_in changer bill cashless cashless2))) on.rows;
+          (accounts_in changer bill cashless cashless2)) on.rows;
     }
 
 -- a follower has taken so many events, and met no offence

@@ -1,5 +1,5 @@
 -- Rows have one report, and a row has one offence.
-use Rattle.std.proofs.Common.{ap, arith, refl, sym, subst, ◌∙◌, ◌≡◌, ◌⊎◌, inl, inr, ℕ, ℤ, ◌≤ℤ◌, List, [], ◌∷◌, ◌++◌, append_assoc, append-nil, length, Option, Some, None}
+use Rattle.std.proofs.Common.{ap, arith, refl, sym, subst, ◌∙◌, ◌≡◌, ◌⊎◌, inl, inr, ℕ, ℤ, ◌≤ℤ◌, List, [], ◌∷◌, ◌++◌, append_assoc, append-nil, length, map, Option, Some, None}
 use Rattle.std.proofs.lemmas.Int.{ints}
 use Rattle.mdb_words.specs.declared.event.Event.{Event}
 use Rattle.mdb_msgs.specs.declared.command.Device.{Device}
@@ -14,14 +14,18 @@ use Rattle.mdb_bus.specs.LinkFaults.{IsLinkFault, RowBreaks, situation_of}
 use Rattle.mdb_cash.specs.Bill as bill
 use Rattle.mdb_cash.specs.Changer as changer
 use Rattle.mdb_cashless.specs.Reader as reader
+use Rattle.mdb_follow.specs.declared.account_name.AccountName.{AccountName}
+use Rattle.mdb_follow.specs.declared.account_name.AccountName.TheVariants.{CoinsIn, BillsIn, PaidOut, Approved, Sold}
+use Rattle.mdb_follow.specs.declared.account_name.TheConstants.AccountName.{ALL}
 use Rattle.mdb_follow.specs.declared.cell.Account.{Account}
 use Rattle.mdb_follow.specs.declared.offence.Offence.{Offence}
 use Rattle.mdb_follow.specs.declared.range.Range.{Range}
 use Rattle.mdb_follow.specs.declared.report.Report.{Report}
+use Rattle.mdb_follow.specs.AccountNames.{sums_of}
 use Rattle.mdb_follow.specs.Ranges.{IsAccount, IsRange}
 use Rattle.mdb_follow.specs.Sums.{AccountSums}
 use Rattle.mdb_follow.specs.Offences.{BreaksLink, BreaksMachine, IsOffence}
-use Rattle.mdb_follow.specs.Report.{Accounts, AreAccounts, IsReport, listed, report_of}
+use Rattle.mdb_follow.specs.Report.{AreAccounts, IsReport, account_of, report_of}
 use Rattle.mdb_follow.specs.Runs.{AllSums, IsReached, Run}
 use Rattle.mdb_follow.specs.Senders.{sender_of}
 use Rattle.mdb_follow.specs.Offences.{ByBill, ByChanger, ByReader, NoStep}
@@ -58,26 +62,47 @@ one-account Kind account a b p q =
     ∙ (ap (λ y. made b.device y a.difference) controller
     ∙ ap (λ z. made b.device b.controller z) difference)
 
+-- two functions that agree make one list of another
+map-alike : {X Y : Type 0} (f g : X → Y) → ((x : X) → f x ≡ g x) → (xs : List X)
+    → map f xs ≡ map g xs
+map-alike f g alike [] = refl
+map-alike f g alike (x ∷ xs) =
+    ap (λ y. y ∷ map f xs) (alike x) ∙ ap (λ ys. g x ∷ ys) (map-alike f g alike xs)
+
 -- and so have all accounts
-one-list : (Kind : AllSums → Type 0) (a b : Accounts) → AreAccounts Kind a → AreAccounts Kind b
-    → listed a ≡ listed b
-one-list Kind a b p q =
-    let coins_in = one-account Kind _ a.coins_in b.coins_in p.coins_in q.coins_in in
-    let bills_in = one-account Kind _ a.bills_in b.bills_in p.bills_in q.bills_in in
-    let paid_out = one-account Kind _ a.paid_out b.paid_out p.paid_out q.paid_out in
-    let approved = one-account Kind _ a.approved b.approved p.approved q.approved in
-    let sold = one-account Kind _ a.sold b.sold p.sold q.sold in
-    let approved2 = one-account Kind _ a.approved2 b.approved2 p.approved2 q.approved2 in
-    let sold2 = one-account Kind _ a.sold2 b.sold2 p.sold2 q.sold2 in
-    cc (coins_in, bills_in, paid_out, approved, sold, approved2, sold2)
+one-list : (Kind : AllSums → Type 0) (a b : AccountName → Account) → AreAccounts Kind a
+    → AreAccounts Kind b → map a ALL ≡ map b ALL
+one-list Kind a b p q = map-alike a b
+    (λ name. one-account Kind (sums_of name) (a name) (b name) (p name) (q name)) ALL
+
+-- what a report has of an account
+named : (rows : ℕ) (pieces : List Piece) (accounts : AccountName → Account)
+    (account : AccountName) → account_of account (report_of rows pieces accounts) ≡ accounts account
+named rows pieces accounts CoinsIn = refl
+named rows pieces accounts BillsIn = refl
+named rows pieces accounts PaidOut = refl
+named rows pieces accounts (Approved First) = refl
+named rows pieces accounts (Sold First) = refl
+named rows pieces accounts (Approved Second) = refl
+named rows pieces accounts (Sold Second) = refl
+
+pub named-account : (rows : List Event) (report : Report) → IsReport rows report
+    → (account : AccountName) → IsAccount (Run rows) (sums_of account) (account_of account report)
+named-account rows report is account =
+    subst (IsAccount (Run rows) (sums_of account))
+    (sym (ap (account_of account) is.telling
+    ∙ named (length rows) is.pieces is.accounts account)) (is.of_runs account)
+
+abbrev with_accounts : Report → List Account → Report
+with_accounts report accounts = record report { accounts = accounts }
 
 pub one-report : OneActList → (rows : List Event) (a b : Report) → IsReport rows a
     → IsReport rows b → a ≡ b
 one-report one rows a b p q =
     p.telling
-    ∙ (ap (λ pieces. report_of (length rows) pieces (listed p.accounts))
+    ∙ (ap (λ pieces. report_of (length rows) pieces p.accounts)
     (one rows p.pieces q.pieces p.act_list q.act_list)
-    ∙ (ap (report_of (length rows) q.pieces)
+    ∙ (ap (with_accounts (report_of (length rows) q.pieces p.accounts))
     (one-list (Run rows) p.accounts q.accounts p.of_runs q.of_runs) ∙ sym q.telling))
 
 -- what the laws of the bus say

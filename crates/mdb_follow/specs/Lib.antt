@@ -1,3 +1,4 @@
+pub mod AccountNames
 pub mod Arrivals
 pub mod Cells
 pub mod Entries

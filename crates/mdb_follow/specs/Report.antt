@@ -1,5 +1,5 @@
 -- What is reported of rows that can have been.
-use Rattle.std.specs.Prelude.{◌≡◌, ℕ, List, [], ◌∷◌, length, map, Option, option_map, pos}
+use Rattle.std.specs.Prelude.{◌≡◌, ℕ, List, length, map, Option, None, get_or, option_map, pos}
 use Rattle.mdb_words.specs.declared.event.Event.{Event}
 use Rattle.mdb_msgs.specs.declared.command.Device.{Device}
 use Rattle.mdb_msgs.specs.declared.command.Device.TheVariants as devices
@@ -9,9 +9,13 @@ use Rattle.mdb_bus.specs.ActLists.{IsActList, Piece, acts_of}
 use Rattle.mdb_cash.specs.BillFacts as bill_facts
 use Rattle.mdb_cash.specs.ChangerFacts as changer_facts
 use Rattle.mdb_cashless.specs.ReaderFacts as reader_facts
+use Rattle.mdb_follow.specs.declared.account_name.AccountName.{AccountName}
+use Rattle.mdb_follow.specs.declared.account_name.TheConstants.AccountName.{ALL}
 use Rattle.mdb_follow.specs.declared.cell.Account.{Account}
 use Rattle.mdb_follow.specs.declared.range.Range.{Range}
 use Rattle.mdb_follow.specs.declared.report.Report.{Report}
+use Rattle.mdb_follow.specs.declared.report.TheConstants.Report.{DEVICES}
+use Rattle.mdb_follow.specs.AccountNames.{account_place, sums_of}
 use Rattle.mdb_follow.specs.Ranges.{IsAccount}
 use Rattle.mdb_follow.specs.Runs.{AllSums, IsReached, Run}
 use Rattle.mdb_follow.specs.Silences.{silences}
@@ -23,31 +27,14 @@ no_range = record { least = pos 0; greatest = pos 0 }
 abbrev pub no_account : Account
 no_account = record { device = no_range; controller = no_range; difference = no_range }
 
--- The accounts that are reported. A reader's are approved and sold.
-pub record Accounts : Type 0 where
-  pub coins_in : Account
-  pub bills_in : Account
-  pub paid_out : Account
-  pub approved : Account
-  pub sold : Account
-  pub approved2 : Account
-  pub sold2 : Account
+-- what a report has of an account
+abbrev pub account_of : AccountName → Report → Account
+account_of account report = get_or report.accounts (account_place account) no_account
 
--- they are those of sums of a kind
-pub record AreAccounts (Kind : AllSums → Type 0) (accounts : Accounts) : Type 0 where
-  pub coins_in : IsAccount Kind (λ sums. sums.changer.first) accounts.coins_in
-  pub bills_in : IsAccount Kind (λ sums. sums.bill.first) accounts.bills_in
-  pub paid_out : IsAccount Kind (λ sums. sums.changer.second) accounts.paid_out
-  pub approved : IsAccount Kind (λ sums. sums.cashless.first) accounts.approved
-  pub sold : IsAccount Kind (λ sums. sums.cashless.second) accounts.sold
-  pub approved2 : IsAccount Kind (λ sums. sums.cashless2.first) accounts.approved2
-  pub sold2 : IsAccount Kind (λ sums. sums.cashless2.second) accounts.sold2
-
--- in the order of a report
-abbrev pub listed : Accounts → List Account
-listed accounts =
-    accounts.coins_in ∷ accounts.bills_in ∷ accounts.paid_out ∷ accounts.approved ∷ accounts.sold
-    ∷ accounts.approved2 ∷ accounts.sold2 ∷ []
+-- The accounts are those of sums of a kind.
+abbrev pub AreAccounts : (AllSums → Type 0) → (AccountName → Account) → Type 0
+AreAccounts Kind accounts =
+    (account : AccountName) → IsAccount Kind (sums_of account) (accounts account)
 
 -- the decimal places that a device has told in these acts: in its last setup table, a reader in its
 -- last config message, heard or not
@@ -61,17 +48,28 @@ decimals_of devices.Cashless acts =
 decimals_of devices.Cashless2 acts =
     option_map (λ config. config.decimals) (reader_facts.facts_of Second acts).config
 
--- the devices in the order of a report
-abbrev pub reported_devices : List Device
-reported_devices = devices.Changer ∷ devices.Bill ∷ devices.Cashless ∷ devices.Cashless2 ∷ []
+-- the place of a device in a report, from 0
+abbrev pub device_place : Device → ℕ
+device_place devices.Changer = 0
+device_place devices.Bill = 1
+device_place devices.Cashless = 2
+device_place devices.Cashless2 = 3
+
+-- the decimal places that a report has of a device
+abbrev pub device_decimals : Device → Report → Option ℕ
+device_decimals device report = get_or report.decimals (device_place device) None
+
+-- how many silences a report has of it
+abbrev pub device_silences : Device → Report → ℕ
+device_silences device report = get_or report.silences (device_place device) 0
 
 -- the report of so many rows, which are these pieces, with these accounts
-abbrev pub report_of : ℕ → List Piece → List Account → Report
+abbrev pub report_of : ℕ → List Piece → (AccountName → Account) → Report
 report_of rows pieces accounts = record {
   rows = rows;
-  decimals = map (λ device. decimals_of device (acts_of pieces)) reported_devices;
-  accounts = accounts;
-  silences = map (λ device. silences device pieces) reported_devices;
+  decimals = map (λ device. decimals_of device (acts_of pieces)) DEVICES;
+  accounts = map accounts ALL;
+  silences = map (λ device. silences device pieces) DEVICES;
 }
 
 -- The report on rows that are reached: each end of each range is the value of some run, and no
@@ -80,6 +78,6 @@ pub record IsReport (events : List Event) (report : Report) : Type 0 where
   pub reached : IsReached events
   pub pieces : List Piece
   pub act_list : IsActList pieces events
-  pub accounts : Accounts
+  pub accounts : AccountName → Account
   pub of_runs : AreAccounts (Run events) accounts
-  pub telling : report ≡ report_of (length events) pieces (listed accounts)
+  pub telling : report ≡ report_of (length events) pieces accounts

@@ -4,15 +4,18 @@ ghost use Rattle.std.specs.Prelude.{◌≡◌, ◌↔◌, List, [], ◌∷◌, �
 ghost use Rattle.mdb_words.specs.declared.event.Event.{Event};
 ghost use Rattle.mdb_bus.specs.ActLists.{ArePieces, Piece, acts_of};
 ghost use Rattle.mdb_bus.specs.Loss.{Loss, LossFits};
+ghost use Rattle.mdb_follow.specs.AccountNames.{sums_of};
 ghost use Rattle.mdb_follow.specs.Follower.{StandsFor};
 ghost use Rattle.mdb_follow.specs.Machines.{EachArrives};
+ghost use Rattle.mdb_follow.specs.declared.account_name.AccountName.{AccountName};
 ghost use Rattle.mdb_follow.specs.declared.follower.Follower.{Follower};
 ghost use Rattle.mdb_follow.specs.declared.offence.Offence.{Offence};
 ghost use Rattle.mdb_follow.specs.declared.report.Report.{Report};
 ghost use Rattle.mdb_follow.specs.declared.silence.TheConstants.{BILL_SILENCE_MAX, CHANGER_SILENCE_MAX, MICROS_PER_SECOND, READER_SILENCE_MAX};
 ghost use Rattle.mdb_follow.specs.Offences.{HasOffence, IsOffence};
-ghost use Rattle.mdb_follow.specs.Report.{IsReport};
-ghost use Rattle.mdb_follow.specs.Runs.{AllSums, HearSameAcks, IsReached, IsWay, States};
+ghost use Rattle.mdb_follow.specs.Ranges.{IsAccount};
+ghost use Rattle.mdb_follow.specs.Report.{IsReport, account_of};
+ghost use Rattle.mdb_follow.specs.Runs.{AllSums, HearSameAcks, IsReached, IsWay, Run, States};
 ghost use Rattle.mdb_follow.specs.Sales.{SalesFollowApprovals};
 ghost use Rattle.mdb_follow.specs.Slices.{Tells, TellsInSlices, joined};
 
@@ -63,6 +66,13 @@ pub fn rows_have_one_report()
 {
     laws::transcripts_have_one_act_list();
 }
+
+/// What a report has of each account are the exact ranges of its sums in the runs of the rows.
+pub fn reports_name_the_accounts_of_runs()
+    ensures { (rows : List Event) (report : Report) → IsReport rows report
+        → (account : AccountName)
+        → IsAccount (Run rows) (sums_of account) (account_of account report) }
+{}
 
 /// A row has one offence: one number, one rule and one blame.
 pub fn rows_have_one_offence()

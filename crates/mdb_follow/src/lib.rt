@@ -1,6 +1,7 @@
 //! What all that may have happened comes to.
 #![tactic(auto)]
 
+mod account_name;
 mod cell;
 mod entries;
 mod follower;
@@ -15,6 +16,7 @@ mod sides;
 mod silence;
 mod table;
 
+pub use account_name::AccountName;
 pub use cell::{Account, Cell};
 pub use follower::{Follower, ROWS_MAX};
 pub use offence::Offence;

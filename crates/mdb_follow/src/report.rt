@@ -1,43 +1,57 @@
 //! What rows that can have been tell.
 
-use crate::Account;
 use crate::sides::Sides;
 use crate::silence::Silences;
+use crate::{Account, AccountName};
+use mdb_msgs::Device;
 
 /// What rows that can have been tell.
 #[derive(Clone, Copy, PartialEq, Eq, Debug)]
 pub struct Report {
     /// How many rows there are.
     pub rows: u64,
-    /// The decimal places that changer, validator and the two readers have told last; `None` where
-    /// one has told none.
+    /// The decimal places that each of `Report::DEVICES` has told last; `None` where one has told
+    /// none.
     pub decimals: [Option<u8>; 4],
-    /// Coins in, bills in, paid out, approved and sold by the reader at 10H, and approved and sold
-    /// by the reader at 60H, in smallest units of money.
+    /// What each of `AccountName::ALL` comes to, in smallest units of money.
     pub accounts: [Account; 7],
-    /// How often changer, validator and the two readers left the controller's asks without an
-    /// answer for too long.
+    /// How often each of `Report::DEVICES` left the controller's asks without an answer for too
+    /// long.
     pub silences: [u64; 4],
 }
 
 impl Report {
-    ghost use Rattle.std.specs.Prelude.{◌≡◌, List};
+    ghost use Rattle.std.specs.Prelude.{◌≡◌, ◌<◌, List, map};
     ghost use Rattle.mdb_bus.specs.ActLists.{Piece, acts_of};
-    ghost use Rattle.mdb_follow.specs.Report.{report_of};
+    ghost use Rattle.mdb_follow.specs.declared.account_name.AccountName.{AccountName};
+    ghost use Rattle.mdb_follow.specs.declared.account_name.TheConstants.AccountName.{ALL};
+    ghost use Rattle.mdb_follow.specs.declared.cell.Account.{Account};
+    ghost use Rattle.mdb_follow.specs.Report.{account_of, device_decimals, device_place, device_silences, report_of};
     ghost use Rattle.mdb_follow.specs.Sides.{AreSides};
     ghost use Rattle.mdb_follow.specs.Silences.{asks_of};
     ghost use Rattle.mdb_follow.specs.SilencesKept.{AllStandForAsks};
 
-    /// The report of so many rows, with what the accounts come to.
+    /// The devices, in the order of a report.
+    pub const DEVICES: [Device; 4] = [
+        Device::Changer,
+        Device::Bill,
+        Device::Cashless,
+        Device::Cashless2,
+    ];
+
+    /// The report of so many rows, with what the accounts come to, in the order of
+    /// `AccountName::ALL`.
     pub(crate) fn of(
         rows: u64,
         accounts: [Account; 7],
         sides: &Sides,
         silences: &Silences,
     ) -> Report
-        ensures { (pieces : List Piece) → AreSides sides.now (acts_of pieces)
+        ensures { (pieces : List Piece) (named : AccountName → Account)
+            → AreSides sides.now (acts_of pieces)
             → AllStandForAsks silences.now (λ device. asks_of device pieces)
-            → result ≡ report_of rows pieces accounts }
+            → accounts ≡ map named ALL
+            → result ≡ report_of rows pieces named }
     {
         Report {
             rows,
@@ -54,6 +68,40 @@ impl Report {
                 silences.cashless.count,
                 silences.cashless2.count,
             ],
+        }
+    }
+
+    /// What an account comes to.
+    pub fn account(&self, name: AccountName) -> Account
+        ensures { result ≡ account_of name self.now }
+    {
+        self.accounts[name.place()]
+    }
+
+    /// The decimal places that a device has told last; `None` where it has told none.
+    pub fn device_decimals(&self, device: Device) -> Option<u8>
+        ensures { result ≡ device_decimals device self.now }
+    {
+        self.decimals[Report::device_place(device)]
+    }
+
+    /// How often a device left the controller's asks without an answer for too long.
+    pub fn device_silences(&self, device: Device) -> u64
+        ensures { result ≡ device_silences device self.now }
+    {
+        self.silences[Report::device_place(device)]
+    }
+
+    /// The place of a device in a report, from 0.
+    fn device_place(device: Device) -> usize
+        ensures place { result ≡ device_place device }
+        ensures below { result < 4 }
+    {
+        match device {
+            Device::Changer => 0,
+            Device::Bill => 1,
+            Device::Cashless => 2,
+            Device::Cashless2 => 3,
         }
     }
 }

@@ -1,5 +1,6 @@
+use Rattle.std.proofs.Common.{refl}
 use Rattle.mdb_bus.specs.ActLists.{acts_of}
-use Rattle.mdb_follow.proofs.Following.{reported}
+use Rattle.mdb_follow.proofs.Following.{accounts_in, reported}
 use Rattle.mdb_follow.proofs.follower.Follower.report.Goals as goal
 
 pub returns-in-None-clause-report : goal.returns-in-None-clause-report
@@ -10,4 +11,6 @@ returns-in-None-clause-report c events on =
     (c.ranges-changer.ensures (acts_of on.pieces) on.sides.changer)
     (c.ranges-bill.ensures (acts_of on.pieces) on.sides.bill)
     (c.ranges-cashless.ensures (acts_of on.pieces) on.sides.cashless)
-    (c.ranges-cashless2.ensures (acts_of on.pieces) on.sides.cashless2) (c.of.ensures on.pieces on.sides on.silences)
+    (c.ranges-cashless2.ensures (acts_of on.pieces) on.sides.cashless2) (c.of.ensures on.pieces
+    (accounts_in c.ranges-changer.result c.ranges-bill.result c.ranges-cashless.result
+    c.ranges-cashless2.result) on.sides on.silences refl)

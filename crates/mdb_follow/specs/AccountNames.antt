@@ -1,0 +1,52 @@
+-- The accounts of a report by name: the word, the device, the place, and what each is in a run.
+use Rattle.std.specs.Prelude.{ℕ, List, codes}
+use Rattle.mdb_msgs.specs.declared.command.Device.{Device}
+use Rattle.mdb_msgs.specs.declared.command.Device.TheVariants as devices
+use Rattle.mdb_msgs.specs.declared.command.ReaderUnit.{ReaderUnit}
+use Rattle.mdb_msgs.specs.declared.command.ReaderUnit.TheVariants.{First, Second}
+use Rattle.mdb_cashless.specs.Units.{device_of_unit}
+use Rattle.mdb_follow.specs.declared.account_name.AccountName.{AccountName}
+use Rattle.mdb_follow.specs.declared.account_name.AccountName.TheVariants.{CoinsIn, BillsIn, PaidOut, Approved, Sold}
+use Rattle.mdb_follow.specs.Runs.{AllSums}
+use Rattle.mdb_follow.specs.Sums.{AccountSums, Sums}
+
+-- the word of an account
+abbrev pub account_word : AccountName → List ℕ
+account_word CoinsIn = codes "coins-in"
+account_word BillsIn = codes "bills-in"
+account_word PaidOut = codes "paid-out"
+account_word (Approved First) = codes "approved"
+account_word (Sold First) = codes "sold"
+account_word (Approved Second) = codes "approved-2"
+account_word (Sold Second) = codes "sold-2"
+
+-- the device that keeps it, and the controller with it
+abbrev pub account_device : AccountName → Device
+account_device CoinsIn = devices.Changer
+account_device BillsIn = devices.Bill
+account_device PaidOut = devices.Changer
+account_device (Approved unit) = device_of_unit unit
+account_device (Sold unit) = device_of_unit unit
+
+-- its place in a report, from 0
+abbrev pub account_place : AccountName → ℕ
+account_place CoinsIn = 0
+account_place BillsIn = 1
+account_place PaidOut = 2
+account_place (Approved First) = 3
+account_place (Sold First) = 4
+account_place (Approved Second) = 5
+account_place (Sold Second) = 6
+
+-- the sums of a reader
+abbrev pub reader_sums : ReaderUnit → AllSums → Sums
+reader_sums First sums = sums.cashless
+reader_sums Second sums = sums.cashless2
+
+-- what it has come to in a run with these sums
+abbrev pub sums_of : AccountName → AllSums → AccountSums
+sums_of CoinsIn sums = sums.changer.first
+sums_of BillsIn sums = sums.bill.first
+sums_of PaidOut sums = sums.changer.second
+sums_of (Approved unit) sums = (reader_sums unit sums).first
+sums_of (Sold unit) sums = (reader_sums unit sums).second

@@ -1,0 +1,91 @@
+//! The accounts of a report by name.
+
+ghost use Rattle.std.specs.Prelude.{◌≡◌, ◌<◌, Some};
+ghost use Rattle.mdb_follow.specs.AccountNames.{account_device, account_place, account_word};
+
+use mdb_msgs::{Device, ReaderUnit};
+use std::fmt;
+
+/// An account of a report, by name.
+#[derive(Clone, Copy, PartialEq, Eq, Debug)]
+pub enum AccountName {
+    /// The coins that were put in.
+    CoinsIn,
+    /// The bills that were put in.
+    BillsIn,
+    /// The coins that were paid out.
+    PaidOut,
+    /// The sales that a reader approved.
+    Approved(ReaderUnit),
+    /// The sales that were made with a reader.
+    Sold(ReaderUnit),
+}
+
+impl AccountName {
+    /// All accounts, in the order of a report.
+    pub const ALL: [AccountName; 7] = [
+        AccountName::CoinsIn,
+        AccountName::BillsIn,
+        AccountName::PaidOut,
+        AccountName::Approved(ReaderUnit::First),
+        AccountName::Sold(ReaderUnit::First),
+        AccountName::Approved(ReaderUnit::Second),
+        AccountName::Sold(ReaderUnit::Second),
+    ];
+
+    /// Its word in a report.
+    pub fn word(self) -> &'static str
+        ensures { result.now ≡ account_word self }
+    {
+        match self {
+            AccountName::CoinsIn => "coins-in",
+            AccountName::BillsIn => "bills-in",
+            AccountName::PaidOut => "paid-out",
+            AccountName::Approved(ReaderUnit::First) => "approved",
+            AccountName::Sold(ReaderUnit::First) => "sold",
+            AccountName::Approved(ReaderUnit::Second) => "approved-2",
+            AccountName::Sold(ReaderUnit::Second) => "sold-2",
+        }
+    }
+
+    /// The device that keeps it, and the controller with it.
+    pub fn device(self) -> Device
+        ensures { result ≡ account_device self }
+    {
+        match self {
+            AccountName::CoinsIn | AccountName::PaidOut => Device::Changer,
+            AccountName::BillsIn => Device::Bill,
+            AccountName::Approved(ReaderUnit::First) | AccountName::Sold(ReaderUnit::First) => {
+                Device::Cashless
+            }
+            AccountName::Approved(ReaderUnit::Second) | AccountName::Sold(ReaderUnit::Second) => {
+                Device::Cashless2
+            }
+        }
+    }
+
+    /// Its place in a report, from 0.
+    pub(crate) fn place(self) -> usize
+        ensures place { result ≡ account_place self }
+        ensures below { result < 7 }
+    {
+        match self {
+            AccountName::CoinsIn => 0,
+            AccountName::BillsIn => 1,
+            AccountName::PaidOut => 2,
+            AccountName::Approved(ReaderUnit::First) => 3,
+            AccountName::Sold(ReaderUnit::First) => 4,
+            AccountName::Approved(ReaderUnit::Second) => 5,
+            AccountName::Sold(ReaderUnit::Second) => 6,
+        }
+    }
+}
+
+/// Its word.
+impl fmt::Display for AccountName {
+    ghost output = { λ account. Some (account_word account) };
+
+    fn fmt<W: fmt::Write>(&self, f: &mut fmt::Formatter<W>) -> fmt::Result {
+        f.write_str(self.word())
+    }
+}
