@@ -1,11 +1,9 @@
-pub mod Answered
-pub mod BillChoices
-pub mod BillFactsBehind
-pub mod ChangerChoices
 pub mod Escrows
-pub mod FactsBehind
+pub mod KeeperFacts
 pub mod FirstBytes
+pub mod KeeperSteps
 pub mod KeptLists
 pub mod Masks
 pub mod PastBehind
+pub mod Sizes
 pub mod Ways

@@ -4,15 +4,13 @@ use Rattle.std.proofs.lemmas.Nat.Bits.{bit_at_or, bit_at-lt, bit_at-zero}
 use Rattle.std.specs.Int.{bit_at}
 use Rattle.std.specs.List.{list_any}
 use Rattle.mdb_msgs.specs.declared.command.Command.{Command}
-use Rattle.mdb_msgs.specs.declared.reply.Reply.{Reply}
 use Rattle.mdb_bus.specs.declared.act.Act.{Act}
-use Rattle.mdb_bus.specs.declared.act.Act.TheVariants as acts
 use Rattle.mdb_cash.specs.declared.kept.Part.{Part}
 use Rattle.mdb_cash.specs.declared.past.Effect.{Effect}
 use Rattle.mdb_cash.specs.declared.past.Effect.TheVariants as effects
 use Rattle.mdb_cash.specs.declared.past.Past.{Past}
 use Rattle.mdb_cash.specs.Kept.{has_reset, kept_of}
-use Rattle.mdb_cash.specs.Past.{PastFacts, acts_from, effect_answered, effect_by, effect_taken, enables, last_told, or_else, past_of, powers_on, resets, tells_out_of_sequence, unless_empty}
+use Rattle.mdb_cash.specs.Past.{PastFacts, acts_from, effect_by, enables, last_told, or_else, past_of, powers_on, unless_empty}
 use Rattle.mdb_cash.specs.PastValues.{past_behind, past_in, past_with}
 
 -- facts with the same fields
@@ -68,16 +66,3 @@ enabled_more old new mask enabled reset_owed kept = same_past (λ kind. ap (λ m
 pub told_more : {M : Type 0} {CAP : ℕ} (old new : Past M CAP) (parts : List (Part M)) → new.enabled ≡ old.enabled → new.reset_owed ≡ (not (has_reset parts) && old.reset_owed)
     → new.kept.items ≡ unwrap_or (unless_empty (kept_of parts)) old.kept.items → past_in new ≡ past_behind false effects.Other parts (past_in old)
 told_more old new parts enabled reset_owed kept = same_past (λ kind. ap (λ m. bit_at m kind == 1) enabled) reset_owed kept
-
--- what a command is that an answer takes or not
-taken_or_not : (effect_of : Command → Effect) (command : Command) (refused : Bool) → (if refused then effects.Other else effect_of command) ≡ effect_taken effect_of (if refused then None else Some command)
-taken_or_not effect_of command true = refl
-taken_or_not effect_of command false = refl
-
--- a device that has replied: it has taken its command or not, and has told messages
-pub replied : {M : Type 0} (effect_of : Command → Effect) (command : Command) (reply : Reply) (parts : List (Part M)) (old mid new : PastFacts M) (effect : Effect)
-    → effect ≡ effect_answered (effect_of command) reply → mid ≡ past_behind (resets effect) effect [] old → new ≡ past_behind false effects.Other parts mid
-    → new ≡ past_behind (powers_on effect_of (acts.Reply command reply)) (effect_by effect_of (acts.Reply command reply)) parts old
-replied effect_of command reply parts old mid new effect effect_is mid_is new_is =
-    let taken = effect_is ∙ taken_or_not effect_of command (tells_out_of_sequence reply) in
-    new_is ∙ (ap (past_behind false effects.Other parts) mid_is ∙ ap (λ e. past_behind (resets e) e parts old) taken)

@@ -1,5 +1,6 @@
 -- The steps that an act may be, by the choices that can stand on it.
-use Rattle.std.proofs.Common.{◌≡◌, ◌≢◌, ◌↔◌, ◌⊎◌, inl, inr, ℕ, List, Option, Some, IfSome, refl, sym, subst, ◌∙◌}
+use Rattle.std.proofs.Common.{◌≡◌, ◌≢◌, ◌↔◌, ◌⊎◌, inl, inr, ℕ, Bool, true, false, IsTrue, List, Option, Some, IfSome, refl, sym, subst, ◌∙◌}
+use Rattle.std.specs.Bool.{OnFalse}
 use Rattle.std.proofs.lemmas.Option.{same_Some}
 use Rattle.std.specs.List.{Contains}
 use Rattle.mdb_msgs.specs.declared.command.Device.{Device}
@@ -9,7 +10,8 @@ use Rattle.mdb_cash.specs.declared.choice.Choice.{Choice}
 use Rattle.mdb_cash.specs.declared.choice.Choice.TheVariants.{Plain, Lost, Restart}
 use Rattle.mdb_cash.specs.declared.gains.Gains.{Gains}
 use Rattle.mdb_cash.specs.Choices.{CanStand}
-use Rattle.mdb_cash.specs.Pair.{IsActOf, IsChosenStep, IsMove, IsOfAnother, IsOtherMove, IsStep}
+use Rattle.mdb_cash.specs.Machine.{IsMachineOf, Machine}
+use Rattle.mdb_cash.specs.Pair.{IsActOf, IsChosenStep, IsMove, IsOfAnother, IsOtherMove, IsStep, Stays}
 
 -- a choice is the plain one, or another
 pub plain_or_not : (choice : Choice) → (choice ≡ Plain) ⊎ (choice ≢ Plain)
@@ -29,6 +31,17 @@ not_its_own device (acts.VmcRet command reply) other = other
 not_its_own device (acts.Repeat command reply) other = other
 not_its_own device acts.Foreign other = absurd other
 not_its_own device (acts.Break length) other = other
+
+-- an act in which the device has no part leaves state and sums
+pub still_elsewhere : {State : Type 0} (device its : Device) (machine : Machine State) (act : Act)
+    (own : Bool) → IsMachineOf device machine → its ≡ device → IsTrue own ↔ IsActOf its act
+    → OnFalse own ((acts : List Act) (choice : Choice) (before after : State) (gains : Gains)
+    → machine.Step acts act choice before after gains ↔ Stays before after gains)
+still_elsewhere device its machine act true is same own = tt
+still_elsewhere device its machine act false is same own =
+    λ acts choice before after gains. is.elsewhere acts act choice before after gains
+    (λ of. let never : false ≡ true = own.1 (subst (λ d. IsActOf d act) (sym same) of) in
+    absurd cc)
 
 -- the steps by the one other choice that there is
 pub by_other : {State : Type 0} (device : Device) (act : Act) (code_of : State → ℕ)

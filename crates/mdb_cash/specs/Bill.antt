@@ -18,11 +18,11 @@ use Rattle.mdb_cash.specs.declared.bill.state.Escrow.TheVariants.{Empty, Waiting
 use Rattle.mdb_cash.specs.declared.choice.Choice.{Choice}
 use Rattle.mdb_cash.specs.declared.choice.Choice.TheVariants.{Restart}
 use Rattle.mdb_cash.specs.declared.gains.Gains.{Gains}
-use Rattle.mdb_cash.specs.BillFacts.{Facts}
-use Rattle.mdb_cash.specs.BillMessages.{parts_of}
+use Rattle.mdb_cash.specs.BillFacts.{Facts, facts_of, tables}
 use Rattle.mdb_cash.specs.Credits.{counted}
-use Rattle.mdb_cash.specs.Gains.{no_gains, controller_gains, device_gains}
-use Rattle.mdb_cash.specs.Kept.{Tells, held, holds_acked, holds_behind, holds_read, kept_of}
+use Rattle.mdb_cash.specs.Gains.{no_gains}
+use Rattle.mdb_cash.specs.KeeperSteps.{Conduct, KeeperStep}
+use Rattle.mdb_cash.specs.Machine.{Machine}
 use Rattle.mdb_cash.specs.Pair.{Stays}
 
 -- the power-on state: nothing in escrow, and nothing held
@@ -43,11 +43,6 @@ stacked setup _ = 0
 -- what kept messages add to bills-in
 abbrev pub all_stacked : Option BillSetup → List BillReport → ℕ
 all_stacked setup messages = sum_by (stacked setup) messages
-
--- whether a command is POLL
-abbrev pub is_poll : BillCommand → Bool
-is_poll bill.Poll = true
-is_poll _ = false
 
 -- A bill may be stacked that never waited in escrow, or that waits there with an order to stack it;
 -- one may be returned with an order or without one.
@@ -87,58 +82,41 @@ abbrev pub escrow_read : Choice → Escrow → Escrow
 escrow_read Restart escrow = Empty
 escrow_read choice escrow = escrow
 
--- The validator acknowledges: by that it takes RESET, and is in its power-on state, or ESCROW.
--- While it holds something, ACK is no answer to POLL.
+-- The validator acknowledges a command that isn't POLL (of POLL `KeeperSteps` tells): by that it
+-- takes RESET, and is in its power-on state, or ESCROW.
 abbrev pub AckStep : BillCommand → BillState → BillState → Gains → Type 0
 AckStep bill.Reset before after gains = (after ≡ power_on) × (gains ≡ no_gains)
 AckStep (bill.Escrow order) before after gains =
     (after ≡ record before { escrow = ordered order before.escrow }) × (gains ≡ no_gains)
-AckStep bill.Poll before after gains = (before.holds ≡ false) × Stays before after gains
 AckStep _ before after gains = Stays before after gains
 
--- The validator replies with data, which is read as it stands or as telling of a restart. What is
--- new counts for the validator, and moves what is in escrow. Data answers SETUP, POLL, STACKER and
--- IDENTIFICATION alone: the validator answers all other commands by ACK or NAK, RESET, BILL TYPE
--- and ESCROW among them, so what it does behind those stands in `AckStep`.
-pub record ReplyStep (facts : Facts) (command : BillCommand) (reply : Reply)
-    (choice : Choice) (before after : BillState) (gains : Gains) : Type 0 where
-  pub news : List BillReport
-  pub tells : Tells (is_poll command) choice facts.past.reset_owed
-      (held (holds_read choice before.holds) facts.past.kept) (parts_of reply) news
-  pub escrow : TakesAll facts news (escrow_read choice before.escrow) after.escrow
-  pub holds : after.holds
-      ≡ holds_behind (kept_of (parts_of reply)) (holds_read choice before.holds)
-  pub gained : gains ≡ device_gains (all_stacked facts.setup news) 0
+-- What the validator does of its own. Data answers SETUP, POLL, STACKER and IDENTIFICATION alone:
+-- the validator answers all other commands by ACK or NAK, RESET, BILL TYPE and ESCROW among them, so
+-- what it does behind those stands in `AckStep`. What is new moves what is in escrow.
+abbrev pub conduct : Facts → Conduct BillCommand BillReport BillState
+conduct facts =
+    record {
+      power_on = power_on;
+      holds = λ state. state.holds;
+      with_holds = λ holds state. record state { holds = holds };
+      Asks = λ command. Stays;
+      Acks = λ command choice. AckStep command;
+      Takes = λ choice news before after.
+          TakesAll facts news (escrow_read choice before.escrow) after.escrow
+          × (after.holds ≡ before.holds);
+      first = all_stacked facts.setup;
+      second = λ news. 0;
+      heard_reset = λ state. state;
+    }
 
--- The controller acknowledges a reply. To POLL, all bills that were stacked count for it, new or
--- not.
-pub record VmcAckStep (facts : Facts) (command : BillCommand) (reply : Reply)
-    (choice : Choice) (before after : BillState) (gains : Gains) : Type 0 where
-  pub to : after ≡ record before {
-    holds = holds_acked choice (kept_of (parts_of reply)) before.holds;
-  }
-  pub gained : gains ≡ (if is_poll command
-      then controller_gains (all_stacked facts.setup (kept_of (parts_of reply))) 0
-      else no_gains)
-
--- A step of the validator and the controller by an act that is taken so, after acts that leave
+-- A step of the validator and the controller by an act under a choice, after acts that leave
 -- these facts.
 abbrev pub BillStep : Facts → Act → Choice → BillState → BillState → Gains → Type 0
-BillStep facts (acts.Ack (commands.Bill command)) choice = AckStep command
-BillStep facts (acts.Reply (commands.Bill command) reply) choice =
-    ReplyStep facts command reply choice
-BillStep facts (acts.VmcAck (commands.Bill command) reply) choice =
-    VmcAckStep facts command reply choice
-BillStep facts (acts.Break length) choice =
-    λ before after gains. (after ≡ power_on) × (gains ≡ no_gains)
--- what the controller asks, NAK, RET, repeats and foreign traffic change nothing,
-BillStep facts (acts.Ask command) choice = Stays
-BillStep facts (acts.Nak command) choice = Stays
-BillStep facts (acts.VmcNak command reply) choice = Stays
-BillStep facts (acts.VmcRet command reply) choice = Stays
-BillStep facts (acts.Repeat command reply) choice = Stays
-BillStep facts acts.Foreign choice = Stays
--- nor do the acts of other devices
-BillStep facts (acts.Ack command) choice = Stays
-BillStep facts (acts.Reply command reply) choice = Stays
-BillStep facts (acts.VmcAck command reply) choice = Stays
+BillStep facts = KeeperStep tables (conduct facts) facts.past
+
+-- The machine of the validator. It starts at power-on.
+abbrev pub machine : Machine BillState
+machine = record {
+  Starts = λ state. state ≡ power_on;
+  Step = λ acts. BillStep (facts_of acts);
+}

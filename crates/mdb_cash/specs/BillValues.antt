@@ -1,25 +1,16 @@
--- How the code keeps the validator's facts, and how it answers. `facts_in` says what a value of
--- facts stands for; the rest serves private functions.
-use Rattle.std.specs.Prelude.{◌≡◌, Option, Some, None}
-use Rattle.mdb_bus.specs.declared.act.Act.{Act}
-use Rattle.mdb_cash.specs.declared.bill.facts.BillFacts.{BillFacts}
-use Rattle.mdb_cash.specs.BillFacts.{Facts, effect_of, parts_by, setup_by}
-use Rattle.mdb_cash.specs.Past.{or_else}
-use Rattle.mdb_cash.specs.PastValues.{past_in, past_with}
+-- A value of the validator's facts, and what it stands for.
+use Rattle.std.specs.declared.convert.Infallible.{Infallible}
+use Rattle.mdb_msgs.specs.declared.command.BillCommand.{BillCommand}
+use Rattle.mdb_msgs.specs.declared.reply.bill.BillMsg.{BillMsg}
+use Rattle.mdb_msgs.specs.declared.reply.setup.BillSetup.{BillSetup}
+use Rattle.mdb_cash.specs.declared.bill.Bill.{Bill}
+use Rattle.mdb_cash.specs.declared.bill.report.BillReport.{BillReport}
+use Rattle.mdb_cash.specs.declared.keeper.KeeperFacts.{KeeperFacts}
+use Rattle.mdb_cash.specs.BillFacts.{Facts}
+use Rattle.mdb_cash.specs.KeeperValues as keeper_values
 
--- the facts that are kept
-abbrev pub facts_in : BillFacts → Facts
-facts_in facts = record { setup = facts.setup; past = past_in facts.past }
+abbrev pub Value : Type 0
+Value = KeeperFacts Bill BillCommand BillSetup Infallible BillReport BillMsg
 
--- the facts behind one act more
-abbrev pub facts_with : Act → Facts → Facts
-facts_with act facts =
-    record {
-      setup = or_else (setup_by act) facts.setup;
-      past = past_with effect_of parts_by act facts.past;
-    }
-
--- an answer is the one thing that is so, or tells that there is none
-abbrev pub IsOnly : {X : Type 0} → (X → Type 0) → Option X → Type 0
-IsOnly {X} Is None = (x : X) → Is x → ⊥
-IsOnly {X} Is (Some one) = Is one × ((x : X) → Is x → x ≡ one)
+abbrev pub facts_in : Value → Facts
+facts_in = keeper_values.facts_in

@@ -1,105 +1,48 @@
 -- That acts of other devices change nothing and tell nothing. This proves laws of the trait `Pair`
 -- for the validator.
 use Rattle.std.specs.Prelude.{◌≡◌, ◌↔◌, List, ◌∷◌, refl}
-use Rattle.std.proofs.Common.{ap, ◌∙◌}
 use Rattle.mdb_msgs.specs.declared.command.Device.TheVariants as devices
 use Rattle.mdb_msgs.specs.declared.command.Command.TheVariants.{Changer, Bill, Reader}
 use Rattle.mdb_bus.specs.declared.act.Act.{Act}
-use Rattle.mdb_bus.specs.declared.act.Act.TheVariants as acts
 use Rattle.mdb_cash.specs.declared.bill.state.BillState.{BillState}
 use Rattle.mdb_cash.specs.declared.choice.Choice.{Choice}
 use Rattle.mdb_cash.specs.declared.gains.Gains.{Gains}
-use Rattle.mdb_cash.specs.Bill.{BillStep}
-use Rattle.mdb_cash.specs.BillFacts.{Facts, effect_of, facts_of, parts_by, setup_by}
+use Rattle.mdb_cash.specs.Bill.{BillStep, conduct, machine, power_on}
+use Rattle.mdb_cash.specs.BillFacts.{Facts, facts_of, own, tables}
 use Rattle.mdb_cash.specs.Gains.{no_gains}
-use Rattle.mdb_cash.specs.Pair.{IsActOf}
-use Rattle.mdb_cash.specs.Past.{PastFacts, last_told, resets}
-use Rattle.mdb_cash.specs.PastWays.{answered_still, still}
-use Rattle.mdb_cash.specs.declared.bill.report.BillReport.{BillReport}
+use Rattle.mdb_cash.specs.KeeperPlain.{LooksAway, as_plain}
+use Rattle.mdb_cash.specs.KeeperWays as keeper_ways
+use Rattle.mdb_cash.specs.Machine.{IsMachineOf}
+use Rattle.mdb_cash.specs.Pair.{IsActOf, Stays}
+use Rattle.mdb_cash.specs.StepWays as step_ways
+use Rattle.mdb_cash.specs.StepWays.{IsOwnOf}
 
-pub elsewhere : (facts : Facts) (act : Act) (choice : Choice)
-    (before after : BillState) (gains : Gains) → (IsActOf devices.Bill act → ⊥)
-    → BillStep facts act choice before after gains
-    ↔ (after ≡ before) × (gains ≡ no_gains)
-elsewhere facts (acts.Ask (Changer c)) choice before after gains other =
-    (λ step. step, λ step. step)
-elsewhere facts (acts.Ask (Bill c)) choice before after gains other =
-    absurd (other refl)
-elsewhere facts (acts.Ask (Reader u c)) choice before after gains other =
-    (λ step. step, λ step. step)
-elsewhere facts (acts.Ack (Changer c)) choice before after gains other =
-    (λ step. step, λ step. step)
-elsewhere facts (acts.Ack (Bill c)) choice before after gains other =
-    absurd (other refl)
-elsewhere facts (acts.Ack (Reader u c)) choice before after gains other =
-    (λ step. step, λ step. step)
-elsewhere facts (acts.Reply (Changer c) r) choice before after gains other =
-    (λ step. step, λ step. step)
-elsewhere facts (acts.Reply (Bill c) r) choice before after gains other =
-    absurd (other refl)
-elsewhere facts (acts.Reply (Reader u c) r) choice before after gains other =
-    (λ step. step, λ step. step)
-elsewhere facts (acts.VmcAck (Changer c) r) choice before after gains other =
-    (λ step. step, λ step. step)
-elsewhere facts (acts.VmcAck (Bill c) r) choice before after gains other =
-    absurd (other refl)
-elsewhere facts (acts.VmcAck (Reader u c) r) choice before after gains other =
-    (λ step. step, λ step. step)
-elsewhere facts (acts.Nak c) choice before after gains other =
-    (λ step. step, λ step. step)
-elsewhere facts (acts.VmcNak c r) choice before after gains other =
-    (λ step. step, λ step. step)
-elsewhere facts (acts.VmcRet c r) choice before after gains other =
-    (λ step. step, λ step. step)
-elsewhere facts (acts.Repeat c r) choice before after gains other =
-    (λ step. step, λ step. step)
-elsewhere facts acts.Foreign choice before after gains other =
-    (λ step. step, λ step. step)
-elsewhere facts (acts.Break n) choice before after gains other = absurd (other tt)
+-- commands that aren't to it are none of its own
+is_own : IsOwnOf devices.Bill own
+is_own (Bill command) other = absurd (other refl)
+is_own (Changer command) other = refl
+is_own (Reader unit command) other = refl
 
--- facts that differ in what counts of the acts at most
-abbrev with_past : List Act → PastFacts BillReport → Facts
-with_past before past = record { setup = last_told setup_by before; past = past }
+pub elsewhere : (facts : Facts) (act : Act) (choice : Choice) (before after : BillState)
+    (gains : Gains) → (IsActOf devices.Bill act → ⊥)
+    → BillStep facts act choice before after gains ↔ Stays before after gains
+elsewhere facts = step_ways.elsewhere own _ is_own
 
-same : (before : List Act) {one other : PastFacts BillReport} → one ≡ other
-    → with_past before one ≡ with_past before other
-same before is = ap (with_past before) is
+looks_away : (facts : Facts) → LooksAway (conduct facts)
+looks_away facts = record {
+  acks = λ command before after gains step. step;
+  takes = λ news before after step. step;
+}
 
-facts_still : (before : List Act) (act : Act) → (IsActOf devices.Bill act → ⊥)
-    → facts_of before ≡ facts_of (act ∷ before)
-facts_still before (acts.Ask (Bill c)) other = absurd (other refl)
-facts_still before (acts.Ask (Changer c)) other =
-    same before (still effect_of parts_by (acts.Ask (Changer c)) before refl refl refl)
-facts_still before (acts.Ask (Reader u c)) other =
-    same before (still effect_of parts_by (acts.Ask (Reader u c)) before refl refl refl)
-facts_still before (acts.Ack (Bill c)) other = absurd (other refl)
-facts_still before (acts.Ack (Changer c)) other =
-    same before (still effect_of parts_by (acts.Ack (Changer c)) before refl refl refl)
-facts_still before (acts.Ack (Reader u c)) other =
-    same before (still effect_of parts_by (acts.Ack (Reader u c)) before refl refl refl)
-facts_still before (acts.Reply (Bill c) r) other = absurd (other refl)
-facts_still before (acts.Reply (Changer c) r) other =
-    let none = answered_still effect_of (Changer c) r refl in
-    same before (still effect_of parts_by (acts.Reply (Changer c) r) before none
-    (ap resets none) refl)
-facts_still before (acts.Reply (Reader u c) r) other =
-    let none = answered_still effect_of (Reader u c) r refl in
-    same before (still effect_of parts_by (acts.Reply (Reader u c) r) before none
-    (ap resets none) refl)
-facts_still before (acts.Nak c) other =
-    same before (still effect_of parts_by (acts.Nak c) before refl refl refl)
-facts_still before (acts.VmcAck c r) other =
-    same before (still effect_of parts_by (acts.VmcAck c r) before refl refl refl)
-facts_still before (acts.VmcNak c r) other =
-    same before (still effect_of parts_by (acts.VmcNak c r) before refl refl refl)
-facts_still before (acts.VmcRet c r) other =
-    same before (still effect_of parts_by (acts.VmcRet c r) before refl refl refl)
-facts_still before (acts.Repeat c r) other =
-    same before (still effect_of parts_by (acts.Repeat c r) before refl refl refl)
-facts_still before acts.Foreign other =
-    same before (still effect_of parts_by acts.Foreign before refl refl refl)
-facts_still before (acts.Break n) other = absurd (other tt)
+-- the machine is one of the device
+pub is_machine : IsMachineOf devices.Bill machine
+is_machine = record {
+  elsewhere = λ acts. elsewhere (facts_of acts);
+  breaks = λ acts length choice before. (power_on, no_gains, (refl, refl));
+  as_plain = λ acts. as_plain tables (conduct (facts_of acts)) (looks_away (facts_of acts))
+      (facts_of acts).past;
+}
 
 pub unmoved : (known : Facts) (before : List Act) (act : Act) → (IsActOf devices.Bill act → ⊥)
     → known ≡ facts_of before → known ≡ facts_of (act ∷ before)
-unmoved known before act other is = is ∙ facts_still before act other
+unmoved = keeper_ways.unmoved tables is_own

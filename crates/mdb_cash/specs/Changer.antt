@@ -16,11 +16,11 @@ use Rattle.mdb_cash.specs.declared.changer.report.ChangerReport.TheVariants.{Dis
 use Rattle.mdb_cash.specs.declared.choice.Choice.{Choice}
 use Rattle.mdb_cash.specs.declared.choice.Choice.TheVariants.{Lost}
 use Rattle.mdb_cash.specs.declared.gains.Gains.{Gains}
-use Rattle.mdb_cash.specs.ChangerFacts.{Facts}
-use Rattle.mdb_cash.specs.ChangerMessages.{parts_of}
+use Rattle.mdb_cash.specs.ChangerFacts.{Facts, facts_of, tables}
 use Rattle.mdb_cash.specs.Gains.{no_gains, controller_gains, device_gains}
 use Rattle.mdb_cash.specs.Credits.{counted}
-use Rattle.mdb_cash.specs.Kept.{Tells, has_reset, held, holds_acked, holds_behind, holds_read, kept_of}
+use Rattle.mdb_cash.specs.KeeperSteps.{Conduct, KeeperStep}
+use Rattle.mdb_cash.specs.Machine.{Machine}
 use Rattle.mdb_cash.specs.Pair.{Stays}
 
 -- the power-on state: nothing held, and no DISPENSE owed
@@ -61,11 +61,6 @@ MayBeNew facts (CashBox coin) = facts.past.enabled coin ≡ true
 MayBeNew facts (Tube coin) = facts.past.enabled coin ≡ true
 MayBeNew facts (Dispensed count coin) = Unit {0}
 
--- whether a command is POLL
-abbrev pub is_poll : ChangerCommand → Bool
-is_poll changer.Poll = true
-is_poll _ = false
-
 -- whether this is Y1 of the last DISPENSE asked
 abbrev pub is_last : Option ℕ → ℕ → Bool
 is_last None coins = false
@@ -76,7 +71,7 @@ is_last (Some last) coins = last == coins
 abbrev pub DispenseStep : Facts → ℕ → ChangerState → ChangerState → Gains → Type 0
 DispenseStep facts coins before after gains =
     (after ≡ record before { owed = true })
-    × (gains ≡ (if before.owed && is_last facts.dispense coins
+    × (gains ≡ (if before.owed && is_last facts.asked coins
     then no_gains
     else controller_gains 0 (dispensed_value facts.setup coins)))
 
@@ -93,67 +88,44 @@ abbrev pub owed_acked : Choice → Bool → Bool
 owed_acked Lost owed = owed
 owed_acked choice owed = false
 
--- The changer acknowledges: by that it takes RESET, and holds nothing. It has dispensed what
--- DISPENSE asked for, and that is owed no longer if the controller hears it. While it holds
--- something, ACK is no answer to POLL.
+-- The changer acknowledges a command that isn't POLL (of POLL `KeeperSteps` tells): by that it takes
+-- RESET, and holds nothing. It has dispensed what
+-- DISPENSE asked for, and that is owed no longer if the controller hears it.
 abbrev pub AckStep : Facts → ChangerCommand → Choice → ChangerState → ChangerState → Gains → Type 0
 AckStep facts changer.Reset choice before after gains =
     (after ≡ record before { holds = false }) × (gains ≡ no_gains)
 AckStep facts (changer.Dispense coins) choice before after gains =
     (after ≡ record before { owed = owed_acked choice before.owed })
     × (gains ≡ device_gains 0 (dispensed_value facts.setup coins))
-AckStep facts changer.Poll choice before after gains =
-    (before.holds ≡ false) × Stays before after gains
 AckStep facts _ choice before after gains = Stays before after gains
 
--- The changer replies with data, which is read as it stands or as telling of a restart. What is new
--- counts for the changer. Data answers SETUP, TUBE STATUS, POLL and IDENTIFICATION alone: the
--- changer answers all other commands by ACK or NAK, RESET, COIN TYPE and DISPENSE among them, so
--- what it does behind those stands in `AckStep`.
-pub record ReplyStep (facts : Facts) (command : ChangerCommand) (reply : Reply)
-    (choice : Choice) (before after : ChangerState) (gains : Gains) : Type 0 where
-  pub news : List ChangerReport
-  pub tells : Tells (is_poll command) choice facts.past.reset_owed
-      (held (holds_read choice before.holds) facts.past.kept) (parts_of reply) news
-  pub enabled : AllByRecursion (MayBeNew facts) news
-  pub to : after ≡ record before {
-    holds = holds_behind (kept_of (parts_of reply)) (holds_read choice before.holds);
-  }
-  pub gained : gains ≡ device_gains (all_deposited facts.setup news)
-      (all_paid_by_hand facts.setup news)
+-- What the changer does of its own. Data answers SETUP, TUBE STATUS, POLL and IDENTIFICATION alone:
+-- the changer answers all other commands by ACK or NAK, RESET, COIN TYPE and DISPENSE among them, so
+-- what it does behind those stands in `AckStep`. Behind a reset message the controller knows that
+-- nothing is owed.
+abbrev pub conduct : Facts → Conduct ChangerCommand ChangerReport ChangerState
+conduct facts =
+    record {
+      power_on = power_on;
+      holds = λ state. state.holds;
+      with_holds = λ holds state. record state { holds = holds };
+      Asks = AskStep facts;
+      Acks = AckStep facts;
+      Takes = λ choice news before after.
+          AllByRecursion (MayBeNew facts) news × (after ≡ before);
+      first = all_deposited facts.setup;
+      second = all_paid_by_hand facts.setup;
+      heard_reset = λ state. record state { owed = false };
+    }
 
--- The controller acknowledges a reply. To POLL, all kept messages count for it, new or not, and
--- behind a reset message it knows that nothing is owed.
-pub record VmcAckStep (facts : Facts) (command : ChangerCommand) (reply : Reply)
-    (choice : Choice) (before after : ChangerState) (gains : Gains) : Type 0 where
-  pub to : after ≡ record {
-    holds = holds_acked choice (kept_of (parts_of reply)) before.holds;
-    owed = if is_poll command && has_reset (parts_of reply) then false else before.owed;
-  }
-  pub gained : gains ≡ (if is_poll command
-      then controller_gains (all_deposited facts.setup (kept_of (parts_of reply)))
-      (all_paid_by_hand facts.setup (kept_of (parts_of reply)))
-      else no_gains)
-
--- A step of the changer and the controller by an act that is taken so, after acts that leave these
+-- A step of the changer and the controller by an act under a choice, after acts that leave these
 -- facts.
 abbrev pub ChangerStep : Facts → Act → Choice → ChangerState → ChangerState → Gains → Type 0
-ChangerStep facts (acts.Ask (commands.Changer command)) choice = AskStep facts command
-ChangerStep facts (acts.Ack (commands.Changer command)) choice = AckStep facts command choice
-ChangerStep facts (acts.Reply (commands.Changer command) reply) choice =
-    ReplyStep facts command reply choice
-ChangerStep facts (acts.VmcAck (commands.Changer command) reply) choice =
-    VmcAckStep facts command reply choice
-ChangerStep facts (acts.Break length) choice =
-    λ before after gains. (after ≡ power_on) × (gains ≡ no_gains)
--- NAK, RET, repeats and foreign traffic change nothing,
-ChangerStep facts (acts.Nak command) choice = Stays
-ChangerStep facts (acts.VmcNak command reply) choice = Stays
-ChangerStep facts (acts.VmcRet command reply) choice = Stays
-ChangerStep facts (acts.Repeat command reply) choice = Stays
-ChangerStep facts acts.Foreign choice = Stays
--- nor do the acts of other devices
-ChangerStep facts (acts.Ask command) choice = Stays
-ChangerStep facts (acts.Ack command) choice = Stays
-ChangerStep facts (acts.Reply command reply) choice = Stays
-ChangerStep facts (acts.VmcAck command reply) choice = Stays
+ChangerStep facts = KeeperStep tables (conduct facts) facts.past
+
+-- The machine of the changer. It starts at power-on.
+abbrev pub machine : Machine ChangerState
+machine = record {
+  Starts = λ state. state ≡ power_on;
+  Step = λ acts. ChangerStep (facts_of acts);
+}

@@ -1,21 +1,16 @@
--- How the code keeps the changer's facts. `facts_in` says what a value of facts stands for; the
--- rest serves private functions.
-use Rattle.mdb_bus.specs.declared.act.Act.{Act}
-use Rattle.mdb_cash.specs.declared.changer.facts.ChangerFacts.{ChangerFacts}
-use Rattle.mdb_cash.specs.ChangerFacts.{Facts, dispense_by, effect_of, parts_by, setup_by}
-use Rattle.mdb_cash.specs.Past.{or_else}
-use Rattle.mdb_cash.specs.PastValues.{past_in, past_with}
+-- A value of the changer's facts, and what it stands for.
+use Rattle.std.specs.Prelude.{ℕ}
+use Rattle.mdb_msgs.specs.declared.command.ChangerCommand.{ChangerCommand}
+use Rattle.mdb_msgs.specs.declared.reply.changer.ChangerMsg.{ChangerMsg}
+use Rattle.mdb_msgs.specs.declared.reply.setup.ChangerSetup.{ChangerSetup}
+use Rattle.mdb_cash.specs.declared.changer.Changer.{Changer}
+use Rattle.mdb_cash.specs.declared.changer.report.ChangerReport.{ChangerReport}
+use Rattle.mdb_cash.specs.declared.keeper.KeeperFacts.{KeeperFacts}
+use Rattle.mdb_cash.specs.ChangerFacts.{Facts}
+use Rattle.mdb_cash.specs.KeeperValues as keeper_values
 
--- the facts that are kept
-abbrev pub facts_in : ChangerFacts → Facts
-facts_in facts =
-    record { setup = facts.setup; past = past_in facts.past; dispense = facts.dispense }
+abbrev pub Value : Type 0
+Value = KeeperFacts Changer ChangerCommand ChangerSetup ℕ ChangerReport ChangerMsg
 
--- the facts behind one act more
-abbrev pub facts_with : Act → Facts → Facts
-facts_with act facts =
-    record {
-      setup = or_else (setup_by act) facts.setup;
-      past = past_with effect_of parts_by act facts.past;
-      dispense = or_else (dispense_by act) facts.dispense;
-    }
+abbrev pub facts_in : Value → Facts
+facts_in = keeper_values.facts_in

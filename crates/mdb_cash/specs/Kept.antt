@@ -42,7 +42,7 @@ pub record IsSummary {M : Type 0} (kept : List M) (reset early : Bool)
   pub early_is : early ≡ keeps_early parts
 
 -- A reply can be read as telling of a restart where there is a reset message, and no kept message
--- in front of the first one. As it stands, each can be read.
+-- in front of the first one. As plain, each can be read.
 abbrev pub CanBeRead : Choice → Bool → Bool → Type 0
 CanBeRead Restart reset early = (reset ≡ true) × (early ≡ false)
 CanBeRead choice reset early = Unit {0}
@@ -82,8 +82,8 @@ holds_acked choice [] holds = holds
 holds_acked Lost (message ∷ kept) holds = holds
 holds_acked choice (message ∷ kept) holds = false
 
--- What a reply tells where it is taken so: while a reset message is owed, it keeps nothing in front
--- of one, and behind what its device holds (`holding`) the rest of its kept list is new.
+-- What a reply tells under a choice: while a reset message is owed, it keeps nothing in front of
+-- one, and behind what its device holds (`holding`) the rest of its kept list is new.
 pub record Tells {M : Type 0} (poll : Bool) (choice : Choice) (owed : Bool) (holding : List M)
     (parts : List (Part M)) (news : List M) : Type 0 where
   pub read : MayBeRead choice parts

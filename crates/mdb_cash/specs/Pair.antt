@@ -47,6 +47,11 @@ IsOutcome {State} Step (Some outcome) =
     × ((after : State) (gains : Gains) → Step after gains
     → (after ≡ outcome.0) × (gains ≡ outcome.1))
 
+-- an answer is the one thing that is so, or tells that there is none
+abbrev pub IsOnly : {X : Type 0} → (X → Type 0) → Option X → Type 0
+IsOnly {X} Is None = (x : X) → Is x → ⊥
+IsOnly {X} Is (Some one) = Is one × ((x : X) → Is x → x ≡ one)
+
 -- a step from the state of a code to the state of a code
 pub record IsStep {State : Type 0} (code_of : State → ℕ) (Step : State → State → Gains → Type 0)
     (code next : ℕ) (gains : Gains) : Type 0 where
@@ -56,13 +61,13 @@ pub record IsStep {State : Type 0} (code_of : State → ℕ) (Step : State → S
   pub ends : code_of after ≡ next
   pub step : Step before after gains
 
--- a step of a device by an act that is taken so, where the choice can stand
+-- a step of a device by an act under a choice, where that can stand
 abbrev pub IsChosenStep : {State : Type 0} → Device → Act → (State → ℕ)
     → (Choice → State → State → Gains → Type 0) → Choice → ℕ → ℕ → Gains → Type 0
 IsChosenStep device act code_of Step choice code next gains =
     CanStandFor device act choice × IsStep code_of (Step choice) code next gains
 
--- a step by an act that is taken as some choice has it that can stand on the act
+-- a step by an act under some choice that can stand on it
 abbrev pub IsMove : {State : Type 0} → Act → (State → ℕ)
     → (Choice → State → State → Gains → Type 0) → ℕ → ℕ → Gains → Type 0
 IsMove act code_of Step code next gains =

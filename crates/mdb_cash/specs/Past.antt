@@ -53,7 +53,7 @@ abbrev pub effect_answered : Effect → Reply → Effect
 effect_answered effect reply = if tells_out_of_sequence reply then effects.Other else effect
 
 -- what a command is, if there is one
-abbrev pub effect_taken : (Command → Effect) → Option Command → Effect
+abbrev pub effect_taken : {Own : Type 0} → (Own → Effect) → Option Own → Effect
 effect_taken effect_of (Some command) = effect_of command
 effect_taken effect_of None = effects.Other
 

@@ -6,26 +6,26 @@ ghost use Rattle.mdb_bus.specs.declared.act.Act.{Act};
 ghost use Rattle.mdb_cash.specs.Bill as spec;
 ghost use Rattle.mdb_cash.specs.BillCodes as codes;
 ghost use Rattle.mdb_cash.specs.BillFacts.{facts_of};
-ghost use Rattle.mdb_cash.specs.BillValues.{facts_in};
+ghost use Rattle.mdb_cash.specs.KeeperValues.{facts_in};
 ghost use Rattle.mdb_cash.specs.BillWays as ways;
 
-pub(crate) mod facts;
 pub(crate) mod report;
 pub(crate) mod state;
 mod steps;
+pub(crate) mod tables;
 mod values;
 
 use crate::choice::Choice;
+use crate::conduct;
 use crate::gains::Gains;
+use crate::keeper::Keeper;
 use crate::kept::may_be_read;
 use crate::pair::Pair;
-pub use facts::BillFacts;
 use mdb_bus::Act;
 use mdb_msgs::{BillCommand, Command, Device};
 pub use report::BillReport;
-use report::messages_in;
 pub use state::{BillState, BillType, Escrow};
-use steps::step;
+pub use tables::BillFacts;
 
 /// The bill validator and the controller's dealings with it (MDB/ICP 4.3, bill validator). Its
 /// first account is bills-in, and the second stays 0.
@@ -44,11 +44,9 @@ impl Pair for Bill {
 
     ghost code_of = { codes.code_of };
 
-    ghost first = { spec.power_on };
-
     ghost stands_for = { λ facts acts. facts_in facts ≡ facts_of acts };
 
-    ghost may_step = { λ acts. spec.BillStep (facts_of acts) };
+    ghost machine = { spec.machine };
 
     fn device() -> Device {
         Device::Bill
@@ -78,7 +76,7 @@ impl Pair for Bill {
                 command,
                 BillCommand::Reset | BillCommand::Escrow(_) | BillCommand::Poll
             ),
-            Act::VmcAck(Command::Bill(_), reply) => !messages_in(reply).is_empty(),
+            Act::VmcAck(Command::Bill(_), reply) => !Bill::messages_in(reply).is_empty(),
             Act::Reply(Command::Bill(_), _) | Act::Break(_) => true,
             _ => false,
         }
@@ -92,7 +90,7 @@ impl Pair for Bill {
     fn heeds_choice(act: &Act, state: BillState) -> bool {
         match act {
             Act::Reply(Command::Bill(_), reply) => {
-                may_be_read(Choice::Restart, messages_in(reply))
+                may_be_read(Choice::Restart, Bill::messages_in(reply))
             }
             Act::VmcAck(Command::Bill(_), _) => state.holds,
             _ => false,
@@ -113,7 +111,7 @@ impl Pair for Bill {
         choice: Choice,
         before: BillState,
     ) -> Option<(BillState, Gains)> {
-        step(facts, act, choice, before)
+        conduct::step(facts, act, choice, before)
     }
 
     ghost apart = { codes.apart };
@@ -122,7 +120,7 @@ impl Pair for Bill {
 
     ghost whole = { codes.whole };
 
-    ghost elsewhere = { λ acts. ways.elsewhere (facts_of acts) };
+    ghost is_machine = { ways.is_machine };
 
     ghost unmoved = { λ facts. ways.unmoved (facts_in facts) };
 }

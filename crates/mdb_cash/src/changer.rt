@@ -6,26 +6,26 @@ ghost use Rattle.mdb_bus.specs.declared.act.Act.{Act};
 ghost use Rattle.mdb_cash.specs.Changer as spec;
 ghost use Rattle.mdb_cash.specs.ChangerCodes as codes;
 ghost use Rattle.mdb_cash.specs.ChangerFacts.{facts_of};
-ghost use Rattle.mdb_cash.specs.ChangerValues.{facts_in};
+ghost use Rattle.mdb_cash.specs.KeeperValues.{facts_in};
 ghost use Rattle.mdb_cash.specs.ChangerWays as ways;
 
-pub(crate) mod facts;
 pub(crate) mod report;
 pub(crate) mod state;
 mod steps;
+pub(crate) mod tables;
 mod values;
 
 use crate::choice::Choice;
+use crate::conduct;
 use crate::gains::Gains;
+use crate::keeper::Keeper;
 use crate::kept::may_be_read;
 use crate::pair::Pair;
-pub use facts::ChangerFacts;
 use mdb_bus::Act;
 use mdb_msgs::{ChangerCommand, Command, Device};
 pub use report::ChangerReport;
-use report::messages_in;
 pub use state::ChangerState;
-use steps::step;
+pub use tables::ChangerFacts;
 
 /// The coin changer and the controller's dealings with it (MDB/ICP 4.3, coin changer). Its accounts
 /// are coins-in and paid-out.
@@ -44,11 +44,9 @@ impl Pair for Changer {
 
     ghost code_of = { codes.code_of };
 
-    ghost first = { spec.power_on };
-
     ghost stands_for = { λ facts acts. facts_in facts ≡ facts_of acts };
 
-    ghost may_step = { λ acts. spec.ChangerStep (facts_of acts) };
+    ghost machine = { spec.machine };
 
     fn device() -> Device {
         Device::Changer
@@ -82,7 +80,7 @@ impl Pair for Changer {
                 command,
                 ChangerCommand::Dispense(_) | ChangerCommand::Reset | ChangerCommand::Poll
             ),
-            Act::VmcAck(Command::Changer(_), reply) => !messages_in(reply).is_empty(),
+            Act::VmcAck(Command::Changer(_), reply) => !Changer::messages_in(reply).is_empty(),
             Act::Reply(Command::Changer(_), _) | Act::Break(_) => true,
             _ => false,
         }
@@ -97,7 +95,7 @@ impl Pair for Changer {
         match act {
             Act::Ack(Command::Changer(ChangerCommand::Dispense(_))) => state.owed,
             Act::Reply(Command::Changer(_), reply) => {
-                may_be_read(Choice::Restart, messages_in(reply))
+                may_be_read(Choice::Restart, Changer::messages_in(reply))
             }
             Act::VmcAck(Command::Changer(_), _) => state.holds,
             _ => false,
@@ -118,7 +116,7 @@ impl Pair for Changer {
         choice: Choice,
         before: ChangerState,
     ) -> Option<(ChangerState, Gains)> {
-        step(facts, act, choice, before)
+        conduct::step(facts, act, choice, before)
     }
 
     ghost apart = { codes.apart };
@@ -127,7 +125,7 @@ impl Pair for Changer {
 
     ghost whole = { codes.whole };
 
-    ghost elsewhere = { λ acts. ways.elsewhere (facts_of acts) };
+    ghost is_machine = { ways.is_machine };
 
     ghost unmoved = { λ facts. ways.unmoved (facts_in facts) };
 }

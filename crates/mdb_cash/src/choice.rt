@@ -1,4 +1,4 @@
-//! How an act is to be taken, where the transcript doesn't tell it.
+//! What is chosen of an act, where the transcript doesn't tell it.
 
 ghost use Rattle.std.specs.Prelude.{◌≡◌, ◌≢◌, ◌↔◌, IsTrue, Some};
 ghost use Rattle.mdb_cash.specs.Choices.{CanStand};
@@ -7,10 +7,10 @@ ghost use Rattle.mdb_cash.specs.declared.choice.Choice.TheVariants.{Plain};
 
 use mdb_bus::Act;
 
-/// How an act is to be taken (this profile).
+/// What is chosen of an act (this profile).
 #[derive(Clone, Copy, PartialEq, Eq, Debug)]
 pub enum Choice {
-    /// As it stands: an ACK was heard, and a reply tells of no restart.
+    /// An ACK was heard, and a reply tells of no restart.
     Plain,
     /// An ACK, of the device or of the controller, that its receiver didn't hear.
     Lost,

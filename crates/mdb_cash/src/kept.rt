@@ -135,16 +135,18 @@ impl<M: KeptMessage + Drop, const CAP: usize> Summary<M, CAP> {
     }
 }
 
-/// Adds messages to a summary of none.
-pub fn add_all<T: Message, const CAP: usize>(summary: &mut Summary<T::Kept, CAP>, messages: &[T])
-    requires empty { IsSummary summary.old.kept.items summary.old.reset summary.old.early [] }
-    requires room { length messages.now ≤ CAP }
-    ensures { IsSummary summary.new.kept.items summary.new.reset summary.new.early
+/// What counts of messages for what their device keeps.
+#[inline(always)]
+pub fn summary_of<T: Message, const CAP: usize>(messages: &[T]) -> Summary<T::Kept, CAP>
+    requires { length messages.now ≤ CAP }
+    ensures { IsSummary result.kept.items result.reset result.early
         (map T.part_of messages.now) }
 {
+    let mut summary = Summary::new();
     for message in messages {
         summary.add(message.part());
     }
+    summary
 }
 
 /// Whether messages may be read so, by what is quickly seen: none without a reset message tell of a

@@ -8,8 +8,10 @@
 mod bill;
 mod changer;
 mod choice;
+pub mod conduct;
 mod credits;
 mod gains;
+pub mod keeper;
 pub mod kept;
 pub mod laws;
 mod pair;
@@ -19,4 +21,4 @@ pub use bill::{Bill, BillFacts, BillReport, BillState, BillType, Escrow};
 pub use changer::{Changer, ChangerFacts, ChangerReport, ChangerState};
 pub use choice::{Choice, other_choice};
 pub use gains::Gains;
-pub use pair::{Pair, can_stand};
+pub use pair::{Pair, can_stand_for};

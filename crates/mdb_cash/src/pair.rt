@@ -9,7 +9,8 @@ ghost use Rattle.mdb_cash.specs.declared.choice.Choice.TheVariants.{Plain};
 ghost use Rattle.mdb_cash.specs.declared.gains.Gains.{Gains};
 ghost use Rattle.mdb_cash.specs.Choices.{CanStand};
 ghost use Rattle.mdb_cash.specs.Gains.{IsSmall, no_gains};
-ghost use Rattle.mdb_cash.specs.Pair.{CanStandFor, IsActOf, IsChosenStep, IsMove, IsOfAnother, IsOtherMove, IsOutcome};
+ghost use Rattle.mdb_cash.specs.Machine.{IsMachineOf, Machine};
+ghost use Rattle.mdb_cash.specs.Pair.{CanStandFor, IsActOf, IsChosenStep, IsMove, IsOfAnother, IsOtherMove, IsOutcome, Stays};
 
 use super::choice::{Choice, other_choice};
 use super::gains::Gains;
@@ -39,22 +40,19 @@ pub trait Pair {
     /// The code of a state.
     ghost code_of: { Self.State → ℕ };
 
-    /// The state at power-on.
-    ghost first: { Self.State };
-
     /// The facts are those behind acts.
     ghost stands_for: { Self.Facts → List Act → Type 0 };
 
-    /// After acts, a step by an act that is taken so, from a state to a state, with its gains.
-    ghost may_step: { List Act → Act → Choice → Self.State → Self.State → Gains → Type 0 };
+    /// The states in which it may start, and its steps.
+    ghost machine: { Machine Self.State };
 
     /// The device.
     fn device() -> Device
         ensures { result ≡ device };
 
-    /// The code at power-on.
+    /// The code of the state in which it starts.
     fn start() -> usize
-        ensures code { result ≡ code_of first }
+        ensures code { (state : Self.State) → machine.Starts state ↔ (code_of state ≡ result) }
         ensures below { result < CODES };
 
     /// The facts behind no act.
@@ -72,28 +70,38 @@ pub trait Pair {
 
     /// Whether an act may change a state or a sum. One that is no matter of this pair leaves both.
     /// No act of another device is.
+    ///
+    /// A machine may know more of its acts than that they are its own.
     fn concerns(act: &Act) -> bool
         ensures own { OnTrue result (IsActOf device act.now) }
         ensures still { OnFalse result ((acts : List Act) (choice : Choice)
             (before after : Self.State) (gains : Gains)
-            → may_step acts act.now choice before after gains
-            ↔ (after ≡ before) × (gains ≡ no_gains)) };
+            → machine.Step acts act.now choice before after gains ↔ Stays before after gains) }
+    {
+        is_act_of(Self::device(), act)
+    }
 
-    /// Whether an act leaves a state and the sums, however it is taken: an ACK to POLL does, where
+    /// Whether an act leaves a state and the sums, whatever the choice: an ACK to POLL does, where
     /// nothing is held. It may say no though the act does.
     fn rests(act: &Act, state: Self::State) -> bool
         ensures { OnTrue result ((acts : List Act) (choice : Choice) (after : Self.State)
-            (gains : Gains) → may_step acts act.now choice state after gains
-            ↔ (after ≡ state) × (gains ≡ no_gains)) };
+            (gains : Gains) → machine.Step acts act.now choice state after gains
+            ↔ Stays state after gains) }
+    {
+        false
+    }
 
-    /// Whether it may matter, from a state, how an act is taken: where it doesn't, each choice that
-    /// can stand on the act leads nowhere else than the plain one. It may say yes though no choice
-    /// does.
+    /// Whether it may matter, from a state, what is chosen of an act: where it doesn't, each choice
+    /// that can stand on the act leads nowhere else than the plain one. (One that can't never leads
+    /// elsewhere.) It may say yes though no choice does.
     fn heeds_choice(act: &Act, state: Self::State) -> bool
         ensures { OnFalse result ((acts : List Act) (choice : Choice) (after : Self.State)
             (gains : Gains) → CanStand act.now choice
-            → may_step acts act.now choice state after gains
-            → may_step acts act.now Plain state after gains) };
+            → machine.Step acts act.now choice state after gains
+            → machine.Step acts act.now Plain state after gains) }
+    {
+        true
+    }
 
     /// The code of a state.
     fn code(state: Self::State) -> usize
@@ -104,8 +112,8 @@ pub trait Pair {
         requires { code < CODES }
         ensures { code_of result ≡ code };
 
-    /// The step by an act that is taken so, from a state: the state after it, and what it adds to
-    /// the sums. `None` where there is no such step.
+    /// The step by an act under a choice, from a state: the state after it, and what it adds to the
+    /// sums. `None` where there is no such step.
     fn outcome(
         facts: &Self::Facts,
         act: &Act,
@@ -113,7 +121,7 @@ pub trait Pair {
         before: Self::State,
     ) -> Option<(Self::State, Gains)>
         ensures outcome { (acts : List Act) → stands_for facts.now acts
-            → IsOutcome (may_step acts act.now choice before) result }
+            → IsOutcome (machine.Step acts act.now choice before) result }
         ensures small { IfSome result (λ outcome. IsSmall outcome.1) };
 
     /// Two states have two codes.
@@ -125,11 +133,8 @@ pub trait Pair {
     /// Each code below the number of states is that of a state.
     ghost whole: { (code : ℕ) → code < CODES → (state : Self.State) × (code_of state ≡ code) };
 
-    /// An act that isn't this device's leaves its state and its sums.
-    ghost elsewhere: { (acts : List Act) (act : Act) (choice : Choice)
-        (before after : Self.State) (gains : Gains) → (IsActOf device act → ⊥)
-        → may_step acts act choice before after gains
-        ↔ (after ≡ before) × (gains ≡ no_gains) };
+    /// The machine is one of the device.
+    ghost is_machine: { IsMachineOf device machine };
 
     /// An act that isn't this device's leaves the facts.
     ghost unmoved: { (facts : Self.Facts) (acts : List Act) (act : Act)
@@ -145,7 +150,7 @@ pub trait Pair {
         after
     }
 
-    /// The step that an act is where it is taken so, from the state of a code: the code after it,
+    /// The step that an act is under a choice, from the state of a code: the code after it,
     /// and what it adds to the sums. `None` where there is no such step, and where the choice can't
     /// stand on the act: on foreign traffic, on a break and on most acts of this device only the
     /// plain one can. An act of another device leaves the code, whatever the choice is.
@@ -158,13 +163,13 @@ pub trait Pair {
         requires { code < CODES }
         ensures steps { (acts : List Act) → stands_for facts.now acts → (next : ℕ) (gains : Gains)
             → (result ≡ Some (next, gains))
-            ↔ IsChosenStep device act.now code_of (may_step acts act.now) choice code next gains }
+            ↔ IsChosenStep device act.now code_of (machine.Step acts act.now) choice code next gains }
         ensures barred { (CanStandFor device act.now choice → ⊥) → result ≡ None }
         ensures elsewhere { (acts : List Act) → stands_for facts.now acts
             → IsOfAnother device act.now → result ≡ Some (code, no_gains) }
         ensures below { IfSome result (λ move. (move.0 < CODES) × IsSmall move.1) }
     {
-        if !can_stand(Self::device(), act, choice) {
+        if !can_stand_for(Self::device(), act, choice) {
             return None;
         }
         let before = Self::state(code);
@@ -182,7 +187,7 @@ pub trait Pair {
         requires { code < CODES }
         ensures steps { (acts : List Act) → stands_for facts.now acts → (next : ℕ) (gains : Gains)
             → (result ≡ Some (next, gains))
-            ↔ IsOtherMove act.now code_of (may_step acts act.now) code next gains }
+            ↔ IsOtherMove act.now code_of (machine.Step acts act.now) code next gains }
         ensures below { IfSome result (λ move. (move.0 < CODES) × IsSmall move.1) }
     {
         match other_choice(act) {
@@ -197,7 +202,7 @@ pub trait Pair {
         requires { code < CODES }
         ensures steps { (acts : List Act) → stands_for facts.now acts → (next : ℕ) (gains : Gains)
             → Contains result.items (next, gains)
-            ↔ IsMove act.now code_of (may_step acts act.now) code next gains }
+            ↔ IsMove act.now code_of (machine.Step acts act.now) code next gains }
         ensures below { (next : ℕ) (gains : Gains) → Contains result.items (next, gains)
             → (next < CODES) × IsSmall gains }
     {
@@ -209,15 +214,15 @@ pub trait Pair {
 
 /// Whether a choice can stand on an act where it is asked of a device: where it can stand on the
 /// act, whosever that is. On an act of another device any can: there it says nothing.
-pub fn can_stand(device: Device, act: &Act, choice: Choice) -> bool
+pub fn can_stand_for(device: Device, act: &Act, choice: Choice) -> bool
     ensures { IsTrue result ↔ CanStandFor device act.now choice }
 {
     choice.can_stand(act) || is_of_another(device, act)
 }
 
-/// Whether an act is another device's alone.
-fn is_of_another(device: Device, act: &Act) -> bool
-    ensures { IsTrue result ↔ IsOfAnother device act.now }
+/// Whether a device has a part in an act.
+fn is_act_of(device: Device, act: &Act) -> bool
+    ensures { IsTrue result ↔ IsActOf device act.now }
 {
     match act {
         Act::Ask(command)
@@ -227,9 +232,17 @@ fn is_of_another(device: Device, act: &Act) -> bool
         | Act::VmcAck(command, _)
         | Act::VmcNak(command, _)
         | Act::VmcRet(command, _)
-        | Act::Repeat(command, _) => command.device() != device,
-        Act::Foreign | Act::Break(_) => false,
+        | Act::Repeat(command, _) => command.device() == device,
+        Act::Foreign => false,
+        Act::Break(_) => true,
     }
+}
+
+/// Whether an act is another device's alone.
+fn is_of_another(device: Device, act: &Act) -> bool
+    ensures { IsTrue result ↔ IsOfAnother device act.now }
+{
+    !matches!(act, Act::Foreign) && !is_act_of(device, act)
 }
 
 /// Two moves, or the one that both are.

@@ -1,3 +1,4 @@
+pub mod PlainReader
 pub mod Reader
 pub mod ReaderCodes
 pub mod ReaderDevice

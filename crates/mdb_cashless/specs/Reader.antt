@@ -14,6 +14,7 @@ use Rattle.mdb_cash.specs.declared.choice.Choice.TheVariants.{Lost, Restart}
 use Rattle.mdb_cash.specs.declared.gains.Gains.{Gains}
 use Rattle.mdb_cash.specs.Gains.{no_gains, controller_gains, device_gains}
 use Rattle.mdb_cash.specs.Kept.{Tells, held, holds_acked, holds_behind, kept_of}
+use Rattle.mdb_cash.specs.Machine.{Machine}
 use Rattle.mdb_cash.specs.Pair.{Stays}
 use Rattle.mdb_cash.specs.Past.{or_else, resets, tells_out_of_sequence}
 use Rattle.mdb_cashless.specs.declared.reader.device.DeviceState.TheVariants as device
@@ -26,7 +27,7 @@ use Rattle.mdb_cashless.specs.declared.reader.view.View.TheVariants as view
 use Rattle.mdb_cashless.specs.declared.reader.transaction.Transaction.{Transaction}
 use Rattle.mdb_cashless.specs.ReaderDevice as reader_device
 use Rattle.mdb_cashless.specs.ReaderDevice.{all_told, effect}
-use Rattle.mdb_cashless.specs.ReaderFacts.{Facts, effect_of_own, own_transaction}
+use Rattle.mdb_cashless.specs.ReaderFacts.{Facts, effect_of_own, facts_of, own_transaction}
 use Rattle.mdb_cashless.specs.ReaderMessages.{config_in, last_said, messages_of, parts_of}
 use Rattle.mdb_cashless.specs.ReaderView as reader_view
 use Rattle.mdb_cashless.specs.ReaderView.{all_heard, awaits, heard, sent}
@@ -189,7 +190,7 @@ owes_reset facts command = resets (effect_of_own command) || facts.past.reset_ow
 abbrev pub last_transaction : Facts → Option ReaderCommand → Option Transaction
 last_transaction facts command = or_else (own_transaction command) facts.taken
 
--- The reader replies with data, which is read as it stands or as telling of a restart. If it takes
+-- The reader replies with data, which is read as plain or as telling of a restart. If it takes
 -- the command by that, the command has its effect first. Then come the messages: behind those that
 -- it holds stand the new ones, each of which has its effect. They are valued by the reply's own
 -- config message, if it has one; a sale is not. A transaction command that is taken is already the
@@ -234,7 +235,7 @@ abbrev pub ForOwn : Option ReaderCommand
 ForOwn None Step = Stays
 ForOwn (Some command) Step = Step command
 
--- A step of a reader and the controller by an act that is taken so, after acts that leave these
+-- A step of a reader and the controller by an act under a choice, after acts that leave these
 -- facts.
 abbrev pub ReaderStep : ReaderUnit → Facts → Act → Choice → ReaderState → ReaderState → Gains
     → Type 0
@@ -254,3 +255,10 @@ ReaderStep unit facts (acts.VmcNak command reply) choice = Stays
 ReaderStep unit facts (acts.VmcRet command reply) choice = Stays
 ReaderStep unit facts (acts.Repeat command reply) choice = Stays
 ReaderStep unit facts acts.Foreign choice = Stays
+
+-- The machine of a reader. It starts at power-on.
+abbrev pub machine : ReaderUnit → Machine ReaderState
+machine unit = record {
+  Starts = λ state. state ≡ power_on;
+  Step = λ acts. ReaderStep unit (facts_of unit acts);
+}

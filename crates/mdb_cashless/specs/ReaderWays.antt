@@ -15,14 +15,16 @@ use Rattle.mdb_bus.specs.declared.act.Act.TheVariants as acts
 use Rattle.mdb_cash.specs.declared.choice.Choice.{Choice}
 use Rattle.mdb_cash.specs.declared.gains.Gains.{Gains}
 use Rattle.mdb_cash.specs.Gains.{no_gains}
+use Rattle.mdb_cash.specs.Machine.{IsMachineOf}
 use Rattle.mdb_cash.specs.Pair.{IsActOf}
 use Rattle.mdb_cashless.specs.declared.reader.state.ReaderState.{ReaderState}
-use Rattle.mdb_cashless.specs.Reader.{ForOwn, ReaderStep}
+use Rattle.mdb_cashless.specs.Reader.{ForOwn, ReaderStep, machine, power_on}
 use Rattle.mdb_cash.specs.declared.past.Effect.TheVariants as effects
 use Rattle.mdb_cash.specs.Past.{PastFacts, effect_by, last_told, or_else, past_of, powers_on, resets, tells_out_of_sequence}
 use Rattle.mdb_cash.specs.PastWays as past_ways
 use Rattle.mdb_cashless.specs.declared.reader.report.ReaderReport.{ReaderReport}
 use Rattle.mdb_cashless.specs.declared.reader.transaction.Transaction.{Transaction}
+use Rattle.mdb_cashless.specs.PlainReader.{as_plain}
 use Rattle.mdb_cashless.specs.ReaderFacts.{Facts, amount_by, asked_by, config_by, effect_of, effect_of_own, facts_of, last_taken, messages_by, own_of, own_transaction, parts_by, transaction_taken_by}
 use Rattle.mdb_cashless.specs.ReaderMessages.{amount_in, begin_session, config_in, last_said, messages_of, part_of}
 use Rattle.mdb_cashless.specs.Units.{device_of_unit, own}
@@ -71,6 +73,14 @@ elsewhere unit facts (acts.Repeat c r) choice before after gains other =
 elsewhere unit facts acts.Foreign choice before after gains other =
     (λ step. step, λ step. step)
 elsewhere unit facts (acts.Break n) choice before after gains other = absurd (other tt)
+
+-- the machine is one of the device
+pub is_machine : (unit : ReaderUnit) → IsMachineOf (device_of_unit unit) (machine unit)
+is_machine unit = record {
+  elsewhere = λ acts. elsewhere unit (facts_of unit acts);
+  breaks = λ acts length choice before. (power_on, no_gains, (refl, refl));
+  as_plain = λ acts. as_plain unit (facts_of unit acts);
+}
 
 -- the facts behind one act more, by what that act is to the reader
 abbrev known_more : ReaderUnit → List Act → List ReaderMsg → Option Transaction

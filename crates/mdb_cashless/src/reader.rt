@@ -47,12 +47,9 @@ impl<const UNIT: usize> Pair for Reader<UNIT> {
 
     ghost code_of = { codes.code_of };
 
-    ghost first = { spec.power_on };
-
     ghost stands_for = { λ facts acts. facts_in facts ≡ facts_of (units.unit_of UNIT) acts };
 
-    ghost may_step = { λ acts. spec.ReaderStep (units.unit_of UNIT)
-        (facts_of (units.unit_of UNIT) acts) };
+    ghost machine = { spec.machine (units.unit_of UNIT) };
 
     fn device() -> Device {
         device_of(unit_of(UNIT))
@@ -112,8 +109,7 @@ impl<const UNIT: usize> Pair for Reader<UNIT> {
 
     ghost whole = { codes.whole };
 
-    ghost elsewhere = { λ acts. ways.elsewhere (units.unit_of UNIT)
-        (facts_of (units.unit_of UNIT) acts) };
+    ghost is_machine = { ways.is_machine (units.unit_of UNIT) };
 
     ghost unmoved = { λ facts. ways.unmoved (units.unit_of UNIT) (facts_in facts) };
 }

@@ -4,6 +4,8 @@ use Rattle.std.proofs.lemmas.List.{append-nil}
 use Rattle.mdb_words.specs.declared.event.Event.{Event}
 use Rattle.mdb_words.specs.declared.row.RowFault.{RowFault}
 use Rattle.mdb_words.specs.Row.{IsRow, IsRefusal}
+use Rattle.mdb_msgs.specs.declared.command.Device.{Device}
+use Rattle.mdb_msgs.specs.declared.command.Device.TheVariants as devices
 use Rattle.mdb_bus.specs.declared.act.Act.{Act}
 use Rattle.mdb_bus.specs.declared.fault.LinkFault.{LinkFault}
 use Rattle.mdb_bus.specs.declared.fault.Rule.{Rule}
@@ -11,7 +13,7 @@ use Rattle.mdb_bus.specs.ActLists.{Piece, Whole, ArePieces, HasActList, acts_of,
 use Rattle.mdb_bus.specs.LinkFaults.{IsLinkFault}
 use Rattle.mdb_follow.specs.declared.follower.TheConstants.{ROWS_MAX}
 use Rattle.mdb_follow.specs.declared.offence.Offence.{Offence}
-use Rattle.mdb_follow.specs.Offences.{BreaksLink, BreaksMachine, IsOffence, NoStep, ByBill, ByChanger, ByReader}
+use Rattle.mdb_follow.specs.Offences.{BreaksLink, BreaksMachine, IsOffence, NoStep, rule_of}
 use Rattle.mdb_follow.specs.Runs.{IsReached}
 use Rattle.mdb_check.specs.declared.outcome.Outcome.{Outcome}
 use Rattle.mdb_check.specs.declared.outcome.Outcome.TheVariants.{Yes, No}
@@ -24,10 +26,14 @@ use Rattle.mdb_check.proofs.OneAnswer.{GoesOn, compared, row_not_refused, row_on
 use Rattle.mdb_check.proofs.OneShowing.{BusLaws}
 
 -- a machine that has no step has a rule of its own
+of_device : (device : Device) → IsMachineRule (rule_of device)
+of_device devices.Changer = inl refl
+of_device devices.Bill = inr (inl refl)
+of_device devices.Cashless = inr (inr refl)
+of_device devices.Cashless2 = inr (inr refl)
+
 of_machine : (broken : Rule) (act : Act) (before : List Act) → NoStep broken act before → IsMachineRule broken
-of_machine broken act before (ByChanger none) = inl refl
-of_machine broken act before (ByBill none) = inr (inl refl)
-of_machine broken act before (ByReader unit none) = inr (inr refl)
+of_machine broken act before stops = subst IsMachineRule (sym stops.rule) (of_device stops.device)
 
 -- rows and one more that have an act list have one up to that row
 up_to : BusLaws → (rows longer more : List Event) (row event : Event) → event ≡ row → longer ≡ rows ++ event ∷ more → HasActList longer → HasActList (rows ++ row ∷ [])

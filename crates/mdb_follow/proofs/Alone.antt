@@ -5,12 +5,12 @@ use Rattle.std.specs.Prelude.{All, Contains, IfSome, ◌↔◌}
 use Rattle.std.proofs.lemmas.List.Elements.{All-nil}
 use Rattle.mdb_msgs.specs.declared.command.Device.{Device}
 use Rattle.mdb_bus.specs.declared.act.Act.{Act}
-use Rattle.mdb_cash.specs.declared.choice.Choice.{Choice}
 use Rattle.mdb_cash.specs.declared.choice.Choice.TheVariants.{Plain}
 use Rattle.mdb_cash.specs.declared.gains.Gains.{Gains}
 use Rattle.mdb_cash.specs.Gains.{IsSmall}
 use Rattle.mdb_cash.specs.Pair.{IsChosenStep, IsMove, IsStep}
 use Rattle.mdb_cash.proofs.Ways.{small_moves}
+use Rattle.mdb_cash.specs.Machine.{Machine}
 use Rattle.mdb_follow.specs.declared.cell.Cell.{Cell}
 use Rattle.mdb_follow.specs.Arrivals.{Arrives}
 use Rattle.mdb_follow.specs.Limits.{IsCellWithin, IsTableWithin}
@@ -68,7 +68,7 @@ alone-within limit number codes cell one other after size one_below other_below 
 
 -- what arrives behind one act more is what the steps from the only entry lead to
 pub alone-led : {State : Type 0} (device : Device) (code_of : State → ℕ)
-    (Step : List Act → Act → Choice → State → State → Gains → Type 0) (first : State)
+    (machine : Machine State)
     (act : Act) (acts : List Act) (number codes : ℕ)
     (entries : List (ℕ × Cell)) (entry : ℕ × Cell) (code : ℕ) (one other : Option (ℕ × Gains))
     (after : List (ℕ × Cell)) → entries ≡ entry ∷ [] → code ≡ entry.0
@@ -76,32 +76,32 @@ pub alone-led : {State : Type 0} (device : Device) (code_of : State → ℕ)
     → IfSome one (λ move. (move.0 < codes) × IsSmall move.1)
     → IfSome other (λ move. (move.0 < codes) × IsSmall move.1)
     → ((next : ℕ) (gains : Gains) → (one ≡ Some (next, gains))
-    ↔ IsChosenStep device act code_of (Step acts act) Plain code next gains)
+    ↔ IsChosenStep device act code_of (machine.Step acts act) Plain code next gains)
     → ((next : ℕ) (gains : Gains) → other ≡ Some (next, gains)
-    → IsMove act code_of (Step acts act) code next gains)
-    → ((next : ℕ) (gains : Gains) → IsMove act code_of (Step acts act) code next gains
-    → (other ≡ Some (next, gains)) ⊎ IsStep code_of (Step acts act Plain) code next gains)
-    → IsTable code_of Step first acts entries
+    → IsMove act code_of (machine.Step acts act) code next gains)
+    → ((next : ℕ) (gains : Gains) → IsMove act code_of (machine.Step acts act) code next gains
+    → (other ≡ Some (next, gains)) ⊎ IsStep code_of (machine.Step acts act Plain) code next gains)
+    → IsTable code_of machine acts entries
     → LeadTo entry.1 one other after
-    → Bounds (ArrivesAt code_of (Arrives Step first (act ∷ acts))) after
-alone-led {State} device code_of Step first act acts number codes entries entry code one other
+    → Bounds (ArrivesAt code_of (Arrives machine (act ∷ acts))) after
+alone-led {State} device code_of machine act acts number codes entries entry code one other
     after only at apart size one_below other_below one_is sound whole table led =
-    let table' : IsTable code_of Step first acts (entry ∷ []) =
-    subst (IsTable code_of Step first acts) only table in
+    let table' : IsTable code_of machine acts (entry ∷ []) =
+    subst (IsTable code_of machine acts) only table in
     let kept = moves-kept number codes one other led.0 size one_below other_below led.1 in
     let steps : (next : ℕ) (gains : Gains) → Contains led.0 (next, gains)
-    ↔ IsMove act code_of (Step acts act) entry.0 next gains =
+    ↔ IsMove act code_of (machine.Step acts act) entry.0 next gains =
     subst (λ c. (next : ℕ) (gains : Gains) → Contains led.0 (next, gains)
-    ↔ IsMove act code_of (Step acts act) c next gains) at
-    (either-moves device act code_of (Step acts act) code one other led.0 one_is sound whole led.1) in
-    table-led code_of Step first act acts (entry ∷ []) after apart table'
-    (subst (Bounds (Led (ArrivesAt code_of (Arrives Step first acts))
-    (IsMove act code_of (Step acts act)) (entry ∷ []))) (sym led.2)
-    (led-more number (ArrivesAt code_of (Arrives Step first acts))
-    (IsMove act code_of (Step acts act)) [] entry led.0 []
+    ↔ IsMove act code_of (machine.Step acts act) c next gains) at
+    (either-moves device act code_of (machine.Step acts act) code one other led.0 one_is sound whole led.1) in
+    table-led code_of machine act acts (entry ∷ []) after apart table'
+    (subst (Bounds (Led (ArrivesAt code_of (Arrives machine acts))
+    (IsMove act code_of (machine.Step acts act)) (entry ∷ []))) (sym led.2)
+    (led-more number (ArrivesAt code_of (Arrives machine acts))
+    (IsMove act code_of (machine.Step acts act)) [] entry led.0 []
     (table'.bounds.exact entry.0 entry.1 (contains-here entry [] entry refl)) steps kept.0
     (keyed-none number)
-    (led-none (ArrivesAt code_of (Arrives Step first acts)) (IsMove act code_of (Step acts act)))))
+    (led-none (ArrivesAt code_of (Arrives machine acts)) (IsMove act code_of (machine.Step acts act)))))
 
 -- no step leads to no entry
 pub lead-none : (cell : Cell) (one other : Option (ℕ × Gains)) → one ≡ None → other ≡ None

@@ -1,15 +1,16 @@
--- How each act is taken. Ways of machines, each with choices of its own, are ways with one list of
--- choices.
+-- What is chosen of each act. Ways of machines, each with choices of its own, are ways with one
+-- list of choices.
 use Rattle.std.proofs.Common.{◌≡◌, List, [], ◌∷◌}
 use Rattle.mdb_msgs.specs.declared.command.Device.{Device}
 use Rattle.mdb_bus.specs.declared.act.Act.{Act}
 use Rattle.mdb_cash.specs.declared.choice.Choice.{Choice}
 use Rattle.mdb_cash.specs.declared.gains.Gains.{Gains}
 use Rattle.mdb_cash.specs.Choices.{CanStand}
+use Rattle.mdb_cash.specs.Machine.{IsMachineOf, Machine}
 use Rattle.mdb_cash.specs.Pair.{IsActOf}
 use Rattle.mdb_follow.specs.Arrivals.{Arrives}
 use Rattle.mdb_follow.specs.Sums.{Sums, added, no_sums}
-use Rattle.mdb_follow.proofs.Machines.{IsMachineOf, Steps, elsewhere_as, same_choice, whose}
+use Rattle.mdb_follow.proofs.Machines.{elsewhere_as, same_choice, whose}
 
 -- for each act of a list a choice that can stand on it
 pub record ChoicesBy (act : Act) (Before : Type 0) : Type 0 where
@@ -31,19 +32,20 @@ pub record FollowsBy {State : Type 0} (Before : State → Sums → Type 0)
   pub step : Step before state gains
   pub adds : sums ≡ added sums_before gains
 
-abbrev pub Follows : {State : Type 0} → Steps State → State → (acts : List Act) → Choices acts
-    → State → Sums → Type 0
-Follows Step first [] choices state sums = (state ≡ first) × (sums ≡ no_sums)
-Follows Step first (act ∷ acts) choices state sums =
-    FollowsBy (Follows Step first acts choices.before) (Step acts act choices.choice) state sums
+abbrev pub Follows : {State : Type 0} → Machine State → (acts : List Act) → Choices acts → State
+    → Sums → Type 0
+Follows machine [] choices state sums = machine.Starts state × (sums ≡ no_sums)
+Follows machine (act ∷ acts) choices state sums =
+    FollowsBy (Follows machine acts choices.before) (machine.Step acts act choices.choice) state
+    sums
 
 -- each way is one with its choices
-pub chosen : {State : Type 0} (Step : Steps State) (first : State) (acts : List Act)
-    (state : State) (sums : Sums) → Arrives Step first acts state sums
-    → (choices : Choices acts) × Follows Step first acts choices state sums
-chosen Step first [] state sums way = (tt, way)
-chosen Step first (act ∷ acts) state sums way =
-    let earlier = chosen Step first acts way.before way.sums_before way.way in (
+pub chosen : {State : Type 0} (machine : Machine State) (acts : List Act) (state : State)
+    (sums : Sums) → Arrives machine acts state sums
+    → (choices : Choices acts) × Follows machine acts choices state sums
+chosen machine [] state sums way = (tt, way)
+chosen machine (act ∷ acts) state sums way =
+    let earlier = chosen machine acts way.before way.sums_before way.way in (
       record { choice = way.choice; stands = way.stands; before = earlier.0 },
       record {
         before = way.before;
@@ -63,22 +65,21 @@ AgreeFor device (act ∷ acts) one other =
     × AgreeFor device acts one.before other.before
 
 -- then its ways with the one are ways with the other
-pub follows_as : {device : Device} {State : Type 0} {Step : Steps State} → IsMachineOf device Step
-    → (first : State) (acts : List Act) (one other : Choices acts) → AgreeFor device acts one other
-    → (state : State) (sums : Sums) → Follows Step first acts one state sums
-    → Follows Step first acts other state sums
-follows_as machine first [] one other same state sums way = way
-follows_as {device} {State} {Step} machine first (act ∷ acts) one other same state sums way =
-    record {
-      before = way.before;
-      sums_before = way.sums_before;
-      gains = way.gains;
-      way = follows_as machine first acts one.before other.before same.1
-          way.before way.sums_before way.way;
-      step = elsewhere_as machine acts act one.choice other.choice same.0 way.before state
-          way.gains way.step;
-      adds = way.adds;
-    }
+pub follows_as : {State : Type 0} (device : Device) (machine : Machine State)
+    → IsMachineOf device machine → (acts : List Act) (one other : Choices acts)
+    → AgreeFor device acts one other → (state : State) (sums : Sums)
+    → Follows machine acts one state sums → Follows machine acts other state sums
+follows_as device machine is [] one other same state sums way = way
+follows_as device machine is (act ∷ acts) one other same state sums way = record {
+  before = way.before;
+  sums_before = way.sums_before;
+  gains = way.gains;
+  way = follows_as device machine is acts one.before other.before same.1 way.before way.sums_before
+      way.way;
+  step = elsewhere_as device machine is acts act one.choice other.choice same.0 way.before state
+      way.gains way.step;
+  adds = way.adds;
+}
 
 -- choices of each device are one list: to each act those of the device that has a part in it
 abbrev pub merged : (acts : List Act) → (Device → Choices acts) → Choices acts

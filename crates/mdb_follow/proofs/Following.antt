@@ -6,6 +6,8 @@ use Rattle.std.specs.Bool.{OnFalse, OnTrue}
 use Rattle.std.specs.Prelude.{Bool, true, false, Result, Ok, Err, IfErr, IfOk, IsErrAnd, IsSomeAnd}
 use Rattle.mdb_words.specs.declared.event.Event.{Event}
 use Rattle.mdb_words.specs.Event.{start_of}
+use Rattle.mdb_msgs.specs.declared.command.Device.{Device}
+use Rattle.mdb_msgs.specs.declared.command.Device.TheVariants as devices
 use Rattle.mdb_msgs.specs.declared.command.ReaderUnit.TheVariants.{First, Second}
 use Rattle.mdb_bus.specs.declared.act.Act.{Act}
 use Rattle.mdb_bus.specs.declared.bus.Bus.{Bus}
@@ -15,6 +17,7 @@ use Rattle.mdb_bus.specs.ActLists.{HasActList, IsActList, Piece, Whole, AskTail,
 use Rattle.mdb_bus.specs.Bus as link
 use Rattle.mdb_bus.specs.Bus.{GoesOn}
 use Rattle.mdb_bus.specs.LinkFaults.{IsLinkFault}
+use Rattle.mdb_cash.specs.Machine.{Machine}
 use Rattle.mdb_follow.specs.declared.account_name.AccountName.{AccountName}
 use Rattle.mdb_follow.specs.declared.account_name.AccountName.TheVariants.{CoinsIn, BillsIn, PaidOut, Approved, Sold}
 use Rattle.mdb_follow.specs.declared.cell.Cell.{Cell}
@@ -26,18 +29,20 @@ use Rattle.mdb_follow.specs.Follower.{StandsFor}
 use Rattle.mdb_follow.specs.FollowerSteps.{HasFollowed, HasStopped}
 use Rattle.mdb_follow.specs.Ranges.{IsAccount, IsCell, IsRange}
 use Rattle.mdb_follow.specs.Sums.{AccountSums, Sums}
-use Rattle.mdb_follow.specs.Tables.{ArrivesAnywhere}
+use Rattle.mdb_follow.specs.Tables.{ArrivesAnywhere, IsTable}
 use Rattle.mdb_follow.specs.Offences.{HasOffence, IsOffence}
 use Rattle.mdb_follow.specs.Report.{AreAccounts, IsReport, report_of}
 use Rattle.mdb_follow.specs.declared.cell.Account.{Account}
 use Rattle.mdb_follow.specs.Runs.{AllSums, IsReached, Run, States}
-use Rattle.mdb_follow.specs.Machines.{EachArrives, BillArrives, ChangerArrives, ReaderArrives}
-use Rattle.mdb_follow.specs.Offences.{ByBill, ByChanger, ByReader, NoStep}
+use Rattle.mdb_follow.specs.Arrivals.{Arrives, EachArrives}
+use Rattle.mdb_follow.specs.Machines.{machine_of}
+use Rattle.mdb_follow.specs.Offences.{NoStep}
 use Rattle.mdb_follow.specs.Sides.{AreSides}
 use Rattle.mdb_follow.specs.Silences.{asks_of}
 use Rattle.mdb_follow.specs.SilencesKept.{AllStandForAsks, SilencesFollow}
 use Rattle.mdb_follow.proofs.Asks.{asks-go-on, asks-stay, same-silences}
-use Rattle.mdb_follow.proofs.Reaching.{Joins, SomeArrive, run_of}
+use Rattle.mdb_follow.proofs.Machines.{with_one, with_one-same}
+use Rattle.mdb_follow.proofs.Reaching.{Joins, SomeArrive, SomeWay, run_of}
 use Rattle.mdb_follow.proofs.Joining.{split}
 
 -- a transcript divides into acts in at most one way
@@ -97,55 +102,35 @@ arrived one rows pieces sums list run =
     (one rows run.pieces pieces run.act_list list)
     (split run.loss run.pieces run.states sums run.way)
 
+-- a table has some way
+some-in : {State : Type 0} {code_of : State → ℕ} {machine : Machine State} {acts : List Act}
+    {entries : List (ℕ × Cell)} → IsTable code_of machine acts entries → SomeWay machine acts
+some-in table = record { state = table.some.0; sums = table.some.1; way = table.some.2 }
+
 -- the tables of a follower have some way of each device
 pub some-ways : (follower : Follower) (events : List Event) (on : StandsFor follower events)
     → SomeArrive (acts_of on.pieces)
-some-ways follower events on = record {
-  states = record {
-    changer = on.sides.changer.table.some.0;
-    bill = on.sides.bill.table.some.0;
-    cashless = on.sides.cashless.table.some.0;
-    cashless2 = on.sides.cashless2.table.some.0;
-  };
-  sums = record {
-    changer = on.sides.changer.table.some.1;
-    bill = on.sides.bill.table.some.1;
-    cashless = on.sides.cashless.table.some.1;
-    cashless2 = on.sides.cashless2.table.some.1;
-  };
-  ways = record {
-    changer = on.sides.changer.table.some.2;
-    bill = on.sides.bill.table.some.2;
-    cashless = on.sides.cashless.table.some.2;
-    cashless2 = on.sides.cashless2.table.some.2;
-  };
-}
+some-ways follower events on devices.Changer = some-in on.sides.changer.table
+some-ways follower events on devices.Bill = some-in on.sides.bill.table
+some-ways follower events on devices.Cashless = some-in on.sides.cashless.table
+some-ways follower events on devices.Cashless2 = some-in on.sides.cashless2.table
 
 -- so its rows are reached
 pub reached-by : Joins → (follower : Follower) (events : List Event)
     → StandsFor follower events → IsReached events
 reached-by joins follower events on =
     let some = some-ways follower events on in (
-      some.sums,
-      run_of joins events on.pieces some.states some.sums (list-of follower events on)
-          some.ways,
+      (λ device. (some device).sums),
+      run_of joins events on.pieces (λ device. (some device).state) (λ device. (some device).sums)
+          (list-of follower events on) (λ device. (some device).way),
     )
 
 -- where a machine has no step by an act, no way of all leads over it
 stuck : (rule : Rule) (act : Act) (before : List Act) → NoStep rule act before
     → (states : States) (sums : AllSums) → EachArrives (act ∷ before) states sums → ⊥
-stuck rule act before (ByChanger none) states sums ways =
-    let way = ways.changer in
-    none way.before way.sums_before way.way way.choice way.stands states.changer way.gains way.step
-stuck rule act before (ByBill none) states sums ways =
-    let way = ways.bill in
-    none way.before way.sums_before way.way way.choice way.stands states.bill way.gains way.step
-stuck rule act before (ByReader First none) states sums ways =
-    let way = ways.cashless in
-    none way.before way.sums_before way.way way.choice way.stands states.cashless way.gains way.step
-stuck rule act before (ByReader Second none) states sums ways =
-    let way = ways.cashless2 in
-    none way.before way.sums_before way.way way.choice way.stands states.cashless2 way.gains
+stuck rule act before stops states sums ways =
+    let way = ways stops.device in
+    stops.none way.before way.sums_before way.way way.choice way.stands (states stops.device) way.gains
     way.step
 
 -- and rows with such acts aren't reached
@@ -302,91 +287,25 @@ account-of-runs rows Kind of are account ranges is = record {
 }
 
 -- A way of one device is one of all, beside some way of each other device.
-changer-are : OneActList → Joins → (rows : List Event) (pieces : List Piece)
-    → IsActList pieces rows → SomeArrive (acts_of pieces)
-    → AreOf rows (ArrivesAnywhere (ChangerArrives (acts_of pieces))) (λ sums. sums.changer)
-changer-are one joins rows pieces list some = record {
-  lift = λ sums at. (
-    record some.sums { changer = sums },
-    refl,
-    run_of joins rows pieces (record some.states { changer = at.state })
-        (record some.sums { changer = sums }) list
-        (record {
-          changer = at.way;
-          bill = some.ways.bill;
-          cashless = some.ways.cashless;
-          cashless2 = some.ways.cashless2;
-        }),
-  );
+device-is : OneActList → Joins → (rows : List Event) (pieces : List Piece)
+    → IsActList pieces rows → SomeArrive (acts_of pieces) → (device : Device)
+    → AreOf rows (ArrivesAnywhere (Arrives (machine_of device) (acts_of pieces)))
+    (λ sums. sums device)
+device-is one joins rows pieces list some device = record {
+  lift = λ sums at.
+      let its : SomeWay (machine_of device) (acts_of pieces) =
+      record { state = at.state; sums = sums; way = at.way } in
+      let all : SomeArrive (acts_of pieces) =
+      with_one (λ d. SomeWay (machine_of d) (acts_of pieces)) device its some in (
+        (λ d. (all d).sums),
+        ap (λ way. way.sums)
+            (with_one-same (λ d. SomeWay (machine_of d) (acts_of pieces)) device its some),
+        run_of joins rows pieces (λ d. (all d).state) (λ d. (all d).sums) list
+            (λ d. (all d).way),
+      );
   lower = λ all run. record {
-    state = run.states.changer;
-    way = (arrived one rows pieces all list run).changer;
-  };
-}
-
-bill-are : OneActList → Joins → (rows : List Event) (pieces : List Piece)
-    → IsActList pieces rows → SomeArrive (acts_of pieces)
-    → AreOf rows (ArrivesAnywhere (BillArrives (acts_of pieces))) (λ sums. sums.bill)
-bill-are one joins rows pieces list some = record {
-  lift = λ sums at. (
-    record some.sums { bill = sums },
-    refl,
-    run_of joins rows pieces (record some.states { bill = at.state })
-        (record some.sums { bill = sums }) list
-        (record {
-          changer = some.ways.changer;
-          bill = at.way;
-          cashless = some.ways.cashless;
-          cashless2 = some.ways.cashless2;
-        }),
-  );
-  lower = λ all run. record {
-    state = run.states.bill;
-    way = (arrived one rows pieces all list run).bill;
-  };
-}
-
-cashless-are : OneActList → Joins → (rows : List Event) (pieces : List Piece)
-    → IsActList pieces rows → SomeArrive (acts_of pieces)
-    → AreOf rows (ArrivesAnywhere (ReaderArrives First (acts_of pieces))) (λ sums. sums.cashless)
-cashless-are one joins rows pieces list some = record {
-  lift = λ sums at. (
-    record some.sums { cashless = sums },
-    refl,
-    run_of joins rows pieces (record some.states { cashless = at.state })
-        (record some.sums { cashless = sums }) list
-        (record {
-          changer = some.ways.changer;
-          bill = some.ways.bill;
-          cashless = at.way;
-          cashless2 = some.ways.cashless2;
-        }),
-  );
-  lower = λ all run. record {
-    state = run.states.cashless;
-    way = (arrived one rows pieces all list run).cashless;
-  };
-}
-
-cashless2-are : OneActList → Joins → (rows : List Event) (pieces : List Piece)
-    → IsActList pieces rows → SomeArrive (acts_of pieces)
-    → AreOf rows (ArrivesAnywhere (ReaderArrives Second (acts_of pieces))) (λ sums. sums.cashless2)
-cashless2-are one joins rows pieces list some = record {
-  lift = λ sums at. (
-    record some.sums { cashless2 = sums },
-    refl,
-    run_of joins rows pieces (record some.states { cashless2 = at.state })
-        (record some.sums { cashless2 = sums }) list
-        (record {
-          changer = some.ways.changer;
-          bill = some.ways.bill;
-          cashless = some.ways.cashless;
-          cashless2 = at.way;
-        }),
-  );
-  lower = λ all run. record {
-    state = run.states.cashless2;
-    way = (arrived one rows pieces all list run).cashless2;
+    state = run.states device;
+    way = arrived one rows pieces all list run device;
   };
 }
 
@@ -415,9 +334,9 @@ cell-of-runs rows Kind of are cell is = (
 
 -- so the accounts are those of the runs
 accounts-of-cells : (rows : List Event) (changer bill cashless cashless2 : Cell)
-    → IsCellOf rows (λ sums. sums.changer) changer → IsCellOf rows (λ sums. sums.bill) bill
-    → IsCellOf rows (λ sums. sums.cashless) cashless
-    → IsCellOf rows (λ sums. sums.cashless2) cashless2
+    → IsCellOf rows (λ sums. sums devices.Changer) changer → IsCellOf rows (λ sums. sums devices.Bill) bill
+    → IsCellOf rows (λ sums. sums devices.Cashless) cashless
+    → IsCellOf rows (λ sums. sums devices.Cashless2) cashless2
     → AreAccounts (Run rows) (accounts_in changer bill cashless cashless2)
 accounts-of-cells rows changer bill cashless cashless2 p q r s CoinsIn = p.0
 accounts-of-cells rows changer bill cashless cashless2 p q r s BillsIn = q.0
@@ -430,10 +349,10 @@ accounts-of-cells rows changer bill cashless cashless2 p q r s (Sold Second) = s
 -- what a follower reports
 pub reported : OneActList → Joins → (follower : Follower) (events : List Event)
     (report : Report) (changer bill cashless cashless2 : Cell) (on : StandsFor follower events)
-    → IsCell (ArrivesAnywhere (ChangerArrives (acts_of on.pieces))) changer
-    → IsCell (ArrivesAnywhere (BillArrives (acts_of on.pieces))) bill
-    → IsCell (ArrivesAnywhere (ReaderArrives First (acts_of on.pieces))) cashless
-    → IsCell (ArrivesAnywhere (ReaderArrives Second (acts_of on.pieces))) cashless2
+    → IsCell (ArrivesAnywhere (Arrives (machine_of devices.Changer) (acts_of on.pieces))) changer
+    → IsCell (ArrivesAnywhere (Arrives (machine_of devices.Bill) (acts_of on.pieces))) bill
+    → IsCell (ArrivesAnywhere (Arrives (machine_of devices.Cashless) (acts_of on.pieces))) cashless
+    → IsCell (ArrivesAnywhere (Arrives (machine_of devices.Cashless2) (acts_of on.pieces))) cashless2
     → report ≡ report_of follower.rows on.pieces (accounts_in changer bill cashless cashless2)
     → IsReport events report
 reported one joins follower events report changer bill cashless cashless2 on of_changer of_bill
@@ -446,12 +365,12 @@ reported one joins follower events report changer bill cashless cashless2 on of_
       act_list = list;
       accounts = accounts_in changer bill cashless cashless2;
       of_runs = accounts-of-cells events changer bill cashless cashless2
-          (cell-of-runs events _ _ (changer-are one joins events on.pieces list some) changer
+          (cell-of-runs events _ _ (device-is one joins events on.pieces list some devices.Changer) changer
           of_changer)
-          (cell-of-runs events _ _ (bill-are one joins events on.pieces list some) bill of_bill)
-          (cell-of-runs events _ _ (cashless-are one joins events on.pieces list some) cashless
+          (cell-of-runs events _ _ (device-is one joins events on.pieces list some devices.Bill) bill of_bill)
+          (cell-of-runs events _ _ (device-is one joins events on.pieces list some devices.Cashless) cashless
           of_cashless)
-          (cell-of-runs events _ _ (cashless2-are one joins events on.pieces list some) cashless2
+          (cell-of-runs events _ _ (device-is one joins events on.pieces list some devices.Cashless2) cashless2
           of_cashless2);
       telling = telling ∙ ap (λ rows. report_of rows on.pieces
           (accounts_in changer bill cashless cashless2)) on.rows;

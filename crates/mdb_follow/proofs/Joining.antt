@@ -2,40 +2,30 @@
 use Rattle.std.proofs.Common.{arith, refl, sym, ap, ◌∙◌, ◌≡◌, ◌↔◌, ◌<◌, ◌+◌, cond, nat_eq, ℕ, suc, Bool, true, false, List, [], ◌∷◌, ◌++◌, length, length-append}
 use Rattle.std.proofs.lemmas.Bool.Decides.{nat_tests}
 use Rattle.mdb_msgs.specs.declared.command.Device.{Device}
-use Rattle.mdb_msgs.specs.declared.command.Device.TheVariants as devices
-use Rattle.mdb_msgs.specs.declared.command.ReaderUnit.TheVariants.{First, Second}
 use Rattle.mdb_bus.specs.declared.act.Act.{Act}
 use Rattle.mdb_bus.specs.ActLists.{ArePieces, Piece, Whole, AskTail, ReplyTail, RepeatTail, acts_of, events_of}
 use Rattle.mdb_bus.specs.Acts.{IsAck}
 use Rattle.mdb_bus.specs.Wish.{HearsAsWished}
 use Rattle.mdb_bus.specs.Loss.{IsHeard, Loss, LossFits}
-use Rattle.mdb_cash.specs.Bill.{BillStep}
-use Rattle.mdb_cash.specs.Bill as bill
-use Rattle.mdb_cash.specs.BillFacts as bill_facts
-use Rattle.mdb_cash.specs.Changer.{ChangerStep}
-use Rattle.mdb_cash.specs.Changer as changer
-use Rattle.mdb_cash.specs.ChangerFacts as changer_facts
 use Rattle.mdb_cash.specs.declared.choice.Choice.{Choice}
 use Rattle.mdb_cash.specs.declared.choice.Choice.TheVariants.{Plain, Lost, Restart}
 use Rattle.mdb_cash.specs.declared.gains.Gains.{Gains}
 use Rattle.mdb_cash.specs.Choices.{CanStand}
-use Rattle.mdb_cashless.specs.Reader.{ReaderStep}
-use Rattle.mdb_cashless.specs.Reader as reader
-use Rattle.mdb_cashless.specs.ReaderFacts as reader_facts
-use Rattle.mdb_follow.specs.Arrivals.{Arrives}
-use Rattle.mdb_follow.specs.Sums.{Sums, no_sums}
-use Rattle.mdb_follow.specs.Machines.{EachArrives}
-use Rattle.mdb_follow.specs.Runs.{AllSums, Goes, HearSameAcks, IsWay, States, at_power_on, nothing_yet}
+use Rattle.mdb_cash.specs.Machine.{IsMachineOf, Machine}
+use Rattle.mdb_follow.specs.Arrivals.{Arrives, EachArrives}
+use Rattle.mdb_follow.specs.Sums.{Sums}
+use Rattle.mdb_follow.specs.Machines.{machine_of}
+use Rattle.mdb_follow.specs.Runs.{AllSums, Goes, HearSameAcks, IsWay, States}
 use Rattle.mdb_follow.proofs.Choosing.{Choices, Follows, FollowsBy, chosen, follows_as, merged, merged_agrees}
-use Rattle.mdb_follow.proofs.Machines.{IsMachineOf, Steps, bill_is, changer_is, reader_is}
+use Rattle.mdb_follow.proofs.Machines.{is_machine_of}
 
 -- a way of a device goes on by a step
-by_one : {State : Type 0} (Step : Steps State) (first : State) (acts : List Act) (act : Act)
+by_one : {State : Type 0} (machine : Machine State) (acts : List Act) (act : Act)
     (choice : Choice) → CanStand act choice → (before state : State) (sums_before sums : Sums)
-    → Arrives Step first acts before sums_before
-    → Goes (Step acts act choice) before state sums_before sums
-    → Arrives Step first (act ∷ acts) state sums
-by_one Step first acts act choice stands before state sums_before sums way go = record {
+    → Arrives machine acts before sums_before
+    → Goes (machine.Step acts act choice) before state sums_before sums
+    → Arrives machine (act ∷ acts) state sums
+by_one machine acts act choice stands before state sums_before sums way go = record {
   choice = choice;
   stands = stands;
   before = before;
@@ -49,29 +39,12 @@ by_one Step first acts act choice stands before state sums_before sums way go = 
 -- each way of all is a way of each device
 pub split : (loss : Loss) (pieces : List Piece) (states : States) (sums : AllSums)
     → IsWay loss pieces states sums → EachArrives (acts_of pieces) states sums
-split loss [] states sums way = record {
-  changer = (ap (λ s. s.changer) way.0, ap (λ s. s.changer) way.1);
-  bill = (ap (λ s. s.bill) way.0, ap (λ s. s.bill) way.1);
-  cashless = (ap (λ s. s.cashless) way.0, ap (λ s. s.cashless) way.1);
-  cashless2 = (ap (λ s. s.cashless2) way.0, ap (λ s. s.cashless2) way.1);
-}
+split loss [] states sums way = way
 split loss (Whole act events ∷ pieces) states sums way =
     let earlier = split loss pieces way.before way.sums_before way.way in
-    record {
-      changer = by_one (λ acts. ChangerStep (changer_facts.facts_of acts)) changer.power_on
-          (acts_of pieces) act way.choice way.stands way.before.changer states.changer
-          way.sums_before.changer sums.changer earlier.changer way.go.changer;
-      bill = by_one (λ acts. BillStep (bill_facts.facts_of acts)) bill.power_on (acts_of pieces) act
-          way.choice way.stands way.before.bill states.bill way.sums_before.bill sums.bill
-          earlier.bill way.go.bill;
-      cashless = by_one (λ acts. ReaderStep First (reader_facts.facts_of First acts))
-          reader.power_on (acts_of pieces) act way.choice way.stands way.before.cashless
-          states.cashless way.sums_before.cashless sums.cashless earlier.cashless way.go.cashless;
-      cashless2 = by_one (λ acts. ReaderStep Second (reader_facts.facts_of Second acts))
-          reader.power_on (acts_of pieces) act way.choice way.stands way.before.cashless2
-          states.cashless2 way.sums_before.cashless2 sums.cashless2 earlier.cashless2
-          way.go.cashless2;
-    }
+    λ device. by_one (machine_of device) (acts_of pieces) act way.choice way.stands
+    (way.before device) (states device) (way.sums_before device) (sums device)
+    (earlier device) (way.go device)
 split loss (AskTail bytes events ∷ pieces) states sums way = split loss pieces states sums way
 split loss (ReplyTail command bytes events ∷ pieces) states sums way =
     split loss pieces states sums way
@@ -106,7 +79,7 @@ chosen_at (ReplyTail command bytes events ∷ pieces) choices before = chosen_at
 chosen_at (RepeatTail command reply words events ∷ pieces) choices before =
     chosen_at pieces choices before
 
--- an ACK is taken as lost exactly where it wasn't heard
+-- a choice is Lost exactly where an ACK wasn't heard
 lost_as : (choice : Choice) (Heard : Type 0) → Heard ↔ (is_heard choice ≡ true)
     → (choice ≡ Lost) ↔ (Heard → ⊥)
 unfolding is_heard
@@ -161,30 +134,9 @@ agrees choice loss (RepeatTail command reply words events ∷ pieces) choices ar
     (λ before less. same before (omega (arith, less, rows))) hears
 
 -- each device has a way with the same choices
-record AllFollow (acts : List Act) (choices : Choices acts) (states : States)
-    (sums : AllSums) : Type 0 where
-  changer : Follows (λ acts. ChangerStep (changer_facts.facts_of acts)) changer.power_on acts choices
-      states.changer sums.changer
-  bill : Follows (λ acts. BillStep (bill_facts.facts_of acts)) bill.power_on acts choices
-      states.bill sums.bill
-  cashless : Follows (λ acts. ReaderStep First (reader_facts.facts_of First acts)) reader.power_on
-      acts choices states.cashless sums.cashless
-  cashless2 : Follows (λ acts. ReaderStep Second (reader_facts.facts_of Second acts))
-      reader.power_on acts choices states.cashless2 sums.cashless2
-
--- states and sums, by those of each
-at_start : (states : States) → states.changer ≡ changer.power_on → states.bill ≡ bill.power_on
-    → states.cashless ≡ reader.power_on → states.cashless2 ≡ reader.power_on
-    → states ≡ at_power_on
-at_start states c b one two =
-    let same : record states { cashless2 = states.cashless2 } ≡ at_power_on = cc (c, b, one, two) in
-    same
-
-at_nothing : (sums : AllSums) → sums.changer ≡ no_sums → sums.bill ≡ no_sums
-    → sums.cashless ≡ no_sums → sums.cashless2 ≡ no_sums → sums ≡ nothing_yet
-at_nothing sums c b one two =
-    let same : record sums { cashless2 = sums.cashless2 } ≡ nothing_yet = cc (c, b, one, two) in
-    same
+abbrev AllFollow : (acts : List Act) → Choices acts → States → AllSums → Type 0
+AllFollow acts choices states sums =
+    (device : Device) → Follows (machine_of device) acts choices (states device) (sums device)
 
 -- the last step of a way
 gone : {State : Type 0} {Before : State → Sums → Type 0}
@@ -193,52 +145,21 @@ gone : {State : Type 0} {Before : State → Sums → Type 0}
     → Goes Step way.before state way.sums_before sums
 gone way = record { gains = way.gains; step = way.step; adds = way.adds }
 
--- where the ways are before the last act
-abbrev states_before : {act : Act} {acts : List Act} {choices : Choices (act ∷ acts)}
-    {states : States} {sums : AllSums} → AllFollow (act ∷ acts) choices states sums → States
-states_before ways = record {
-  changer = ways.changer.before;
-  bill = ways.bill.before;
-  cashless = ways.cashless.before;
-  cashless2 = ways.cashless2.before;
-}
-
-abbrev sums_before : {act : Act} {acts : List Act} {choices : Choices (act ∷ acts)}
-    {states : States} {sums : AllSums} → AllFollow (act ∷ acts) choices states sums → AllSums
-sums_before ways = record {
-  changer = ways.changer.sums_before;
-  bill = ways.bill.sums_before;
-  cashless = ways.cashless.sums_before;
-  cashless2 = ways.cashless2.sums_before;
-}
-
 -- then there is a way of all, under the loss of the choices
 way_of : (loss : Loss) (pieces : List Piece) (choices : Choices (acts_of pieces)) (states : States)
     (sums : AllSums) → Agrees loss pieces choices → AllFollow (acts_of pieces) choices states sums
     → IsWay loss pieces states sums
-way_of loss [] choices states sums agree ways = (
-  at_start states ways.changer.0 ways.bill.0 ways.cashless.0 ways.cashless2.0,
-  at_nothing sums ways.changer.1 ways.bill.1 ways.cashless.1 ways.cashless2.1,
-)
+way_of loss [] choices states sums agree ways = ways
 way_of loss (Whole act events ∷ pieces) choices states sums agree ways = record {
   choice = choices.choice;
   stands = choices.stands;
   as_lost = λ ack. lost_as choices.choice
       (IsHeard loss act (length (events_of pieces)) (length events)) (agree.0 ack);
-  before = states_before ways;
-  sums_before = sums_before ways;
-  way = way_of loss pieces choices.before (states_before ways) (sums_before ways) agree.1 (record {
-    changer = ways.changer.way;
-    bill = ways.bill.way;
-    cashless = ways.cashless.way;
-    cashless2 = ways.cashless2.way;
-  });
-  go = record {
-    changer = gone ways.changer;
-    bill = gone ways.bill;
-    cashless = gone ways.cashless;
-    cashless2 = gone ways.cashless2;
-  };
+  before = λ device. (ways device).before;
+  sums_before = λ device. (ways device).sums_before;
+  way = way_of loss pieces choices.before (λ device. (ways device).before)
+      (λ device. (ways device).sums_before) agree.1 (λ device. (ways device).way);
+  go = λ device. gone (ways device);
 }
 way_of loss (AskTail bytes events ∷ pieces) choices states sums agree ways =
     way_of loss pieces choices states sums agree ways
@@ -247,21 +168,14 @@ way_of loss (ReplyTail command bytes events ∷ pieces) choices states sums agre
 way_of loss (RepeatTail command reply words events ∷ pieces) choices states sums agree ways =
     way_of loss pieces choices states sums agree ways
 
--- choices of each device, by the devices
-by_device : {T : Type 0} → T → T → T → T → Device → T
-by_device changer bill cashless cashless2 devices.Changer = changer
-by_device changer bill cashless cashless2 devices.Bill = bill
-by_device changer bill cashless cashless2 devices.Cashless = cashless
-by_device changer bill cashless cashless2 devices.Cashless2 = cashless2
-
 -- a device's way is one with the choices of all
-as_merged : {device : Device} {State : Type 0} {Step : Steps State} → IsMachineOf device Step
-    → (first : State) (acts : List Act) (all : Device → Choices acts) (state : State) (sums : Sums)
-    → Follows Step first acts (all device) state sums
-    → Follows Step first acts (merged acts all) state sums
-as_merged {device} {State} {Step} machine first acts all state sums way =
-    follows_as machine first acts (all device) (merged acts all) (merged_agrees acts all device)
-    state sums way
+as_merged : {State : Type 0} (device : Device) (machine : Machine State)
+    → IsMachineOf device machine → (acts : List Act) (all : Device → Choices acts) (state : State)
+    (sums : Sums) → Follows machine acts (all device) state sums
+    → Follows machine acts (merged acts all) state sums
+as_merged device machine is acts all state sums way =
+    follows_as device machine is acts (all device) (merged acts all)
+    (merged_agrees acts all device) state sums way
 
 -- and there is such a loss
 pub joined : ((pieces : List Piece) → ArePieces pieces → (choice : ℕ → Bool)
@@ -269,32 +183,21 @@ pub joined : ((pieces : List Piece) → ArePieces pieces → (choice : ℕ → B
     → (pieces : List Piece) (states : States) (sums : AllSums) → ArePieces pieces
     → EachArrives (acts_of pieces) states sums
     → (loss : Loss) × LossFits loss pieces × IsWay loss pieces states sums
-unfolding by_device
 joined law pieces states sums are ways =
-    let c = chosen (λ acts. ChangerStep (changer_facts.facts_of acts)) changer.power_on
-    (acts_of pieces) states.changer sums.changer ways.changer in
-    let b = chosen (λ acts. BillStep (bill_facts.facts_of acts)) bill.power_on (acts_of pieces)
-    states.bill sums.bill ways.bill in
-    let one = chosen (λ acts. ReaderStep First (reader_facts.facts_of First acts)) reader.power_on
-    (acts_of pieces) states.cashless sums.cashless ways.cashless in
-    let two = chosen (λ acts. ReaderStep Second (reader_facts.facts_of Second acts)) reader.power_on
-    (acts_of pieces) states.cashless2 sums.cashless2 ways.cashless2 in
-    let all : Device → Choices (acts_of pieces) = by_device c.0 b.0 one.0 two.0 in
+    let own : (device : Device) → (choices : Choices (acts_of pieces))
+    × Follows (machine_of device) (acts_of pieces) choices (states device) (sums device) =
+    λ device. chosen (machine_of device) (acts_of pieces) (states device) (sums device)
+    (ways device) in
+    let all : Device → Choices (acts_of pieces) = λ device. (own device).0 in
     let choices = merged (acts_of pieces) all in
     let found = law pieces are (chosen_at pieces choices) in
     let agree = agrees (chosen_at pieces choices) found.0 pieces choices are
     (λ before less. refl) found.2 in (
       found.0,
       found.1,
-      way_of found.0 pieces choices states sums agree (record {
-        changer = as_merged changer_is changer.power_on (acts_of pieces) all states.changer
-            sums.changer c.1;
-        bill = as_merged bill_is bill.power_on (acts_of pieces) all states.bill sums.bill b.1;
-        cashless = as_merged (reader_is First) reader.power_on (acts_of pieces) all
-            states.cashless sums.cashless one.1;
-        cashless2 = as_merged (reader_is Second) reader.power_on (acts_of pieces) all
-            states.cashless2 sums.cashless2 two.1;
-      }),
+      way_of found.0 pieces choices states sums agree
+          (λ device. as_merged device (machine_of device) (is_machine_of device) (acts_of pieces)
+          all (states device) (sums device) (own device).1),
     )
 
 -- where the same ACKs were heard, a way under one loss is one under the other

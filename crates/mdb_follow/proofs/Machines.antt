@@ -1,66 +1,50 @@
 -- The machines that are followed: what joining needs of each.
-use Rattle.std.proofs.Common.{refl, sym, ap, subst, ◌∙◌, ◌≡◌, ◌↔◌, ◌⊎◌, inl, inr, ℕ, zero, suc, List}
+use Rattle.std.proofs.Common.{refl, sym, ap, subst, ◌∙◌, ◌≡◌, ◌⊎◌, inl, inr, ℕ, zero, suc, List}
 use Rattle.std.proofs.lemmas.Bool.{cases_eq}
 use Rattle.mdb_msgs.specs.Commands.{device_of}
 use Rattle.mdb_msgs.specs.declared.command.Device.{Device}
 use Rattle.mdb_msgs.specs.declared.command.Device.TheVariants as devices
-use Rattle.mdb_msgs.specs.declared.command.ReaderUnit.{ReaderUnit}
+use Rattle.mdb_msgs.specs.declared.command.ReaderUnit.TheVariants.{First, Second}
 use Rattle.mdb_bus.specs.declared.act.Act.{Act}
 use Rattle.mdb_bus.specs.declared.act.Act.TheVariants as kinds
 use Rattle.mdb_cash.specs.declared.choice.Choice.{Choice}
 use Rattle.mdb_cash.specs.declared.choice.Choice.TheVariants.{Plain, Lost, Restart}
 use Rattle.mdb_cash.specs.declared.gains.Gains.{Gains}
-use Rattle.mdb_cash.specs.Bill.{BillStep}
-use Rattle.mdb_cash.specs.Bill as bill
-use Rattle.mdb_cash.specs.BillFacts as bill_facts
 use Rattle.mdb_cash.specs.BillWays as bill_ways
-use Rattle.mdb_cash.specs.Changer.{ChangerStep}
-use Rattle.mdb_cash.specs.Changer as changer
-use Rattle.mdb_cash.specs.ChangerFacts as changer_facts
 use Rattle.mdb_cash.specs.ChangerWays as changer_ways
 use Rattle.mdb_cash.specs.Choices.{CanStand}
 use Rattle.mdb_cash.specs.Gains.{no_gains}
+use Rattle.mdb_cash.specs.Machine.{IsMachineOf, Machine}
 use Rattle.mdb_cash.specs.Pair.{IsActOf}
-use Rattle.mdb_cashless.specs.Reader.{ReaderStep}
-use Rattle.mdb_cashless.specs.Reader as reader
-use Rattle.mdb_cashless.specs.ReaderFacts as reader_facts
 use Rattle.mdb_cashless.specs.ReaderWays as reader_ways
-use Rattle.mdb_cashless.specs.Units.{device_of_unit}
 use Rattle.mdb_follow.specs.Arrivals.{Arrives}
+use Rattle.mdb_follow.specs.Machines.{machine_of}
 use Rattle.mdb_follow.specs.Offences.{HasNoStep}
 use Rattle.mdb_follow.specs.Sums.{Sums}
 
--- the steps of a device and the controller, behind acts
-abbrev pub Steps : Type 0 → Type 1
-Steps State = List Act → Act → Choice → State → State → Gains → Type 0
+-- each device has a machine of its own
+pub is_machine_of : (device : Device) → IsMachineOf device (machine_of device)
+is_machine_of devices.Changer = changer_ways.is_machine
+is_machine_of devices.Bill = bill_ways.is_machine
+is_machine_of devices.Cashless = reader_ways.is_machine First
+is_machine_of devices.Cashless2 = reader_ways.is_machine Second
 
--- A machine of a device: an act in which the device has no part changes nothing, and by a break there
--- is always a step.
-pub record IsMachineOf (device : Device) {State : Type 0} (Step : Steps State) : Type 0 where
-  pub elsewhere : (acts : List Act) (act : Act) (choice : Choice) (before after : State)
-      (gains : Gains) → (IsActOf device act → ⊥)
-      → Step acts act choice before after gains ↔ (after ≡ before) × (gains ≡ no_gains)
-  pub breaks : (acts : List Act) (length : ℕ) (before : State)
-      → (after : State) × (gains : Gains) × Step acts (kinds.Break length) Plain before after gains
+-- something of each device: of one this, and of the others what they have
+pub with_one : (P : Device → Type 0) (device : Device) → P device → ((other : Device) → P other)
+    → (other : Device) → P other
+with_one P devices.Changer one others devices.Changer = one
+with_one P devices.Bill one others devices.Bill = one
+with_one P devices.Cashless one others devices.Cashless = one
+with_one P devices.Cashless2 one others devices.Cashless2 = one
+with_one P device one others other = others other
 
-pub changer_is : IsMachineOf devices.Changer (λ acts. ChangerStep (changer_facts.facts_of acts))
-changer_is = record {
-  elsewhere = λ acts. changer_ways.elsewhere (changer_facts.facts_of acts);
-  breaks = λ acts length before. (changer.power_on, no_gains, (refl, refl));
-}
-
-pub bill_is : IsMachineOf devices.Bill (λ acts. BillStep (bill_facts.facts_of acts))
-bill_is = record {
-  elsewhere = λ acts. bill_ways.elsewhere (bill_facts.facts_of acts);
-  breaks = λ acts length before. (bill.power_on, no_gains, (refl, refl));
-}
-
-pub reader_is : (unit : ReaderUnit)
-    → IsMachineOf (device_of_unit unit) (λ acts. ReaderStep unit (reader_facts.facts_of unit acts))
-reader_is unit = record {
-  elsewhere = λ acts. reader_ways.elsewhere unit (reader_facts.facts_of unit acts);
-  breaks = λ acts length before. (reader.power_on, no_gains, (refl, refl));
-}
+pub with_one-same : (P : Device → Type 0) (device : Device) (one : P device)
+    (others : (other : Device) → P other) → with_one P device one others device ≡ one
+unfolding with_one
+with_one-same P devices.Changer one others = refl
+with_one-same P devices.Bill one others = refl
+with_one-same P devices.Cashless one others = refl
+with_one-same P devices.Cashless2 one others = refl
 
 -- two devices are one, or they aren't
 number : Device → ℕ
@@ -154,28 +138,28 @@ same_choice device (kinds.Break length) chosen stands own =
     ∙ sym (plain_alone length (chosen devices.Changer) (stands devices.Changer))
 
 -- a step by one choice is one by another that is the same where the device has a part in the act
-pub elsewhere_as : {device : Device} {State : Type 0} {Step : Steps State} → IsMachineOf device Step
-    → (acts : List Act) (act : Act) (one other : Choice) → (IsActOf device act → one ≡ other)
-    → (before after : State) (gains : Gains) → Step acts act one before after gains
-    → Step acts act other before after gains
-elsewhere_as {device} {State} {Step} machine acts act one other same before after gains step =
+pub elsewhere_as : {State : Type 0} (device : Device) (machine : Machine State)
+    → IsMachineOf device machine → (acts : List Act) (act : Act) (one other : Choice)
+    → (IsActOf device act → one ≡ other) → (before after : State) (gains : Gains)
+    → machine.Step acts act one before after gains → machine.Step acts act other before after gains
+elsewhere_as device machine is acts act one other same before after gains step =
     elim (of_or_not device act) [
-      | inl own ↦ subst (λ c. Step acts act c before after gains) (same own) step
+      | inl own ↦ subst (λ c. machine.Step acts act c before after gains) (same own) step
       | inr apart ↦
-          (machine.elsewhere acts act other before after gains apart).1
-          ((machine.elsewhere acts act one before after gains apart).0 step)
+          (is.elsewhere acts act other before after gains apart).1
+          ((is.elsewhere acts act one before after gains apart).0 step)
     ]
 
 -- an act by which a machine has no step, where a way leads to some state, is of its device alone
-pub whose_none : {device : Device} {State : Type 0} {Step : Steps State} → IsMachineOf device Step
-    → (first : State) (act : Act) (before : List Act) → HasNoStep Step first act before
-    → (state : State) (sums : Sums) → Arrives Step first before state sums → whose act ≡ device
-whose_none {device} {State} {Step} machine first act before none state sums way =
+pub whose_none : {State : Type 0} (device : Device) (machine : Machine State)
+    → IsMachineOf device machine → (act : Act) (before : List Act) → HasNoStep machine act before
+    → (state : State) (sums : Sums) → Arrives machine before state sums → whose act ≡ device
+whose_none device machine is act before none state sums way =
     elim (of_or_not device act) [
       | inl own ↦ whose_is device act own (λ length same.
-          let goes = machine.breaks before length state in
+          let goes = is.breaks before length Plain state in
           none state sums way Plain tt goes.0 goes.1
-          (subst (λ a. Step before a Plain state goes.0 goes.1) (sym same) goes.2))
+          (subst (λ a. machine.Step before a Plain state goes.0 goes.1) (sym same) goes.2))
       | inr apart ↦ absurd (none state sums way Plain tt state no_gains
-          ((machine.elsewhere before act Plain state state no_gains apart).1 (refl, refl)))
+          ((is.elsewhere before act Plain state state no_gains apart).1 (refl, refl)))
     ]

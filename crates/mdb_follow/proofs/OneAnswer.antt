@@ -2,21 +2,16 @@
 use Rattle.std.proofs.Common.{ap, arith, refl, sym, subst, ◌∙◌, ◌≡◌, ◌⊎◌, inl, inr, ℕ, ℤ, ◌≤ℤ◌, List, [], ◌∷◌, ◌++◌, append_assoc, append-nil, length, map, Option, Some, None}
 use Rattle.std.proofs.lemmas.Int.{ints}
 use Rattle.mdb_words.specs.declared.event.Event.{Event}
-use Rattle.mdb_msgs.specs.declared.command.Device.{Device}
-use Rattle.mdb_msgs.specs.declared.command.Device.TheVariants as devices
 use Rattle.mdb_msgs.specs.declared.command.ReaderUnit.TheVariants.{First, Second}
 use Rattle.mdb_bus.specs.declared.act.Act.{Act}
 use Rattle.mdb_bus.specs.declared.fault.Blame.{Blame}
 use Rattle.mdb_bus.specs.declared.fault.Rule.{Rule}
-use Rattle.mdb_bus.specs.declared.fault.Rule.TheVariants as rule
 use Rattle.mdb_bus.specs.ActLists.{ArePieces, HasActList, IsActList, Piece, Whole, acts_of, events_of, with_act}
 use Rattle.mdb_bus.specs.LinkFaults.{IsLinkFault, RowBreaks, situation_of}
-use Rattle.mdb_cash.specs.Bill as bill
-use Rattle.mdb_cash.specs.Changer as changer
-use Rattle.mdb_cashless.specs.Reader as reader
 use Rattle.mdb_follow.specs.declared.account_name.AccountName.{AccountName}
 use Rattle.mdb_follow.specs.declared.account_name.AccountName.TheVariants.{CoinsIn, BillsIn, PaidOut, Approved, Sold}
 use Rattle.mdb_follow.specs.declared.account_name.TheConstants.AccountName.{ALL}
+use Rattle.mdb_cashless.specs.ReaderWays as reader_ways
 use Rattle.mdb_follow.specs.declared.cell.Account.{Account}
 use Rattle.mdb_follow.specs.declared.offence.Offence.{Offence}
 use Rattle.mdb_follow.specs.declared.range.Range.{Range}
@@ -28,9 +23,10 @@ use Rattle.mdb_follow.specs.Offences.{BreaksLink, BreaksMachine, IsOffence}
 use Rattle.mdb_follow.specs.Report.{AreAccounts, IsReport, account_of, report_of}
 use Rattle.mdb_follow.specs.Runs.{AllSums, IsReached, Run}
 use Rattle.mdb_follow.specs.Senders.{sender_of}
-use Rattle.mdb_follow.specs.Offences.{ByBill, ByChanger, ByReader, NoStep}
+use Rattle.mdb_follow.specs.Machines.{machine_of}
+use Rattle.mdb_follow.specs.Offences.{NoStep, rule_of}
 use Rattle.mdb_follow.proofs.Following.{OneActList}
-use Rattle.mdb_follow.proofs.Machines.{bill_is, changer_is, reader_is, whose, whose_none}
+use Rattle.mdb_follow.proofs.Machines.{is_machine_of, whose, whose_none}
 use Rattle.mdb_follow.proofs.Reaching.{GoOnRowByRow, SomeArrive, before_last, some_of}
 
 -- two ends that lie within each other are one
@@ -134,29 +130,14 @@ some-before-act laws events row reached pieces list act before ends =
     (laws.one events run.pieces from.before run.act_list from.act_list)
     (some_of events reached.0 run))
 
--- the rule of a device's machine
-rule_of : Device → Rule
-rule_of devices.Changer = rule.Changer
-rule_of devices.Bill = rule.Bill
-rule_of devices.Cashless = rule.Cashless
-rule_of devices.Cashless2 = rule.Cashless
-
 -- a machine without a step by an act is that of the one device that has a part in it
 whose_rule : (broken : Rule) (act : Act) (before : List Act) → NoStep broken act before
     → SomeArrive before → rule_of (whose act) ≡ broken
-unfolding rule_of
-whose_rule broken act before (ByChanger none) some =
-    ap rule_of (whose_none changer_is changer.power_on act before none some.states.changer
-    some.sums.changer some.ways.changer)
-whose_rule broken act before (ByBill none) some =
-    ap rule_of (whose_none bill_is bill.power_on act before none some.states.bill some.sums.bill
-    some.ways.bill)
-whose_rule broken act before (ByReader First none) some =
-    ap rule_of (whose_none (reader_is First) reader.power_on act before none some.states.cashless
-    some.sums.cashless some.ways.cashless)
-whose_rule broken act before (ByReader Second none) some =
-    ap rule_of (whose_none (reader_is Second) reader.power_on act before none some.states.cashless2
-    some.sums.cashless2 some.ways.cashless2)
+whose_rule broken act before stops some =
+    let way = some stops.device in
+    ap rule_of (whose_none stops.device (machine_of stops.device) (is_machine_of stops.device) act before
+    stops.none way.state way.sums way.way)
+    ∙ sym stops.rule
 
 -- the act list up to a row that ends an act by which a machine has no step
 abbrev broken-list : (events : List Event) (row : Event) (r : Rule) (a : Blame)

@@ -1,11 +1,15 @@
 -- Reached rows.
 use Rattle.std.proofs.Common.{subst, List, [], ◌∷◌, ◌++◌, Option, Some, None}
 use Rattle.mdb_words.specs.declared.event.Event.{Event}
+use Rattle.mdb_msgs.specs.declared.command.Device.{Device}
 use Rattle.mdb_bus.specs.declared.act.Act.{Act}
 use Rattle.mdb_bus.specs.ActLists.{ArePieces, GoesOnFrom, IsActList, Piece, acts_of, with_act}
 use Rattle.mdb_bus.specs.Loss.{Loss, LossFits}
-use Rattle.mdb_follow.specs.Machines.{EachArrives}
+use Rattle.mdb_cash.specs.Machine.{Machine}
+use Rattle.mdb_follow.specs.Arrivals.{Arrives, EachArrives}
+use Rattle.mdb_follow.specs.Machines.{machine_of}
 use Rattle.mdb_follow.specs.Runs.{AllSums, IsReached, IsWay, Run, States}
+use Rattle.mdb_follow.specs.Sums.{Sums}
 use Rattle.mdb_follow.proofs.Joining.{split}
 
 -- ways of each device are together a way of all
@@ -19,34 +23,21 @@ abbrev pub GoOnRowByRow : Type 0
 GoOnRowByRow = (rows : List Event) (row : Event) (pieces : List Piece)
     → IsActList pieces (rows ++ row ∷ []) → GoesOnFrom rows pieces
 
--- each device has some way through acts
-pub record SomeArrive (acts : List Act) : Type 0 where
-  pub states : States
-  pub sums : AllSums
-  pub ways : EachArrives acts states sums
+-- a machine has some way through acts
+pub record SomeWay {State : Type 0} (machine : Machine State) (acts : List Act) : Type 0 where
+  pub state : State
+  pub sums : Sums
+  pub way : Arrives machine acts state sums
+
+-- and that of each device has one
+abbrev pub SomeArrive : List Act → Type 0
+SomeArrive acts = (device : Device) → SomeWay (machine_of device) acts
 
 -- a way through acts begins with one through the acts before the last
 pub before_last : (act : Act) (before : List Act) → SomeArrive (act ∷ before) → SomeArrive before
-before_last act before some = record {
-  states = record {
-    changer = some.ways.changer.before;
-    bill = some.ways.bill.before;
-    cashless = some.ways.cashless.before;
-    cashless2 = some.ways.cashless2.before;
-  };
-  sums = record {
-    changer = some.ways.changer.sums_before;
-    bill = some.ways.bill.sums_before;
-    cashless = some.ways.cashless.sums_before;
-    cashless2 = some.ways.cashless2.sums_before;
-  };
-  ways = record {
-    changer = some.ways.changer.way;
-    bill = some.ways.bill.way;
-    cashless = some.ways.cashless.way;
-    cashless2 = some.ways.cashless2.way;
-  };
-}
+before_last act before some device =
+    let last = (some device).way in
+    record { state = last.before; sums = last.sums_before; way = last.way }
 
 pub some_before : (act : Option Act) (before : List Act) → SomeArrive (with_act act before)
     → SomeArrive before
@@ -70,10 +61,10 @@ run_of joins rows pieces states sums list ways =
 -- the ways of a run's devices
 pub some_of : (rows : List Event) (sums : AllSums) (run : Run rows sums)
     → SomeArrive (acts_of run.pieces)
-some_of rows sums run = record {
-  states = run.states;
-  sums = sums;
-  ways = split run.loss run.pieces run.states sums run.way;
+some_of rows sums run device = record {
+  state = run.states device;
+  sums = sums device;
+  way = split run.loss run.pieces run.states sums run.way device;
 }
 
 pub without_last : Joins → GoOnRowByRow → (rows : List Event) (row : Event)
@@ -83,7 +74,7 @@ without_last joins goes rows row reached =
     let from = goes rows row run.pieces run.act_list in
     let earlier = some_before from.act (acts_of from.before)
     (subst SomeArrive from.acts (some_of (rows ++ row ∷ []) reached.0 run)) in (
-      earlier.sums,
-      run_of joins rows from.before earlier.states earlier.sums from.act_list
-          earlier.ways,
+      (λ device. (earlier device).sums),
+      run_of joins rows from.before (λ device. (earlier device).state)
+          (λ device. (earlier device).sums) from.act_list (λ device. (earlier device).way),
     )

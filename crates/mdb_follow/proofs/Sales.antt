@@ -4,6 +4,7 @@ use Rattle.std.proofs.lemmas.List.Elements.{All-cons, All-nil}
 use Rattle.mdb_words.specs.declared.event.Event.{Event}
 use Rattle.mdb_msgs.specs.declared.command.Command.{Command}
 use Rattle.mdb_msgs.specs.declared.command.Command.TheVariants as commands
+use Rattle.mdb_msgs.specs.declared.command.Device.TheVariants as devices
 use Rattle.mdb_msgs.specs.declared.command.ReaderCommand.TheVariants as readers
 use Rattle.mdb_msgs.specs.declared.command.ReaderUnit.{ReaderUnit}
 use Rattle.mdb_msgs.specs.declared.command.ReaderUnit.TheVariants.{First, Second}
@@ -14,11 +15,12 @@ use Rattle.mdb_bus.specs.ActLists.{ArePieces, Piece, Position, Whole, AskTail, R
 use Rattle.mdb_cash.specs.declared.gains.Gains.{Gains}
 use Rattle.mdb_cash.specs.declared.choice.Choice.{Choice}
 use Rattle.mdb_cashless.specs.declared.reader.state.ReaderState.{ReaderState}
+use Rattle.mdb_cashless.specs.Reader as reader
 use Rattle.mdb_cashless.specs.Reader.{ReaderStep}
 use Rattle.mdb_cashless.specs.ReaderFacts.{facts_of}
 use Rattle.mdb_cashless.specs.SaleViews.{AcksLastReply, TellsOfSale}
 use Rattle.mdb_cashless.specs.Sales.{EndsInReply, IsApproved, SalesAreApproved}
-use Rattle.mdb_follow.specs.Machines.{ReaderArrives}
+use Rattle.mdb_follow.specs.Arrivals.{Arrives}
 use Rattle.mdb_follow.specs.Runs.{AllSums, Run}
 use Rattle.mdb_follow.specs.Sales.{SalesFollowApprovals}
 use Rattle.mdb_follow.specs.Sums.{Sums}
@@ -122,7 +124,7 @@ one_more unit act so_far last earlier [] before item order =
 one_more unit act so_far last earlier (other ∷ later) before item order = earlier later before item cc
 
 -- a way of a reader through acts: the view where it leads tells of the sale, and each sale is approved
-all_sold : ViewLaws → (unit : ReaderUnit) (so_far : List Act) (state : ReaderState) (sums : Sums) → AcksFit so_far → ReaderArrives unit so_far state sums
+all_sold : ViewLaws → (unit : ReaderUnit) (so_far : List Act) (state : ReaderState) (sums : Sums) → AcksFit so_far → Arrives (reader.machine unit) so_far state sums
     → TellsOfSale unit state.view so_far × SalesAreApproved unit so_far
 all_sold laws unit [] state sums fit way = (
   subst (λ (s : ReaderState). TellsOfSale unit s.view []) (sym way.0) tt,
@@ -140,10 +142,10 @@ all_sold laws unit (act ∷ so_far) state sums fit way =
 in_run : ViewLaws → (rows : List Event) (sums : AllSums) (run : Run rows sums) (unit : ReaderUnit) → SalesAreApproved unit (acts_of run.pieces)
 in_run laws rows sums run First =
     let ways = split run.loss run.pieces run.states sums run.way in
-    (all_sold laws First (acts_of run.pieces) run.states.cashless sums.cashless (acks_fit run.pieces run.act_list.in_order) ways.cashless).1
+    (all_sold laws First (acts_of run.pieces) (run.states devices.Cashless) (sums devices.Cashless) (acks_fit run.pieces run.act_list.in_order) (ways devices.Cashless)).1
 in_run laws rows sums run Second =
     let ways = split run.loss run.pieces run.states sums run.way in
-    (all_sold laws Second (acts_of run.pieces) run.states.cashless2 sums.cashless2 (acks_fit run.pieces run.act_list.in_order) ways.cashless2).1
+    (all_sold laws Second (acts_of run.pieces) (run.states devices.Cashless2) (sums devices.Cashless2) (acks_fit run.pieces run.act_list.in_order) (ways devices.Cashless2)).1
 
 pub sales_follow : ViewLaws → (rows : List Event) → SalesFollowApprovals rows
 sales_follow laws rows sums run unit = in_run laws rows sums run unit

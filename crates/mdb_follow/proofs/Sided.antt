@@ -7,8 +7,6 @@ use Rattle.mdb_msgs.specs.declared.command.ReaderUnit.{ReaderUnit}
 use Rattle.mdb_msgs.specs.declared.command.ReaderUnit.TheVariants.{First, Second}
 use Rattle.mdb_bus.specs.declared.act.Act.{Act}
 use Rattle.mdb_bus.specs.declared.fault.Rule.{Rule}
-use Rattle.mdb_cash.specs.declared.bill.facts.BillFacts.{BillFacts}
-use Rattle.mdb_cash.specs.declared.changer.facts.ChangerFacts.{ChangerFacts}
 use Rattle.mdb_cash.specs.declared.gains.Gains.{Gains}
 use Rattle.mdb_cash.specs.declared.choice.Choice.{Choice}
 use Rattle.mdb_cash.specs.BillFacts as bill_facts
@@ -24,6 +22,7 @@ use Rattle.mdb_cashless.specs.ReaderFacts as reader_facts
 use Rattle.mdb_cashless.specs.ReaderValues as reader_values
 use Rattle.mdb_cashless.specs.ReaderWays as reader_ways
 use Rattle.mdb_cashless.specs.Units.{device_of_unit}
+use Rattle.mdb_cash.specs.Machine.{Machine}
 use Rattle.mdb_follow.specs.declared.cell.Cell.{Cell}
 use Rattle.mdb_follow.specs.declared.side.Side.{Side}
 use Rattle.mdb_follow.specs.declared.sides.Sides.{Sides}
@@ -33,30 +32,29 @@ use Rattle.mdb_follow.proofs.Limits.{table-within-weaker}
 use Rattle.mdb_follow.proofs.Ways.{table-same}
 
 side-still : {Facts State : Type 0} {N : ℕ} (stands_for : Facts → List Act → Type 0)
-    (code_of : State → ℕ) (Step : List Act → Act → Choice → State → State → Gains → Type 0)
-    (first : State) (side : Side Facts N) (act : Act) (acts : List Act)
+    (code_of : State → ℕ) (machine : Machine State) (side : Side Facts N) (act : Act) (acts : List Act)
     → (stands_for side.facts acts → stands_for side.facts (act ∷ acts))
     → ((acts : List Act) (choice : Choice) (before after : State) (gains : Gains)
-    → Step acts act choice before after gains ↔ (after ≡ before) × (gains ≡ no_gains))
-    → IsSide stands_for code_of Step first side acts
-    → IsSide stands_for code_of Step first side (act ∷ acts)
-side-still stands_for code_of Step first side act acts unmoved elsewhere on = record {
+    → machine.Step acts act choice before after gains ↔ (after ≡ before) × (gains ≡ no_gains))
+    → IsSide stands_for code_of machine side acts
+    → IsSide stands_for code_of machine side (act ∷ acts)
+side-still stands_for code_of machine side act acts unmoved elsewhere on = record {
   facts = unmoved on.facts;
-  table = table-same code_of Step first act acts side.table elsewhere on.table;
+  table = table-same code_of machine act acts side.table elsewhere on.table;
 }
 
-pub changer-still : {N : ℕ} (side : Side ChangerFacts N) (act : Act) (acts : List Act)
+pub changer-still : {N : ℕ} (side : Side changer_values.Value N) (act : Act) (acts : List Act)
     → (IsActOf devices.Changer act → ⊥) → IsChangerSide side acts → IsChangerSide side (act ∷ acts)
 changer-still side act acts other =
-    side-still _ _ _ _ side act acts
+    side-still _ _ _ side act acts
     (changer_ways.unmoved (changer_values.facts_in side.facts) acts act other)
     (λ acts choice before after gains.
     changer_ways.elsewhere (changer_facts.facts_of acts) act choice before after gains other)
 
-pub bill-still : {N : ℕ} (side : Side BillFacts N) (act : Act) (acts : List Act)
+pub bill-still : {N : ℕ} (side : Side bill_values.Value N) (act : Act) (acts : List Act)
     → (IsActOf devices.Bill act → ⊥) → IsBillSide side acts → IsBillSide side (act ∷ acts)
 bill-still side act acts other =
-    side-still _ _ _ _ side act acts
+    side-still _ _ _ side act acts
     (bill_ways.unmoved (bill_values.facts_in side.facts) acts act other)
     (λ acts choice before after gains.
     bill_ways.elsewhere (bill_facts.facts_of acts) act choice before after gains other)
@@ -65,7 +63,7 @@ pub reader-still : {N : ℕ} (unit : ReaderUnit) (side : Side ReaderFacts N) (ac
     (acts : List Act) → (IsActOf (device_of_unit unit) act → ⊥)
     → IsReaderSide unit side acts → IsReaderSide unit side (act ∷ acts)
 reader-still unit side act acts other =
-    side-still _ _ _ _ side act acts
+    side-still _ _ _ side act acts
     (reader_ways.unmoved unit (reader_values.facts_in side.facts) acts act other)
     (λ acts choice before after gains.
     reader_ways.elsewhere unit (reader_facts.facts_of unit acts) act choice before after gains
@@ -76,7 +74,7 @@ weaker : (limit : ℕ) (entries : List (ℕ × Cell)) → IsTableWithin limit en
 weaker limit entries = table-within-weaker limit (limit + 2 ^ 32) entries (omega arith)
 
 -- The changer's side goes on by an act that is of no other device.
-pub led-changer : (sides : Sides) (changer : Side ChangerFacts 4) (act : Act)
+pub led-changer : (sides : Sides) (changer : Side changer_values.Value 4) (act : Act)
     → ((other : Device) → IsActOf other act → other ≡ devices.Changer)
     → ((acts : List Act) → IsChangerSide sides.changer acts → IsChangerSide changer (act ∷ acts))
     → SidesFollow sides act (record sides { changer = changer })
@@ -87,7 +85,7 @@ led-changer sides changer act only goes acts on = record {
   cashless2 = reader-still Second sides.cashless2 act acts (λ of. cc (only devices.Cashless2 of)) on.cashless2;
 }
 
-pub within-changer : (sides : Sides) (changer : Side ChangerFacts 4)
+pub within-changer : (sides : Sides) (changer : Side changer_values.Value 4)
     → ((limit : ℕ) → IsTableWithin limit sides.changer.table
     → IsTableWithin (limit + 2 ^ 32) changer.table)
     → (limit : ℕ) → AreWithin limit sides
@@ -100,7 +98,7 @@ within-changer sides changer goes limit on = record {
 }
 
 -- The validator's side goes on by an act that is of no other device.
-pub led-bill : (sides : Sides) (bill : Side BillFacts 66) (act : Act)
+pub led-bill : (sides : Sides) (bill : Side bill_values.Value 66) (act : Act)
     → ((other : Device) → IsActOf other act → other ≡ devices.Bill)
     → ((acts : List Act) → IsBillSide sides.bill acts → IsBillSide bill (act ∷ acts))
     → SidesFollow sides act (record sides { bill = bill })
@@ -111,7 +109,7 @@ led-bill sides bill act only goes acts on = record {
   cashless2 = reader-still Second sides.cashless2 act acts (λ of. cc (only devices.Cashless2 of)) on.cashless2;
 }
 
-pub within-bill : (sides : Sides) (bill : Side BillFacts 66)
+pub within-bill : (sides : Sides) (bill : Side bill_values.Value 66)
     → ((limit : ℕ) → IsTableWithin limit sides.bill.table
     → IsTableWithin (limit + 2 ^ 32) bill.table)
     → (limit : ℕ) → AreWithin limit sides

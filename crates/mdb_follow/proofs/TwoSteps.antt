@@ -128,7 +128,7 @@ other-or-plain act code_of Step code other next gains is move =
       | inr not ↦ inl (is.1 (move.0, move.1, not, move.2))
     ]
 
--- where it is of no matter how an act is taken, each move is a plain step
+-- where it is of no matter what is chosen of an act, each move is a plain step
 pub unheeded : {State : Type 0} (act : Act) (code_of : State → ℕ)
     (Step : Choice → State → State → Gains → Type 0) (code : ℕ) (state : State)
     → ((one other : State) → code_of one ≡ code_of other → one ≡ other) → code_of state ≡ code

@@ -1,5 +1,5 @@
 -- Ways through one act more.
-use Rattle.std.proofs.Common.{◌<◌, ◌+◌, length, take, ◌≡◌, ◌⊎◌, inl, inr, ℕ, refl, sym, ◌∙◌, ap, subst, add-zero, List, [], ◌∷◌}
+use Rattle.std.proofs.Common.{arith, ℤ, pos, ◌-ℤ◌, ◌<◌, ◌+◌, length, take, ◌≡◌, ◌⊎◌, inl, inr, ℕ, refl, sym, ◌∙◌, ap, subst, add-zero, List, [], ◌∷◌}
 use Rattle.std.specs.Prelude.{All, Contains, slice_index_or, ◌↔◌}
 use Rattle.mdb_bus.specs.declared.act.Act.{Act}
 use Rattle.mdb_cash.specs.declared.choice.Choice.{Choice}
@@ -7,12 +7,17 @@ use Rattle.mdb_cash.specs.declared.choice.Choice.TheVariants.{Plain}
 use Rattle.mdb_cash.specs.declared.gains.Gains.{Gains}
 use Rattle.mdb_cash.specs.Gains.{no_gains}
 use Rattle.mdb_cash.specs.Pair.{IsMove}
+use Rattle.mdb_cash.specs.Machine.{Machine}
+use Rattle.mdb_follow.specs.declared.cell.Account.{Account}
 use Rattle.mdb_follow.specs.declared.cell.Cell.{Cell}
+use Rattle.mdb_follow.specs.declared.range.Range.{Range}
 use Rattle.mdb_follow.specs.Arrivals.{Arrives}
 use Rattle.mdb_follow.specs.Cells.{joined_cell}
-use Rattle.mdb_follow.specs.Ranges.{IsCell}
-use Rattle.mdb_follow.specs.Sums.{Sums, added}
+use Rattle.mdb_follow.specs.Ranges.{IsAccount, IsCell, IsRange}
+use Rattle.mdb_follow.specs.Report.{no_account}
+use Rattle.mdb_follow.specs.Sums.{AccountSums, Sums, added, no_sums}
 use Rattle.mdb_follow.specs.Tables.{ArrivesAnywhere, ArrivesAt, Bounds, IsTable}
+use Rattle.std.proofs.lemmas.Int.{ints}
 use Rattle.std.proofs.lemmas.List.{take_more}
 use Rattle.std.proofs.lemmas.List.Elements.{All-append, All-cons, All-contains, All-nil}
 use Rattle.mdb_follow.specs.Entries.{AllRest, RestsAt, joined_cells}
@@ -22,14 +27,14 @@ use Rattle.mdb_follow.proofs.Listed.{bounds-same, contains-cases, contains-here,
 
 -- The steps from the entries of a table lead to what arrives behind one act more.
 pub table-led : {State : Type 0} (code_of : State → ℕ)
-    (Step : List Act → Act → Choice → State → State → Gains → Type 0) (first : State)
+    (machine : Machine State)
     (act : Act) (acts : List Act) (from into : List (ℕ × Cell))
     → ((one other : State) → code_of one ≡ code_of other → one ≡ other)
-    → IsTable code_of Step first acts from
-    → Bounds (Led (ArrivesAt code_of (Arrives Step first acts))
-    (IsMove act code_of (Step acts act)) from) into
-    → Bounds (ArrivesAt code_of (Arrives Step first (act ∷ acts))) into
-table-led {State} code_of Step first act acts from into apart table led =
+    → IsTable code_of machine acts from
+    → Bounds (Led (ArrivesAt code_of (Arrives machine acts))
+    (IsMove act code_of (machine.Step acts act)) from) into
+    → Bounds (ArrivesAt code_of (Arrives machine (act ∷ acts))) into
+table-led {State} code_of machine act acts from into apart table led =
     bounds-same _ _ into
     (λ code sums l. record {
       state = l.move.2.after;
@@ -40,7 +45,7 @@ table-led {State} code_of Step first act acts from into apart table led =
         before = l.move.2.before;
         sums_before = l.moved.before;
         gains = l.gains;
-        way = subst (λ state. Arrives Step first acts state l.moved.before)
+        way = subst (λ state. Arrives machine acts state l.moved.before)
             (apart l.moved.kind.state l.move.2.before (l.moved.kind.is ∙ sym l.move.2.starts))
             l.moved.kind.way;
         step = l.move.2.step;
@@ -48,7 +53,7 @@ table-led {State} code_of Step first act acts from into apart table led =
       };
     })
     (λ code sums a.
-    let from_at : ArrivesAt code_of (Arrives Step first acts) (code_of a.way.before)
+    let from_at : ArrivesAt code_of (Arrives machine acts) (code_of a.way.before)
     a.way.sums_before =
     record { state = a.way.before; is = refl; way = a.way.way } in
     let there = table.bounds.whole (code_of a.way.before) a.way.sums_before from_at in
@@ -77,13 +82,13 @@ no-gains sums = simp add-zero
 
 -- An act that changes nothing wherever a way leads leaves what arrives.
 table-still : {State : Type 0} (code_of : State → ℕ)
-    (Step : List Act → Act → Choice → State → State → Gains → Type 0) (first : State)
+    (machine : Machine State)
     (act : Act) (acts : List Act) (entries : List (ℕ × Cell))
-    → ((before : State) (sums : Sums) → Arrives Step first acts before sums → (choice : Choice)
+    → ((before : State) (sums : Sums) → Arrives machine acts before sums → (choice : Choice)
     (after : State) (gains : Gains)
-    → Step acts act choice before after gains ↔ (after ≡ before) × (gains ≡ no_gains))
-    → IsTable code_of Step first acts entries → IsTable code_of Step first (act ∷ acts) entries
-table-still {State} code_of Step first act acts entries steps table = record {
+    → machine.Step acts act choice before after gains ↔ (after ≡ before) × (gains ≡ no_gains))
+    → IsTable code_of machine acts entries → IsTable code_of machine (act ∷ acts) entries
+table-still {State} code_of machine act acts entries steps table = record {
   some = (
     table.some.0,
     table.some.1,
@@ -120,66 +125,123 @@ table-still {State} code_of Step first act acts entries steps table = record {
       record {
         state = a.state;
         is = a.is;
-        way = subst (λ sums. Arrives Step first acts a.state sums)
+        way = subst (λ sums. Arrives machine acts a.state sums)
             (sym (a.way.adds ∙ ap (added a.way.sums_before) s.1 ∙ sym (no-gains a.way.sums_before)))
-            (subst (λ state. Arrives Step first acts state a.way.sums_before) (sym s.0) a.way.way);
+            (subst (λ state. Arrives machine acts state a.way.sums_before) (sym s.0) a.way.way);
       })
       table.bounds;
 }
 
 -- An act that is no matter of the pair is one.
 pub table-same : {State : Type 0} (code_of : State → ℕ)
-    (Step : List Act → Act → Choice → State → State → Gains → Type 0) (first : State)
+    (machine : Machine State)
     (act : Act) (acts : List Act) (entries : List (ℕ × Cell))
     → ((acts : List Act) (choice : Choice) (before after : State) (gains : Gains)
-    → Step acts act choice before after gains ↔ (after ≡ before) × (gains ≡ no_gains))
-    → IsTable code_of Step first acts entries → IsTable code_of Step first (act ∷ acts) entries
-table-same code_of Step first act acts entries steps table =
-    table-still code_of Step first act acts entries
+    → machine.Step acts act choice before after gains ↔ (after ≡ before) × (gains ≡ no_gains))
+    → IsTable code_of machine acts entries → IsTable code_of machine (act ∷ acts) entries
+table-same code_of machine act acts entries steps table =
+    table-still code_of machine act acts entries
     (λ before sums way choice after gains. steps acts choice before after gains) table
 
 -- So is an act that leaves the states of all entries.
 pub table-rests : {State : Type 0} (code_of : State → ℕ)
-    (Step : List Act → Act → Choice → State → State → Gains → Type 0) (first : State)
+    (machine : Machine State)
     (act : Act) (acts : List Act) (entries : List (ℕ × Cell))
-    → AllRest code_of Step act entries
-    → IsTable code_of Step first acts entries → IsTable code_of Step first (act ∷ acts) entries
-table-rests code_of Step first act acts entries rests table =
-    table-still code_of Step first act acts entries
+    → AllRest code_of machine act entries
+    → IsTable code_of machine acts entries → IsTable code_of machine (act ∷ acts) entries
+table-rests code_of machine act acts entries rests table =
+    table-still code_of machine act acts entries
     (λ before sums way choice after gains.
     let there = table.bounds.whole (code_of before) sums
     (record { state = before; is = refl; way = way }) in
-    All-contains (λ (entry : ℕ × Cell). RestsAt code_of Step act entry.0) entries
+    All-contains (λ (entry : ℕ × Cell). RestsAt code_of machine act entry.0) entries
     (code_of before, there.0) rests there.1 acts choice before after gains refl)
     table
 
 -- One entry more rests.
 pub rests-more : {State : Type 0} (code_of : State → ℕ)
-    (Step : List Act → Act → Choice → State → State → Gains → Type 0) (act : Act)
+    (machine : Machine State) (act : Act)
     (entries : List (ℕ × Cell)) (i : ℕ) (d : ℕ × Cell) (state : State) → i < length entries
     → ((one other : State) → code_of one ≡ code_of other → one ≡ other)
     → code_of state ≡ (slice_index_or entries i d).0
     → ((acts : List Act) (choice : Choice) (after : State) (gains : Gains)
-    → Step acts act choice state after gains ↔ (after ≡ state) × (gains ≡ no_gains))
-    → AllRest code_of Step act (take i entries) → AllRest code_of Step act (take (i + 1) entries)
-rests-more {State} code_of Step act entries i d state within apart is here before =
-    let Rests : ℕ × Cell → Type 0 = λ entry. RestsAt code_of Step act entry.0 in
-    let one : RestsAt code_of Step act (slice_index_or entries i d).0 =
+    → machine.Step acts act choice state after gains ↔ (after ≡ state) × (gains ≡ no_gains))
+    → AllRest code_of machine act (take i entries) → AllRest code_of machine act (take (i + 1) entries)
+rests-more {State} code_of machine act entries i d state within apart is here before =
+    let Rests : ℕ × Cell → Type 0 = λ entry. RestsAt code_of machine act entry.0 in
+    let one : RestsAt code_of machine act (slice_index_or entries i d).0 =
     λ acts choice other after gains same.
-    subst (λ (s : State). Step acts act choice s after gains
+    subst (λ (s : State). machine.Step acts act choice s after gains
     ↔ (after ≡ s) × (gains ≡ no_gains)) (apart state other (is ∙ sym same))
     (here acts choice after gains) in
     subst (All Rests) (sym (take_more entries i d within))
     (All-append Rests (take i entries) (slice_index_or entries i d ∷ []) before
     (All-cons Rests _ [] one (All-nil Rests)))
 
+-- where all sums of a kind are 0, their range is of 0 alone
+range-start : (Kind : Sums → Type 0) (value : Sums → ℤ) (range : Range) → Kind no_sums
+    → ((sums : Sums) → Kind sums → sums ≡ no_sums) → value no_sums ≡ pos 0
+    → range ≡ record { least = pos 0; greatest = pos 0 } → IsRange Kind value range
+range-start Kind value range none only nothing is = record {
+  least = (no_sums, none, nothing ∙ sym (ap (λ r. r.least) is));
+  greatest = (no_sums, none, nothing ∙ sym (ap (λ r. r.greatest) is));
+  low = λ sums kind.
+      let here : value sums ≡ pos 0 = ap value (only sums kind) ∙ nothing in
+      let there : range.least ≡ pos 0 = ap (λ r. r.least) is in
+      omega (arith, ints, here, there);
+  high = λ sums kind.
+      let here : value sums ≡ pos 0 = ap value (only sums kind) ∙ nothing in
+      let there : range.greatest ≡ pos 0 = ap (λ r. r.greatest) is in
+      omega (arith, ints, here, there);
+}
+
+account-start : (Kind : Sums → Type 0) (account : Sums → AccountSums) (ranges : Account)
+    → Kind no_sums → ((sums : Sums) → Kind sums → sums ≡ no_sums)
+    → account no_sums ≡ record { device = 0; controller = 0 } → ranges ≡ no_account
+    → IsAccount Kind account ranges
+account-start Kind account ranges none only nothing is = record {
+  device = range-start Kind _ ranges.device none only (ap (λ a. pos a.device) nothing)
+      (ap (λ r. r.device) is);
+  controller = range-start Kind _ ranges.controller none only (ap (λ a. pos a.controller) nothing)
+      (ap (λ r. r.controller) is);
+  difference = range-start Kind _ ranges.difference none only
+      (ap (λ a. pos a.device -ℤ pos a.controller) nothing) (ap (λ r. r.difference) is);
+}
+
+-- The table behind no act: the one code of the states in which the machine may start, with no sums.
+pub table-start : {State : Type 0} (code_of : State → ℕ) (machine : Machine State) (code : ℕ)
+    (cell : Cell) → cell.first ≡ no_account → cell.second ≡ no_account
+    → ((state : State) → machine.Starts state ↔ (code_of state ≡ code))
+    → (state : State) × (code_of state ≡ code) → IsTable code_of machine [] ((code, cell) ∷ [])
+table-start {State} code_of machine code cell first second starts some =
+    let Comes : ℕ → Sums → Type 0 = ArrivesAt code_of (Arrives machine []) in
+    let way : Arrives machine [] some.0 no_sums = ((starts some.0).1 some.1, refl) in
+    let here : Comes code no_sums = record { state = some.0; is = some.1; way = way } in
+    let only : (sums : Sums) → Comes code sums → sums ≡ no_sums = λ sums comes. comes.way.1 in
+    let exact : IsCell (Comes code) cell = record {
+      first = account-start (Comes code) (λ sums. sums.first) cell.first here only refl first;
+      second = account-start (Comes code) (λ sums. sums.second) cell.second here only refl second;
+    } in
+    record {
+      some = (some.0, no_sums, way);
+      bounds = record {
+        exact = λ other found has. elim (contains-cases (code, cell) [] (other, found) has) [
+          | inl same ↦ subst (λ (e : ℕ × Cell). IsCell (Comes e.0) e.1) same exact
+          | inr rest ↦ absurd (contains-none (other, found) rest)
+        ];
+        whole = λ other sums comes.
+            let same : code ≡ other = sym ((starts comes.state).0 comes.way.0) ∙ comes.is in
+            (cell, contains-here (code, cell) [] (other, cell) (ap (λ c. (c, cell)) same));
+      };
+    }
+
 -- Where there is no entry, nothing arrives.
 pub nothing-arrives : {State : Type 0} (code_of : State → ℕ)
-    (Step : List Act → Act → Choice → State → State → Gains → Type 0) (first : State)
+    (machine : Machine State)
     (acts : List Act) (entries : List (ℕ × Cell))
-    → Bounds (ArrivesAt code_of (Arrives Step first acts)) entries → entries ≡ []
-    → (state : State) (sums : Sums) → Arrives Step first acts state sums → ⊥
-nothing-arrives code_of Step first acts entries bounds none state sums way =
+    → Bounds (ArrivesAt code_of (Arrives machine acts)) entries → entries ≡ []
+    → (state : State) (sums : Sums) → Arrives machine acts state sums → ⊥
+nothing-arrives code_of machine acts entries bounds none state sums way =
     let there = bounds.whole (code_of state) sums
     (record { state = state; is = refl; way = way }) in
     contains-none (code_of state, there.0)
@@ -187,12 +249,12 @@ nothing-arrives code_of Step first acts entries bounds none state sums way =
 
 -- Where there is an entry, something arrives.
 pub table-some : {State : Type 0} (code_of : State → ℕ)
-    (Step : List Act → Act → Choice → State → State → Gains → Type 0) (first : State)
+    (machine : Machine State)
     (acts : List Act) (entries : List (ℕ × Cell))
-    → Bounds (ArrivesAt code_of (Arrives Step first acts)) entries → (entries ≡ [] → ⊥)
-    → IsTable code_of Step first acts entries
-table-some code_of Step first acts [] bounds some = absurd (some refl)
-table-some code_of Step first acts (entry ∷ rest) bounds some =
+    → Bounds (ArrivesAt code_of (Arrives machine acts)) entries → (entries ≡ [] → ⊥)
+    → IsTable code_of machine acts entries
+table-some code_of machine acts [] bounds some = absurd (some refl)
+table-some code_of machine acts (entry ∷ rest) bounds some =
     let cell = bounds.exact entry.0 entry.1 (contains-here entry rest entry refl) in
     let least = cell.first.device.least in
     record { some = (least.1.state, least.0, least.1.way); bounds = bounds }
@@ -255,18 +317,18 @@ cells-joined Comes (entry ∷ entries) Kind cell is exact =
 
 -- The join of all entries of a table has what arrives anywhere.
 pub table-joined : {State : Type 0} (code_of : State → ℕ)
-    (Step : List Act → Act → Choice → State → State → Gains → Type 0) (first : State)
+    (machine : Machine State)
     (acts : List Act) (entries : List (ℕ × Cell)) (result : Cell)
     → ((entry : ℕ × Cell) (rest : List (ℕ × Cell)) → entries ≡ entry ∷ rest
     → result ≡ joined_cells entry.1 rest)
-    → IsTable code_of Step first acts entries
-    → IsCell (ArrivesAnywhere (Arrives Step first acts)) result
-table-joined code_of Step first acts [] result joins table =
-    absurd (nothing-arrives code_of Step first acts [] table.bounds refl table.some.0
+    → IsTable code_of machine acts entries
+    → IsCell (ArrivesAnywhere (Arrives machine acts)) result
+table-joined code_of machine acts [] result joins table =
+    absurd (nothing-arrives code_of machine acts [] table.bounds refl table.some.0
     table.some.1 table.some.2)
-table-joined code_of Step first acts (entry ∷ rest) result joins table =
-    let At : ℕ → Sums → Type 0 = ArrivesAt code_of (Arrives Step first acts) in
-    subst (IsCell (ArrivesAnywhere (Arrives Step first acts))) (sym (joins entry rest refl))
+table-joined code_of machine acts (entry ∷ rest) result joins table =
+    let At : ℕ → Sums → Type 0 = ArrivesAt code_of (Arrives machine acts) in
+    subst (IsCell (ArrivesAnywhere (Arrives machine acts))) (sym (joins entry rest refl))
     (cell-same (λ sums. At entry.0 sums ⊎ SomeOf At rest sums) _ (joined_cells entry.1 rest)
     (λ sums either. elim either [
       | inl a ↦ record { state = a.state; way = a.way }

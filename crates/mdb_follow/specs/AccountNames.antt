@@ -2,13 +2,12 @@
 use Rattle.std.specs.Prelude.{ℕ, List, codes}
 use Rattle.mdb_msgs.specs.declared.command.Device.{Device}
 use Rattle.mdb_msgs.specs.declared.command.Device.TheVariants as devices
-use Rattle.mdb_msgs.specs.declared.command.ReaderUnit.{ReaderUnit}
 use Rattle.mdb_msgs.specs.declared.command.ReaderUnit.TheVariants.{First, Second}
 use Rattle.mdb_cashless.specs.Units.{device_of_unit}
 use Rattle.mdb_follow.specs.declared.account_name.AccountName.{AccountName}
 use Rattle.mdb_follow.specs.declared.account_name.AccountName.TheVariants.{CoinsIn, BillsIn, PaidOut, Approved, Sold}
 use Rattle.mdb_follow.specs.Runs.{AllSums}
-use Rattle.mdb_follow.specs.Sums.{AccountSums, Sums}
+use Rattle.mdb_follow.specs.Sums.{AccountSums}
 
 -- the word of an account
 abbrev pub account_word : AccountName → List ℕ
@@ -38,15 +37,10 @@ account_place (Sold First) = 4
 account_place (Approved Second) = 5
 account_place (Sold Second) = 6
 
--- the sums of a reader
-abbrev pub reader_sums : ReaderUnit → AllSums → Sums
-reader_sums First sums = sums.cashless
-reader_sums Second sums = sums.cashless2
-
 -- what it has come to in a run with these sums
 abbrev pub sums_of : AccountName → AllSums → AccountSums
-sums_of CoinsIn sums = sums.changer.first
-sums_of BillsIn sums = sums.bill.first
-sums_of PaidOut sums = sums.changer.second
-sums_of (Approved unit) sums = (reader_sums unit sums).first
-sums_of (Sold unit) sums = (reader_sums unit sums).second
+sums_of CoinsIn sums = (sums devices.Changer).first
+sums_of BillsIn sums = (sums devices.Bill).first
+sums_of PaidOut sums = (sums devices.Changer).second
+sums_of (Approved unit) sums = (sums (device_of_unit unit)).first
+sums_of (Sold unit) sums = (sums (device_of_unit unit)).second

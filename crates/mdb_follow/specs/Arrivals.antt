@@ -1,14 +1,18 @@
 -- The ways through acts: which state of a device and the controller each leads to, and what the
 -- accounts have come to then. The acts stand newest first.
 use Rattle.std.specs.Prelude.{◌≡◌, List, [], ◌∷◌}
+use Rattle.mdb_msgs.specs.declared.command.Device.{Device}
 use Rattle.mdb_bus.specs.declared.act.Act.{Act}
 use Rattle.mdb_cash.specs.declared.choice.Choice.{Choice}
 use Rattle.mdb_cash.specs.declared.gains.Gains.{Gains}
 use Rattle.mdb_cash.specs.Choices.{CanStand}
+use Rattle.mdb_cash.specs.Machine.{Machine}
+use Rattle.mdb_follow.specs.Machines.{machine_of}
+use Rattle.mdb_follow.specs.Runs.{AllSums, States}
 use Rattle.mdb_follow.specs.Sums.{Sums, added, no_sums}
 
--- One act more: a way through the acts before it leads to a state, and a step by the act, taken as
--- it can be, leads on from there and adds its gains.
+-- One act more: a way through the acts before it leads to a state, and a step by the act, under a
+-- choice that can stand on it, leads on from there and adds its gains.
 pub record ArrivesBy {State : Type 0} (act : Act) (Before : State → Sums → Type 0)
     (Step : Choice → State → State → Gains → Type 0) (state : State) (sums : Sums) : Type 0 where
   pub choice : Choice
@@ -20,10 +24,14 @@ pub record ArrivesBy {State : Type 0} (act : Act) (Before : State → Sums → T
   pub step : Step choice before state gains
   pub adds : sums ≡ added sums_before gains
 
--- A way through the acts, from the first state, leads to this state with these sums.
-abbrev pub Arrives : {State : Type 0}
-    → (List Act → Act → Choice → State → State → Gains → Type 0)
-    → State → List Act → State → Sums → Type 0
-Arrives Step first [] state sums = (state ≡ first) × (sums ≡ no_sums)
-Arrives Step first (act ∷ acts) state sums =
-    ArrivesBy act (Arrives Step first acts) (Step acts act) state sums
+-- A way through the acts, from a state in which the machine may start, leads to this state with
+-- these sums.
+abbrev pub Arrives : {State : Type 0} → Machine State → List Act → State → Sums → Type 0
+Arrives machine [] state sums = machine.Starts state × (sums ≡ no_sums)
+Arrives machine (act ∷ acts) state sums =
+    ArrivesBy act (Arrives machine acts) (machine.Step acts act) state sums
+
+-- Each device has a way of its own through acts, by its machine, to its state with its sums.
+abbrev pub EachArrives : List Act → States → AllSums → Type 0
+EachArrives acts states sums =
+    (device : Device) → Arrives (machine_of device) acts (states device) (sums device)

@@ -6,6 +6,7 @@ use Rattle.mdb_bus.specs.declared.act.Act.{Act}
 use Rattle.mdb_cash.specs.declared.choice.Choice.{Choice}
 use Rattle.mdb_cash.specs.declared.gains.Gains.{Gains}
 use Rattle.mdb_cash.specs.Gains.{no_gains}
+use Rattle.mdb_cash.specs.Machine.{Machine}
 use Rattle.mdb_follow.specs.declared.cell.Cell.{Cell}
 use Rattle.mdb_follow.specs.Cells.{joined_cell, moved_cell}
 
@@ -72,14 +73,13 @@ joined_cells cell entries = fold (λ all entry. joined_cell all entry.1) cell en
 
 -- An act leaves the states that have a code, and the sums, behind whatever acts and however it is
 -- taken.
-abbrev pub RestsAt : {State : Type 0} → (State → ℕ)
-    → (List Act → Act → Choice → State → State → Gains → Type 0) → Act → ℕ → Type 0
-RestsAt {State} code_of Step act code =
+abbrev pub RestsAt : {State : Type 0} → (State → ℕ) → Machine State → Act → ℕ → Type 0
+RestsAt {State} code_of machine act code =
     (acts : List Act) (choice : Choice) (before after : State) (gains : Gains)
     → code_of before ≡ code
-    → Step acts act choice before after gains ↔ (after ≡ before) × (gains ≡ no_gains)
+    → machine.Step acts act choice before after gains ↔ (after ≡ before) × (gains ≡ no_gains)
 
 -- and those of all entries
-abbrev pub AllRest : {State : Type 0} → (State → ℕ)
-    → (List Act → Act → Choice → State → State → Gains → Type 0) → Act → List (ℕ × Cell) → Type 0
-AllRest code_of Step act entries = All (λ entry. RestsAt code_of Step act entry.0) entries
+abbrev pub AllRest : {State : Type 0} → (State → ℕ) → Machine State → Act → List (ℕ × Cell)
+    → Type 0
+AllRest code_of machine act entries = All (λ entry. RestsAt code_of machine act entry.0) entries

@@ -1,23 +1,20 @@
 -- The first row that cannot be, and why.
 use Rattle.std.specs.Prelude.{◌≡◌, ◌⊎◌, ◌+◌, ◌++◌, List, [], ◌∷◌, length}
 use Rattle.mdb_words.specs.declared.event.Event.{Event}
-use Rattle.mdb_msgs.specs.declared.command.ReaderUnit.{ReaderUnit}
+use Rattle.mdb_msgs.specs.declared.command.Device.{Device}
+use Rattle.mdb_msgs.specs.declared.command.Device.TheVariants as devices
 use Rattle.mdb_bus.specs.declared.act.Act.{Act}
 use Rattle.mdb_bus.specs.declared.fault.Blame.{Blame}
 use Rattle.mdb_bus.specs.declared.fault.Rule.{Rule}
-use Rattle.mdb_bus.specs.declared.fault.Rule.TheVariants as rule
+use Rattle.mdb_bus.specs.declared.fault.Rule.TheVariants as rules
 use Rattle.mdb_bus.specs.ActLists.{Piece, Whole, IsActList, acts_of}
 use Rattle.mdb_bus.specs.LinkFaults.{IsLinkFault}
 use Rattle.mdb_cash.specs.declared.choice.Choice.{Choice}
 use Rattle.mdb_cash.specs.declared.gains.Gains.{Gains}
-use Rattle.mdb_cash.specs.Bill as bill
-use Rattle.mdb_cash.specs.BillFacts as bill_facts
-use Rattle.mdb_cash.specs.Changer as changer
-use Rattle.mdb_cash.specs.ChangerFacts as changer_facts
 use Rattle.mdb_cash.specs.Choices.{CanStand}
-use Rattle.mdb_cashless.specs.Reader as reader
-use Rattle.mdb_cashless.specs.ReaderFacts as reader_facts
+use Rattle.mdb_cash.specs.Machine.{Machine}
 use Rattle.mdb_follow.specs.Arrivals.{Arrives}
+use Rattle.mdb_follow.specs.Machines.{machine_of}
 use Rattle.mdb_follow.specs.Sums.{Sums}
 use Rattle.mdb_follow.specs.declared.offence.Offence.{Offence}
 use Rattle.mdb_follow.specs.Runs.{IsReached}
@@ -32,24 +29,24 @@ pub record BreaksLink (events : List Event) (row : Event) (broken : Rule)
 
 -- From no state to which a way through the acts before leads is there a step by an act, however it
 -- can be taken.
-abbrev pub HasNoStep : {State : Type 0}
-    → (List Act → Act → Choice → State → State → Gains → Type 0) → State → Act → List Act → Type 0
-HasNoStep {State} Step first act before =
-    (state : State) (sums : Sums) → Arrives Step first before state sums → (choice : Choice)
+abbrev pub HasNoStep : {State : Type 0} → Machine State → Act → List Act → Type 0
+HasNoStep {State} machine act before =
+    (state : State) (sums : Sums) → Arrives machine before state sums → (choice : Choice)
     → CanStand act choice → (after : State) (gains : Gains)
-    → Step before act choice state after gains → ⊥
+    → machine.Step before act choice state after gains → ⊥
 
--- A machine that a rule is of has no step by an act. Both readers have one rule.
-pub data NoStep : Rule → Act → List Act → Type 0 where
-  ByChanger : {act : Act} {before : List Act}
-      → HasNoStep (λ acts. changer.ChangerStep (changer_facts.facts_of acts)) changer.power_on act
-      before → NoStep rule.Changer act before
-  ByBill : {act : Act} {before : List Act}
-      → HasNoStep (λ acts. bill.BillStep (bill_facts.facts_of acts)) bill.power_on act before
-      → NoStep rule.Bill act before
-  ByReader : {act : Act} {before : List Act} (unit : ReaderUnit)
-      → HasNoStep (λ acts. reader.ReaderStep unit (reader_facts.facts_of unit acts))
-      reader.power_on act before → NoStep rule.Cashless act before
+-- the rule that is broken where a device's machine has no step; both readers have one
+abbrev pub rule_of : Device → Rule
+rule_of devices.Changer = rules.Changer
+rule_of devices.Bill = rules.Bill
+rule_of devices.Cashless = rules.Cashless
+rule_of devices.Cashless2 = rules.Cashless
+
+-- The machine of a device that a rule is of has no step by an act.
+pub record NoStep (broken : Rule) (act : Act) (before : List Act) : Type 0 where
+  pub device : Device
+  pub rule : broken ≡ rule_of device
+  pub none : HasNoStep (machine_of device) act before
 
 -- The act that a row ends can't have been done by its device and the controller.
 pub record BreaksMachine (events : List Event) (row : Event) (broken : Rule)

@@ -2,59 +2,25 @@
 -- money that moved by it (this profile). Pieces and acts stand newest first.
 use Rattle.std.specs.Prelude.{◌≡◌, ◌↔◌, ℕ, List, [], ◌∷◌, length}
 use Rattle.mdb_words.specs.declared.event.Event.{Event}
-use Rattle.mdb_msgs.specs.declared.command.ReaderUnit.TheVariants.{First, Second}
+use Rattle.mdb_msgs.specs.declared.command.Device.{Device}
 use Rattle.mdb_bus.specs.declared.act.Act.{Act}
 use Rattle.mdb_bus.specs.ActLists.{Piece, Whole, IsActList, acts_of, events_of}
 use Rattle.mdb_bus.specs.Acts.{IsAck}
 use Rattle.mdb_bus.specs.Loss.{IsHeard, Loss, LossFits}
-use Rattle.mdb_cash.specs.declared.bill.state.BillState.{BillState}
-use Rattle.mdb_cash.specs.declared.changer.state.ChangerState.{ChangerState}
 use Rattle.mdb_cash.specs.declared.choice.Choice.{Choice}
 use Rattle.mdb_cash.specs.declared.choice.Choice.TheVariants.{Lost}
 use Rattle.mdb_cash.specs.declared.gains.Gains.{Gains}
-use Rattle.mdb_cash.specs.Bill as bill
-use Rattle.mdb_cash.specs.Bill.{BillStep}
-use Rattle.mdb_cash.specs.BillFacts as bill_facts
-use Rattle.mdb_cash.specs.Changer as changer
-use Rattle.mdb_cash.specs.Changer.{ChangerStep}
-use Rattle.mdb_cash.specs.ChangerFacts as changer_facts
 use Rattle.mdb_cash.specs.Choices.{CanStand}
-use Rattle.mdb_cashless.specs.declared.reader.state.ReaderState.{ReaderState}
-use Rattle.mdb_cashless.specs.Reader as reader
-use Rattle.mdb_cashless.specs.Reader.{ReaderStep}
-use Rattle.mdb_cashless.specs.ReaderFacts as reader_facts
+use Rattle.mdb_follow.specs.Machines.{StateOf, machine_of}
 use Rattle.mdb_follow.specs.Sums.{Sums, added, no_sums}
 
--- The states of each device and the controller's dealings with it: the changer, the validator, the
--- reader at 10H and that at 60H.
-pub record States : Type 0 where
-  pub changer : ChangerState
-  pub bill : BillState
-  pub cashless : ReaderState
-  pub cashless2 : ReaderState
-
-abbrev pub at_power_on : States
-at_power_on = record {
-  changer = changer.power_on;
-  bill = bill.power_on;
-  cashless = reader.power_on;
-  cashless2 = reader.power_on;
-}
+-- a state of each device and the controller's dealings with it
+abbrev pub States : Type 0
+States = (device : Device) → StateOf device
 
 -- what the accounts of each device have come to
-pub record AllSums : Type 0 where
-  pub changer : Sums
-  pub bill : Sums
-  pub cashless : Sums
-  pub cashless2 : Sums
-
-abbrev pub nothing_yet : AllSums
-nothing_yet = record {
-  changer = no_sums;
-  bill = no_sums;
-  cashless = no_sums;
-  cashless2 = no_sums;
-}
+abbrev pub AllSums : Type 0
+AllSums = Device → Sums
 
 -- a step of one device and the controller, and its gains in their sums
 pub record Goes {State : Type 0} (Step : State → State → Gains → Type 0) (before after : State)
@@ -63,21 +29,15 @@ pub record Goes {State : Type 0} (Step : State → State → Gains → Type 0) (
   pub step : Step before after gains
   pub adds : sums ≡ added sums_before gains
 
--- A step of all by an act that is taken so, after other acts: each device and the controller by its
+-- A step of all by an act under one choice, after other acts: each device and the controller by its
 -- machine.
-pub record AllGo (acts : List Act) (act : Act) (choice : Choice) (before after : States)
-    (sums_before sums : AllSums) : Type 0 where
-  pub changer : Goes (ChangerStep (changer_facts.facts_of acts) act choice) before.changer
-      after.changer sums_before.changer sums.changer
-  pub bill : Goes (BillStep (bill_facts.facts_of acts) act choice) before.bill after.bill
-      sums_before.bill sums.bill
-  pub cashless : Goes (ReaderStep First (reader_facts.facts_of First acts) act choice)
-      before.cashless after.cashless sums_before.cashless sums.cashless
-  pub cashless2 : Goes (ReaderStep Second (reader_facts.facts_of Second acts) act choice)
-      before.cashless2 after.cashless2 sums_before.cashless2 sums.cashless2
+abbrev pub AllGo : List Act → Act → Choice → States → States → AllSums → AllSums → Type 0
+AllGo acts act choice before after sums_before sums =
+    (device : Device) → Goes ((machine_of device).Step acts act choice) (before device)
+    (after device) (sums_before device) (sums device)
 
--- A way goes on by one act, which is taken as it can be: an ACK as one that its receiver didn't
--- hear exactly where the loss of its rows has it so.
+-- A way goes on by one act, under a choice that can stand on it: an ACK is one that its receiver
+-- didn't hear exactly where the loss of its rows has it so.
 pub record GoesOnBy (loss : Loss) (pieces : List Piece) (act : Act) (count : ℕ)
     (Before : States → AllSums → Type 0) (states : States) (sums : AllSums) : Type 0 where
   pub choice : Choice
@@ -89,10 +49,11 @@ pub record GoesOnBy (loss : Loss) (pieces : List Piece) (act : Act) (count : ℕ
   pub way : Before before sums_before
   pub go : AllGo (acts_of pieces) act choice before states sums_before sums
 
--- A way through pieces under a loss, from power-on, leads to these states with these sums. Tails
--- change nothing.
+-- A way through pieces under a loss, from states in which the machines may start, leads to these
+-- states with these sums. Tails change nothing.
 abbrev pub IsWay : Loss → List Piece → States → AllSums → Type 0
-IsWay loss [] states sums = (states ≡ at_power_on) × (sums ≡ nothing_yet)
+IsWay loss [] states sums =
+    (device : Device) → (machine_of device).Starts (states device) × (sums device ≡ no_sums)
 IsWay loss (Whole act events ∷ pieces) states sums =
     GoesOnBy loss pieces act (length events) (IsWay loss pieces) states sums
 IsWay loss (piece ∷ pieces) states sums = IsWay loss pieces states sums

@@ -4,10 +4,6 @@ use Rattle.mdb_msgs.specs.declared.command.ReaderUnit.{ReaderUnit}
 use Rattle.mdb_msgs.specs.declared.command.ReaderUnit.TheVariants.{First, Second}
 use Rattle.mdb_bus.specs.declared.act.Act.{Act}
 use Rattle.mdb_bus.specs.declared.fault.Rule.{Rule}
-use Rattle.mdb_cash.specs.declared.bill.facts.BillFacts.{BillFacts}
-use Rattle.mdb_cash.specs.declared.changer.facts.ChangerFacts.{ChangerFacts}
-use Rattle.mdb_cash.specs.declared.choice.Choice.{Choice}
-use Rattle.mdb_cash.specs.declared.gains.Gains.{Gains}
 use Rattle.mdb_cash.specs.Bill as bill
 use Rattle.mdb_cash.specs.BillCodes as bill_codes
 use Rattle.mdb_cash.specs.BillFacts as bill_facts
@@ -16,6 +12,7 @@ use Rattle.mdb_cash.specs.Changer as changer
 use Rattle.mdb_cash.specs.ChangerCodes as changer_codes
 use Rattle.mdb_cash.specs.ChangerFacts as changer_facts
 use Rattle.mdb_cash.specs.ChangerValues as changer_values
+use Rattle.mdb_cash.specs.Machine.{Machine}
 use Rattle.mdb_cashless.specs.declared.reader.facts.ReaderFacts.{ReaderFacts}
 use Rattle.mdb_cashless.specs.Reader as reader
 use Rattle.mdb_cashless.specs.ReaderCodes as reader_codes
@@ -30,31 +27,28 @@ use Rattle.mdb_follow.specs.Tables.{IsTable}
 -- A side stands for acts, the newest first: its facts are those behind them, and its table has the
 -- states that the ways through them lead to.
 pub record IsSide {Facts State : Type 0} {N : ℕ} (stands_for : Facts → List Act → Type 0)
-    (code_of : State → ℕ)
-    (Step : List Act → Act → Choice → State → State → Gains → Type 0) (first : State)
-    (side : Side Facts N) (acts : List Act) : Type 0 where
+    (code_of : State → ℕ) (machine : Machine State) (side : Side Facts N)
+    (acts : List Act) : Type 0 where
   pub facts : stands_for side.facts acts
-  pub table : IsTable code_of Step first acts side.table
+  pub table : IsTable code_of machine acts side.table
 
 -- the changer's
-abbrev pub IsChangerSide : {N : ℕ} → Side ChangerFacts N → List Act → Type 0
+abbrev pub IsChangerSide : {N : ℕ} → Side changer_values.Value N → List Act → Type 0
 IsChangerSide side acts =
     IsSide (λ facts acts. changer_values.facts_in facts ≡ changer_facts.facts_of acts)
-    changer_codes.code_of (λ acts. changer.ChangerStep (changer_facts.facts_of acts))
-    changer.power_on side acts
+    changer_codes.code_of changer.machine side acts
 
 -- the validator's
-abbrev pub IsBillSide : {N : ℕ} → Side BillFacts N → List Act → Type 0
+abbrev pub IsBillSide : {N : ℕ} → Side bill_values.Value N → List Act → Type 0
 IsBillSide side acts =
     IsSide (λ facts acts. bill_values.facts_in facts ≡ bill_facts.facts_of acts)
-    bill_codes.code_of (λ acts. bill.BillStep (bill_facts.facts_of acts)) bill.power_on side acts
+    bill_codes.code_of bill.machine side acts
 
 -- a reader's
 abbrev pub IsReaderSide : {N : ℕ} → ReaderUnit → Side ReaderFacts N → List Act → Type 0
 IsReaderSide unit side acts =
     IsSide (λ facts acts. reader_values.facts_in facts ≡ reader_facts.facts_of unit acts)
-    reader_codes.code_of (λ acts. reader.ReaderStep unit (reader_facts.facts_of unit acts))
-    reader.power_on side acts
+    reader_codes.code_of (reader.machine unit) side acts
 
 -- all sides stand for acts
 pub record AreSides (sides : Sides) (acts : List Act) : Type 0 where

@@ -1,8 +1,7 @@
 -- What a table says of the ways through acts. It has states by their codes.
 use Rattle.std.specs.Prelude.{◌≡◌, ℕ, List, Contains}
 use Rattle.mdb_bus.specs.declared.act.Act.{Act}
-use Rattle.mdb_cash.specs.declared.choice.Choice.{Choice}
-use Rattle.mdb_cash.specs.declared.gains.Gains.{Gains}
+use Rattle.mdb_cash.specs.Machine.{Machine}
 use Rattle.mdb_follow.specs.declared.cell.Cell.{Cell}
 use Rattle.mdb_follow.specs.Arrivals.{Arrives}
 use Rattle.mdb_follow.specs.Ranges.{IsCell}
@@ -31,8 +30,7 @@ pub record Bounds (Comes : ℕ → Sums → Type 0) (entries : List (ℕ × Cell
 -- A table is that behind acts, the newest first: some way leads through the acts, and the codes of
 -- the table are those of the states that the ways lead to, each with the exact ranges of the sums
 -- there.
-pub record IsTable {State : Type 0} (code_of : State → ℕ)
-    (Step : List Act → Act → Choice → State → State → Gains → Type 0) (first : State)
+pub record IsTable {State : Type 0} (code_of : State → ℕ) (machine : Machine State)
     (acts : List Act) (entries : List (ℕ × Cell)) : Type 0 where
-  pub some : (state : State) × (sums : Sums) × Arrives Step first acts state sums
-  pub bounds : Bounds (ArrivesAt code_of (Arrives Step first acts)) entries
+  pub some : (state : State) × (sums : Sums) × Arrives machine acts state sums
+  pub bounds : Bounds (ArrivesAt code_of (Arrives machine acts)) entries

@@ -24,7 +24,7 @@ pub(crate) struct Side<F: Drop, const N: usize> {
 /// The side behind no act.
 pub(crate) fn start<P: Pair, const N: usize>() -> Side<P::Facts, N>
     requires { N ≡ P.CODES }
-    ensures stands { IsSide P.stands_for P.code_of P.may_step P.first result [] }
+    ensures stands { IsSide P.stands_for P.code_of P.machine result [] }
     ensures within { IsTableWithin 0 result.table }
 {
     Side {
@@ -47,11 +47,11 @@ pub(crate) fn follow<P: Pair, const N: usize>(
     requires size { N ≡ P.CODES }
     requires within { IsTableWithin (2 ^ 62) side.old.table }
     ensures stands { IfOk result (λ _. (acts : List Act)
-        → IsSide P.stands_for P.code_of P.may_step P.first side.old acts
-        → IsSide P.stands_for P.code_of P.may_step P.first side.new (act.now ∷ acts)) }
+        → IsSide P.stands_for P.code_of P.machine side.old acts
+        → IsSide P.stands_for P.code_of P.machine side.new (act.now ∷ acts)) }
     ensures none { OnErr result ((acts : List Act)
-        → IsSide P.stands_for P.code_of P.may_step P.first side.old acts
-        → HasNoStep P.may_step P.first act.now acts) }
+        → IsSide P.stands_for P.code_of P.machine side.old acts
+        → HasNoStep P.machine act.now acts) }
     ensures its { IfErr result (λ broken. broken ≡ rule) }
     ensures within { (limit : ℕ) → IsTableWithin limit side.old.table
         → IsTableWithin (limit + 2 ^ 32) side.new.table }
@@ -67,8 +67,8 @@ pub(crate) fn follow<P: Pair, const N: usize>(
 /// What the sums of a side may be, whatever the state is.
 pub(crate) fn ranges<P: Pair, const N: usize>(side: &Side<P::Facts, N>) -> Cell
     ensures { (acts : List Act)
-        → IsSide P.stands_for P.code_of P.may_step P.first side.now acts
-        → IsCell (ArrivesAnywhere (Arrives P.may_step P.first acts)) result }
+        → IsSide P.stands_for P.code_of P.machine side.now acts
+        → IsCell (ArrivesAnywhere (Arrives P.machine acts)) result }
 {
     side.table.ranges::<P>()
 }

@@ -52,7 +52,7 @@ impl<const N: usize> Table<N> {
     /// The table behind no act: the first state, with all sums 0.
     pub fn start<P: Pair>() -> Table<N>
         requires { N ≡ P.CODES }
-        ensures table { IsTable P.code_of P.may_step P.first [] result }
+        ensures table { IsTable P.code_of P.machine [] result }
         ensures within { IsTableWithin 0 result }
     {
         let mut one = Entries::new();
@@ -73,12 +73,12 @@ impl<const N: usize> Table<N> {
         requires size { N ≡ P.CODES }
         requires within { IsTableWithin (2 ^ 62) self.old }
         ensures table { OnTrue result ((acts : List Act) → P.stands_for facts.now acts
-            → IsTable P.code_of P.may_step P.first acts self.old
-            → IsTable P.code_of P.may_step P.first (act.now ∷ acts) self.new) }
+            → IsTable P.code_of P.machine acts self.old
+            → IsTable P.code_of P.machine (act.now ∷ acts) self.new) }
         ensures none { OnFalse result ((acts : List Act) → P.stands_for facts.now acts
-            → IsTable P.code_of P.may_step P.first acts self.old
+            → IsTable P.code_of P.machine acts self.old
             → (state : P.State) (sums : Sums)
-            → Arrives P.may_step P.first (act.now ∷ acts) state sums → ⊥) }
+            → Arrives P.machine (act.now ∷ acts) state sums → ⊥) }
         ensures same { OnFalse result (self.new ≡ self.old) }
         ensures within { (limit : ℕ) → IsTableWithin limit self.old
             → IsTableWithin (limit + 2 ^ 32) self.new }
@@ -98,12 +98,12 @@ impl<const N: usize> Table<N> {
         requires size { N ≡ P.CODES }
         requires within { IsTableWithin (2 ^ 62) self.old }
         ensures table { OnTrue result ((acts : List Act) → P.stands_for facts.now acts
-            → IsTable P.code_of P.may_step P.first acts self.old
-            → IsTable P.code_of P.may_step P.first (act.now ∷ acts) self.new) }
+            → IsTable P.code_of P.machine acts self.old
+            → IsTable P.code_of P.machine (act.now ∷ acts) self.new) }
         ensures none { OnFalse result ((acts : List Act) → P.stands_for facts.now acts
-            → IsTable P.code_of P.may_step P.first acts self.old
+            → IsTable P.code_of P.machine acts self.old
             → (state : P.State) (sums : Sums)
-            → Arrives P.may_step P.first (act.now ∷ acts) state sums → ⊥) }
+            → Arrives P.machine (act.now ∷ acts) state sums → ⊥) }
         ensures same { OnFalse result (self.new ≡ self.old) }
         ensures within { (limit : ℕ) → IsTableWithin limit self.old
             → IsTableWithin (limit + 2 ^ 32) self.new }
@@ -145,7 +145,7 @@ impl<const N: usize> Table<N> {
     /// Whether an act leaves all states that are possible now, and the sums.
     fn rests<P: Pair>(&self, act: &Act) -> bool
         requires { N ≡ P.CODES }
-        ensures { OnTrue result (AllRest P.code_of P.may_step act.now self.now) }
+        ensures { OnTrue result (AllRest P.code_of P.machine act.now self.now) }
     {
         // Chosen without a branch, and one loop for both: which of the two it is can't be foreseen.
         let entries = if self.turned { &self.other } else { &self.one };
@@ -154,8 +154,8 @@ impl<const N: usize> Table<N> {
 
     /// What the sums may be, whatever the state is.
     pub fn ranges<P: Pair>(&self) -> Cell
-        ensures { (acts : List Act) → IsTable P.code_of P.may_step P.first acts self.now
-            → IsCell (ArrivesAnywhere (Arrives P.may_step P.first acts)) result }
+        ensures { (acts : List Act) → IsTable P.code_of P.machine acts self.now
+            → IsCell (ArrivesAnywhere (Arrives P.machine acts)) result }
     {
         if self.turned {
             join_all(self.other.as_slice())
@@ -168,7 +168,7 @@ impl<const N: usize> Table<N> {
 /// Whether an act leaves the states of all entries, and the sums.
 fn all_rest<P: Pair>(act: &Act, entries: &[(usize, Cell)]) -> bool
     requires { AreBelow P.CODES entries.now }
-    ensures { OnTrue result (AllRest P.code_of P.may_step act.now entries.now) }
+    ensures { OnTrue result (AllRest P.code_of P.machine act.now entries.now) }
 {
     for (code, _) in entries {
         if !P::rests(act, P::state(*code)) {
@@ -190,12 +190,12 @@ fn lead_alone<P: Pair, const N: usize>(
     requires below { AreBelow N entries.old }
     requires within { IsTableWithin (2 ^ 62) entries.old }
     ensures table { OnTrue result ((acts : List Act) → P.stands_for facts.now acts
-        → IsTable P.code_of P.may_step P.first acts entries.old
-        → IsTable P.code_of P.may_step P.first (act.now ∷ acts) entries.new) }
+        → IsTable P.code_of P.machine acts entries.old
+        → IsTable P.code_of P.machine (act.now ∷ acts) entries.new) }
     ensures none { OnFalse result ((acts : List Act) → P.stands_for facts.now acts
-        → IsTable P.code_of P.may_step P.first acts entries.old
+        → IsTable P.code_of P.machine acts entries.old
         → (state : P.State) (sums : Sums)
-        → Arrives P.may_step P.first (act.now ∷ acts) state sums → ⊥) }
+        → Arrives P.machine (act.now ∷ acts) state sums → ⊥) }
     ensures same { OnFalse result (entries.new ≡ entries.old) }
     ensures below { AreBelow N entries.new }
     ensures within { (limit : ℕ) → IsTableWithin limit entries.old
@@ -220,8 +220,8 @@ fn fill<P: Pair, const N: usize>(
     requires below { AreBelow N from.now }
     requires within { IsTableWithin (2 ^ 62) from.now }
     ensures table { (acts : List Act) → P.stands_for facts.now acts
-        → IsTable P.code_of P.may_step P.first acts from.now
-        → Bounds (ArrivesAt P.code_of (Arrives P.may_step P.first (act.now ∷ acts)))
+        → IsTable P.code_of P.machine acts from.now
+        → Bounds (ArrivesAt P.code_of (Arrives P.machine (act.now ∷ acts)))
         into.new }
     ensures below { AreBelow N into.new }
     ensures within { (limit : ℕ) → IsTableWithin limit from.now
@@ -237,18 +237,18 @@ fn fill<P: Pair, const N: usize>(
 }
 
 /// The step that an act is by its other choice than the plain one, from the state of a code. `None`
-/// where there is no such step, and it may be where it is of no matter how the act is taken.
+/// where there is no such step, and it may be where it is of no matter what is chosen of the act.
 // Not inlined, so that the step is made where it is looked at, and not moved there.
 #[inline(never)]
 fn second_step<P: Pair>(facts: &P::Facts, act: &Act, code: usize) -> Option<(usize, Gains)>
     requires { code < P.CODES }
     ensures sound { (acts : List Act) → P.stands_for facts.now acts → (next : ℕ) (gains : Gains)
         → result ≡ Some (next, gains)
-        → IsMove act.now P.code_of (P.may_step acts act.now) code next gains }
+        → IsMove act.now P.code_of (P.machine.Step acts act.now) code next gains }
     ensures whole { (acts : List Act) → P.stands_for facts.now acts → (next : ℕ) (gains : Gains)
-        → IsMove act.now P.code_of (P.may_step acts act.now) code next gains
+        → IsMove act.now P.code_of (P.machine.Step acts act.now) code next gains
         → (result ≡ Some (next, gains))
-        ⊎ IsStep P.code_of (P.may_step acts act.now Plain) code next gains }
+        ⊎ IsStep P.code_of (P.machine.Step acts act.now Plain) code next gains }
     ensures below { IfSome result (λ move. (move.0 < P.CODES) × IsSmall move.1) }
 {
     if P::heeds_choice(act, P::state(code)) {

@@ -1,11 +1,9 @@
 //! What the validator's kept messages say.
 
-ghost use Rattle.std.specs.Prelude.{◌≡◌, ◌≤◌, length, map};
 ghost use Rattle.mdb_cash.specs.BillMessages as spec;
-ghost use Rattle.mdb_cash.specs.Kept.{IsSummary};
 
-use crate::kept::{KeptMessage, Message, Part, Summary, add_all};
-use mdb_msgs::{BillMsg, Reply};
+use crate::kept::{KeptMessage, Message, Part};
+use mdb_msgs::BillMsg;
 
 /// What a kept message of the validator says (MDB/ICP 4.3, bill validator).
 #[derive(Clone, Copy, PartialEq, Eq, Debug)]
@@ -44,27 +42,4 @@ impl Message for BillMsg {
             _ => Part::Other,
         }
     }
-}
-
-/// The messages of a reply of the validator.
-pub(crate) fn messages_in(reply: &Reply) -> &[BillMsg]
-    ensures parts { map spec.part_of result.now ≡ spec.parts_of reply.now }
-    ensures few { length result.now ≤ 16 }
-{
-    match reply {
-        Reply::BillPoll(list) => list.as_slice(),
-        _ => &[],
-    }
-}
-
-/// What counts of messages for what the validator keeps.
-#[inline(always)]
-pub(crate) fn summary_of(messages: &[BillMsg]) -> Summary<BillReport, 16>
-    requires { length messages.now ≤ 16 }
-    ensures { IsSummary result.kept.items result.reset result.early
-        (map spec.part_of messages.now) }
-{
-    let mut summary = Summary::new();
-    add_all(&mut summary, messages);
-    summary
 }

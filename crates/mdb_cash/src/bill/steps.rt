@@ -1,92 +1,78 @@
 //! The steps of the validator and the controller.
 
-ghost use Rattle.std.specs.Prelude.{◌≡◌, ◌≤◌, ◌↔◌, IfSome, IsTrue, length};
 ghost use Rattle.mdb_cash.specs.Bill as spec;
-ghost use Rattle.mdb_cash.specs.BillValues.{IsOnly, facts_in};
-ghost use Rattle.mdb_cash.specs.Gains.{IsSmall};
-ghost use Rattle.mdb_cash.specs.Pair.{IsOutcome};
+ghost use Rattle.mdb_cash.specs.KeeperValues.{facts_in};
+ghost use Rattle.mdb_cash.specs.Pair.{IsOnly};
 
-use super::facts::BillFacts;
-use super::report::{BillReport, messages_in, summary_of};
+use super::Bill;
+use super::report::BillReport;
 use super::state::{BillState, BillType, Escrow};
+use super::tables::BillFacts;
 use super::values::all_stacked;
 use crate::choice::Choice;
+use crate::conduct::Conduct;
 use crate::gains::Gains;
-use crate::kept::{held, holds_acked, holds_behind, holds_read, may_be_read};
-use mdb_bus::Act;
-use mdb_msgs::{BillCommand, Command, Reply};
+use mdb_msgs::BillCommand;
 
-/// The step by an act that is taken so, from a state: the state after it, and its gains. `None`
-/// where there is no such step.
-pub(crate) fn step(
-    facts: &BillFacts,
-    act: &Act,
-    choice: Choice,
-    before: BillState,
-) -> Option<(BillState, Gains)>
-    ensures outcome { IsOutcome (spec.BillStep (facts_in facts.now) act.now choice before)
-        result }
-    ensures small { IfSome result (λ outcome. IsSmall outcome.1) }
-{
-    match act {
-        Act::Ack(Command::Bill(command)) => ack(*command, before),
-        Act::Reply(Command::Bill(command), reply) => {
-            answer(facts, *command, reply, choice, before)
-        }
-        Act::VmcAck(Command::Bill(command), reply) => {
-            Some(vmc_ack(facts, *command, reply, choice, before))
-        }
-        Act::Break(_) => Some((BillState::power_on(), Gains::none())),
-        _ => Some((before, Gains::none())),
+impl Conduct for Bill {
+    type State = BillState;
+
+    ghost conduct = { spec.conduct };
+
+    fn power_on() -> BillState {
+        BillState::power_on()
     }
-}
 
-/// The validator acknowledges.
-fn ack(command: BillCommand, before: BillState) -> Option<(BillState, Gains)>
-    ensures outcome { IsOutcome (spec.AckStep command before) result }
-    ensures small { IfSome result (λ outcome. IsSmall outcome.1) }
-{
-    match command {
-        BillCommand::Reset => Some((BillState::power_on(), Gains::none())),
-        BillCommand::Escrow(order) => {
-            let after = BillState {
+    fn holds(state: BillState) -> bool {
+        state.holds
+    }
+
+    fn with_holds(state: BillState, holds: bool) -> BillState {
+        BillState { holds, ..state }
+    }
+
+    fn ask(_facts: &BillFacts, _command: BillCommand, before: BillState) -> (BillState, Gains) {
+        (before, Gains::none())
+    }
+
+    fn ack(
+        _facts: &BillFacts,
+        command: BillCommand,
+        _choice: Choice,
+        before: BillState,
+    ) -> (BillState, Gains) {
+        let after = match command {
+            BillCommand::Reset => BillState::power_on(),
+            BillCommand::Escrow(order) => BillState {
                 escrow: before.escrow.ordered(order),
-                holds: before.holds,
-            };
-            Some((after, Gains::none()))
-        }
-        BillCommand::Poll if before.holds => None,
-        _ => Some((before, Gains::none())),
+                ..before
+            },
+            _ => before,
+        };
+        (after, Gains::none())
     }
-}
 
-/// The validator replies with data.
-fn answer(
-    facts: &BillFacts,
-    command: BillCommand,
-    reply: &Reply,
-    choice: Choice,
-    before: BillState,
-) -> Option<(BillState, Gains)>
-    ensures outcome { IsOutcome
-        (spec.ReplyStep (facts_in facts.now) command reply.now choice before) result }
-    ensures small { IfSome result (λ outcome. IsSmall outcome.1) }
-{
-    let messages = messages_in(reply);
-    if !may_be_read(choice, messages) {
-        return None;
+    fn take(
+        facts: &BillFacts,
+        choice: Choice,
+        news: &[BillReport],
+        before: BillState,
+    ) -> Option<BillState> {
+        let escrow = take_all(facts, news, before.escrow.read(choice))?;
+        Some(BillState { escrow, ..before })
     }
-    let summary = summary_of(messages);
-    let holds = holds_read(choice, before.holds);
-    let held = held(holds, facts.past.kept.as_slice());
-    let new = summary.told(is_poll(command), choice, facts.past.reset_owed, held)?;
-    let escrow = take_all(facts, new, before.escrow.read(choice))?;
-    let after = BillState {
-        escrow,
-        holds: holds_behind(summary.kept.as_slice(), holds),
-    };
-    let gains = Gains::of_device(all_stacked(&facts.setup, new), 0);
-    Some((after, gains))
+
+    fn first(facts: &BillFacts, messages: &[BillReport]) -> u64 {
+        all_stacked(&facts.setup, messages)
+    }
+
+    fn second(_facts: &BillFacts, _messages: &[BillReport]) -> u64 {
+        0
+    }
+
+    fn heard_reset(state: BillState) -> BillState {
+        state
+    }
 }
 
 /// What is in escrow behind new messages. `None` where they can't be.
@@ -130,37 +116,4 @@ fn take(facts: &BillFacts, message: BillReport, escrow: Escrow) -> Option<Escrow
             }
         }
     }
-}
-
-/// The controller acknowledges a reply.
-fn vmc_ack(
-    facts: &BillFacts,
-    command: BillCommand,
-    reply: &Reply,
-    choice: Choice,
-    before: BillState,
-) -> (BillState, Gains)
-    ensures outcome { spec.VmcAckStep (facts_in facts.now) command reply.now choice before
-        result.0 result.1 }
-    ensures small { IsSmall result.1 }
-{
-    let summary = summary_of(messages_in(reply));
-    let kept = summary.kept.as_slice();
-    let after = BillState {
-        escrow: before.escrow,
-        holds: holds_acked(choice, kept, before.holds),
-    };
-    let gains = if is_poll(command) {
-        Gains::of_controller(all_stacked(&facts.setup, kept), 0)
-    } else {
-        Gains::none()
-    };
-    (after, gains)
-}
-
-/// Whether a command is POLL.
-fn is_poll(command: BillCommand) -> bool
-    ensures { result ≡ spec.is_poll command }
-{
-    matches!(command, BillCommand::Poll)
 }

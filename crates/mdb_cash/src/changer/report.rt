@@ -1,11 +1,9 @@
 //! What the changer's kept messages say.
 
-ghost use Rattle.std.specs.Prelude.{◌≡◌, ◌≤◌, length, map};
 ghost use Rattle.mdb_cash.specs.ChangerMessages as spec;
-ghost use Rattle.mdb_cash.specs.Kept.{IsSummary};
 
-use crate::kept::{KeptMessage, Message, Part, Summary, add_all};
-use mdb_msgs::{ChangerMsg, Reply};
+use crate::kept::{KeptMessage, Message, Part};
+use mdb_msgs::ChangerMsg;
 
 /// What a kept message of the changer says (MDB/ICP 4.3, coin changer). Two such messages are the
 /// same where their first bytes are; the second counts the coins that are then in the tube (this
@@ -53,27 +51,4 @@ impl Message for ChangerMsg {
             _ => Part::Other,
         }
     }
-}
-
-/// The messages of a reply of the changer.
-pub(crate) fn messages_in(reply: &Reply) -> &[ChangerMsg]
-    ensures parts { map spec.part_of result.now ≡ spec.parts_of reply.now }
-    ensures few { length result.now ≤ 16 }
-{
-    match reply {
-        Reply::ChangerPoll(list) => list.as_slice(),
-        _ => &[],
-    }
-}
-
-/// What counts of messages for what the changer keeps.
-#[inline(always)]
-pub(crate) fn summary_of(messages: &[ChangerMsg]) -> Summary<ChangerReport, 16>
-    requires { length messages.now ≤ 16 }
-    ensures { IsSummary result.kept.items result.reset result.early
-        (map spec.part_of messages.now) }
-{
-    let mut summary = Summary::new();
-    add_all(&mut summary, messages);
-    summary
 }

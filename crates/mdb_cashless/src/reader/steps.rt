@@ -28,7 +28,7 @@ use mdb_bus::Act;
 use mdb_cash::{Choice, Gains};
 use mdb_msgs::{Command, ReaderCommand, ReaderUnit};
 
-/// The step by an act that is taken so, from a state: the state after it, and its gains. `None`
+/// The step by an act under a choice, from a state: the state after it, and its gains. `None`
 /// where there is no such step.
 #[inline(always)]
 pub(crate) fn step(
@@ -157,7 +157,7 @@ pub(crate) fn concerns(unit: ReaderUnit, act: &Act) -> bool
     }
 }
 
-/// Whether an act leaves a state and the sums, however it is taken: an ACK to POLL does, where
+/// Whether an act leaves a state and the sums, whatever the choice: an ACK to POLL does, where
 /// nothing is held.
 pub(crate) fn rests(unit: ReaderUnit, act: &Act, state: ReaderState) -> bool
     ensures { OnTrue result ((facts : Facts) (choice : Choice) (after : ReaderState)
@@ -173,7 +173,7 @@ pub(crate) fn rests(unit: ReaderUnit, act: &Act, state: ReaderState) -> bool
     }
 }
 
-/// Whether it may matter, from a state, how an act is taken.
+/// Whether it may matter, from a state, what is chosen of an act.
 // It doesn't look at whose the act is: acts that are no matter of the pair aren't asked about.
 #[inline(always)]
 pub(crate) fn heeds_choice(act: &Act, state: ReaderState) -> bool

@@ -18,7 +18,7 @@ returns-in-None-clause-answer g c all to_come =
     let Ended : Option Offence → Type 0 = λ stop. HasEnded IsRow IsRefusal (HasFollowed c.read_rows.new.taker) HasOffence c.args.rows all (Ok stop) in
     verdicts.whole c.sales_follow_their_approvals.ensures c.args.rows all c.read_rows.new.taker (subst Ended c.in-None.is (c.in_ok-read_rows.ensures.ended all to_come)) c.outcome_of.result c.outcome_of.ensures
 
-pub returns-in-Some-clause-answer : goal.returns-in-Some-clause-answer
-returns-in-Some-clause-answer g c all to_come =
+pub returns-clause-answer : goal.returns-clause-answer
+returns-clause-answer g c all to_come =
     let Ended : Option Offence → Type 0 = λ stop. HasEnded IsRow IsRefusal (HasFollowed c.read_rows.new.taker) HasOffence c.args.rows all (Ok stop) in
     verdicts.impossible c.args.rows all c.in-Some.offence (subst Ended c.in-Some.is (c.in_ok-read_rows.ensures.ended all to_come))

@@ -5,4 +5,4 @@ use Rattle.mdb_follow.proofs.table.all_rest.Given as goal
 abbrev pub invariant-loop-code : goal.invariant-loop-code
 invariant-loop-code g l =
     let p = g.P.Pair in
-    AllRest p.code_of p.may_step l.act (take l.code-index l.entries)
+    AllRest p.code_of p.machine l.act (take l.code-index l.entries)

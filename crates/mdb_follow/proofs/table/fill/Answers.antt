@@ -55,7 +55,7 @@ loop-code-preserved g c =
           c.loop-code.into c.add_steps.new.entries c.loop-code-test.true
           (table.bounds.exact _ _ (Contains-get_or c.args.from.now c.loop-code.code-index _
           c.loop-code-test.true))
-          (either-moves p.device c.args.act.now p.code_of (p.may_step acts c.args.act.now)
+          (either-moves p.device c.args.act.now p.code_of (p.machine.Step acts c.args.act.now)
           _ c.step-plain.result c.second_step-second.result moves.0
           (c.step-plain.ensures.steps acts stands)
           (c.second_step-second.ensures.sound acts stands)
@@ -71,9 +71,9 @@ loop-code-preserved g c =
 pub returns-clause-table : goal.returns-clause-table
 returns-clause-table g c acts stands table =
     let p = g.P.Pair in
-    table-led p.code_of p.may_step p.first c.args.act.now acts c.args.from.now
+    table-led p.code_of p.machine c.args.act.now acts c.args.from.now
     c.loop-code.into g.met.P.Pair.apart table
-    (subst (λ from. Bounds (Led (ArrivesAt p.code_of (Arrives p.may_step p.first acts))
-    (IsMove c.args.act.now p.code_of (p.may_step acts c.args.act.now)) from) c.loop-code.into)
+    (subst (λ from. Bounds (Led (ArrivesAt p.code_of (Arrives p.machine acts))
+    (IsMove c.args.act.now p.code_of (p.machine.Step acts c.args.act.now)) from) c.loop-code.into)
     (take_all c.loop-code.code-index c.args.from.now c.loop-code-test.false)
     (c.loop-code.invariant.led acts stands table))

@@ -15,9 +15,9 @@ invariant-loop-code g l =
       keyed : IsKeyed g.row.N l.into;
       placed : IsPlaced l.into l.places;
       led : (acts : List Act) → p.stands_for l.facts acts
-          → IsTable p.code_of p.may_step p.first acts l.from
-          → Bounds (Led (ArrivesAt p.code_of (Arrives p.may_step p.first acts))
-          (IsMove l.act p.code_of (p.may_step acts l.act)) (take l.code-index l.from)) l.into;
+          → IsTable p.code_of p.machine acts l.from
+          → Bounds (Led (ArrivesAt p.code_of (Arrives p.machine acts))
+          (IsMove l.act p.code_of (p.machine.Step acts l.act)) (take l.code-index l.from)) l.into;
       within : (limit : ℕ) → IsTableWithin limit l.from
           → IsTableWithin (limit + 2 ^ 32) l.into;
     }

@@ -22,14 +22,14 @@ code-is entries entry d only = ap (λ (s : List (ℕ × Cell)). (get_or s 0 d).0
 -- what arrives behind the act
 arrives : (g : given.Over) (c : goal.After-lead_only g) (acts : List Act)
     (entry : ℕ × Cell) (after : List (ℕ × Cell)) → g.P.Pair.stands_for c.args.facts.now acts
-    → IsTable g.P.Pair.code_of g.P.Pair.may_step g.P.Pair.first acts c.args.entries.now
+    → IsTable g.P.Pair.code_of g.P.Pair.machine acts c.args.entries.now
     → c.args.entries.now ≡ entry ∷ []
     → LeadTo entry.1 c.step-plain.result c.second_step-second.result after
     → Bounds (ArrivesAt g.P.Pair.code_of
-    (Arrives g.P.Pair.may_step g.P.Pair.first (c.args.act.now ∷ acts))) after
+    (Arrives g.P.Pair.machine (c.args.act.now ∷ acts))) after
 arrives g c acts entry after stands table only led =
     let p = g.P.Pair in
-    alone-led p.device p.code_of p.may_step p.first c.args.act.now acts
+    alone-led p.device p.code_of p.machine c.args.act.now acts
     g.row.N p.CODES c.args.entries.now entry _ c.step-plain.result
     c.second_step-second.result after only
     (code-is c.as_slice.result.now entry _ (c.as_slice.ensures ∙ only))
@@ -40,13 +40,13 @@ arrives g c acts entry after stands table only led =
 
 table-told : (g : given.Over) (c : goal.After-lead_only g) → c.lead_only.result ≡ true
     → (acts : List Act) → g.P.Pair.stands_for c.args.facts.now acts
-    → IsTable g.P.Pair.code_of g.P.Pair.may_step g.P.Pair.first acts c.args.entries.now
-    → IsTable g.P.Pair.code_of g.P.Pair.may_step g.P.Pair.first (c.args.act.now ∷ acts)
+    → IsTable g.P.Pair.code_of g.P.Pair.machine acts c.args.entries.now
+    → IsTable g.P.Pair.code_of g.P.Pair.machine (c.args.act.now ∷ acts)
     c.lead_only.new.entries
 table-told g c is acts stands table =
     let p = g.P.Pair in
     let one = only-is c.args.entries.now c.requires.only in
-    table-some p.code_of p.may_step p.first (c.args.act.now ∷ acts)
+    table-some p.code_of p.machine (c.args.act.now ∷ acts)
     c.lead_only.new.entries
     (arrives g c acts one.0 c.lead_only.new.entries stands table one.1
     (OnTrue_at is c.lead_only.ensures.led one.0 one.1))
@@ -57,14 +57,14 @@ returns-clause-table g c = OnTrue_from _ _ (table-told g c)
 
 none-told : (g : given.Over) (c : goal.After-lead_only g) → c.lead_only.result ≡ false
     → (acts : List Act) → g.P.Pair.stands_for c.args.facts.now acts
-    → IsTable g.P.Pair.code_of g.P.Pair.may_step g.P.Pair.first acts c.args.entries.now
+    → IsTable g.P.Pair.code_of g.P.Pair.machine acts c.args.entries.now
     → (state : g.row.P-State.Denot) (sums : Sums)
-    → Arrives g.P.Pair.may_step g.P.Pair.first (c.args.act.now ∷ acts) state sums → ⊥
+    → Arrives g.P.Pair.machine (c.args.act.now ∷ acts) state sums → ⊥
 none-told g c is acts stands table state sums way =
     let p = g.P.Pair in
     let one = only-is c.args.entries.now c.requires.only in
     let none = OnFalse_at is c.lead_only.ensures.none in
-    nothing-arrives p.code_of p.may_step p.first (c.args.act.now ∷ acts) []
+    nothing-arrives p.code_of p.machine (c.args.act.now ∷ acts) []
     (arrives g c acts one.0 [] stands table one.1
     (lead-none one.0.1 c.step-plain.result c.second_step-second.result none.0 none.1))
     refl state sums way

@@ -10,12 +10,12 @@ returns-then-heeds_choice-clause-sound g c acts stands next gains is =
 pub returns-then-heeds_choice-clause-whole : goal.returns-then-heeds_choice-clause-whole
 returns-then-heeds_choice-clause-whole g c acts stands next gains move =
     let p = g.P.Pair in
-    other-or-plain c.args.act.now p.code_of (p.may_step acts c.args.act.now) c.args.code
+    other-or-plain c.args.act.now p.code_of (p.machine.Step acts c.args.act.now) c.args.code
     c.other_step.result next gains (c.other_step.ensures.steps acts stands next gains) move
 
 pub returns-else-heeds_choice-clause-whole : goal.returns-else-heeds_choice-clause-whole
 returns-else-heeds_choice-clause-whole g c acts stands next gains move =
     let p = g.P.Pair in
-    inr (unheeded c.args.act.now p.code_of (p.may_step acts c.args.act.now) c.args.code
+    inr (unheeded c.args.act.now p.code_of (p.machine.Step acts c.args.act.now) c.args.code
     c.state.result g.met.P.Pair.apart c.state.ensures (c.if-heeds_choice.ensures acts) next gains
     move)

@@ -1,5 +1,5 @@
 use Rattle.std.proofs.Common.{drop}
-use Rattle.mdb_cash.specs.BillValues.{facts_in}
+use Rattle.mdb_cash.specs.KeeperValues.{facts_in}
 use Rattle.mdb_cash.proofs.Escrows.{Leaves}
 use Rattle.mdb_cash.proofs.bill.steps.take_all.Given as goal
 

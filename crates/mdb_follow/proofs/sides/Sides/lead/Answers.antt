@@ -1,7 +1,6 @@
-use Rattle.std.proofs.Common.{◌∙◌}
+use Rattle.std.proofs.Common.{refl, ◌∙◌}
 use Rattle.mdb_bus.specs.declared.fault.Rule.TheVariants as rule
-use Rattle.mdb_msgs.specs.declared.command.ReaderUnit.TheVariants.{First, Second}
-use Rattle.mdb_follow.specs.Offences.{ByBill, ByChanger, ByReader}
+use Rattle.mdb_msgs.specs.declared.command.Device.TheVariants as devices
 use Rattle.mdb_follow.proofs.Following.{if-ok}
 use Rattle.mdb_follow.proofs.Sided.{led-bill, led-cashless, led-cashless2, led-changer, led-none, stopped-by, within-bill, within-cashless, within-cashless2, within-changer, within-none}
 use Rattle.mdb_follow.proofs.sides.Sides.lead.Goals as goal
@@ -14,7 +13,7 @@ returns-in-One-Changer-clause-followed c =
 
 pub returns-in-One-Changer-clause-stopped : goal.returns-in-One-Changer-clause-stopped
 returns-in-One-Changer-clause-stopped c =
-    stopped-by c.follow.result rule.Changer _ _ (λ none acts on. ByChanger (none acts on.changer)) c.follow.ensures.none
+    stopped-by c.follow.result rule.Changer _ _ (λ none acts on. record { device = devices.Changer; rule = refl; none = (none acts on.changer) }) c.follow.ensures.none
     c.follow.ensures.its
 
 pub returns-in-One-Changer-clause-within : goal.returns-in-One-Changer-clause-within
@@ -30,7 +29,7 @@ returns-in-One-Bill-clause-followed c =
 
 pub returns-in-One-Bill-clause-stopped : goal.returns-in-One-Bill-clause-stopped
 returns-in-One-Bill-clause-stopped c =
-    stopped-by c.follow-in-One-Bill.result rule.Bill _ _ (λ none acts on. ByBill (none acts on.bill)) c.follow-in-One-Bill.ensures.none
+    stopped-by c.follow-in-One-Bill.result rule.Bill _ _ (λ none acts on. record { device = devices.Bill; rule = refl; none = (none acts on.bill) }) c.follow-in-One-Bill.ensures.none
     c.follow-in-One-Bill.ensures.its
 
 pub returns-in-One-Bill-clause-within : goal.returns-in-One-Bill-clause-within
@@ -46,7 +45,7 @@ returns-in-One-Cashless-clause-followed c =
 
 pub returns-in-One-Cashless-clause-stopped : goal.returns-in-One-Cashless-clause-stopped
 returns-in-One-Cashless-clause-stopped c =
-    stopped-by c.follow-in-One-Cashless.result rule.Cashless _ _ (λ none acts on. ByReader First (none acts on.cashless)) c.follow-in-One-Cashless.ensures.none
+    stopped-by c.follow-in-One-Cashless.result rule.Cashless _ _ (λ none acts on. record { device = devices.Cashless; rule = refl; none = (none acts on.cashless) }) c.follow-in-One-Cashless.ensures.none
     c.follow-in-One-Cashless.ensures.its
 
 pub returns-in-One-Cashless-clause-within : goal.returns-in-One-Cashless-clause-within
@@ -62,7 +61,7 @@ returns-in-One-Cashless2-clause-followed c =
 
 pub returns-in-One-Cashless2-clause-stopped : goal.returns-in-One-Cashless2-clause-stopped
 returns-in-One-Cashless2-clause-stopped c =
-    stopped-by c.follow-in-One-Cashless2.result rule.Cashless _ _ (λ none acts on. ByReader Second (none acts on.cashless2)) c.follow-in-One-Cashless2.ensures.none
+    stopped-by c.follow-in-One-Cashless2.result rule.Cashless _ _ (λ none acts on. record { device = devices.Cashless2; rule = refl; none = (none acts on.cashless2) }) c.follow-in-One-Cashless2.ensures.none
     c.follow-in-One-Cashless2.ensures.its
 
 pub returns-in-One-Cashless2-clause-within : goal.returns-in-One-Cashless2-clause-within

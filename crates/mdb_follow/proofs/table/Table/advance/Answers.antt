@@ -6,7 +6,7 @@ use Rattle.mdb_follow.proofs.table.Table.advance.Goals as goal
 pub returns-then-not-concerns-clause-table : goal.returns-then-not-concerns-clause-table
 returns-then-not-concerns-clause-table g c acts stands table =
     let p = g.P.Pair in
-    table-same p.code_of p.may_step p.first c.args.act.now acts c.args.self.now
+    table-same p.code_of p.machine c.args.act.now acts c.args.self.now
     c.if-not-concerns.ensures.still table
 
 pub returns-then-not-concerns-clause-within : goal.returns-then-not-concerns-clause-within
@@ -16,7 +16,7 @@ returns-then-not-concerns-clause-within g c limit all =
 pub returns-then-rests-clause-table : goal.returns-then-rests-clause-table
 returns-then-rests-clause-table g c acts stands table =
     let p = g.P.Pair in
-    table-rests p.code_of p.may_step p.first c.args.act.now acts c.args.self.now c.if-rests.ensures
+    table-rests p.code_of p.machine c.args.act.now acts c.args.self.now c.if-rests.ensures
     table
 
 pub returns-then-rests-clause-within : goal.returns-then-rests-clause-within

@@ -10,7 +10,7 @@ returns-then-self g c acts table =
     c.as_slice.ensures
     ∙ seen-other c.self.inside.turned c.self.inside.one c.self.inside.other
     c.args.self.now c.self.view_is c.if-self.true in
-    table-joined p.code_of p.may_step p.first acts c.args.self.now c.join_all.result
+    table-joined p.code_of p.machine acts c.args.self.now c.join_all.result
     (λ entry rest same. c.join_all.ensures entry rest (is ∙ same)) table
 
 pub returns-else-self : goal.returns-else-self
@@ -20,5 +20,5 @@ returns-else-self g c acts table =
     c.as_slice-else-self.ensures
     ∙ seen-one c.self.inside.turned c.self.inside.one c.self.inside.other
     c.args.self.now c.self.view_is c.if-self.false in
-    table-joined p.code_of p.may_step p.first acts c.args.self.now c.join_all-else-self.result
+    table-joined p.code_of p.machine acts c.args.self.now c.join_all-else-self.result
     (λ entry rest same. c.join_all-else-self.ensures entry rest (is ∙ same)) table

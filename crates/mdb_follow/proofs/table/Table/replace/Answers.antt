@@ -18,9 +18,9 @@ returns-then-is_empty-clause-none g c acts stands table state sums way =
     c.as_slice.ensures
     ∙ seen-other c.self.inside.turned c.self.inside.one c.self.inside.other
     c.args.self.now c.self.view_is c.if-self.true in
-    nothing-arrives p.code_of p.may_step p.first (c.args.act.now ∷ acts) c.fill.new.into
+    nothing-arrives p.code_of p.machine (c.args.act.now ∷ acts) c.fill.new.into
     (c.fill.ensures.table acts stands
-    (subst (IsTable p.code_of p.may_step p.first acts) (sym is) table))
+    (subst (IsTable p.code_of p.machine acts) (sym is) table))
     (nil-told c.fill.new.into c.is_empty.result c.is_empty.ensures c.if-is_empty.true)
     state sums way
 
@@ -38,9 +38,9 @@ returns-then-is_empty-2-clause-none g c acts stands table state sums way =
     c.as_slice-else-self.ensures
     ∙ seen-one c.self.inside.turned c.self.inside.one c.self.inside.other
     c.args.self.now c.self.view_is c.if-self.false in
-    nothing-arrives p.code_of p.may_step p.first (c.args.act.now ∷ acts) c.fill-else-self.new.into
+    nothing-arrives p.code_of p.machine (c.args.act.now ∷ acts) c.fill-else-self.new.into
     (c.fill-else-self.ensures.table acts stands
-    (subst (IsTable p.code_of p.may_step p.first acts) (sym is) table))
+    (subst (IsTable p.code_of p.machine acts) (sym is) table))
     (nil-told c.fill-else-self.new.into c.is_empty-else-self.result
     c.is_empty-else-self.ensures c.if-is_empty-2.true)
     state sums way
@@ -75,9 +75,9 @@ returns-else-is_empty-clause-table g c acts stands table =
     c.as_slice.ensures
     ∙ seen-other c.self.inside.turned c.self.inside.one c.self.inside.other
     c.args.self.now c.self.view_is c.if-self.true in
-    table-some p.code_of p.may_step p.first (c.args.act.now ∷ acts) c.fill.new.into
+    table-some p.code_of p.machine (c.args.act.now ∷ acts) c.fill.new.into
     (c.fill.ensures.table acts stands
-    (subst (IsTable p.code_of p.may_step p.first acts) (sym is) table))
+    (subst (IsTable p.code_of p.machine acts) (sym is) table))
     (some-told c.fill.new.into c.is_empty.result c.is_empty.ensures c.if-is_empty.false)
 
 pub returns-else-is_empty-2-clause-table : goal.returns-else-is_empty-2-clause-table
@@ -87,9 +87,9 @@ returns-else-is_empty-2-clause-table g c acts stands table =
     c.as_slice-else-self.ensures
     ∙ seen-one c.self.inside.turned c.self.inside.one c.self.inside.other
     c.args.self.now c.self.view_is c.if-self.false in
-    table-some p.code_of p.may_step p.first (c.args.act.now ∷ acts) c.fill-else-self.new.into
+    table-some p.code_of p.machine (c.args.act.now ∷ acts) c.fill-else-self.new.into
     (c.fill-else-self.ensures.table acts stands
-    (subst (IsTable p.code_of p.may_step p.first acts) (sym is) table))
+    (subst (IsTable p.code_of p.machine acts) (sym is) table))
     (some-told c.fill-else-self.new.into c.is_empty-else-self.result
     c.is_empty-else-self.ensures c.if-is_empty-2.false)
 
@@ -100,9 +100,9 @@ returns-then-len-eq1-clause-none g c =
     seen-other c.self.inside.turned c.self.inside.one c.self.inside.other
     c.args.self.now c.self.view_is c.if-self.true in
     subst (λ (entries : List (ℕ × Cell)). OnFalse c.lead_alone.result ((acts : List Act)
-    → p.stands_for c.args.facts.now acts → IsTable p.code_of p.may_step p.first acts entries
+    → p.stands_for c.args.facts.now acts → IsTable p.code_of p.machine acts entries
     → (state : g.row.P-State.Denot) (sums : Sums)
-    → Arrives p.may_step p.first (c.args.act.now ∷ acts) state sums → ⊥))
+    → Arrives p.machine (c.args.act.now ∷ acts) state sums → ⊥))
     is c.lead_alone.ensures.none
 
 pub returns-then-len-eq1-clause-within : goal.returns-then-len-eq1-clause-within
@@ -122,9 +122,9 @@ returns-then-len-eq1-2-clause-none g c =
     seen-one c.self.inside.turned c.self.inside.one c.self.inside.other
     c.args.self.now c.self.view_is c.if-self.false in
     subst (λ (entries : List (ℕ × Cell)). OnFalse c.lead_alone-then-len-eq1-2.result ((acts : List Act)
-    → p.stands_for c.args.facts.now acts → IsTable p.code_of p.may_step p.first acts entries
+    → p.stands_for c.args.facts.now acts → IsTable p.code_of p.machine acts entries
     → (state : g.row.P-State.Denot) (sums : Sums)
-    → Arrives p.may_step p.first (c.args.act.now ∷ acts) state sums → ⊥))
+    → Arrives p.machine (c.args.act.now ∷ acts) state sums → ⊥))
     is c.lead_alone-then-len-eq1-2.ensures.none
 
 pub returns-then-len-eq1-2-clause-within : goal.returns-then-len-eq1-2-clause-within

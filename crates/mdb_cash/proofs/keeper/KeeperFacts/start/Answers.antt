@@ -1,0 +1,6 @@
+use Rattle.std.proofs.Common.{refl}
+use Rattle.mdb_cash.proofs.KeeperFacts.{same_fields}
+use Rattle.mdb_cash.proofs.keeper.KeeperFacts.start.Goals as goal
+
+pub returns : goal.returns
+returns g c = same_fields refl refl c.start.ensures

@@ -1,0 +1,218 @@
+//! What a device that keeps messages does, and the controller with it.
+
+ghost use Rattle.std.specs.Prelude.{◌≡◌, ◌≤◌, ◌<◌, ◌^◌, ◌&&◌, Bool, IfSome, Option, Some, length, if◌then◌else◌};
+ghost use Rattle.mdb_cash.specs.Gains.{IsSmall, controller_gains, no_gains};
+ghost use Rattle.mdb_cash.specs.Keeper.{Facts};
+ghost use Rattle.mdb_cash.specs.KeeperSteps as spec;
+ghost use Rattle.mdb_cash.specs.KeeperValues.{facts_in};
+ghost use Rattle.mdb_cash.specs.Pair.{IsOnly, IsOutcome};
+
+use crate::choice::Choice;
+use crate::gains::Gains;
+use crate::keeper::{Keeper, KeeperFacts};
+use crate::kept::{held, holds_acked, holds_behind, holds_read, may_be_read};
+use mdb_bus::Act;
+use mdb_msgs::Reply;
+
+/// What a device that keeps messages does of its own (this profile).
+pub trait Conduct: Keeper {
+    /// The states of the device and the controller.
+    type State: Copy;
+
+    /// What the device does, after acts that leave these facts.
+    ghost conduct: { Facts Self.Setup Self.Asked Self.Kept
+        → spec.Conduct Self.Own Self.Kept Self.State };
+
+    /// The state at power-on.
+    fn power_on() -> Self::State
+        ensures { (facts : Facts Self.Setup Self.Asked Self.Kept)
+            → result ≡ (conduct facts).power_on };
+
+    /// Whether the device holds kept messages.
+    fn holds(state: Self::State) -> bool
+        ensures { (facts : Facts Self.Setup Self.Asked Self.Kept)
+            → result ≡ (conduct facts).holds state };
+
+    /// The same state, where the device holds kept messages or doesn't.
+    fn with_holds(state: Self::State, holds: bool) -> Self::State
+        ensures { (facts : Facts Self.Setup Self.Asked Self.Kept)
+            → result ≡ (conduct facts).with_holds holds state };
+
+    /// The controller asks.
+    fn ask(
+        facts: &KeeperFacts<Self>,
+        command: Self::Own,
+        before: Self::State,
+    ) -> (Self::State, Gains)
+        ensures outcome { IsOutcome ((conduct (facts_in facts.now)).Asks command before)
+            (Some result) }
+        ensures small { IsSmall result.1 };
+
+    /// The device acknowledges a command that isn't POLL.
+    fn ack(
+        facts: &KeeperFacts<Self>,
+        command: Self::Own,
+        choice: Choice,
+        before: Self::State,
+    ) -> (Self::State, Gains)
+        ensures outcome { IsOutcome ((conduct (facts_in facts.now)).Acks command choice before)
+            (Some result) }
+        ensures small { IsSmall result.1 };
+
+    /// The state after new messages in a reply under a choice. `None` where they can't be.
+    fn take(
+        facts: &KeeperFacts<Self>,
+        choice: Choice,
+        news: &[Self::Kept],
+        before: Self::State,
+    ) -> Option<Self::State>
+        ensures { IsOnly ((conduct (facts_in facts.now)).Takes choice news.now before) result };
+
+    /// What kept messages add to the first account.
+    fn first(facts: &KeeperFacts<Self>, messages: &[Self::Kept]) -> u64
+        requires { length messages.now ≤ 16 }
+        ensures value { result ≡ (conduct (facts_in facts.now)).first messages.now }
+        ensures small { result < 2 ^ 32 };
+
+    /// What they add to the second.
+    fn second(facts: &KeeperFacts<Self>, messages: &[Self::Kept]) -> u64
+        requires { length messages.now ≤ 16 }
+        ensures value { result ≡ (conduct (facts_in facts.now)).second messages.now }
+        ensures small { result < 2 ^ 32 };
+
+    /// The state once the controller has heard a reset message.
+    fn heard_reset(state: Self::State) -> Self::State
+        ensures { (facts : Facts Self.Setup Self.Asked Self.Kept)
+            → result ≡ (conduct facts).heard_reset state };
+}
+
+/// The step by an act under a choice, from a state: the state after it, and its gains. `None`
+/// where there is no such step.
+pub(crate) fn step<K: Conduct>(
+    facts: &KeeperFacts<K>,
+    act: &Act,
+    choice: Choice,
+    before: K::State,
+) -> Option<(K::State, Gains)>
+    ensures outcome { let known = facts_in facts.now in
+        IsOutcome (spec.KeeperStep K.tables (K.conduct known) known.past act.now choice before)
+        result }
+    ensures small { IfSome result (λ outcome. IsSmall outcome.1) }
+{
+    match act {
+        Act::Ask(command) => match K::own(command) {
+            Some(own) => Some(K::ask(facts, own, before)),
+            None => Some((before, Gains::none())),
+        },
+        Act::Ack(command) => match K::own(command) {
+            Some(own) => ack(facts, own, choice, before),
+            None => Some((before, Gains::none())),
+        },
+        Act::Reply(command, reply) => match K::own(command) {
+            Some(own) => answer(facts, own, reply, choice, before),
+            None => Some((before, Gains::none())),
+        },
+        Act::VmcAck(command, reply) => match K::own(command) {
+            Some(own) => Some(vmc_ack(facts, own, reply, choice, before)),
+            None => Some((before, Gains::none())),
+        },
+        Act::Break(_) => Some((K::power_on(), Gains::none())),
+        _ => Some((before, Gains::none())),
+    }
+}
+
+/// The device acknowledges.
+fn ack<K: Conduct>(
+    facts: &KeeperFacts<K>,
+    command: K::Own,
+    choice: Choice,
+    before: K::State,
+) -> Option<(K::State, Gains)>
+    ensures outcome { IsOutcome
+        (spec.AckStep (K.conduct (facts_in facts.now)) (K.tables.is_poll command) command choice
+        before) result }
+    ensures small { IfSome result (λ outcome. IsSmall outcome.1) }
+{
+    if !K::is_poll(command) {
+        Some(K::ack(facts, command, choice, before))
+    } else if K::holds(before) {
+        None
+    } else {
+        Some((before, Gains::none()))
+    }
+}
+
+/// The device replies with data.
+fn answer<K: Conduct>(
+    facts: &KeeperFacts<K>,
+    command: K::Own,
+    reply: &Reply,
+    choice: Choice,
+    before: K::State,
+) -> Option<(K::State, Gains)>
+    ensures outcome { let known = facts_in facts.now in
+        IsOutcome (spec.ReplyStep (K.conduct known) known.past (K.tables.is_poll command)
+        (K.tables.parts_of reply.now) choice before) result }
+    ensures small { IfSome result (λ outcome. IsSmall outcome.1) }
+{
+    if !may_be_read(choice, K::messages_in(reply)) {
+        return None;
+    }
+    let summary = K::summary_of(reply);
+    let holds = holds_read(choice, K::holds(before));
+    let held = held(holds, facts.past.kept.as_slice());
+    let news = summary.told(K::is_poll(command), choice, facts.past.reset_owed, held)?;
+    let holding = K::with_holds(before, holds_behind(summary.kept.as_slice(), holds));
+    let after = K::take(facts, choice, news, holding)?;
+    let gains = Gains::of_device(K::first(facts, news), K::second(facts, news));
+    Some((after, gains))
+}
+
+/// The controller acknowledges a reply.
+fn vmc_ack<K: Conduct>(
+    facts: &KeeperFacts<K>,
+    command: K::Own,
+    reply: &Reply,
+    choice: Choice,
+    before: K::State,
+) -> (K::State, Gains)
+    ensures outcome { IsOutcome (spec.VmcAckStep (K.conduct (facts_in facts.now))
+        (K.tables.is_poll command) (K.tables.parts_of reply.now) choice before) (Some result) }
+    ensures small { IsSmall result.1 }
+{
+    let summary = K::summary_of(reply);
+    let kept = summary.kept.as_slice();
+    let poll = K::is_poll(command);
+    let released = K::with_holds(before, holds_acked(choice, kept, K::holds(before)));
+    let after = heard::<K>(poll, summary.reset, released);
+    (after, gains_heard(facts, poll, kept))
+}
+
+/// The state once the controller has heard an answer to POLL or to another command, with a reset
+/// message or without one.
+fn heard<K: Conduct>(poll: bool, reset: bool, state: K::State) -> K::State
+    ensures { (facts : Facts K.Setup K.Asked K.Kept)
+        → result ≡ (if poll && reset then (K.conduct facts).heard_reset state else state) }
+{
+    if poll && reset {
+        K::heard_reset(state)
+    } else {
+        state
+    }
+}
+
+/// What the controller gains by kept messages, in an answer to POLL or to another command.
+fn gains_heard<K: Conduct>(facts: &KeeperFacts<K>, poll: bool, kept: &[K::Kept]) -> Gains
+    requires { length kept.now ≤ 16 }
+    ensures value { let conduct = K.conduct (facts_in facts.now) in
+        result ≡ (if poll
+        then controller_gains (conduct.first kept.now) (conduct.second kept.now)
+        else no_gains) }
+    ensures small { IsSmall result }
+{
+    if poll {
+        Gains::of_controller(K::first(facts, kept), K::second(facts, kept))
+    } else {
+        Gains::none()
+    }
+}
