@@ -3,7 +3,7 @@ use Rattle.std.proofs.Common.{ℕ, zero, suc, ◌+◌, ◌*◌, ◌<◌, ◌≤�
 use Rattle.std.specs.Align.{type_align}
 use Rattle.std.specs.Borrow.{RattleType}
 use Rattle.std.specs.Mem.{type_size}
-use Rattle.mdb_cash.specs.Sizes.{TakesFewBytes}
+use Rattle.mdb_cash.specs.inner.Sizes.{TakesFewBytes}
 use prog.Memory.{up, pad}
 use native.Mathlib.Nat.{mod-lt}
 

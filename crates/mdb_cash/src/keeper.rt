@@ -3,7 +3,7 @@
 ghost use Rattle.std.specs.Prelude.{◌≡◌, ◌≤◌, List, [], ◌∷◌, length, map, option_map};
 ghost use Rattle.mdb_cash.specs.Keeper.{Tables};
 ghost use Rattle.mdb_cash.specs.Kept.{IsSummary};
-ghost use Rattle.mdb_cash.specs.Sizes.{TakesFewBytes};
+ghost use Rattle.mdb_cash.specs.inner.Sizes.{TakesFewBytes};
 
 use crate::kept::{KeptMessage, Message, Summary, summary_of};
 use crate::past::{Effect, Past, effect_answered};

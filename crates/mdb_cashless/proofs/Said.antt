@@ -10,7 +10,7 @@ use Rattle.mdb_cash.specs.Past.{is_out_of_sequence, or_else}
 use Rattle.mdb_cashless.specs.declared.reader.report.ReaderReport.{ReaderReport}
 use Rattle.mdb_cashless.specs.declared.reader.report.Said.{Said}
 use Rattle.mdb_cashless.specs.ReaderMessages.{amount_in, begins_session, config_in, last_said, part_of}
-use Rattle.mdb_cashless.specs.ReaderSaid.{IsSaid}
+use Rattle.mdb_cashless.specs.inner.ReaderSaid.{IsSaid}
 
 -- two words for one thing
 pub or_is : {X : Type 0} (one other : Option X) → option_or one other ≡ or_else one other

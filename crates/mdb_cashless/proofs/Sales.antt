@@ -26,7 +26,7 @@ use Rattle.mdb_cashless.specs.ReaderFacts.{asked_by, facts_of, own_transaction}
 use Rattle.mdb_cashless.specs.ReaderMessages.{messages_of}
 use Rattle.mdb_cashless.specs.ReaderView as reader_view
 use Rattle.mdb_cashless.specs.ReaderView.{all_heard, heard, sent}
-use Rattle.mdb_cashless.specs.SaleViews.{AcksLastReply, TellsOfSale}
+use Rattle.mdb_cashless.specs.inner.SaleViews.{AcksLastReply, TellsOfSale}
 use Rattle.mdb_cashless.specs.Sales.{EndsInReply, IsApproved, IsRequested, LeavesSale}
 use Rattle.mdb_cashless.specs.Transactions.{is_again, is_same, transaction_of}
 use Rattle.mdb_cashless.specs.Units.{own}

@@ -1,14 +1,10 @@
-pub mod PlainReader
 pub mod Reader
-pub mod ReaderCodes
 pub mod ReaderDevice
 pub mod ReaderFacts
 pub mod ReaderMessages
-pub mod ReaderSaid
 pub mod ReaderValues
 pub mod ReaderView
-pub mod ReaderWays
-pub mod SaleViews
 pub mod Sales
 pub mod Transactions
 pub mod Units
+pub mod inner

@@ -15,7 +15,7 @@ ghost use Rattle.mdb_cashless.specs.declared.reader.state.ReaderState.{ReaderSta
 ghost use Rattle.mdb_cashless.specs.declared.reader.transaction.Transaction.{Transaction};
 ghost use Rattle.mdb_cashless.specs.Reader.{ReaderStep};
 ghost use Rattle.mdb_cashless.specs.ReaderFacts.{facts_of};
-ghost use Rattle.mdb_cashless.specs.SaleViews.{AcksLastReply, TellsOfSale};
+ghost use Rattle.mdb_cashless.specs.inner.SaleViews.{AcksLastReply, TellsOfSale};
 ghost use Rattle.mdb_cashless.specs.Sales.{IsApproved};
 ghost use Rattle.mdb_cashless.specs.Transactions.{is_same, transaction_of};
 ghost use Rattle.mdb_cashless.specs.Units.{own};

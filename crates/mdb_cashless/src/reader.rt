@@ -3,10 +3,10 @@
 ghost use Rattle.std.specs.Prelude.{◌≡◌, ◌<◌, List, [], ◌∷◌};
 ghost use Rattle.mdb_bus.specs.declared.act.Act.{Act};
 ghost use Rattle.mdb_cashless.specs.Reader as spec;
-ghost use Rattle.mdb_cashless.specs.ReaderCodes as codes;
+ghost use Rattle.mdb_cashless.specs.inner.ReaderCodes as codes;
 ghost use Rattle.mdb_cashless.specs.ReaderFacts.{facts_of};
 ghost use Rattle.mdb_cashless.specs.ReaderValues.{facts_in};
-ghost use Rattle.mdb_cashless.specs.ReaderWays as ways;
+ghost use Rattle.mdb_cashless.specs.inner.ReaderWays as ways;
 ghost use Rattle.mdb_cashless.specs.Units as units;
 
 mod answers;

@@ -6,7 +6,7 @@ use Rattle.mdb_records.specs.declared.Records.{Records}
 use Rattle.mdb_records.specs.ToCome.{Advances, ToCome, current_fields}
 use Rattle.mdb_check.specs.declared.batch.Next.{Next}
 use Rattle.mdb_check.specs.declared.batch.Next.TheVariants.{More, End, BadRow, Failed}
-use Rattle.mdb_check.specs.Batch.{AreAll, FitsIn, HasRead}
+use Rattle.mdb_check.specs.inner.Batch.{AreAll, FitsIn, HasRead}
 use Rattle.mdb_check.proofs.Rows.{all_push}
 
 -- The first of the records are these rows, and the rest is to come.

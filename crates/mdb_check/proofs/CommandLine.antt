@@ -15,7 +15,7 @@ use Rattle.clap.specs.declared.parser.matches.SubCommand.{SubCommand}
 use Rattle.clap.specs.declared.parser.matches.ArgMatches.TheViews.{out-ArgMatches, out-SubCommand}
 use Rattle.clap.proofs.OnLiterals.{clap_on_literals}
 use Rattle.clap.proofs.WalkLemmas.{walk_stopped}
-use Rattle.mdb_check.specs.CommandLine.{AsksFor, mdbcheck}
+use Rattle.mdb_check.specs.inner.CommandLine.{AsksFor, mdbcheck}
 use Rattle.mdb_check.specs.Program.{NamesTask}
 use Rattle.mdb_check.specs.declared.program.Task.{Task}
 use Rattle.mdb_check.specs.declared.program.Task.TheVariants.{Check, Show}

@@ -9,8 +9,8 @@ use Rattle.mdb_check.specs.declared.batch.Next.{Next}
 use Rattle.mdb_check.specs.declared.batch.Next.TheVariants as next
 use Rattle.mdb_check.specs.declared.outcome.RunFault.{RunFault}
 use Rattle.mdb_check.specs.declared.outcome.RunFault.TheVariants.{BadRow, TooLong, Read, Write, Memory}
-use Rattle.mdb_check.specs.Batch.{FitsIn, HasRead}
-use Rattle.mdb_check.specs.Ending.{EndsBehind, HasEnded, HasFirst, HasTaken, IsStopped, IsTakenWhole, goes_on_by}
+use Rattle.mdb_check.specs.inner.Batch.{FitsIn, HasRead}
+use Rattle.mdb_check.specs.inner.Ending.{EndsBehind, HasEnded, HasFirst, HasTaken, IsStopped, IsTakenWhole, goes_on_by}
 use Rattle.mdb_check.proofs.Rows.{all_append, empty, first_row, no_rows}
 
 -- The first of the records are rows, which were taken, and this is what comes behind them.

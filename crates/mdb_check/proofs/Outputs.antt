@@ -5,7 +5,7 @@ use Rattle.std.specs.Prelude.{IsErrAnd}
 use Rattle.std.specs.Io.KnownBytes.{Appends}
 use Rattle.mdb_bus.specs.declared.fault.LinkFault.{LinkFault}
 use Rattle.mdb_check.specs.Show.{IsCutShort, IsShowing, Shows}
-use Rattle.mdb_check.specs.ShowSteps.{Breaks, Output, Puts, PutsShowing, begun}
+use Rattle.mdb_check.specs.inner.ShowSteps.{Breaks, Output, Puts, PutsShowing, begun}
 use Rattle.mdb_check.specs.Written.{HasTaken}
 use Rattle.mdb_check.specs.declared.outcome.RunFault.{RunFault}
 use Rattle.mdb_check.specs.declared.outcome.RunFault.TheVariants.{Write}

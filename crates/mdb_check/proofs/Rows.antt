@@ -2,8 +2,8 @@
 use Rattle.std.proofs.Common.{arith, refl, ap, ◌∙◌, ◌≡◌, ◌+◌, ◌<◌, ℕ, List, [], ◌∷◌, ◌++◌, Result, Ok, Err, length, length-append, append_assoc, IsOk}
 use Rattle.mdb_words.specs.declared.event.Event.{Event}
 use Rattle.mdb_words.specs.Row.{IsRow}
-use Rattle.mdb_check.specs.Batch.{AreAll}
-use Rattle.mdb_check.specs.Ending.{AreRead, HasFirst}
+use Rattle.mdb_check.specs.inner.Batch.{AreAll}
+use Rattle.mdb_check.specs.inner.Ending.{AreRead, HasFirst}
 use Rattle.mdb_check.specs.Verdict.{AreRows}
 
 -- what answers isn't refused

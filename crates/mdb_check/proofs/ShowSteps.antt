@@ -14,7 +14,7 @@ use Rattle.mdb_bus.specs.LinkFaults.{IsLinkFault}
 use Rattle.mdb_check.specs.declared.outcome.RunFault.{RunFault}
 use Rattle.mdb_check.specs.declared.outcome.RunFault.TheVariants.{BadRow, TooLong, Read, Write, Memory}
 use Rattle.mdb_check.specs.declared.showing.Lines.{Lines}
-use Rattle.mdb_check.specs.ShowSteps.{HasAdded, HasPieces, HasShown, IsAdded, IsAddedToFault, IsNotTaken, LeadInto, Output, Puts, ended_text}
+use Rattle.mdb_check.specs.inner.ShowSteps.{HasAdded, HasPieces, HasShown, IsAdded, IsAddedToFault, IsNotTaken, LeadInto, Output, Puts, ended_text}
 use Rattle.mdb_check.specs.ShowText.{closed_pieces, fault_line, show_text}
 use Rattle.mdb_check.proofs.ShowTexts.{ends_act, goes_on_closed, whole_of}
 use Rattle.mdb_check.proofs.Outputs.{break_both, put_both}

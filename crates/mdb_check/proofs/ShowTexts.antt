@@ -10,7 +10,7 @@ use Rattle.mdb_bus.specs.declared.act.Act.{Act}
 use Rattle.mdb_bus.specs.declared.act.Act.TheVariants as acts
 use Rattle.mdb_bus.specs.ActLists.{Piece, Whole, AskTail, ReplyTail, RepeatTail, Position, Quiet, InAsk, Asked, InReply, Replied, Returned, InRepeat, InForeign, ArePieces, BlockMayCome, IsTail, MayCome, MayStand, act_in, events_of, piece_events}
 use Rattle.mdb_bus.specs.Bus.{Grown}
-use Rattle.mdb_check.specs.ShowSteps.{cut_text, ended_text}
+use Rattle.mdb_check.specs.inner.ShowSteps.{cut_text, ended_text}
 use Rattle.mdb_check.specs.ShowText.{act_text, bytes_text, closed_pieces, piece_line, piece_text, rows_line, show_text}
 
 -- one byte more

@@ -12,9 +12,9 @@ use Rattle.mdb_check.specs.declared.outcome.RunFault.{RunFault}
 use Rattle.mdb_check.specs.declared.outcome.RunFault.TheVariants.{BadRow, TooLong, Read, Write, Memory}
 use Rattle.mdb_check.specs.declared.page.Page.{Page}
 use Rattle.mdb_check.specs.declared.showing.Lines.{Lines}
-use Rattle.mdb_check.specs.Ending.{AreRead, HasEnded, HasTaken, IsStopped, IsTakenWhole}
+use Rattle.mdb_check.specs.inner.Ending.{AreRead, HasEnded, HasTaken, IsStopped, IsTakenWhole}
 use Rattle.mdb_check.specs.Show.{AreShown, IsShowing, IsShownInPart, IsShownToFault, IsShownWhole}
-use Rattle.mdb_check.specs.ShowSteps.{HasAdded, HasShown, HasStopped, IsAdded, IsAddedInPart, IsAddedToFault, IsNotTaken, LeadInto, Output, Puts, PutsShowing, begun, cut_text, output}
+use Rattle.mdb_check.specs.inner.ShowSteps.{HasAdded, HasShown, HasStopped, IsAdded, IsAddedInPart, IsAddedToFault, IsNotTaken, LeadInto, Output, Puts, PutsShowing, begun, cut_text, output}
 use Rattle.mdb_check.specs.ShowText.{closed_pieces, show_text}
 use Rattle.mdb_check.specs.Verdict.{AreRows}
 use Rattle.mdb_check.proofs.Outputs.{break_both, put_both, put_none}

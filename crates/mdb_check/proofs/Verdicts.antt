@@ -15,7 +15,7 @@ use Rattle.mdb_check.specs.declared.outcome.Outcome.{Outcome}
 use Rattle.mdb_check.specs.declared.outcome.Outcome.TheVariants.{Yes, No}
 use Rattle.mdb_check.specs.declared.outcome.RunFault.{RunFault}
 use Rattle.mdb_check.specs.declared.outcome.RunFault.TheVariants.{BadRow, TooLong, Read, Write, Memory}
-use Rattle.mdb_check.specs.Ending.{AreRead, HasEnded, HasFollowed, HasTaken, IsStopped, IsTakenWhole}
+use Rattle.mdb_check.specs.inner.Ending.{AreRead, HasEnded, HasFollowed, HasTaken, IsStopped, IsTakenWhole}
 use Rattle.mdb_check.specs.Verdict.{AreRows, IsAnswer, IsImpossible, IsYes}
 use Rattle.mdb_check.proofs.Rows.{IsReadUpTo, are_rows, read_up_to}
 

@@ -1,14 +1,11 @@
 pub mod Accounts
-pub mod Batch
-pub mod CommandLine
 pub mod Complaint
-pub mod Ending
 pub mod Headline
 pub mod Program
 pub mod Show
-pub mod ShowSteps
 pub mod ShowText
 pub mod ShownFault
 pub mod Text
 pub mod Verdict
 pub mod Written
+pub mod inner

@@ -3,7 +3,7 @@
 ghost use Rattle.std.specs.Prelude.{◌≡◌, ◌<◌, ◌≤◌, List, ℕ, None, Some, length};
 ghost use Rattle.mdb_records.specs.declared.ReadFault.{ReadFault};
 ghost use Rattle.mdb_records.specs.ToCome.{IsOverLimit, ToCome, fault_of};
-ghost use Rattle.mdb_check.specs.Batch.{FitsIn, GoesOnOver, HasRead, IsMet};
+ghost use Rattle.mdb_check.specs.inner.Batch.{FitsIn, GoesOnOver, HasRead, IsMet};
 
 use super::row::FromRecord;
 use mdb_records::{ReadFault, Records};

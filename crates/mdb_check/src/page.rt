@@ -5,7 +5,7 @@ ghost use Rattle.std.specs.Io.KnownBytes.{Appends};
 ghost use Rattle.mdb_bus.specs.Acts.{NamesAReply};
 ghost use Rattle.mdb_follow.specs.declared.follower.TheConstants.{ROWS_MAX};
 ghost use Rattle.mdb_check.specs.ShowText.{fault_line};
-ghost use Rattle.mdb_check.specs.ShowSteps.{IsNotTaken, Puts, cut_text, ended_text, output};
+ghost use Rattle.mdb_check.specs.inner.ShowSteps.{IsNotTaken, Puts, cut_text, ended_text, output};
 ghost use Rattle.mdb_check.specs.Written.{HasTaken};
 
 use super::outcome::RunFault;

@@ -2,7 +2,7 @@
 
 ghost use Rattle.std.specs.Prelude.{◌≡◌, ◌≢◌, ◌<◌, ◌⊎◌, IfErr, IfOk, IfSome, length, map, string_bytes};
 ghost use Rattle.clap.specs.Words.{FailsBy, app_of, fault_of, kind_of};
-ghost use Rattle.mdb_check.specs.CommandLine.{AsksFor, mdbcheck};
+ghost use Rattle.mdb_check.specs.inner.CommandLine.{AsksFor, mdbcheck};
 ghost use Rattle.mdb_check.specs.Program.{NameATask, Says, SaysChecked, SaysShown, show_status_of, status_of};
 ghost use Rattle.mdb_check.specs.declared.verdict.TheConstants.{BYTES_MAX};
 ghost use Rattle.mdb_records.specs.ToCome.{IsOverLimit, ToCome, limit_of};

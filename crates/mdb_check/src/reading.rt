@@ -2,7 +2,7 @@
 
 ghost use Rattle.std.specs.Prelude.{◌≡◌, ◌+◌, ◌^◌, ◌<◌, ◌≤◌, ◌≢◌, List, ℕ, [], IfErr, IfOk, IfSome, IsErr, IsErrOf, None, Ok, Option, length};
 ghost use Rattle.mdb_records.specs.ToCome.{IsOverLimit, ToCome, fault_of};
-ghost use Rattle.mdb_check.specs.Ending.{EndsBehind, HasEnded, HasTaken, IsHeard, IsStop, IsToldEnd, goes_on_by};
+ghost use Rattle.mdb_check.specs.inner.Ending.{EndsBehind, HasEnded, HasTaken, IsHeard, IsStop, IsToldEnd, goes_on_by};
 ghost use Rattle.mdb_check.specs.Verdict.{run_fault_of};
 
 use super::batch::{Batch, Next};

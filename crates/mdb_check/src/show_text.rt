@@ -8,7 +8,7 @@ ghost use Rattle.mdb_follow.specs.declared.follower.TheConstants.{ROWS_MAX};
 ghost use Rattle.mdb_msgs.specs.Commands.{command_bytes};
 ghost use Rattle.mdb_msgs.specs.Replies.{reply_bytes};
 ghost use Rattle.mdb_check.specs.ShowText.{act_text, bytes_text, deed_text, fault_line, rows_line, rows_text};
-ghost use Rattle.mdb_check.specs.ShowSteps.{cut_text, ended_text};
+ghost use Rattle.mdb_check.specs.inner.ShowSteps.{cut_text, ended_text};
 
 use super::text::{word_of_blame, word_of_device, word_of_rule};
 use mdb_bus::{Act, LinkFault};

@@ -6,7 +6,7 @@ ghost use Rattle.mdb_records.specs.ToCome.{IsOverLimit, ToCome, fault_of};
 ghost use Rattle.mdb_records.specs.declared.ReadFault.{ReadFault};
 ghost use Rattle.mdb_check.specs.declared.verdict.TheConstants.{BYTES_MAX};
 ghost use Rattle.mdb_check.specs.Show.{Shows};
-ghost use Rattle.mdb_check.specs.ShowSteps.{HasShown, IsShownAs, PutsShowing, begun, output};
+ghost use Rattle.mdb_check.specs.inner.ShowSteps.{HasShown, IsShownAs, PutsShowing, begun, output};
 
 use super::batch::Batch;
 use super::outcome::RunFault;
@@ -104,7 +104,7 @@ struct Showing {
 
 impl Showing {
     ghost use Rattle.std.specs.Prelude.{[], Option};
-    ghost use Rattle.mdb_check.specs.ShowSteps.{HasShown, begun, output};
+    ghost use Rattle.mdb_check.specs.inner.ShowSteps.{HasShown, begun, output};
 
     /// Before the first row.
     fn new(alloc: Global) -> Showing
@@ -122,7 +122,7 @@ impl Showing {
 impl<W: Write> TakeRows<W> for Showing {
     ghost use Rattle.std.proofs.Common.{sym};
     ghost use Rattle.mdb_follow.specs.declared.follower.TheConstants.{ROWS_MAX};
-    ghost use Rattle.mdb_check.specs.ShowSteps.{HasShown, HasStopped, begun, output};
+    ghost use Rattle.mdb_check.specs.inner.ShowSteps.{HasShown, HasStopped, begun, output};
 
     type Row = Event;
 
@@ -164,7 +164,7 @@ impl Lines {
     ghost use Rattle.std.specs.Prelude.{◌≤◌, ◌+◌, []};
     ghost use Rattle.mdb_words.specs.declared.event.Event.{Event};
     ghost use Rattle.mdb_bus.specs.Bus.{StandsFor};
-    ghost use Rattle.mdb_check.specs.ShowSteps.{HasAdded, HasPieces, HasShown, Output};
+    ghost use Rattle.mdb_check.specs.inner.ShowSteps.{HasAdded, HasPieces, HasShown, Output};
 
     /// No lines: before the first row.
     fn new() -> Lines

@@ -7,7 +7,7 @@ ghost use Rattle.mdb_records.specs.ToCome.{IsOverLimit, IsUncut, ToCome, fault_o
 ghost use Rattle.mdb_check.specs.Headline.{Headline};
 ghost use Rattle.mdb_check.specs.Text.{IsCutReport, report_text};
 ghost use Rattle.mdb_check.specs.Verdict.{IsAnswer, IsYes, HasMet, IsNoYes, IsToldAs};
-ghost use Rattle.mdb_check.specs.Ending.{HasFollowed};
+ghost use Rattle.mdb_check.specs.inner.Ending.{HasFollowed};
 ghost use Rattle.mdb_follow.specs.Follower.{StandsFor, rows_of};
 ghost use Rattle.mdb_follow.specs.Offences.{HasOffence};
 ghost use Rattle.mdb_words.specs.declared.event.Event.{Event};

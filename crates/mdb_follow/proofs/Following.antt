@@ -26,7 +26,7 @@ use Rattle.mdb_follow.specs.declared.offence.Offence.{Offence}
 use Rattle.mdb_follow.specs.declared.range.Range.{Range}
 use Rattle.mdb_follow.specs.declared.report.Report.{Report}
 use Rattle.mdb_follow.specs.Follower.{StandsFor}
-use Rattle.mdb_follow.specs.FollowerSteps.{HasFollowed, HasStopped}
+use Rattle.mdb_follow.specs.inner.FollowerSteps.{HasFollowed, HasStopped}
 use Rattle.mdb_follow.specs.Ranges.{IsAccount, IsCell, IsRange}
 use Rattle.mdb_follow.specs.Sums.{AccountSums, Sums}
 use Rattle.mdb_follow.specs.Tables.{ArrivesAnywhere, IsTable}

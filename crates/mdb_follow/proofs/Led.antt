@@ -6,12 +6,12 @@ use Rattle.std.proofs.lemmas.List.{take_more}
 use Rattle.mdb_cash.specs.declared.gains.Gains.{Gains}
 use Rattle.mdb_cash.specs.Gains.{IsSmall}
 use Rattle.mdb_follow.specs.declared.cell.Cell.{Cell}
-use Rattle.mdb_follow.specs.Cells.{moved_cell}
-use Rattle.mdb_follow.specs.Limits.{IsCellWithin, IsTableWithin}
+use Rattle.mdb_follow.specs.inner.Cells.{moved_cell}
+use Rattle.mdb_follow.specs.inner.Limits.{IsCellWithin, IsTableWithin}
 use Rattle.mdb_follow.specs.Ranges.{IsCell}
 use Rattle.mdb_follow.specs.Sums.{Sums}
 use Rattle.mdb_follow.specs.Tables.{Bounds}
-use Rattle.mdb_follow.specs.Entries.{IsKeyed, with_cell, with_moves}
+use Rattle.mdb_follow.specs.inner.Entries.{IsKeyed, with_cell, with_moves}
 use Rattle.mdb_follow.proofs.Ends.{Moved, cell-moved, cell-moved-within}
 use Rattle.mdb_follow.proofs.Listed.{bounds-same, bounds-with_cell, contains-cases, contains-here, contains-none, contains-there, keyed-with_cell, within-with_cell}
 

@@ -1,7 +1,7 @@
 -- How far from 0 the ends of a table are.
 use Rattle.std.proofs.Common.{ℕ, ◌≤◌, List, get_or}
 use Rattle.mdb_follow.specs.declared.cell.Cell.{Cell}
-use Rattle.mdb_follow.specs.Limits.{IsTableWithin}
+use Rattle.mdb_follow.specs.inner.Limits.{IsTableWithin}
 use Rattle.mdb_follow.proofs.Ends.{cell-within-weaker}
 
 pub table-within-weaker : (limit more : ℕ) (entries : List (ℕ × Cell)) → limit ≤ more

@@ -10,13 +10,13 @@ use Rattle.mdb_bus.specs.declared.act.Act.TheVariants as kinds
 use Rattle.mdb_cash.specs.declared.choice.Choice.{Choice}
 use Rattle.mdb_cash.specs.declared.choice.Choice.TheVariants.{Plain, Lost, Restart}
 use Rattle.mdb_cash.specs.declared.gains.Gains.{Gains}
-use Rattle.mdb_cash.specs.BillWays as bill_ways
-use Rattle.mdb_cash.specs.ChangerWays as changer_ways
+use Rattle.mdb_cash.specs.inner.BillWays as bill_ways
+use Rattle.mdb_cash.specs.inner.ChangerWays as changer_ways
 use Rattle.mdb_cash.specs.Choices.{CanStand}
 use Rattle.mdb_cash.specs.Gains.{no_gains}
 use Rattle.mdb_cash.specs.Machine.{IsMachineOf, Machine}
 use Rattle.mdb_cash.specs.Pair.{IsActOf}
-use Rattle.mdb_cashless.specs.ReaderWays as reader_ways
+use Rattle.mdb_cashless.specs.inner.ReaderWays as reader_ways
 use Rattle.mdb_follow.specs.Arrivals.{Arrives}
 use Rattle.mdb_follow.specs.Machines.{machine_of}
 use Rattle.mdb_follow.specs.Offences.{HasNoStep}

@@ -5,7 +5,7 @@ use Rattle.std.proofs.lemmas.Bool.{cases_lt}
 use Rattle.std.proofs.lemmas.List.{get_or_append_left, get_or-set_other, get_or-set_same, length-append, length-set}
 use Rattle.std.proofs.Math.Seq.{get_or-append_seam}
 use Rattle.mdb_follow.specs.declared.cell.Cell.{Cell}
-use Rattle.mdb_follow.specs.Entries.{HasAt, IsPlaced, Lacks}
+use Rattle.mdb_follow.specs.inner.Entries.{HasAt, IsPlaced, Lacks}
 
 -- an entry that no place has
 lacks-front : (entries : List (ℕ × Cell)) (i code : ℕ)

@@ -18,7 +18,7 @@ use Rattle.mdb_cashless.specs.declared.reader.state.ReaderState.{ReaderState}
 use Rattle.mdb_cashless.specs.Reader as reader
 use Rattle.mdb_cashless.specs.Reader.{ReaderStep}
 use Rattle.mdb_cashless.specs.ReaderFacts.{facts_of}
-use Rattle.mdb_cashless.specs.SaleViews.{AcksLastReply, TellsOfSale}
+use Rattle.mdb_cashless.specs.inner.SaleViews.{AcksLastReply, TellsOfSale}
 use Rattle.mdb_cashless.specs.Sales.{EndsInReply, IsApproved, SalesAreApproved}
 use Rattle.mdb_follow.specs.Arrivals.{Arrives}
 use Rattle.mdb_follow.specs.Runs.{AllSums, Run}

@@ -11,22 +11,22 @@ use Rattle.mdb_cash.specs.declared.gains.Gains.{Gains}
 use Rattle.mdb_cash.specs.declared.choice.Choice.{Choice}
 use Rattle.mdb_cash.specs.BillFacts as bill_facts
 use Rattle.mdb_cash.specs.BillValues as bill_values
-use Rattle.mdb_cash.specs.BillWays as bill_ways
+use Rattle.mdb_cash.specs.inner.BillWays as bill_ways
 use Rattle.mdb_cash.specs.ChangerFacts as changer_facts
 use Rattle.mdb_cash.specs.ChangerValues as changer_values
-use Rattle.mdb_cash.specs.ChangerWays as changer_ways
+use Rattle.mdb_cash.specs.inner.ChangerWays as changer_ways
 use Rattle.mdb_cash.specs.Gains.{no_gains}
 use Rattle.mdb_cash.specs.Pair.{IsActOf}
 use Rattle.mdb_cashless.specs.declared.reader.facts.ReaderFacts.{ReaderFacts}
 use Rattle.mdb_cashless.specs.ReaderFacts as reader_facts
 use Rattle.mdb_cashless.specs.ReaderValues as reader_values
-use Rattle.mdb_cashless.specs.ReaderWays as reader_ways
+use Rattle.mdb_cashless.specs.inner.ReaderWays as reader_ways
 use Rattle.mdb_cashless.specs.Units.{device_of_unit}
 use Rattle.mdb_cash.specs.Machine.{Machine}
 use Rattle.mdb_follow.specs.declared.cell.Cell.{Cell}
 use Rattle.mdb_follow.specs.declared.side.Side.{Side}
 use Rattle.mdb_follow.specs.declared.sides.Sides.{Sides}
-use Rattle.mdb_follow.specs.Limits.{IsTableWithin}
+use Rattle.mdb_follow.specs.inner.Limits.{IsTableWithin}
 use Rattle.mdb_follow.specs.Sides.{AreWithin, IsBillSide, IsChangerSide, IsReaderSide, IsSide, SidesFollow}
 use Rattle.mdb_follow.proofs.Limits.{table-within-weaker}
 use Rattle.mdb_follow.proofs.Ways.{table-same}

@@ -12,7 +12,7 @@ use Rattle.mdb_cash.specs.Choices.{CanStand}
 use Rattle.mdb_cash.specs.Pair.{IsChosenStep, IsMove, IsOtherMove, IsStep}
 use Rattle.mdb_cash.proofs.Ways.{plain_or_not}
 use Rattle.mdb_follow.specs.declared.cell.Cell.{Cell}
-use Rattle.mdb_follow.specs.Entries.{AreMoves, LeadTo, moves_of, with_moves}
+use Rattle.mdb_follow.specs.inner.Entries.{AreMoves, LeadTo, moves_of, with_moves}
 use Rattle.mdb_follow.proofs.Listed.{contains-cases, contains-here, contains-none}
 
 move-is : (step : Option (ℕ × Gains)) (move : ℕ × Gains)

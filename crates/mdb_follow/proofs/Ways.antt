@@ -12,7 +12,7 @@ use Rattle.mdb_follow.specs.declared.cell.Account.{Account}
 use Rattle.mdb_follow.specs.declared.cell.Cell.{Cell}
 use Rattle.mdb_follow.specs.declared.range.Range.{Range}
 use Rattle.mdb_follow.specs.Arrivals.{Arrives}
-use Rattle.mdb_follow.specs.Cells.{joined_cell}
+use Rattle.mdb_follow.specs.inner.Cells.{joined_cell}
 use Rattle.mdb_follow.specs.Ranges.{IsAccount, IsCell, IsRange}
 use Rattle.mdb_follow.specs.Report.{no_account}
 use Rattle.mdb_follow.specs.Sums.{AccountSums, Sums, added, no_sums}
@@ -20,7 +20,7 @@ use Rattle.mdb_follow.specs.Tables.{ArrivesAnywhere, ArrivesAt, Bounds, IsTable}
 use Rattle.std.proofs.lemmas.Int.{ints}
 use Rattle.std.proofs.lemmas.List.{take_more}
 use Rattle.std.proofs.lemmas.List.Elements.{All-append, All-cons, All-contains, All-nil}
-use Rattle.mdb_follow.specs.Entries.{AllRest, RestsAt, joined_cells}
+use Rattle.mdb_follow.specs.inner.Entries.{AllRest, RestsAt, joined_cells}
 use Rattle.mdb_follow.proofs.Ends.{cell-joined, cell-same}
 use Rattle.mdb_follow.proofs.Led.{Led}
 use Rattle.mdb_follow.proofs.Listed.{bounds-same, contains-cases, contains-here, contains-none, contains-there}

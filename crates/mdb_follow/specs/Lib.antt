@@ -1,13 +1,8 @@
 pub mod AccountNames
 pub mod Arrivals
-pub mod Cells
-pub mod Entries
 pub mod Follower
-pub mod FollowerSteps
-pub mod Limits
 pub mod Machines
 pub mod Offences
-pub mod Owners
 pub mod Ranges
 pub mod Report
 pub mod Runs
@@ -19,3 +14,4 @@ pub mod SilencesKept
 pub mod Slices
 pub mod Sums
 pub mod Tables
+pub mod inner

@@ -5,22 +5,22 @@ use Rattle.mdb_msgs.specs.declared.command.ReaderUnit.TheVariants.{First, Second
 use Rattle.mdb_bus.specs.declared.act.Act.{Act}
 use Rattle.mdb_bus.specs.declared.fault.Rule.{Rule}
 use Rattle.mdb_cash.specs.Bill as bill
-use Rattle.mdb_cash.specs.BillCodes as bill_codes
+use Rattle.mdb_cash.specs.inner.BillCodes as bill_codes
 use Rattle.mdb_cash.specs.BillFacts as bill_facts
 use Rattle.mdb_cash.specs.BillValues as bill_values
 use Rattle.mdb_cash.specs.Changer as changer
-use Rattle.mdb_cash.specs.ChangerCodes as changer_codes
+use Rattle.mdb_cash.specs.inner.ChangerCodes as changer_codes
 use Rattle.mdb_cash.specs.ChangerFacts as changer_facts
 use Rattle.mdb_cash.specs.ChangerValues as changer_values
 use Rattle.mdb_cash.specs.Machine.{Machine}
 use Rattle.mdb_cashless.specs.declared.reader.facts.ReaderFacts.{ReaderFacts}
 use Rattle.mdb_cashless.specs.Reader as reader
-use Rattle.mdb_cashless.specs.ReaderCodes as reader_codes
+use Rattle.mdb_cashless.specs.inner.ReaderCodes as reader_codes
 use Rattle.mdb_cashless.specs.ReaderFacts as reader_facts
 use Rattle.mdb_cashless.specs.ReaderValues as reader_values
 use Rattle.mdb_follow.specs.declared.side.Side.{Side}
 use Rattle.mdb_follow.specs.declared.sides.Sides.{Sides}
-use Rattle.mdb_follow.specs.Limits.{IsTableWithin}
+use Rattle.mdb_follow.specs.inner.Limits.{IsTableWithin}
 use Rattle.mdb_follow.specs.Offences.{NoStep}
 use Rattle.mdb_follow.specs.Tables.{IsTable}
 

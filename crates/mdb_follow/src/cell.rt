@@ -2,8 +2,8 @@
 
 ghost use Rattle.std.specs.Prelude.{◌≡◌, ◌<◌, ◌^◌};
 ghost use Rattle.mdb_cash.specs.Gains.{IsSmall};
-ghost use Rattle.mdb_follow.specs.Cells.{joined_account, joined_cell, moved_account, moved_cell};
-ghost use Rattle.mdb_follow.specs.Limits.{IsAccountWithin, IsCellWithin};
+ghost use Rattle.mdb_follow.specs.inner.Cells.{joined_account, joined_cell, moved_account, moved_cell};
+ghost use Rattle.mdb_follow.specs.inner.Limits.{IsAccountWithin, IsCellWithin};
 
 use crate::Range;
 use mdb_cash::Gains;

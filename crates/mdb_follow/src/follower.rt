@@ -43,7 +43,7 @@ impl Follower {
     ghost use Rattle.mdb_bus.specs.ActLists.{Piece};
     ghost use Rattle.mdb_follow.specs.Runs.{IsReached};
     ghost use Rattle.mdb_follow.specs.Follower.{StandsFor, offence_of, rows_of};
-    ghost use Rattle.mdb_follow.specs.FollowerSteps.{HasFollowed, HasStopped};
+    ghost use Rattle.mdb_follow.specs.inner.FollowerSteps.{HasFollowed, HasStopped};
     ghost use Rattle.mdb_follow.specs.Offences.{HasOffence, IsOffence};
     ghost use Rattle.mdb_follow.specs.Report.{IsReport};
     ghost use Rattle.mdb_follow.specs.Sales.{SalesFollowApprovals};

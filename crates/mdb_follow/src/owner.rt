@@ -1,6 +1,6 @@
 //! Whose an act is.
 
-ghost use Rattle.mdb_follow.specs.Owners.{Owns};
+ghost use Rattle.mdb_follow.specs.inner.Owners.{Owns};
 
 use mdb_bus::Act;
 use mdb_msgs::Device;

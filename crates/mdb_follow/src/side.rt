@@ -3,7 +3,7 @@
 ghost use Rattle.std.specs.Prelude.{◌≡◌, ◌+◌, ◌^◌, ℕ, List, [], ◌∷◌, IfOk, IfErr, OnErr};
 ghost use Rattle.mdb_bus.specs.declared.act.Act.{Act};
 ghost use Rattle.mdb_follow.specs.Arrivals.{Arrives};
-ghost use Rattle.mdb_follow.specs.Limits.{IsTableWithin};
+ghost use Rattle.mdb_follow.specs.inner.Limits.{IsTableWithin};
 ghost use Rattle.mdb_follow.specs.Offences.{HasNoStep};
 ghost use Rattle.mdb_follow.specs.Ranges.{IsCell};
 ghost use Rattle.mdb_follow.specs.Sides.{IsSide};

@@ -8,11 +8,11 @@ ghost use Rattle.mdb_cash.specs.declared.gains.Gains.{Gains};
 ghost use Rattle.mdb_cash.specs.Gains.{IsSmall};
 ghost use Rattle.mdb_cash.specs.Pair.{IsMove, IsStep};
 ghost use Rattle.mdb_follow.specs.Arrivals.{Arrives};
-ghost use Rattle.mdb_follow.specs.Limits.{IsTableWithin};
+ghost use Rattle.mdb_follow.specs.inner.Limits.{IsTableWithin};
 ghost use Rattle.mdb_follow.specs.Ranges.{IsCell};
 ghost use Rattle.mdb_follow.specs.Sums.{Sums};
 ghost use Rattle.mdb_follow.specs.Tables.{ArrivesAnywhere, ArrivesAt, Bounds, IsTable};
-ghost use Rattle.mdb_follow.specs.Entries.{AllRest, AreBelow};
+ghost use Rattle.mdb_follow.specs.inner.Entries.{AllRest, AreBelow};
 
 use crate::Cell;
 use crate::entries::{add_steps, join_all, lead_only};
@@ -39,7 +39,7 @@ pub struct Table<const N: usize> {
 impl<const N: usize> Model for Table<N> {
     ghost use Rattle.std.specs.Prelude.{ℕ, List, if◌then◌else◌};
     ghost use Rattle.mdb_follow.specs.declared.cell.Cell.{Cell};
-    ghost use Rattle.mdb_follow.specs.Entries.{AreBelow};
+    ghost use Rattle.mdb_follow.specs.inner.Entries.{AreBelow};
 
     ghost Value = { List (ℕ × Cell) };
 

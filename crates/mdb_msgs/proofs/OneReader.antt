@@ -10,7 +10,7 @@ use Rattle.mdb_msgs.specs.declared.reply.reader.ReaderMsg.{ReaderMsg}
 use Rattle.mdb_msgs.specs.declared.reply.reader.ReaderMsg.TheVariants.{JustReset, Config, Display, BeginSession, CancelRequest, VendApproved, VendDenied, EndSession, Cancelled, PeripheralId, Malfunction, OutOfSequence}
 use Rattle.mdb_msgs.specs.Reader.{ReaderMessages, head_bytes, is_display, text_of, reader_msg_bytes, reader_list_bytes, IsDisplayLast, IsReaderList, NotDisplay, NoReaderMsg, ReaderStopsAt}
 use Rattle.mdb_msgs.specs.ReaderBytes.{front_message, messages_of}
-use Rattle.mdb_msgs.specs.ReaderSteps.{IsTextOf, IsNextMessage, StandAsMessages}
+use Rattle.mdb_msgs.specs.inner.ReaderSteps.{IsTextOf, IsNextMessage, StandAsMessages}
 use Rattle.mdb_msgs.proofs.OneReading.{NoEnd, Ends, one_list, same_fault}
 use Rattle.mdb_msgs.proofs.ReaderBytes.{front_found, next_is, reads_list, same_fronts}
 

@@ -6,7 +6,7 @@ use Rattle.mdb_msgs.specs.declared.reply.reader.ReaderMsg.{ReaderMsg}
 use Rattle.mdb_msgs.specs.declared.reply.reader.ReaderMsg.TheVariants.{JustReset, Config, Display, BeginSession, CancelRequest, VendApproved, VendDenied, EndSession, Cancelled, PeripheralId, Malfunction, OutOfSequence}
 use Rattle.mdb_msgs.specs.Reader.{ReaderMessages, head_bytes, is_display, is_id, text_of, reader_msg_bytes, reader_list_bytes, IsDisplayLast, IsReaderList}
 use Rattle.mdb_msgs.specs.ReaderBytes.{number_at, front_message, front_text, no_messages, before_messages, messages_in, messages_of, AreMessages}
-use Rattle.mdb_msgs.specs.ReaderSteps.{IsTextOf, StandAsMessages, IsNextMessage}
+use Rattle.mdb_msgs.specs.inner.ReaderSteps.{IsTextOf, StandAsMessages, IsNextMessage}
 
 whole : (n : ℕ) → 256 * (n / 256) + n % 256 ≡ n
 whole n = omega arith

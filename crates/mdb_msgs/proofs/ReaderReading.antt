@@ -7,7 +7,7 @@ use Rattle.mdb_msgs.specs.declared.reply.reader.ReaderMsg.TheVariants.{Display, 
 use Rattle.mdb_msgs.specs.declared.fault.MsgFault.{MsgFault}
 use Rattle.mdb_msgs.specs.Reader.{ReaderMessages, head_bytes, is_display, is_id, text_of, reader_msg_bytes, reader_list_bytes, IsDisplayLast, IsReaderList, NotDisplay, NoReaderMsg, ReaderStopsAt}
 use Rattle.mdb_msgs.specs.ReaderBytes.{no_messages}
-use Rattle.mdb_msgs.specs.ReaderSteps.{IsTextOf, with_message}
+use Rattle.mdb_msgs.specs.inner.ReaderSteps.{IsTextOf, with_message}
 use Rattle.mdb_msgs.proofs.Reading.{all_more, spelled_more}
 
 -- these messages were taken off the front, and this is the rest

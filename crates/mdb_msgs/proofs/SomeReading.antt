@@ -17,7 +17,7 @@ use Rattle.mdb_msgs.specs.Commands.{IsByte}
 use Rattle.mdb_msgs.specs.Lists.{StopsAt}
 use Rattle.mdb_msgs.specs.Reader.{ReaderMessages, head_bytes, reader_list_bytes, IsReaderList, NoReaderMsg, ReaderStopsAt}
 use Rattle.mdb_msgs.specs.ReaderBytes.{no_messages}
-use Rattle.mdb_msgs.specs.ReaderSteps.{IsTextOf, with_message}
+use Rattle.mdb_msgs.specs.inner.ReaderSteps.{IsTextOf, with_message}
 use Rattle.mdb_msgs.specs.TwoBytes.{two_bytes}
 use Rattle.mdb_msgs.proofs.ReaderReading.{Taken, nothing_taken, takes_next, stops_next, all_read}
 

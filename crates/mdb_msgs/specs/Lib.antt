@@ -8,7 +8,7 @@ pub mod Lists
 pub mod Needs
 pub mod Reader
 pub mod ReaderBytes
-pub mod ReaderSteps
 pub mod Replies
 pub mod Setup
 pub mod TwoBytes
+pub mod inner

@@ -13,7 +13,7 @@ pub struct ChangerState {
 
 impl ChangerState {
     ghost use Rattle.mdb_cash.specs.Changer as spec;
-    ghost use Rattle.mdb_cash.specs.ChangerCodes.{code_of};
+    ghost use Rattle.mdb_cash.specs.inner.ChangerCodes.{code_of};
 
     /// The state at power-on.
     pub(crate) fn power_on() -> ChangerState

@@ -37,7 +37,7 @@ impl ReaderFacts {
     ghost use Rattle.mdb_cashless.specs.ReaderMessages.{messages_of};
     ghost use Rattle.mdb_cash.specs.Past.{or_else};
     ghost use Rattle.mdb_msgs.specs.declared.reply.reader.ReaderMsg.{ReaderMsg};
-    ghost use Rattle.mdb_cashless.specs.ReaderSaid.{IsSaid};
+    ghost use Rattle.mdb_cashless.specs.inner.ReaderSaid.{IsSaid};
     ghost use Rattle.mdb_cashless.specs.ReaderValues.{facts_in, facts_with, powered, taken, told};
     ghost use Rattle.mdb_cashless.specs.Transactions.{transaction_of as transaction};
 

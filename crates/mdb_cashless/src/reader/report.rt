@@ -95,7 +95,7 @@ impl Said {
     ghost use Rattle.mdb_cash.specs.Past.{is_out_of_sequence, or_else};
     ghost use Rattle.mdb_cash.specs.declared.kept.Part.{Part};
     ghost use Rattle.mdb_cashless.specs.declared.reader.report.ReaderReport.{ReaderReport};
-    ghost use Rattle.mdb_cashless.specs.ReaderSaid.{IsSaid};
+    ghost use Rattle.mdb_cashless.specs.inner.ReaderSaid.{IsSaid};
 
     /// What no message says.
     #[inline(always)]

@@ -18,7 +18,7 @@ pub struct ReaderState {
 
 impl ReaderState {
     ghost use Rattle.mdb_cashless.specs.Reader as spec;
-    ghost use Rattle.mdb_cashless.specs.ReaderCodes.{code_of};
+    ghost use Rattle.mdb_cashless.specs.inner.ReaderCodes.{code_of};
 
     /// The state at power-on.
     pub(crate) fn power_on() -> ReaderState

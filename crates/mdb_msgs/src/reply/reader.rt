@@ -7,7 +7,7 @@ ghost use Rattle.mdb_msgs.specs.declared.fault.MsgFault.TheVariants.{Message};
 ghost use Rattle.mdb_msgs.specs.TwoBytes.{two_bytes};
 ghost use Rattle.mdb_msgs.specs.Reader.{head_bytes, reader_msg_bytes, reader_list_bytes, is_display, is_id, is_kept, tells_level, text_of, IsDisplayLast, IsListFault, IsReaderBlock, IsReaderList, NoReaderMsg, ReaderStopsAt};
 ghost use Rattle.mdb_msgs.specs.ReaderBytes.{messages_of, no_messages};
-ghost use Rattle.mdb_msgs.specs.ReaderSteps.{IsTextOf, IsNextMessage, StandAsMessages};
+ghost use Rattle.mdb_msgs.specs.inner.ReaderSteps.{IsTextOf, IsNextMessage, StandAsMessages};
 
 use super::list::{Bytes, append, list_of};
 use crate::fault::MsgFault;
@@ -318,7 +318,7 @@ impl<'a> Model for ReaderIter<'a> {
     ghost use Rattle.std.specs.Prelude.{List};
     ghost use Rattle.mdb_msgs.specs.declared.reply.reader.ReaderMsg.{ReaderMsg};
     ghost use Rattle.mdb_msgs.specs.ReaderBytes.{messages_of};
-    ghost use Rattle.mdb_msgs.specs.ReaderSteps.{StandAsMessages};
+    ghost use Rattle.mdb_msgs.specs.inner.ReaderSteps.{StandAsMessages};
 
     ghost Value = { List ReaderMsg };
 

@@ -1,7 +1,7 @@
 use Rattle.std.proofs.Common.{Global, List, refl, subst}
 use Rattle.std.proofs.lemmas.Option.{IfSome_then}
 use Rattle.std.specs.Prelude.{String, map, string_bytes}
-use Rattle.mdb_check.specs.CommandLine.{AsksFor}
+use Rattle.mdb_check.specs.inner.CommandLine.{AsksFor}
 use Rattle.mdb_check.specs.Program.{checked, shown}
 use Rattle.mdb_check.specs.declared.program.Task.{Task}
 use Rattle.mdb_check.proofs.Status.{refused_says}

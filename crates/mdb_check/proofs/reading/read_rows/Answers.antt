@@ -1,6 +1,6 @@
 use Rattle.std.proofs.Common.{arith, subst, ◌∙◌, ◌≡◌, ◌-◌}
 use Rattle.mdb_check.specs.declared.batch.Next.TheVariants as next
-use Rattle.mdb_check.specs.Batch.{GoesOnOver, IsMet}
+use Rattle.mdb_check.specs.inner.Batch.{GoesOnOver, IsMet}
 use Rattle.mdb_records.specs.ToCome.{fault_of}
 use Rattle.mdb_check.proofs.Batches.{fits}
 use Rattle.mdb_check.proofs.Endings as endings

@@ -1,6 +1,6 @@
 use Rattle.std.proofs.Common.{rules, sym, subst}
 use Rattle.std.specs.Io.KnownBytes.{Appends}
-use Rattle.mdb_check.specs.ShowSteps.{output}
+use Rattle.mdb_check.specs.inner.ShowSteps.{output}
 use Rattle.mdb_check.specs.Show.{Shows}
 use Rattle.mdb_check.proofs.Outputs.{cut_short, page_broken, rows_broken, written_out}
 use Rattle.mdb_check.proofs.showing.show_records.Goals as goal

@@ -3,8 +3,8 @@ use Rattle.mdb_bus.specs.declared.fault.LinkFault.{LinkFault}
 use Rattle.mdb_follow.specs.declared.follower.TheConstants.{ROWS_MAX}
 use Rattle.mdb_check.specs.declared.outcome.RunFault.{RunFault}
 use Rattle.mdb_words.specs.Row.{IsRefusal, IsRow}
-use Rattle.mdb_check.specs.Ending.{HasEnded, IsStopped}
-use Rattle.mdb_check.specs.ShowSteps.{HasShown, HasStopped, begun, output}
+use Rattle.mdb_check.specs.inner.Ending.{HasEnded, IsStopped}
+use Rattle.mdb_check.specs.inner.ShowSteps.{HasShown, HasStopped, begun, output}
 use Rattle.mdb_check.proofs.Showings as showings
 use Rattle.mdb_check.proofs.showing.show_rows.Goals as goal
 

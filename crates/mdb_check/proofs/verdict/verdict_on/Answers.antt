@@ -3,7 +3,7 @@ use Rattle.mdb_follow.specs.declared.offence.Offence.{Offence}
 use Rattle.mdb_follow.specs.Offences.{HasOffence}
 use Rattle.mdb_check.specs.declared.outcome.RunFault.{RunFault}
 use Rattle.mdb_words.specs.Row.{IsRefusal, IsRow}
-use Rattle.mdb_check.specs.Ending.{HasEnded, HasFollowed}
+use Rattle.mdb_check.specs.inner.Ending.{HasEnded, HasFollowed}
 use Rattle.mdb_check.proofs.Verdicts as verdicts
 use Rattle.mdb_check.proofs.verdict.verdict_on.Goals as goal
 

@@ -1,5 +1,5 @@
 use Rattle.std.proofs.Common.{◌++◌}
-use Rattle.mdb_follow.specs.Entries.{moves_of}
+use Rattle.mdb_follow.specs.inner.Entries.{moves_of}
 use Rattle.mdb_follow.proofs.TwoSteps.{two-moves, with-two}
 use Rattle.mdb_follow.proofs.entries.add_steps.Goals as goal
 

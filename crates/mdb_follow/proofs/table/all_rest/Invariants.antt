@@ -1,5 +1,5 @@
 use Rattle.std.proofs.Common.{take}
-use Rattle.mdb_follow.specs.Entries.{AllRest}
+use Rattle.mdb_follow.specs.inner.Entries.{AllRest}
 use Rattle.mdb_follow.proofs.table.all_rest.Given as goal
 
 abbrev pub invariant-loop-code : goal.invariant-loop-code

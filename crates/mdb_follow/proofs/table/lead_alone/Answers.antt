@@ -5,8 +5,8 @@ use Rattle.mdb_follow.specs.Sums.{Sums}
 use Rattle.mdb_bus.specs.declared.act.Act.{Act}
 use Rattle.mdb_follow.specs.declared.cell.Cell.{Cell}
 use Rattle.mdb_follow.specs.Arrivals.{Arrives}
-use Rattle.mdb_follow.specs.Entries.{AreBelow, LeadTo}
-use Rattle.mdb_follow.specs.Limits.{IsCellWithin, IsTableWithin}
+use Rattle.mdb_follow.specs.inner.Entries.{AreBelow, LeadTo}
+use Rattle.mdb_follow.specs.inner.Limits.{IsCellWithin, IsTableWithin}
 use Rattle.mdb_follow.specs.Tables.{ArrivesAt, Bounds, IsTable}
 use Rattle.mdb_follow.proofs.Alone.{alone-below, alone-either, alone-led, alone-within, lead-none, only-is, some-entry}
 use Rattle.mdb_follow.proofs.Limits.{table-within-weaker}

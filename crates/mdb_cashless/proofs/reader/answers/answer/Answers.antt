@@ -2,7 +2,7 @@ use Rattle.std.proofs.Common.{◌∙◌, ap, subst, sym}
 use Rattle.mdb_cash.specs.Kept.{held, holds_behind}
 use Rattle.mdb_cash.specs.Past.{or_else}
 use Rattle.mdb_cashless.specs.Reader.{last_transaction, owes_reset, sold_any, take_any, taken}
-use Rattle.mdb_cashless.specs.ReaderSaid.{IsSaid}
+use Rattle.mdb_cashless.specs.inner.ReaderSaid.{IsSaid}
 use Rattle.mdb_cashless.specs.ReaderValues.{facts_in}
 use Rattle.mdb_cashless.proofs.Answered.{Looked, told, untold}
 use Rattle.mdb_cashless.proofs.Said.{or_is}

@@ -1,7 +1,7 @@
 use Rattle.std.proofs.Common.{refl, subst, ◌+◌, List, Bool}
 use Rattle.mdb_bus.specs.ActLists.{Piece}
 use Rattle.mdb_bus.specs.Bus.{GoesOn, StandsFor, ended_act}
-use Rattle.mdb_check.specs.ShowSteps.{output}
+use Rattle.mdb_check.specs.inner.ShowSteps.{output}
 use Rattle.mdb_check.proofs.ShowSteps as steps
 use Rattle.mdb_check.proofs.showing.Lines.add_all.Goals as goal
 use Rattle.mdb_check.proofs.showing.Lines.add_all.Goals.{then-ended+in_ok-add_ended, else-ended}

@@ -1,5 +1,5 @@
 use Rattle.std.proofs.Common.{take}
-use Rattle.mdb_check.specs.ShowSteps.{output}
+use Rattle.mdb_check.specs.inner.ShowSteps.{output}
 use Rattle.mdb_check.proofs.ShowSteps.{Adds}
 use Rattle.mdb_check.proofs.showing.Lines.add_all.Given as goal
 

@@ -1,4 +1,4 @@
-use Rattle.mdb_check.specs.ShowSteps.{begun, output}
+use Rattle.mdb_check.specs.inner.ShowSteps.{begun, output}
 use Rattle.mdb_check.proofs.Showings.{added}
 use Rattle.mdb_check.proofs.showing.ShowingTakeRows.take_all.Goals as goal
 

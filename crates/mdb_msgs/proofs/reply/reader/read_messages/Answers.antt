@@ -1,7 +1,7 @@
 use Rattle.std.proofs.Common.{sym, ◌∙◌}
 use Rattle.std.proofs.lemmas.Result.{err_from_is_err_and}
 use Rattle.mdb_msgs.specs.ReaderBytes.{no_messages}
-use Rattle.mdb_msgs.specs.ReaderSteps.{with_message}
+use Rattle.mdb_msgs.specs.inner.ReaderSteps.{with_message}
 use Rattle.mdb_msgs.proofs.ReaderBytes.{are_messages}
 use Rattle.mdb_msgs.proofs.ReaderReading.{nothing_taken, takes_next, stops_next, all_read}
 use Rattle.mdb_msgs.proofs.reply.reader.read_messages.Goals as goal

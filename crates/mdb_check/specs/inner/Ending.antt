@@ -13,7 +13,7 @@ use Rattle.mdb_check.specs.declared.batch.Next.{Next}
 use Rattle.mdb_check.specs.declared.batch.Next.TheVariants as next
 use Rattle.mdb_check.specs.declared.outcome.RunFault.{RunFault}
 use Rattle.mdb_check.specs.declared.outcome.RunFault.TheVariants.{BadRow, TooLong, Read, Write, Memory}
-use Rattle.mdb_check.specs.Batch.{AreAll}
+use Rattle.mdb_check.specs.inner.Batch.{AreAll}
 use Rattle.mdb_check.specs.Verdict.{run_fault_of}
 
 -- the later rows were taken behind the earlier ones, or one of them was stopped at

@@ -13,7 +13,7 @@ use Rattle.mdb_cash.specs.Keeper.{Tables}
 use Rattle.mdb_cash.specs.KeeperSteps.{AckStep, Conduct, KeeperStep, ReplyStep, VmcAckStep}
 use Rattle.mdb_cash.specs.Kept.{has_reset, kept_of}
 use Rattle.mdb_cash.specs.Past.{PastFacts}
-use Rattle.mdb_cash.specs.PlainKept.{acked_plain}
+use Rattle.mdb_cash.specs.inner.PlainKept.{acked_plain}
 use Rattle.mdb_cash.specs.Steps.{ForOwn}
 
 -- what a device does of its own looks at no choice that can't stand there

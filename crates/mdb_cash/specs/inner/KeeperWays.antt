@@ -13,8 +13,8 @@ use Rattle.mdb_cash.specs.declared.past.Effect.TheVariants as effects
 use Rattle.mdb_cash.specs.Keeper.{Facts, Tables, asked_by, effect_of, facts_of, parts_by, reply_by, setup_by}
 use Rattle.mdb_cash.specs.Pair.{IsActOf}
 use Rattle.mdb_cash.specs.Past.{effect_by, effect_taken, last_told, or_else, powers_on, resets}
-use Rattle.mdb_cash.specs.PastWays.{answered_still, one_more}
-use Rattle.mdb_cash.specs.StepWays.{IsOwnOf}
+use Rattle.mdb_cash.specs.inner.PastWays.{answered_still, one_more}
+use Rattle.mdb_cash.specs.inner.StepWays.{IsOwnOf}
 
 -- an act by which the device takes nothing, is asked nothing and tells nothing
 record IsQuiet {Own Setup Asked M : Type 0} (tables : Tables Own Setup Asked M) (act : Act)

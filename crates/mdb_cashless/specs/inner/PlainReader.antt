@@ -10,7 +10,7 @@ use Rattle.mdb_cash.specs.declared.choice.Choice.TheVariants.{Plain, Lost, Resta
 use Rattle.mdb_cash.specs.declared.gains.Gains.{Gains}
 use Rattle.mdb_cash.specs.Choices.{CanStand}
 use Rattle.mdb_cash.specs.Kept.{kept_of}
-use Rattle.mdb_cash.specs.PlainKept.{acked_plain}
+use Rattle.mdb_cash.specs.inner.PlainKept.{acked_plain}
 use Rattle.mdb_cashless.specs.declared.reader.state.ReaderState.{ReaderState}
 use Rattle.mdb_cashless.specs.Reader.{AckStep, ForOwn, ReaderStep, ReplyStep, VmcAckStep, taken, view_answered}
 use Rattle.mdb_cashless.specs.ReaderFacts.{Facts}

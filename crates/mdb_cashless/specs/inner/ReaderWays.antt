@@ -21,10 +21,10 @@ use Rattle.mdb_cashless.specs.declared.reader.state.ReaderState.{ReaderState}
 use Rattle.mdb_cashless.specs.Reader.{ForOwn, ReaderStep, machine, power_on}
 use Rattle.mdb_cash.specs.declared.past.Effect.TheVariants as effects
 use Rattle.mdb_cash.specs.Past.{PastFacts, effect_by, last_told, or_else, past_of, powers_on, resets, tells_out_of_sequence}
-use Rattle.mdb_cash.specs.PastWays as past_ways
+use Rattle.mdb_cash.specs.inner.PastWays as past_ways
 use Rattle.mdb_cashless.specs.declared.reader.report.ReaderReport.{ReaderReport}
 use Rattle.mdb_cashless.specs.declared.reader.transaction.Transaction.{Transaction}
-use Rattle.mdb_cashless.specs.PlainReader.{as_plain}
+use Rattle.mdb_cashless.specs.inner.PlainReader.{as_plain}
 use Rattle.mdb_cashless.specs.ReaderFacts.{Facts, amount_by, asked_by, config_by, effect_of, effect_of_own, facts_of, last_taken, messages_by, own_of, own_transaction, parts_by, transaction_taken_by}
 use Rattle.mdb_cashless.specs.ReaderMessages.{amount_in, begin_session, config_in, last_said, messages_of, part_of}
 use Rattle.mdb_cashless.specs.Units.{device_of_unit, own}

@@ -10,12 +10,12 @@ use Rattle.mdb_cash.specs.declared.gains.Gains.{Gains}
 use Rattle.mdb_cash.specs.Bill.{BillStep, conduct, machine, power_on}
 use Rattle.mdb_cash.specs.BillFacts.{Facts, facts_of, own, tables}
 use Rattle.mdb_cash.specs.Gains.{no_gains}
-use Rattle.mdb_cash.specs.KeeperPlain.{LooksAway, as_plain}
-use Rattle.mdb_cash.specs.KeeperWays as keeper_ways
+use Rattle.mdb_cash.specs.inner.KeeperPlain.{LooksAway, as_plain}
+use Rattle.mdb_cash.specs.inner.KeeperWays as keeper_ways
 use Rattle.mdb_cash.specs.Machine.{IsMachineOf}
 use Rattle.mdb_cash.specs.Pair.{IsActOf, Stays}
-use Rattle.mdb_cash.specs.StepWays as step_ways
-use Rattle.mdb_cash.specs.StepWays.{IsOwnOf}
+use Rattle.mdb_cash.specs.inner.StepWays as step_ways
+use Rattle.mdb_cash.specs.inner.StepWays.{IsOwnOf}
 
 -- commands that aren't to it are none of its own
 is_own : IsOwnOf devices.Bill own

@@ -1,0 +1,10 @@
+pub mod BillCodes
+pub mod BillWays
+pub mod ChangerCodes
+pub mod ChangerWays
+pub mod KeeperPlain
+pub mod KeeperWays
+pub mod PastWays
+pub mod PlainKept
+pub mod Sizes
+pub mod StepWays

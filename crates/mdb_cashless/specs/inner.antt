@@ -1,0 +1,5 @@
+pub mod PlainReader
+pub mod ReaderCodes
+pub mod ReaderSaid
+pub mod ReaderWays
+pub mod SaleViews

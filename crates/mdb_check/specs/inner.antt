@@ -1,0 +1,4 @@
+pub mod Batch
+pub mod CommandLine
+pub mod Ending
+pub mod ShowSteps
