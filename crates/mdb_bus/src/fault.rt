@@ -1,9 +1,11 @@
 //! Why a row is impossible, and who is to blame.
 
-ghost use Rattle.std.specs.Prelude.{◌≡◌};
+ghost use Rattle.std.specs.Prelude.{◌≡◌, Some};
+ghost use Rattle.mdb_bus.specs.FaultWords.{blame_word, rule_word};
 ghost use Rattle.mdb_bus.specs.LinkFaults.{blame_on};
 
 use mdb_msgs::{Device, ReaderUnit};
+use std::fmt;
 
 /// The rule that an impossible row breaks. Of several, the first of this order is told.
 ///
@@ -46,6 +48,41 @@ pub enum Rule {
     Cashless,
 }
 
+impl Rule {
+    /// Its word in what is printed.
+    pub fn word(self) -> &'static str
+        ensures { result.now ≡ rule_word self }
+    {
+        match self {
+            Rule::Order => "Order",
+            Rule::Speaker => "Speaker",
+            Rule::Mode => "Mode",
+            Rule::Early => "Early",
+            Rule::Late => "Late",
+            Rule::Spacing => "Spacing",
+            Rule::Length => "Length",
+            Rule::Sum => "Sum",
+            Rule::Break => "Break",
+            Rule::Answer => "Answer",
+            Rule::Message => "Message",
+            Rule::Same => "Same",
+            Rule::Profile => "Profile",
+            Rule::Changer => "Changer",
+            Rule::Bill => "Bill",
+            Rule::Cashless => "Cashless",
+        }
+    }
+}
+
+/// Its word.
+impl fmt::Display for Rule {
+    ghost output = { λ rule. Some (rule_word rule) };
+
+    fn fmt<W: fmt::Write>(&self, f: &mut fmt::Formatter<W>) -> fmt::Result {
+        f.write_str(self.word())
+    }
+}
+
 /// Who is to blame for an impossible row.
 #[derive(Clone, Copy, PartialEq, Eq, Debug)]
 pub enum Blame {
@@ -75,6 +112,29 @@ impl Blame {
             Some(Device::Reader(ReaderUnit::First)) => Blame::Cashless,
             Some(Device::Reader(ReaderUnit::Second)) => Blame::Cashless2,
         }
+    }
+
+    /// Its word in what is printed: a device's is that of the device.
+    pub fn word(self) -> &'static str
+        ensures { result.now ≡ blame_word self }
+    {
+        match self {
+            Blame::Controller => "controller",
+            Blame::Changer => Device::Changer.word(),
+            Blame::Bill => Device::Bill.word(),
+            Blame::Cashless => Device::Reader(ReaderUnit::First).word(),
+            Blame::Cashless2 => Device::Reader(ReaderUnit::Second).word(),
+            Blame::Other => "other",
+        }
+    }
+}
+
+/// Its word.
+impl fmt::Display for Blame {
+    ghost output = { λ blame. Some (blame_word blame) };
+
+    fn fmt<W: fmt::Write>(&self, f: &mut fmt::Formatter<W>) -> fmt::Result {
+        f.write_str(self.word())
     }
 }
 

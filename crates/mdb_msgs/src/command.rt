@@ -1,7 +1,10 @@
 //! Commands of the controller, device by device.
 
-ghost use Rattle.std.specs.Prelude.{◌≡◌};
+ghost use Rattle.std.specs.Prelude.{◌≡◌, Some};
 ghost use Rattle.mdb_msgs.specs.Commands.{device_of, poll_of, reader_address};
+ghost use Rattle.mdb_msgs.specs.Devices.{device_word};
+
+use std::fmt;
 
 /// A peripheral that this profile follows (MDB/ICP 4.3: changer at 08H, cashless device #1 at 10H,
 /// validator at 30H, cashless device #2 at 60H).
@@ -29,6 +32,27 @@ impl Device {
             Device::Reader(ReaderUnit::Second) => 3,
         };
         POLLS[number]
+    }
+
+    /// Its word in what is printed.
+    pub fn word(self) -> &'static str
+        ensures { result.now ≡ device_word self }
+    {
+        match self {
+            Device::Changer => "changer",
+            Device::Bill => "bill",
+            Device::Reader(ReaderUnit::First) => "cashless",
+            Device::Reader(ReaderUnit::Second) => "cashless-2",
+        }
+    }
+}
+
+/// Its word.
+impl fmt::Display for Device {
+    ghost output = { λ device. Some (device_word device) };
+
+    fn fmt<W: fmt::Write>(&self, f: &mut fmt::Formatter<W>) -> fmt::Result {
+        f.write_str(self.word())
     }
 }
 
