@@ -106,13 +106,13 @@ fresh : (rest : List Piece) (row : Event) (line : Line) (word : ℕ) (position :
     → pieces_after rest row next ≡ grown rest row (piece_after (position_of rest) next)
     → piece_after position next ≡ piece
     → Before (piece (row ∷ []) ∷ rest) (events_of rest) row
-fresh rest row line word position next piece behind at settled said leads same made =
+fresh rest row line word position next piece earlier at settled said leads same made =
     let Settled : Position → Type 0 = λ p. IsSettled p in
     let Led : Position → Type 0 = λ p. WordLeads p (last_of (events_of rest)) (levels_of rest) row line word next in
     let new : piece_after (position_of rest) next ≡ piece = ap (λ p. piece_after p next) at ∙ made in
     record {
       before = rest;
-      in_order = behind;
+      in_order = earlier;
       rows_before = refl;
       next = next;
       leads = led (situation_of rest) row line word next said (subst Led (sym at) leads);
@@ -123,7 +123,7 @@ fresh rest row line word position next piece behind at settled said leads same m
 said_alone : (line : Line) (word : ℕ) (row : Event) → Say line (word ∷ []) (row ∷ []) → said_by row ≡ Some (line, word)
 said_alone line word row says = cc
 
--- a block begins behind a settled position
+-- a block begins after a settled position
 block_settled : (position : Position) (from : Option Event) (to : Event) → BlockMayCome position from to
     → IsSettled position
 block_settled Quiet from to may = tt
@@ -210,48 +210,48 @@ marked_not_foreign (Break at length) byte said foreign = foreign
 foreign_word : (rest : List Piece) (row : Event) → ArePieces rest → position_of rest ≡ InForeign → IsForeignWord row
     → WordLeads InForeign (last_of (events_of rest)) (levels_of rest) row Peripheral 0 step.Foreign
     → Before (Whole acts.Foreign (row ∷ []) ∷ rest) (events_of rest) row
-foreign_word rest (Word at Controller word) behind position foreign may =
-    fresh rest (Word at Controller word) Controller word InForeign step.Foreign (Whole acts.Foreign) behind position tt
+foreign_word rest (Word at Controller word) earlier position foreign may =
+    fresh rest (Word at Controller word) Controller word InForeign step.Foreign (Whole acts.Foreign) earlier position tt
     refl
     (inr (foreign, may)) refl refl
-foreign_word rest (Word at Peripheral word) behind position foreign may =
-    fresh rest (Word at Peripheral word) Peripheral word InForeign step.Foreign (Whole acts.Foreign) behind position tt
+foreign_word rest (Word at Peripheral word) earlier position foreign may =
+    fresh rest (Word at Peripheral word) Peripheral word InForeign step.Foreign (Whole acts.Foreign) earlier position tt
     refl
     may refl refl
-foreign_word rest (Break at length) behind position foreign may = absurd foreign
+foreign_word rest (Break at length) earlier position foreign may = absurd foreign
 
 -- the opening of a foreign block, of one word
 foreign_block : (bytes : List ℕ) (rest : List Piece) (row : Event) → ArePieces rest → IsForeignOpening bytes
     → Say Controller (controller_words bytes) (row ∷ [])
     → BlockMayCome (position_of rest) (last_of (events_of rest)) row
     → Before (Whole acts.Foreign (row ∷ []) ∷ rest) (events_of rest) row
-foreign_block [] rest row behind opening says may = absurd opening
-foreign_block (byte ∷ []) rest row behind opening says may =
-    fresh rest row Controller (256 + byte) (position_of rest) step.Foreign (Whole acts.Foreign) behind refl
+foreign_block [] rest row earlier opening says may = absurd opening
+foreign_block (byte ∷ []) rest row earlier opening says may =
+    fresh rest row Controller (256 + byte) (position_of rest) step.Foreign (Whole acts.Foreign) earlier refl
     (block_settled (position_of rest) (last_of (events_of rest)) row may)
     (said_alone Controller (256 + byte) row says)
     (foreign_opens (position_of rest) (last_of (events_of rest)) (levels_of rest) row (256 + byte) byte refl
     opening may)
     refl (foreign_made (position_of rest))
-foreign_block (byte ∷ next ∷ bytes) rest row behind opening says may =
+foreign_block (byte ∷ next ∷ bytes) rest row earlier opening says may =
     absurd (omega (arith, say_length Controller ((256 + byte) ∷ next ∷ bytes) (row ∷ []) says))
 
 alone_foreign : (rest : List Piece) (row : Event) → IsPiece (Whole acts.Foreign (row ∷ []))
     → MayStand rest (Whole acts.Foreign (row ∷ []))
     → ArePieces rest → Before (Whole acts.Foreign (row ∷ []) ∷ rest) (events_of rest) row
-alone_foreign rest row right stands behind =
+alone_foreign rest row right stands earlier =
     cases right.said (comes_at rest (Whole acts.Foreign (row ∷ [])) row [] stands refl)
   where
     cases : ((bytes : List ℕ) × IsForeignOpening bytes × Say Controller (controller_words bytes) (row ∷ []))
         ⊎ ((event : Event) × (row ∷ [] ≡ event ∷ []) × IsForeignWord event)
         → MayCome (Whole acts.Foreign (row ∷ [])) (position_of rest) (last_of (events_of rest)) row
         → Before (Whole acts.Foreign (row ∷ []) ∷ rest) (events_of rest) row
-    cases (inl opening) (inl block) = foreign_block opening.0 rest row behind opening.1 opening.2 block.1
+    cases (inl opening) (inl block) = foreign_block opening.0 rest row earlier opening.1 opening.2 block.1
     cases (inr word) (inl block) =
         let same : word.0 ≡ row = cc in
         let P : Event → Type 0 = λ e. IsForeignWord e in
         absurd (not_both row block.0 (subst P same word.2))
-    cases said (inr further) = foreign_word rest row behind further.1 further.0 further.2
+    cases said (inr further) = foreign_word rest row earlier further.1 further.0 further.2
 
 -- a reply to which the position belongs has bytes
 abbrev Holds : Position → Type 0
@@ -297,7 +297,7 @@ reply_long reply events row some says is =
 -- a piece of one event
 alone : (piece : Piece) (rest : List Piece) (row : Event) → IsPiece piece → MayStand rest piece → ArePieces rest
     → piece_events piece ≡ row ∷ [] → Before (piece ∷ rest) (events_of rest) row
-alone (Whole (acts.Ask command) events) rest row right stands behind is =
+alone (Whole (acts.Ask command) events) rest row right stands earlier is =
     let bytes = command_bytes command in
     absurd (omega (
       arith,
@@ -307,44 +307,44 @@ alone (Whole (acts.Ask command) events) rest row right stands behind is =
       controller_length (block_of bytes),
       length-append bytes (sum bytes % 256 ∷ []),
     ))
-alone (Whole (acts.Ack command) events) rest row right stands behind is =
+alone (Whole (acts.Ack command) events) rest row right stands earlier is =
     with_events (Whole (acts.Ack command)) rest (events_of rest) row events (row ∷ []) is (λ r s.
     let comes = comes_at rest (Whole (acts.Ack command) (row ∷ [])) row [] s refl in
-    fresh rest row Peripheral 256 (Asked command) step.Ack (Whole (acts.Ack command)) behind comes.0 tt
+    fresh rest row Peripheral 256 (Asked command) step.Ack (Whole (acts.Ack command)) earlier comes.0 tt
     (said_alone Peripheral 256 row r.said) (refl, comes.1) refl refl) right stands
-alone (Whole (acts.Nak command) events) rest row right stands behind is =
+alone (Whole (acts.Nak command) events) rest row right stands earlier is =
     with_events (Whole (acts.Nak command)) rest (events_of rest) row events (row ∷ []) is (λ r s.
     let comes = comes_at rest (Whole (acts.Nak command) (row ∷ [])) row [] s refl in
-    fresh rest row Peripheral 511 (Asked command) step.Nak (Whole (acts.Nak command)) behind comes.0 tt
+    fresh rest row Peripheral 511 (Asked command) step.Nak (Whole (acts.Nak command)) earlier comes.0 tt
     (said_alone Peripheral 511 row r.said) (refl, comes.1) refl refl) right stands
-alone (Whole (acts.Reply command reply) events) rest row right stands behind is =
+alone (Whole (acts.Reply command reply) events) rest row right stands earlier is =
     absurd (reply_long reply events row right.said.0.content.at_least right.said.1 is)
-alone (Whole (acts.VmcAck command reply) events) rest row right stands behind is =
+alone (Whole (acts.VmcAck command reply) events) rest row right stands earlier is =
     with_events (Whole (acts.VmcAck command reply)) rest (events_of rest) row events (row ∷ []) is (λ r s.
     let comes = comes_at rest (Whole (acts.VmcAck command reply) (row ∷ [])) row [] s refl in
-    fresh rest row Controller 0 (Replied command reply) step.VmcAck (Whole (acts.VmcAck command reply)) behind
+    fresh rest row Controller 0 (Replied command reply) step.VmcAck (Whole (acts.VmcAck command reply)) earlier
     comes.0 tt
     (said_alone Controller 0 row r.said) (refl, comes.1) refl refl) right stands
-alone (Whole (acts.VmcNak command reply) events) rest row right stands behind is =
+alone (Whole (acts.VmcNak command reply) events) rest row right stands earlier is =
     with_events (Whole (acts.VmcNak command reply)) rest (events_of rest) row events (row ∷ []) is (λ r s.
     let comes = comes_at rest (Whole (acts.VmcNak command reply) (row ∷ [])) row [] s refl in
-    fresh rest row Controller 255 (Replied command reply) step.VmcNak (Whole (acts.VmcNak command reply)) behind
+    fresh rest row Controller 255 (Replied command reply) step.VmcNak (Whole (acts.VmcNak command reply)) earlier
     comes.0 tt
     (said_alone Controller 255 row r.said) (refl, comes.1) refl refl) right stands
-alone (Whole (acts.VmcRet command reply) events) rest row right stands behind is =
+alone (Whole (acts.VmcRet command reply) events) rest row right stands earlier is =
     with_events (Whole (acts.VmcRet command reply)) rest (events_of rest) row events (row ∷ []) is (λ r s.
     let comes = comes_at rest (Whole (acts.VmcRet command reply) (row ∷ [])) row [] s refl in
-    fresh rest row Controller 170 (Replied command reply) step.VmcRet (Whole (acts.VmcRet command reply)) behind
+    fresh rest row Controller 170 (Replied command reply) step.VmcRet (Whole (acts.VmcRet command reply)) earlier
     comes.0 tt
     (said_alone Controller 170 row r.said) (refl, comes.1) refl refl) right stands
-alone (Whole (acts.Repeat command reply) events) rest row right stands behind is =
+alone (Whole (acts.Repeat command reply) events) rest row right stands earlier is =
     let P : Position → Type 0 = λ p. Holds p in
-    absurd (reply_long reply events row (subst P stands.comes.0 (replied rest behind)) right.said is)
-alone (Whole acts.Foreign events) rest row right stands behind is =
+    absurd (reply_long reply events row (subst P stands.comes.0 (replied rest earlier)) right.said is)
+alone (Whole acts.Foreign events) rest row right stands earlier is =
     with_events (Whole acts.Foreign) rest (events_of rest) row events (row ∷ []) is
-    (λ r s. alone_foreign rest row r s behind)
+    (λ r s. alone_foreign rest row r s earlier)
     right stands
-alone (Whole (acts.Break length) events) rest row right stands behind is =
+alone (Whole (acts.Break length) events) rest row right stands earlier is =
     with_events (Whole (acts.Break length)) rest (events_of rest) row events (row ∷ []) is (λ r s. alone_break r s)
     right stands
   where
@@ -358,13 +358,13 @@ alone (Whole (acts.Break length) events) rest row right stands behind is =
         (last_of (events_of rest)) e in
         record {
           before = rest;
-          in_order = behind;
+          in_order = earlier;
           rows_before = refl;
           next = step.Break length;
           leads = subst P (sym event) (refl, right.said.2, subst May event comes);
           is = refl;
         }
-alone (AskTail bytes events) rest row right stands behind is =
+alone (AskTail bytes events) rest row right stands earlier is =
     with_events (AskTail bytes) rest (events_of rest) row events (row ∷ []) is (λ r s. one bytes r s) right stands
   where
     one : (bytes : List ℕ) → IsPiece (AskTail bytes (row ∷ [])) → MayStand rest (AskTail bytes (row ∷ []))
@@ -373,7 +373,7 @@ alone (AskTail bytes events) rest row right stands behind is =
     one (byte ∷ []) right stands =
         let may = comes_at rest (AskTail (byte ∷ []) (row ∷ [])) row [] stands refl in
         let settled = block_settled (position_of rest) (last_of (events_of rest)) row may in
-        fresh rest row Controller (256 + byte) (position_of rest) (step.AskByte byte) (AskTail (byte ∷ [])) behind refl
+        fresh rest row Controller (256 + byte) (position_of rest) (step.AskByte byte) (AskTail (byte ∷ [])) earlier refl
         settled
         (said_alone Controller (256 + byte) row right.said.1)
         (ask_opens (position_of rest) (last_of (events_of rest)) (levels_of rest) row (256 + byte) byte refl
@@ -381,7 +381,7 @@ alone (AskTail bytes events) rest row right stands behind is =
         refl (ask_made (position_of rest) byte settled)
     one (byte ∷ next ∷ more) right stands =
         absurd (omega (arith, say_length Controller ((256 + byte) ∷ next ∷ more) (row ∷ []) right.said.1))
-alone (ReplyTail command bytes events) rest row right stands behind is =
+alone (ReplyTail command bytes events) rest row right stands earlier is =
     with_events (ReplyTail command bytes) rest (events_of rest) row events (row ∷ []) is (λ r s. one bytes r s)
     right stands
   where
@@ -391,13 +391,13 @@ alone (ReplyTail command bytes events) rest row right stands behind is =
     one [] right stands = absurd (omega (arith, right.said.0.some))
     one (byte ∷ []) right stands =
         let comes = comes_at rest (ReplyTail command (byte ∷ []) (row ∷ [])) row [] stands refl in
-        fresh rest row Peripheral byte (Asked command) (step.ReplyByte byte) (ReplyTail command (byte ∷ [])) behind
+        fresh rest row Peripheral byte (Asked command) (step.ReplyByte byte) (ReplyTail command (byte ∷ [])) earlier
         comes.0 tt
         (said_alone Peripheral byte row right.said.1)
         (refl, all_last IsByte [] byte right.said.0.in_range, right.said.0.allowed, comes.1) refl refl
     one (byte ∷ next ∷ more) right stands =
         absurd (omega (arith, say_length Peripheral (byte ∷ next ∷ more) (row ∷ []) right.said.1))
-alone (RepeatTail command reply words events) rest row right stands behind is =
+alone (RepeatTail command reply words events) rest row right stands earlier is =
     with_events (RepeatTail command reply words) rest (events_of rest) row events (row ∷ []) is (λ r s. one words r s)
     right stands
   where
@@ -408,7 +408,7 @@ alone (RepeatTail command reply words events) rest row right stands behind is =
     one (word ∷ []) right stands =
         let comes = comes_at rest (RepeatTail command reply (word ∷ []) (row ∷ [])) row [] stands refl in
         fresh rest row Peripheral word (Returned command reply) (step.RepeatWord word)
-        (RepeatTail command reply (word ∷ [])) behind
+        (RepeatTail command reply (word ∷ [])) earlier
         comes.0 tt (said_alone Peripheral word row right.said.1) (refl, right.said.0, comes.1) refl refl
     one (word ∷ next ∷ more) right stands =
         absurd (omega (arith, say_length Peripheral (word ∷ next ∷ more) (row ∷ []) right.said.1))
@@ -418,7 +418,7 @@ more_ask : (command : Command) (rest : List Piece) (front : List Event) (row : E
     → IsPiece (Whole (acts.Ask command) (front ++ row ∷ []))
     → MayStand rest (Whole (acts.Ask command) (front ++ row ∷ []))
     → ArePieces rest → Before (Whole (acts.Ask command) (front ++ row ∷ []) ∷ rest) (events_of rest ++ front) row
-more_ask command rest front row some right stands behind =
+more_ask command rest front row some right stands earlier =
     let bytes = command_bytes command in
     let last = controller_last (block_of bytes) front row some right.said.1 in
     let gaps = inside (events_of rest) front row some right.spaced in
@@ -440,7 +440,7 @@ more_ask command rest front row some right stands behind =
     (λ to back is may. may) tt stands in
     record {
       before = AskTail last.start front ∷ rest;
-      in_order = (tail, stood, behind);
+      in_order = (tail, stood, earlier);
       rows_before = refl;
       next = step.Ask command;
       leads = led (situation_of (AskTail last.start front ∷ rest)) row Controller last.byte (step.Ask command) last.said
@@ -452,7 +452,7 @@ more_ask command rest front row some right stands behind =
 more_ask_tail : (bytes : List ℕ) (rest : List Piece) (front : List Event) (row : Event) → front ≢ []
     → IsPiece (AskTail bytes (front ++ row ∷ [])) → MayStand rest (AskTail bytes (front ++ row ∷ []))
     → ArePieces rest → Before (AskTail bytes (front ++ row ∷ []) ∷ rest) (events_of rest ++ front) row
-more_ask_tail bytes rest front row some right stands behind =
+more_ask_tail bytes rest front row some right stands earlier =
     let last = controller_last bytes front row some right.said.1 in
     let gaps = inside (events_of rest) front row some right.spaced in
     let P : List ℕ → Type 0 = λ bs. IsAskFront bs in
@@ -474,7 +474,7 @@ more_ask_tail bytes rest front row some right stands behind =
     (λ to back is may. may) tt stands in
     record {
       before = AskTail last.start front ∷ rest;
-      in_order = (tail, stood, behind);
+      in_order = (tail, stood, earlier);
       rows_before = refl;
       next = step.AskByte last.byte;
       leads = led (situation_of (AskTail last.start front ∷ rest)) row Controller last.byte (step.AskByte last.byte)
@@ -489,7 +489,7 @@ foreign_two : (opens : OpenIsAFront) (first second : ℕ) (rest : List Piece) (f
     → IsForeignOpening (first ∷ second ∷ []) → Say Controller ((256 + first) ∷ second ∷ []) (front ++ row ∷ [])
     → AreSpaced (front ++ row ∷ []) → MayStand rest (Whole acts.Foreign (front ++ row ∷ []))
     → ArePieces rest → Before (Whole acts.Foreign (front ++ row ∷ []) ∷ rest) (events_of rest ++ front) row
-foreign_two opens first second rest front row some opening says spaced stands behind =
+foreign_two opens first second rest front row some opening says spaced stands earlier =
     let last = say_last Controller ((256 + first) ∷ second ∷ []) front row says in
     let same = same_from_push ((256 + first) ∷ []) last.0 second last.1 last.2 in
     let Spoken : List ℕ → Type 0 = λ words. Say Controller words front in
@@ -508,7 +508,7 @@ foreign_two opens first second rest front row some opening says spaced stands be
     (λ to back is may. comes to back is spoken may) tt stands in
     record {
       before = AskTail (first ∷ []) front ∷ rest;
-      in_order = (tail, stood, behind);
+      in_order = (tail, stood, earlier);
       rows_before = refl;
       next = step.Foreign;
       leads = led (situation_of (AskTail (first ∷ []) front ∷ rest)) row Controller second step.Foreign said
@@ -532,14 +532,14 @@ foreign_two opens first second rest front row some opening says spaced stands be
 more_foreign : (opens : OpenIsAFront) (rest : List Piece) (front : List Event) (row : Event) → front ≢ []
     → IsPiece (Whole acts.Foreign (front ++ row ∷ [])) → MayStand rest (Whole acts.Foreign (front ++ row ∷ []))
     → ArePieces rest → Before (Whole acts.Foreign (front ++ row ∷ []) ∷ rest) (events_of rest ++ front) row
-more_foreign opens rest front row some right stands behind = cases right.said
+more_foreign opens rest front row some right stands earlier = cases right.said
   where
     block : (bytes : List ℕ) → IsForeignOpening bytes → Say Controller (controller_words bytes) (front ++ row ∷ [])
         → Before (Whole acts.Foreign (front ++ row ∷ []) ∷ rest) (events_of rest ++ front) row
     block [] opening says = absurd opening
     block (first ∷ []) opening says = absurd (some (one_alone Controller (256 + first) front row says))
     block (first ∷ second ∷ []) opening says =
-        foreign_two opens first second rest front row some opening says right.spaced stands behind
+        foreign_two opens first second rest front row some opening says right.spaced stands earlier
     block (first ∷ second ∷ third ∷ bytes) opening says = absurd opening
 
     cases : ((bytes : List ℕ) × IsForeignOpening bytes × Say Controller (controller_words bytes) (front ++ row ∷ []))
@@ -554,7 +554,7 @@ more_reply : (command : Command) (reply : Reply) (rest : List Piece) (front : Li
     → MayStand rest (Whole (acts.Reply command reply) (front ++ row ∷ []))
     → ArePieces rest
     → Before (Whole (acts.Reply command reply) (front ++ row ∷ []) ∷ rest) (events_of rest ++ front) row
-more_reply command reply rest front row some right stands behind =
+more_reply command reply rest front row some right stands earlier =
     let bytes = reply_bytes reply in
     let Ended : List ℕ → Type 0 = λ words. Say Peripheral words (front ++ row ∷ []) in
     let ended = subst Ended (peripheral_push bytes (sum bytes % 256)) right.said.1 in
@@ -577,7 +577,7 @@ more_reply command reply rest front row some right stands behind =
     refl refl (λ to back is may. may) tt stands in
     record {
       before = ReplyTail command bytes front ∷ rest;
-      in_order = (tail, stood, behind);
+      in_order = (tail, stood, earlier);
       rows_before = refl;
       next = step.Reply reply;
       leads = led (situation_of (ReplyTail command bytes front ∷ rest)) row Peripheral last.1 (step.Reply reply) last.4
@@ -591,7 +591,7 @@ more_reply_tail : (command : Command) (bytes : List ℕ) (rest : List Piece) (fr
     → IsPiece (ReplyTail command bytes (front ++ row ∷ []))
     → MayStand rest (ReplyTail command bytes (front ++ row ∷ []))
     → ArePieces rest → Before (ReplyTail command bytes (front ++ row ∷ []) ∷ rest) (events_of rest ++ front) row
-more_reply_tail command bytes rest front row some right stands behind =
+more_reply_tail command bytes rest front row some right stands earlier =
     let last = say_last Peripheral bytes front row right.said.1 in
     let gaps = inside (events_of rest) front row some right.spaced in
     let P : List ℕ → Type 0 = λ bs. IsReplyFront command bs in
@@ -612,7 +612,7 @@ more_reply_tail command bytes rest front row some right stands behind =
     refl refl (λ to back is may. may) tt stands in
     record {
       before = ReplyTail command last.0 front ∷ rest;
-      in_order = (tail, stood, behind);
+      in_order = (tail, stood, earlier);
       rows_before = refl;
       next = step.ReplyByte last.1;
       leads = led (situation_of (ReplyTail command last.0 front ∷ rest)) row Peripheral last.1 (step.ReplyByte last.1)
@@ -632,7 +632,7 @@ more_repeat_tail : (command : Command) (reply : Reply) (words : List ℕ) (rest 
     → IsPiece (RepeatTail command reply words (front ++ row ∷ []))
     → MayStand rest (RepeatTail command reply words (front ++ row ∷ []))
     → ArePieces rest → Before (RepeatTail command reply words (front ++ row ∷ []) ∷ rest) (events_of rest ++ front) row
-more_repeat_tail command reply words rest front row some right stands behind =
+more_repeat_tail command reply words rest front row some right stands earlier =
     let last = say_last Peripheral words front row right.said.1 in
     let gaps = inside (events_of rest) front row some right.spaced in
     let P : List ℕ → Type 0 = λ ws. IsRepeatFront reply ws in
@@ -649,7 +649,7 @@ more_repeat_tail command reply words rest front row some right stands behind =
     refl refl (λ to back is may. may) tt stands in
     record {
       before = RepeatTail command reply last.0 front ∷ rest;
-      in_order = (tail, stood, behind);
+      in_order = (tail, stood, earlier);
       rows_before = refl;
       next = step.RepeatWord last.1;
       leads = led (situation_of (RepeatTail command reply last.0 front ∷ rest)) row Peripheral last.1
@@ -664,7 +664,7 @@ more_repeat : (command : Command) (reply : Reply) (rest : List Piece) (front : L
     → MayStand rest (Whole (acts.Repeat command reply) (front ++ row ∷ []))
     → ArePieces rest
     → Before (Whole (acts.Repeat command reply) (front ++ row ∷ []) ∷ rest) (events_of rest ++ front) row
-more_repeat command reply rest front row some right stands behind =
+more_repeat command reply rest front row some right stands earlier =
     let last = say_last Peripheral (reply_words reply) front row right.said in
     let gaps = inside (events_of rest) front row some right.spaced in
     let begun : IsRepeatFront reply last.0 = record {
@@ -679,7 +679,7 @@ more_repeat command reply rest front row some right stands behind =
     refl refl (λ to back is may. may) tt stands in
     record {
       before = RepeatTail command reply last.0 front ∷ rest;
-      in_order = (tail, stood, behind);
+      in_order = (tail, stood, earlier);
       rows_before = refl;
       next = step.Repeat;
       leads = led (situation_of (RepeatTail command reply last.0 front ∷ rest)) row Peripheral last.1 step.Repeat last.4
@@ -699,49 +699,49 @@ answer_alone line word events front row some says is =
 more : (opens : OpenIsAFront) (piece : Piece) (rest : List Piece) (front : List Event) (row : Event) → front ≢ []
     → IsPiece piece → MayStand rest piece → ArePieces rest → piece_events piece ≡ front ++ row ∷ []
     → Before (piece ∷ rest) (events_of rest ++ front) row
-more opens (Whole (acts.Ask command) events) rest front row some right stands behind is =
+more opens (Whole (acts.Ask command) events) rest front row some right stands earlier is =
     with_events (Whole (acts.Ask command)) rest (events_of rest ++ front) row events (front ++ row ∷ []) is
-    (λ r s. more_ask command rest front row some r s behind) right stands
-more opens (Whole (acts.Ack command) events) rest front row some right stands behind is =
+    (λ r s. more_ask command rest front row some r s earlier) right stands
+more opens (Whole (acts.Ack command) events) rest front row some right stands earlier is =
     absurd (answer_alone Peripheral 256 events front row some right.said is)
-more opens (Whole (acts.Nak command) events) rest front row some right stands behind is =
+more opens (Whole (acts.Nak command) events) rest front row some right stands earlier is =
     absurd (answer_alone Peripheral 511 events front row some right.said is)
-more opens (Whole (acts.Reply command reply) events) rest front row some right stands behind is =
+more opens (Whole (acts.Reply command reply) events) rest front row some right stands earlier is =
     with_events (Whole (acts.Reply command reply)) rest (events_of rest ++ front) row events (front ++ row ∷ []) is
-    (λ r s. more_reply command reply rest front row some r s behind) right stands
-more opens (Whole (acts.VmcAck command reply) events) rest front row some right stands behind is =
+    (λ r s. more_reply command reply rest front row some r s earlier) right stands
+more opens (Whole (acts.VmcAck command reply) events) rest front row some right stands earlier is =
     absurd (answer_alone Controller 0 events front row some right.said is)
-more opens (Whole (acts.VmcNak command reply) events) rest front row some right stands behind is =
+more opens (Whole (acts.VmcNak command reply) events) rest front row some right stands earlier is =
     absurd (answer_alone Controller 255 events front row some right.said is)
-more opens (Whole (acts.VmcRet command reply) events) rest front row some right stands behind is =
+more opens (Whole (acts.VmcRet command reply) events) rest front row some right stands earlier is =
     absurd (answer_alone Controller 170 events front row some right.said is)
-more opens (Whole (acts.Repeat command reply) events) rest front row some right stands behind is =
+more opens (Whole (acts.Repeat command reply) events) rest front row some right stands earlier is =
     with_events (Whole (acts.Repeat command reply)) rest (events_of rest ++ front) row events (front ++ row ∷ []) is
-    (λ r s. more_repeat command reply rest front row some r s behind) right stands
-more opens (Whole acts.Foreign events) rest front row some right stands behind is =
+    (λ r s. more_repeat command reply rest front row some r s earlier) right stands
+more opens (Whole acts.Foreign events) rest front row some right stands earlier is =
     with_events (Whole acts.Foreign) rest (events_of rest ++ front) row events (front ++ row ∷ []) is
-    (λ r s. more_foreign opens rest front row some r s behind) right stands
-more opens (Whole (acts.Break length) events) rest front row some right stands behind is =
+    (λ r s. more_foreign opens rest front row some r s earlier) right stands
+more opens (Whole (acts.Break length) events) rest front row some right stands earlier is =
     absurd (some (same_from_push front [] row (Break right.said.0 length) (sym is ∙ right.said.1)).0)
-more opens (AskTail bytes events) rest front row some right stands behind is =
+more opens (AskTail bytes events) rest front row some right stands earlier is =
     with_events (AskTail bytes) rest (events_of rest ++ front) row events (front ++ row ∷ []) is
-    (λ r s. more_ask_tail bytes rest front row some r s behind) right stands
-more opens (ReplyTail command bytes events) rest front row some right stands behind is =
+    (λ r s. more_ask_tail bytes rest front row some r s earlier) right stands
+more opens (ReplyTail command bytes events) rest front row some right stands earlier is =
     with_events (ReplyTail command bytes) rest (events_of rest ++ front) row events (front ++ row ∷ []) is
-    (λ r s. more_reply_tail command bytes rest front row some r s behind) right stands
-more opens (RepeatTail command reply words events) rest front row some right stands behind is =
+    (λ r s. more_reply_tail command bytes rest front row some r s earlier) right stands
+more opens (RepeatTail command reply words events) rest front row some right stands earlier is =
     with_events (RepeatTail command reply words) rest (events_of rest ++ front) row events (front ++ row ∷ []) is
-    (λ r s. more_repeat_tail command reply words rest front row some r s behind) right stands
+    (λ r s. more_repeat_tail command reply words rest front row some r s earlier) right stands
 
 -- a piece by its last event
 back_at : (opens : OpenIsAFront) (piece : Piece) (rest : List Piece) (front : List Event) (row : Event)
     → IsPiece piece → MayStand rest piece → ArePieces rest → piece_events piece ≡ front ++ row ∷ []
     → Before (piece ∷ rest) (events_of rest ++ front) row
-back_at opens piece rest [] row right stands behind is =
+back_at opens piece rest [] row right stands earlier is =
     let P : List Event → Type 0 = λ rows. Before (piece ∷ rest) rows row in
-    subst P (sym (append-nil (events_of rest))) (alone piece rest row right stands behind is)
-back_at opens piece rest (f ∷ front) row right stands behind is =
-    more opens piece rest (f ∷ front) row (λ none. cc) right stands behind is
+    subst P (sym (append-nil (events_of rest))) (alone piece rest row right stands earlier is)
+back_at opens piece rest (f ∷ front) row right stands earlier is =
+    more opens piece rest (f ∷ front) row (λ none. cc) right stands earlier is
 
 -- a piece has events
 pub piece_some : (rest : List Piece) (piece : Piece) → MayStand rest piece → piece_events piece ≢ []

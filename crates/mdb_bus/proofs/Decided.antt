@@ -110,7 +110,7 @@ abbrev StandFrom : ℕ → List Rule → Type 0
 StandFrom place [] = 17 ≤ place
 StandFrom place (r ∷ order) = (place_of r ≡ place) × StandFrom (place + 1) order
 
--- no rule has a place behind the last
+-- no rule has a place after the last
 last_place : (r : Rule) → place_of r < 17
 last_place rule.Order = omega arith
 last_place r = omega arith
@@ -140,7 +140,7 @@ first_from Breaks decided place (r ∷ order) stand none =
 -- where each rule is broken or isn't, some rule is the first broken one, or none is broken
 pub first_or_none : (Breaks : Rule → Type 0) → ((r : Rule) → Decided (Breaks r)) → Found Breaks ⊎ ((r : Rule)
     → Breaks r → ⊥)
-first_or_none Breaks decided = first_from Breaks decided 1 rules_in_order stand placed_behind
+first_or_none Breaks decided = first_from Breaks decided 1 rules_in_order stand placed_after
   where
     stand : StandFrom 1 rules_in_order
     stand = (
@@ -170,5 +170,5 @@ first_or_none Breaks decided = first_from Breaks decided 1 rules_in_order stand 
     some_place rule.Order = omega arith
     some_place other = omega arith
 
-    placed_behind : (other : Rule) → Breaks other → 1 ≤ place_of other
-    placed_behind other broken = some_place other
+    placed_after : (other : Rule) → Breaks other → 1 ≤ place_of other
+    placed_after other broken = some_place other

@@ -1,4 +1,4 @@
--- The bus behind a row: what it stands for, and why a row is refused.
+-- The bus after a row: what it stands for, and why a row is refused.
 use Rattle.std.proofs.Common.{refl, ap, sym, subst, ◌∙◌, ◌≡◌, ℕ, List, [], ◌∷◌, ◌++◌, Option, Result, Ok, Err, IfOk, IfErr, OnErr, inl, inr, Bool, true, false, Some, None, ◌⊎◌}
 use Rattle.mdb_words.specs.declared.event.Event.{Event}
 use Rattle.mdb_words.specs.declared.event.Event.TheVariants.{Word, Break}
@@ -20,7 +20,7 @@ use Rattle.mdb_bus.specs.ActLists.{ArePieces, HasActList, Piece, Position, Quiet
 use Rattle.mdb_bus.specs.Bus.{GoesOn, Grown, StandsFor, ended_act, position_at}
 use Rattle.mdb_bus.specs.inner.Gone.{HasGone}
 use Rattle.mdb_bus.specs.LinkFaults.{IsFirstBroken, IsLinkFault, RowBreaks, Situation, asked_device, blame_of, situation_of}
-use Rattle.mdb_bus.specs.inner.Steps.{HasAdvanced, IsAt, IsEnded, IsJudged, IsReadAt, Leads, WordLeads, act_after, asked_behind, levels_behind, pieces_after, position_after}
+use Rattle.mdb_bus.specs.inner.Steps.{HasAdvanced, IsAt, IsEnded, IsJudged, IsReadAt, Leads, WordLeads, act_after, asked_after, levels_after_step, pieces_after, position_after}
 use Rattle.mdb_bus.specs.declared.judged.Judged.{Judged}
 use Rattle.mdb_bus.specs.declared.judged.Judged.TheVariants as judged
 use Rattle.mdb_msgs.specs.declared.reply.Reply.{Reply}
@@ -99,8 +99,8 @@ stands_by old new pieces row next act stands leads gone =
         in_order = more.in_order;
         position = more.position ∙ (ap (λ p. position_after p next) stands.position ∙ sym went.advanced.position);
         last = ap last_of more.rows ∙ (last_push (events_of pieces) row ∙ sym went.last);
-        levels = more.levels ∙ (ap (λ l. levels_behind l next) stands.levels ∙ sym went.levels);
-        asked = more.asked ∙ (ap (λ a. asked_behind a next) stands.asked ∙ sym went.asked);
+        levels = more.levels ∙ (ap (λ l. levels_after_step l next) stands.levels ∙ sym went.levels);
+        asked = more.asked ∙ (ap (λ a. asked_after a next) stands.asked ∙ sym went.asked);
       };
       rows = more.rows;
       acts = more.acts ∙ acts_same stands.position went.advanced.act;
@@ -163,7 +163,7 @@ fault_of old pieces row broken told blamed stands judged same blame =
           ∙ ap (λ r. blame_of (position_of pieces) (asked_device pieces) row r) (sym same)));
     }
 
--- the bus behind a row that ends a reply: the row goes on where the reply can be read, and else
+-- the bus after a row that ends a reply: the row goes on where the reply can be read, and else
 -- breaks a rule
 pub ended_by : (old : Bus) (row : Event) (found : Judged) → found ≡ judged.Reply
     → IsJudged (situation_at old) row (Ok found)

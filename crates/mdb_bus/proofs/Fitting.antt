@@ -1,5 +1,5 @@
 -- Each act list has a loss that fits, whichever free acts are to be heard: the rows of an act are damaged where the act
--- behind it tells so, and where it tells nothing and the act is not to be heard.
+-- after it tells so, and where it tells nothing and the act is not to be heard.
 use Rattle.std.proofs.Common.{arith, refl, ap, sym, ◌∙◌, ◌≡◌, ◌+◌, ◌<◌, ◌≤◌, ◌↔◌, ℕ, Bool, true, false, List, [], ◌∷◌, ◌++◌, Option, length, length-append}
 use Rattle.std.proofs.Math.Dec.{leb}
 use Rattle.std.proofs.lemmas.Bool.{le-leb, lt-leb}
@@ -9,7 +9,7 @@ use Rattle.mdb_bus.specs.declared.act.Act.TheVariants as acts
 use Rattle.mdb_bus.specs.ActLists.{Piece, Whole, ArePieces, MayCome, MayStand, Quiet, events_of, left_open, piece_events}
 use Rattle.mdb_bus.specs.Acts.{IsAck}
 use Rattle.mdb_bus.specs.Wish.{Wish, HearsFreeAsWished, HearsAsWished, IsFree, nothing_told}
-use Rattle.mdb_bus.specs.Loss.{AllArrive, FitsBehind, Heard, Hearing, IsAsTold, IsHeard, Loss, LossFits, Open, Unheard, told_by, told_by_block}
+use Rattle.mdb_bus.specs.Loss.{AllArrive, FitsNext, Heard, Hearing, IsAsTold, IsHeard, Loss, LossFits, Open, Unheard, told_by, told_by_block}
 
 -- the first of two tests or the second
 abbrev pick : Bool → Bool → Bool → Bool
@@ -23,7 +23,7 @@ is_damaged Unheard wished = true
 is_damaged Open true = false
 is_damaged Open false = true
 
--- The loss of pieces, where what is behind them tells so of their newest act. The rows of an act are all damaged, or
+-- The loss of pieces, where what is after them tells so of their newest act. The rows of an act are all damaged, or
 -- none is.
 abbrev damage : Wish → List Piece → (Act → Hearing) → Loss
 damage wish [] tells = λ row. false
@@ -36,7 +36,7 @@ damage wish (piece ∷ pieces) tells = damage wish pieces nothing_told
 abbrev Agree : Loss → Loss → ℕ → Type 0
 Agree one other rows = (row : ℕ) → row ≤ rows → one row ≡ other row
 
--- of so many rows behind the first `before` ones, all are damaged or none is
+-- of so many rows after the first `before` ones, all are damaged or none is
 abbrev AreAll : Loss → ℕ → ℕ → Bool → Type 0
 AreAll loss before count damaged = (row : ℕ) → before < row → row ≤ before + count → loss row ≡ damaged
 
@@ -53,7 +53,7 @@ agree_early first other second rows events agree = λ row h.
     sym (ap (λ b. pick b (first row) second) (le-leb row (length rows) h))
     ∙ agree_before (λ row. pick (leb row (length rows)) (first row) second) other rows events agree row h
 
--- and the second behind it
+-- and the second after it
 agree_late : (first other : Loss) (second : Bool) (rows events : List Event)
     → Agree (λ row. pick (leb row (length rows)) (first row) second) other (length (rows ++ events))
     → AreAll other (length rows) (length events) second
@@ -85,7 +85,7 @@ no_block_tells act quiet = refl
 abbrev IsSparing : Hearing → Act → Type 0
 IsSparing hearing act = left_open act ≡ Quiet → hearing ≡ Open
 
--- so it is with what an act tells that may come behind
+-- so it is with what an act tells that may come after
 sparing_told : (next : Act) (events : List Event) (act : Act) (from : Option Event) (to : Event)
     → MayCome (Whole next events) (left_open act) from to → IsSparing (told_by next act) act
 sparing_told (acts.Ask command) events act from to comes = no_block_tells act
@@ -141,7 +141,7 @@ is_wished hearing wished loss act before count some rows sparing free =
       λ is. heard_where loss act before count (arrive.1 is),
     )
 
--- what is behind pieces tells nothing of their newest act, if that leaves nothing open
+-- what is after pieces tells nothing of their newest act, if that leaves nothing open
 abbrev TellsSparingly : (Act → Hearing) → List Piece → Type 0
 TellsSparingly tells (Whole act events ∷ pieces) = IsSparing (tells act) act
 TellsSparingly tells _ = Unit {0}
@@ -161,15 +161,15 @@ has_row : (pieces : List Piece) (act : Act) (events : List Event) → MayStand p
     → 1 ≤ length events
 has_row pieces act events stands = omega (arith, ap length stands.begins)
 
--- the loss of the newest piece is as the act behind it tells
-fits_behind : (wish : Wish) (loss : Loss) (pieces : List Piece) (next : Act)
+-- the loss of the newest piece is as the act after it tells
+fits_next : (wish : Wish) (loss : Loss) (pieces : List Piece) (next : Act)
     → Agree (damage wish pieces (told_by next)) loss (length (events_of pieces)) → ArePieces pieces
-    → TellsSparingly (told_by next) pieces → FitsBehind loss pieces next
-fits_behind wish loss (Whole act rows ∷ pieces) next agree are sparing =
+    → TellsSparingly (told_by next) pieces → FitsNext loss pieces next
+fits_next wish loss (Whole act rows ∷ pieces) next agree are sparing =
     let before = length (events_of pieces) in
     is_told (told_by next act) (wish before) loss act before (length rows) (has_row pieces act rows are.1)
     (agree_late (damage wish pieces (told_by act)) loss _ (events_of pieces) rows agree) sparing
-fits_behind wish loss _ next agree are sparing = tt
+fits_next wish loss _ next agree are sparing = tt
 
 -- the loss fits, whatever is told of the newest act
 fits : (wish : Wish) (loss : Loss) (pieces : List Piece) (tells : Act → Hearing)
@@ -177,7 +177,7 @@ fits : (wish : Wish) (loss : Loss) (pieces : List Piece) (tells : Act → Hearin
 fits wish loss [] tells agree are = tt
 fits wish loss (Whole act events ∷ pieces) tells agree are =
     let early = agree_early (damage wish pieces (told_by act)) loss _ (events_of pieces) events agree in (
-      fits_behind wish loss pieces act early are.2 (next_sparing pieces act events are.1),
+      fits_next wish loss pieces act early are.2 (next_sparing pieces act events are.1),
       fits wish loss pieces (told_by act) early are.2,
     )
 fits wish loss (piece ∷ pieces) tells agree are =

@@ -1,7 +1,7 @@
 -- A row that a position leads on by extends the act list.
 use Rattle.std.proofs.Common.{◌⊎◌, arith, refl, ap, sym, subst, ◌∙◌, ◌≡◌, ◌+◌, ◌<◌, ◌≤◌, ℕ, List, [], ◌∷◌, ◌++◌, inl, inr, Some, length, length-append, append_assoc}
 use Rattle.std.proofs.lemmas.List.Elements.{All-append, All-from_recursion}
-use Rattle.mdb_words.specs.declared.limits.TheConstants.{BREAK_LENGTH_MIN}
+use Rattle.mdb_words.specs.declared.limits.TheConstants.{BLOCK_GAP_MAX, BREAK_LENGTH_MIN}
 use Rattle.mdb_words.specs.declared.event.Event.{Event}
 use Rattle.mdb_words.specs.declared.event.Event.TheVariants.{Word, Break}
 use Rattle.mdb_words.specs.declared.word.Line.{Line}
@@ -15,10 +15,10 @@ use Rattle.mdb_bus.specs.declared.act.Act.TheVariants as acts
 use Rattle.mdb_bus.specs.inner.Step.{Step}
 use Rattle.mdb_bus.specs.inner.Step as step
 use Rattle.mdb_bus.specs.Acts.{Say}
-use Rattle.mdb_bus.specs.ActLists.{Piece, Whole, AskTail, ReplyTail, RepeatTail, Position, Quiet, InAsk, Asked, InReply, Replied, Returned, InRepeat, InForeign, ArePieces, AreSpaced, IsPiece, IsReplyFront, IsSaid, IsTail, MayCome, MayStand, PieceFitsLevels, act_in, acts_of, events_of, last_of, left_open, levels_of, piece_events, position_of, with_act}
+use Rattle.mdb_bus.specs.ActLists.{Piece, Whole, AskTail, ReplyTail, RepeatTail, Position, Quiet, InAsk, Asked, InReply, Replied, Returned, InRepeat, InForeign, ArePieces, AreSpaced, InTime, IsPiece, IsReplyFront, IsSaid, IsTail, MayCome, MayStand, PieceFitsLevels, act_in, acts_of, events_of, last_of, left_open, levels_of, piece_events, position_of, with_act}
 use Rattle.mdb_bus.specs.Bus.{Grown}
 use Rattle.mdb_bus.specs.LinkFaults.{asked_device, situation_of}
-use Rattle.mdb_bus.specs.inner.Steps.{Answers, AnswersReply, BeginsRepeat, GoesOnAsking, GoesOnRepeating, GoesOnReplying, InBlock, IsSound, Leads, Opens, WordLeads, act_after, asked_behind, grown, levels_behind, piece_after, pieces_after, position_after}
+use Rattle.mdb_bus.specs.inner.Steps.{Answers, AnswersReply, BeginsRepeat, GoesOnAsking, GoesOnRepeating, GoesOnReplying, Leads, Opens, WordLeads, act_after, asked_after, grown, levels_after_step, piece_after, pieces_after, position_after}
 use Rattle.mdb_bus.proofs.Rows.{begins_block, say_byte, say_sum, say_word, spaced_more}
 
 -- what a step makes of pieces
@@ -27,8 +27,8 @@ pub record Extended (pieces : List Piece) (row : Event) (next : Step) : Type 0 w
   pub rows : events_of (pieces_after pieces row next) ≡ events_of pieces ++ row ∷ []
   pub acts : acts_of (pieces_after pieces row next) ≡ with_act (act_after (position_of pieces) next) (acts_of pieces)
   pub position : position_of (pieces_after pieces row next) ≡ position_after (position_of pieces) next
-  pub levels : levels_of (pieces_after pieces row next) ≡ levels_behind (levels_of pieces) next
-  pub asked : asked_device (pieces_after pieces row next) ≡ asked_behind (asked_device pieces) next
+  pub levels : levels_of (pieces_after pieces row next) ≡ levels_after_step (levels_of pieces) next
+  pub asked : asked_device (pieces_after pieces row next) ≡ asked_after (asked_device pieces) next
   pub grown : Grown pieces row (act_after (position_of pieces) next) (pieces_after pieces row next)
 
 -- a step and the piece that it adds agree on what they leave
@@ -40,9 +40,9 @@ record Adds (next : Step) (piece : List Event → Piece) : Type 0 where
   position : (events : List Event) (pieces : List Piece)
       → position_of (piece events ∷ pieces) ≡ position_of (piece [] ∷ [])
   levels : (events : List Event) (pieces : List Piece)
-      → levels_of (piece events ∷ pieces) ≡ levels_behind (levels_of pieces) next
+      → levels_of (piece events ∷ pieces) ≡ levels_after_step (levels_of pieces) next
   asked : (events : List Event) (pieces : List Piece)
-      → asked_device (piece events ∷ pieces) ≡ asked_behind (asked_device pieces) next
+      → asked_device (piece events ∷ pieces) ≡ asked_after (asked_device pieces) next
 
 adds_ask_byte : (byte : ℕ) (bytes : List ℕ) → Adds (step.AskByte byte) (AskTail bytes)
 adds_ask_byte byte bytes = record {
@@ -202,9 +202,9 @@ extended pieces rest begun events row next piece adds added made are rows same_a
       position = ap position_of made
           ∙ (adds.position events rest ∙ ap (λ (p : List Event → Piece). position_of (p [] ∷ [])) (sym added));
       levels = ap levels_of made
-          ∙ (adds.levels events rest ∙ ap (λ ls. levels_behind ls next) (sym same_levels));
+          ∙ (adds.levels events rest ∙ ap (λ ls. levels_after_step ls next) (sym same_levels));
       asked = ap asked_device made
-          ∙ (adds.asked events rest ∙ ap (λ a. asked_behind a next) (sym same_asked));
+          ∙ (adds.asked events rest ∙ ap (λ a. asked_after a next) (sym same_asked));
       grown = record {
         newest = piece events;
         earlier = rest;
@@ -216,7 +216,7 @@ extended pieces rest begun events row next piece adds added made are rows same_a
       };
     }
 
--- a piece of one event behind pieces
+-- a piece of one event after pieces
 fresh : (pieces : List Piece) (row : Event) (next : Step) (piece : List Event → Piece)
     → Adds next piece → piece_after (position_of pieces) next ≡ piece
     → pieces_after pieces row next ≡ piece (row ∷ []) ∷ pieces → ArePieces pieces → IsSaid (piece (row ∷ []))
@@ -247,11 +247,11 @@ longer : (tail : Piece) (pieces : List Piece) (row : Event) (next : Step) (piece
     → MayCome tail (position_of pieces) (last_of (events_of pieces)) first
     → MayCome (piece (piece_events tail ++ row ∷ [])) (position_of pieces) (last_of (events_of pieces)) first)
     → PieceFitsLevels (levels_of pieces) (piece (piece_events tail ++ row ∷ []))
-    → InBlock (last_of (events_of (tail ∷ pieces))) row → Extended (tail ∷ pieces) row next
+    → InTime BLOCK_GAP_MAX (last_of (events_of (tail ∷ pieces))) row → Extended (tail ∷ pieces) row next
 longer tail pieces row next piece is_tail adds added made are said comes levels gap =
     let stood = are.1 in
     let old = piece_events tail in
-    let Timed : List Event → Type 0 = λ es. InBlock (last_of (events_of pieces ++ es)) row in
+    let Timed : List Event → Type 0 = λ es. InTime BLOCK_GAP_MAX (last_of (events_of pieces ++ es)) row in
     let Spaced : List Event → Type 0 = λ es. AreSpaced es in
     let Longer : List Event → Type 0 = λ es. AreSpaced (es ++ row ∷ []) in
     let more : AreSpaced (old ++ row ∷ []) = subst Longer (sym stood.begins)
@@ -297,7 +297,7 @@ break_after : (position : Position) (length : ℕ) → piece_after position (ste
 break_after (InAsk bytes) length = refl
 break_after position length = refl
 
--- pieces behind which each row begins a new piece
+-- pieces after which each row begins a new piece
 abbrev AreClosed : List Piece → Type 0
 AreClosed pieces = (row : Event) (piece : List Event → Piece) → grown pieces row piece ≡ piece (row ∷ []) ∷ pieces
 
@@ -429,29 +429,29 @@ foreign_word pieces at Peripheral word step.Foreign are closed here leads =
     here refl refl (inr (Word at Peripheral word, refl, tt)) (inr (tt, here, leads)) tt
 foreign_word pieces at Peripheral word next are closed here leads = absurd leads
 
--- a word behind closed pieces
-behind_closed : (position : Position) (pieces : List Piece) (at : ℕ) (line : Line) (word : ℕ) (next : Step)
+-- a word after closed pieces
+after_closed : (position : Position) (pieces : List Piece) (at : ℕ) (line : Line) (word : ℕ) (next : Step)
     → ArePieces pieces → AreClosed pieces → position_of pieces ≡ position → IsFree position
     → WordLeads position (last_of (events_of pieces)) (levels_of pieces) (Word at line word) line word next
     → Extended pieces (Word at line word) next
-behind_closed Quiet pieces at Controller word next are closed here is leads =
+after_closed Quiet pieces at Controller word next are closed here is leads =
     opens_at Quiet pieces at word next are closed here tt leads
-behind_closed Quiet pieces at Peripheral word next are closed here is leads = absurd leads
-behind_closed (InAsk bytes) pieces at line word next are closed here is leads = absurd is
-behind_closed (Asked command) pieces at Controller word next are closed here is leads =
+after_closed Quiet pieces at Peripheral word next are closed here is leads = absurd leads
+after_closed (InAsk bytes) pieces at line word next are closed here is leads = absurd is
+after_closed (Asked command) pieces at Controller word next are closed here is leads =
     opens_at (Asked command) pieces at word next are closed here tt leads
-behind_closed (Asked command) pieces at Peripheral word next are closed here is leads =
+after_closed (Asked command) pieces at Peripheral word next are closed here is leads =
     answered command pieces at word next are closed here leads
-behind_closed (InReply command bytes) pieces at line word next are closed here is leads = absurd is
-behind_closed (Replied command reply) pieces at Controller word next are closed here is leads =
+after_closed (InReply command bytes) pieces at line word next are closed here is leads = absurd is
+after_closed (Replied command reply) pieces at Controller word next are closed here is leads =
     replied command reply pieces at word next are closed here leads
-behind_closed (Replied command reply) pieces at Peripheral word next are closed here is leads = absurd leads
-behind_closed (Returned command reply) pieces at Controller word next are closed here is leads =
+after_closed (Replied command reply) pieces at Peripheral word next are closed here is leads = absurd leads
+after_closed (Returned command reply) pieces at Controller word next are closed here is leads =
     opens_at (Returned command reply) pieces at word next are closed here tt leads
-behind_closed (Returned command reply) pieces at Peripheral word next are closed here is leads =
+after_closed (Returned command reply) pieces at Peripheral word next are closed here is leads =
     returned command reply pieces at word next are closed here leads
-behind_closed (InRepeat command reply words) pieces at line word next are closed here is leads = absurd is
-behind_closed InForeign pieces at line word next are closed here is leads =
+after_closed (InRepeat command reply words) pieces at line word next are closed here is leads = absurd is
+after_closed InForeign pieces at line word next are closed here is leads =
     foreign_word pieces at line word next are closed here leads
 
 -- a word in a block of the controller
@@ -552,7 +552,7 @@ in_repeat command reply words events pieces at word step.Repeat are leads =
     (λ first others is comes. comes) tt leads.1
 in_repeat command reply words events pieces at word next are leads = absurd leads
 
--- a break behind any pieces
+-- a break after any pieces
 broken : (pieces : List Piece) (at length : ℕ) (next : Step) → ArePieces pieces
     → Leads (situation_of pieces) (Break at length) next → Extended pieces (Break at length) next
 broken pieces at length (step.Break lasted) are leads =
@@ -568,9 +568,9 @@ pub forward : (pieces : List Piece) (row : Event) (next : Step) → ArePieces pi
     → Leads (situation_of pieces) row next → Extended pieces row next
 forward pieces (Break at length) next are leads = broken pieces at length next are leads
 forward [] (Word at line word) next are leads =
-    behind_closed Quiet [] at line word next are (λ row piece. refl) refl tt leads
+    after_closed Quiet [] at line word next are (λ row piece. refl) refl tt leads
 forward (Whole act events ∷ pieces) (Word at line word) next are leads =
-    behind_closed (left_open act) (Whole act events ∷ pieces) at line word next are (λ row piece. refl) refl
+    after_closed (left_open act) (Whole act events ∷ pieces) at line word next are (λ row piece. refl) refl
     (free act) leads
 forward (AskTail bytes events ∷ pieces) (Word at Controller word) next are leads =
     in_ask bytes events pieces at word next are leads
@@ -581,15 +581,3 @@ forward (ReplyTail command bytes events ∷ pieces) (Word at Peripheral word) ne
 forward (RepeatTail command reply words events ∷ pieces) (Word at Controller word) next are leads = absurd leads
 forward (RepeatTail command reply words events ∷ pieces) (Word at Peripheral word) next are leads =
     in_repeat command reply words events pieces at word next are leads
-
--- what the pieces of an act list leave open has begun well
-pub sound : (pieces : List Piece) → ArePieces pieces → IsSound (position_of pieces)
-sound [] are = tt
-sound (Whole act events ∷ pieces) are = closed_sound act
-  where
-    closed_sound : (act : Act) → IsSound (left_open act)
-    closed_sound (acts.Ask command) = tt
-    closed_sound act = tt
-sound (AskTail bytes events ∷ pieces) are = are.0.said.0
-sound (ReplyTail command bytes events ∷ pieces) are = are.0.said.0
-sound (RepeatTail command reply words events ∷ pieces) are = tt

@@ -10,8 +10,7 @@ use Rattle.mdb_words.specs.declared.word.Line.TheVariants.{Controller}
 use Rattle.mdb_words.specs.Event.{AtLeast, AtMost}
 use Rattle.mdb_blocks.specs.Block.{controller_words, peripheral_words}
 use Rattle.mdb_bus.specs.Acts.{Say, said_by}
-use Rattle.mdb_bus.specs.ActLists.{AreSpaced, last_of}
-use Rattle.mdb_bus.specs.inner.Steps.{InBlock}
+use Rattle.mdb_bus.specs.ActLists.{AreSpaced, InTime, last_of}
 
 -- a list that isn't empty has a last element
 pub front_and_last : {X : Type 0} (xs : List X) → xs ≢ [] → (front : List X) × (last : X) × (xs ≡ front ++ last ∷ [])
@@ -21,28 +20,28 @@ front_and_last (x ∷ y ∷ ys) some =
     let rest = front_and_last (y ∷ ys) (λ none. cc) in
     (x ∷ rest.0, rest.1, ap (λ zs. x ∷ zs) rest.2)
 
--- a list with an element behind it has elements
+-- a list with an element after it has elements
 pub not_empty : {X : Type 0} (xs : List X) (x : X) → xs ++ x ∷ [] ≢ []
 not_empty [] x none = cc
 not_empty (y ∷ xs) x none = cc
 
--- a list begins with what it begins with when an element stands behind it
+-- a list begins with what it begins with when an element stands after it
 pub first_stays : {X : Type 0} (xs : List X) (x to : X) (back : List X) → xs ≢ [] → xs ++ x ∷ [] ≡ to ∷ back
     → (rest : List X) × (xs ≡ to ∷ rest)
 first_stays [] x to back some is = absurd (some refl)
 first_stays (y ∷ ys) x to back some is = (ys, cc)
 
--- a list that is as long as a part of it has nothing behind the part
-pub nothing_behind : {X : Type 0} (xs ys : List X) → length xs ≡ length (xs ++ ys) → ys ≡ []
-nothing_behind xs [] same = refl
-nothing_behind xs (y ∷ ys) same = absurd (omega (arith, same, length-append xs (y ∷ ys)))
+-- a list that is as long as a part of it has nothing after the part
+pub nothing_after : {X : Type 0} (xs ys : List X) → length xs ≡ length (xs ++ ys) → ys ≡ []
+nothing_after xs [] same = refl
+nothing_after xs (y ∷ ys) same = absurd (omega (arith, same, length-append xs (y ∷ ys)))
 
 -- the length of a list that isn't empty
 pub some_length : {X : Type 0} (xs : List X) → xs ≢ [] → 1 ≤ length xs
 some_length [] some = absurd (some refl)
 some_length (x ∷ xs) some = omega arith
 
--- the last row is the one behind the others
+-- the last row is the one after the others
 pub last_push : (events : List Event) (event : Event) → last_of (events ++ event ∷ []) ≡ Some event
 last_push [] event = refl
 last_push (x ∷ []) event = refl
@@ -76,7 +75,7 @@ one_alone line word [] event says = refl
 one_alone line word (f ∷ front) event says =
     absurd (omega (arith, say_length line (word ∷ []) (f ∷ front ++ event ∷ []) says, length-append front (event ∷ [])))
 
--- the controller's words that end in one, behind others: the last is no marked one
+-- the controller's words that end in one, after others: the last is no marked one
 pub record ControllerEnd (bytes : List ℕ) (front : List Event) (event : Event) : Type 0 where
   pub start : List ℕ
   pub byte : ℕ
@@ -87,9 +86,9 @@ pub record ControllerEnd (bytes : List ℕ) (front : List Event) (event : Event)
 
 pub controller_last : (bytes : List ℕ) (front : List Event) (event : Event) → front ≢ []
     → Say Controller (controller_words bytes) (front ++ event ∷ []) → ControllerEnd bytes front event
-controller_last bytes [] event behind says = absurd (behind refl)
-controller_last [] (f ∷ front) event behind says = cc
-controller_last (b ∷ bytes) (f ∷ front) event behind says =
+controller_last bytes [] event some says = absurd (behind refl)
+controller_last [] (f ∷ front) event some says = cc
+controller_last (b ∷ bytes) (f ∷ front) event some says =
     let rest = say_last Controller bytes front event (cc) in
     let first : said_by f ≡ Some (Controller, 256 + b) = cc in
     let others : Say Controller rest.0 front = rest.3 in
@@ -123,14 +122,14 @@ spaced_front (x ∷ y ∷ ys) from to spaced =
     let rest = spaced_front (y ∷ ys) from to spaced.2 in
     ((spaced.0, spaced.1, rest.0), rest.1, rest.2)
 
--- the same behind other events
+-- the same after other events
 pub inside : (before front : List Event) (event : Event) → front ≢ [] → AreSpaced (front ++ event ∷ [])
-    → AreSpaced front × InBlock (last_of (before ++ front)) event
+    → AreSpaced front × InTime BLOCK_GAP_MAX (last_of (before ++ front)) event
 inside before front event some spaced =
     let split = front_and_last front some in
     let Longer : List Event → Type 0 = λ es. AreSpaced (es ++ event ∷ []) in
     let Alone : List Event → Type 0 = λ es. AreSpaced es in
-    let In : Option Event → Type 0 = λ from. InBlock from event in
+    let In : Option Event → Type 0 = λ from. InTime BLOCK_GAP_MAX from event in
     let apart = spaced_front split.0 split.1 event (subst Longer split.2 spaced) in
     let joined : before ++ front ≡ (before ++ split.0) ++ split.1 ∷ [] =
     ap (λ es. before ++ es) split.2 ∙ sym (append_assoc before split.0 (split.1 ∷ [])) in

@@ -7,7 +7,7 @@ use Rattle.mdb_msgs.specs.Needs.{bill_need, changer_need, is_for, need, needed, 
 
 -- How the need of a first byte goes with that of two. What the first byte tells stays, and what it leaves to the second
 -- is told then.
-pub record Tells (told : Option ℕ → Need) : Type 0 where
+pub record Narrows (told : Option ℕ → Need) : Type 0 where
   -- a length stays
   pub known : (second n : ℕ) → told None ≡ Exactly n → told (Some second) ≡ Exactly n
   -- one that the second byte tells is at least 3
@@ -73,8 +73,8 @@ reader_most command (Some second) n told = grind (arith, common_steps)
 reader_done : (command second : ℕ) → reader_need command (Some second) ≡ More → ⊥
 reader_done command second told = grind (arith, common_steps)
 
-changer_tells : (first : ℕ) → Tells (changer_need first)
-changer_tells first = record {
+changer_narrows : (first : ℕ) → Narrows (changer_need first)
+changer_narrows first = record {
   known = changer_known first;
   left = changer_left first;
   least = changer_least first;
@@ -82,8 +82,8 @@ changer_tells first = record {
   done = changer_done first;
 }
 
-bill_tells : (first : ℕ) → Tells (bill_need first)
-bill_tells first = record {
+bill_narrows : (first : ℕ) → Narrows (bill_need first)
+bill_narrows first = record {
   known = bill_known first;
   left = bill_left first;
   least = bill_least first;
@@ -91,8 +91,8 @@ bill_tells first = record {
   done = bill_done first;
 }
 
-reader_tells : (command : ℕ) → Tells (reader_need command)
-reader_tells command = record {
+reader_narrows : (command : ℕ) → Narrows (reader_need command)
+reader_narrows command = record {
   known = reader_known command;
   left = reader_left command;
   least = reader_least command;
@@ -100,8 +100,8 @@ reader_tells command = record {
   done = reader_done command;
 }
 
-foreign_tells : Tells (λ second. Foreign)
-foreign_tells = record {
+foreign_narrows : Narrows (λ second. Foreign)
+foreign_narrows = record {
   known = λ second n told. cc told;
   left = λ second n left told. cc told;
   least = λ second n told. cc told;
@@ -110,27 +110,27 @@ foreign_tells = record {
 }
 
 by_device : (first : ℕ) (changer one bill other : Bool)
-    → Tells (λ second. if changer then changer_need first second else if one then reader_need (first % 8) second else
+    → Narrows (λ second. if changer then changer_need first second else if one then reader_need (first % 8) second else
     if bill then bill_need first second else if other then reader_need (first % 8) second else Foreign)
-by_device first true one bill other = changer_tells first
-by_device first false true bill other = reader_tells (first % 8)
-by_device first false false true other = bill_tells first
-by_device first false false false true = reader_tells (first % 8)
-by_device first false false false false = foreign_tells
+by_device first true one bill other = changer_narrows first
+by_device first false true bill other = reader_narrows (first % 8)
+by_device first false false true other = bill_narrows first
+by_device first false false false true = reader_narrows (first % 8)
+by_device first false false false false = foreign_narrows
 
-pub tells : (first : ℕ) → Tells (need first)
-tells first = by_device first (is_for 0x08 first) (is_for 0x10 first) (is_for 0x30 first) (is_for 0x60 first)
+pub narrows : (first : ℕ) → Narrows (need first)
+narrows first = by_device first (is_for 0x08 first) (is_for 0x10 first) (is_for 0x30 first) (is_for 0x60 first)
 
 -- a length is 2 to 32
 pub at_least_two : (bytes : List ℕ) (n : ℕ) → 0 < length bytes → needed bytes ≡ Exactly n → 2 ≤ n
 at_least_two [] n some told = absurd (omega arith)
-at_least_two (first ∷ []) n some told = (tells first).least None n told
-at_least_two (first ∷ second ∷ bytes) n some told = (tells first).least (Some second) n told
+at_least_two (first ∷ []) n some told = (narrows first).least None n told
+at_least_two (first ∷ second ∷ bytes) n some told = (narrows first).least (Some second) n told
 
 pub at_most_32 : (bytes : List ℕ) (n : ℕ) → 0 < length bytes → needed bytes ≡ Exactly n → n ≤ 32
 at_most_32 [] n some told = absurd (omega arith)
-at_most_32 (first ∷ []) n some told = (tells first).most None n told
-at_most_32 (first ∷ second ∷ bytes) n some told = (tells first).most (Some second) n told
+at_most_32 (first ∷ []) n some told = (narrows first).most None n told
+at_most_32 (first ∷ second ∷ bytes) n some told = (narrows first).most (Some second) n told
 
 -- two bytes tell what they and more bytes need
 pub stays : (bytes more : List ℕ) → 2 ≤ length bytes → needed (bytes ++ more) ≡ needed bytes
@@ -142,4 +142,4 @@ stays (first ∷ second ∷ bytes) more two = refl
 pub not_left : (bytes : List ℕ) → 2 ≤ length bytes → needed bytes ≡ More → ⊥
 not_left [] two told = absurd (omega arith)
 not_left (first ∷ []) two told = absurd (omega arith)
-not_left (first ∷ second ∷ bytes) two told = (tells first).done second told
+not_left (first ∷ second ∷ bytes) two told = (narrows first).done second told

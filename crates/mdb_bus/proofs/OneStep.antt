@@ -19,7 +19,7 @@ use Rattle.mdb_bus.specs.ActLists.{Asked, InAsk, InForeign, InRepeat, InReply, I
 use Rattle.mdb_bus.specs.LinkFaults.{Situation}
 use Rattle.mdb_bus.specs.inner.Steps.{Answers, AnswersReply, BeginsRepeat, GoesOnAsking, GoesOnForeign, GoesOnRepeating, GoesOnReplying, Leads, Opens, WordLeads}
 use Rattle.mdb_bus.specs.inner.Grammar.{Grammar}
-use Rattle.mdb_bus.proofs.Lists.{nothing_behind, some_length}
+use Rattle.mdb_bus.proofs.Lists.{nothing_after, some_length}
 
 -- what mdb_msgs promises of the commands and replies that a block may be
 pub record Readings : Type 0 where
@@ -67,12 +67,12 @@ front_not_command readings bytes command front spells =
     let Told : Need → Type 0 = λ need. IsTold need (length bytes) (length (bytes ++ front.rest)) in
     let same : length bytes ≡ length (bytes ++ front.rest) = subst Told (readings.needs bytes command spells)
     (readings.tells bytes front.rest front.command (some_length bytes front.some) front.spelled) in
-    front.open_end (nothing_behind bytes front.rest same)
+    front.open_end (nothing_after bytes front.rest same)
 
 -- the words of a reply don't go on
 repeat_not_whole : (reply : Reply) (words : List ℕ) → IsRepeatFront reply words → words ≡ reply_words reply → ⊥
 repeat_not_whole reply words front whole =
-    front.open_end (nothing_behind words front.rest (ap length (whole ∙ sym front.same)))
+    front.open_end (nothing_after words front.rest (ap length (whole ∙ sym front.same)))
 
 -- a block begins with one step
 open_byte : (readings : Readings) (position : Position) (from : Option Event) (to : Event) (word byte : ℕ)
@@ -305,16 +305,16 @@ is_foreign : (from : Option Event) (to : Event) (next : Step) → GoesOnForeign 
 is_foreign from to step.Foreign p = refl
 is_foreign from to next p = absurd p
 
-one_behind_foreign : (readings : Readings) (from : Option Event) (to : Event) (word : ℕ) (one other : Step)
+one_after_foreign : (readings : Readings) (from : Option Event) (to : Event) (word : ℕ) (one other : Step)
     → Opens InForeign from to word one ⊎ ((word < 256) × GoesOnForeign from to one)
     → Opens InForeign from to word other ⊎ ((word < 256) × GoesOnForeign from to other) → one ≡ other
-one_behind_foreign readings from to word one other (inl p) (inl q) =
+one_after_foreign readings from to word one other (inl p) (inl q) =
     one_opening readings InForeign from to word one other p q
-one_behind_foreign readings from to word one other (inl p) (inr q) =
+one_after_foreign readings from to word one other (inl p) (inr q) =
     absurd (opens_marked InForeign from to word one p q.0)
-one_behind_foreign readings from to word one other (inr p) (inl q) =
+one_after_foreign readings from to word one other (inr p) (inl q) =
     absurd (opens_marked InForeign from to word other q p.0)
-one_behind_foreign readings from to word one other (inr p) (inr q) =
+one_after_foreign readings from to word one other (inr p) (inr q) =
     is_foreign from to one p.1 ∙ sym (is_foreign from to other q.1)
 
 -- a word leads to one step
@@ -346,7 +346,7 @@ one_word readings (InRepeat command reply words) from levels to Controller word 
 one_word readings (InRepeat command reply words) from levels to Peripheral word one other p q =
     one_repeating reply words from to word one other p q
 one_word readings InForeign from levels to Controller word one other p q =
-    one_behind_foreign readings from to word one other p q
+    one_after_foreign readings from to word one other p q
 one_word readings InForeign from levels to Peripheral word one other p q =
     is_foreign from to one p ∙ sym (is_foreign from to other q)
 

@@ -29,9 +29,9 @@ use Rattle.mdb_bus.specs.declared.levels.Levels.{Levels}
 use Rattle.mdb_bus.specs.inner.Step.{Step}
 use Rattle.mdb_bus.specs.inner.Step as step
 use Rattle.mdb_bus.specs.Acts.{IsReply, reply_words}
-use Rattle.mdb_bus.specs.ActLists.{Position, Quiet, InAsk, Asked, InReply, Replied, Returned, InRepeat, InForeign, BlockMayCome, InTime, IsAskFront, IsLow, IsReplyFront, NotBefore, NotBehind, level_for, rest_before_block, rest_before_break, tells_high}
-use Rattle.mdb_bus.specs.LinkFaults.{HasBadMessage, HasHighLevels, IsBefore, IsBehind, IsChanged, IsFirstBroken, IsLeftOut, IsOutside, OutOfOrder, RowBreaks, Situation, TooEarly, TooFarApart, TooLate, TooShort, WrongAnswer, WrongLength, WrongMode, WrongSpeaker, WrongSum}
-use Rattle.mdb_bus.specs.inner.Steps.{GoesOnAsking, InBlock, IsSound, Leads, Opens}
+use Rattle.mdb_bus.specs.ActLists.{Position, Quiet, InAsk, Asked, InReply, Replied, Returned, InRepeat, InForeign, BlockMayCome, InTime, IsAskFront, IsLow, IsReplyFront, NotBefore, NotAfter, level_for, rest_before_block, rest_before_break, tells_high}
+use Rattle.mdb_bus.specs.LinkFaults.{HasBadMessage, HasHighLevels, IsBefore, IsAfter, IsChanged, IsFirstBroken, IsLeftOut, IsOutside, OutOfOrder, RowBreaks, Situation, TooEarly, TooFarApart, TooLate, TooShort, WrongAnswer, WrongLength, WrongMode, WrongSpeaker, WrongSum}
+use Rattle.mdb_bus.specs.inner.Steps.{GoesOnAsking, IsSound, Leads, Opens}
 use Rattle.mdb_bus.proofs.Decided.{Decided, Found, all_three, both, denied, either, first_or_none, held, is_true, less, meant, never, next_in, same, within}
 use Rattle.mdb_bus.proofs.Fronts.{first_byte, front_bytes, front_of, need_ends, need_three, needed_stays}
 use Rattle.mdb_bus.specs.inner.Grammar.{Grammar}
@@ -50,19 +50,19 @@ is_before : (least : ℕ) (from : Option Event) (row : Event) → Decided (IsBef
 is_before least None row = never (λ h. h)
 is_before least (Some from) row = less (start_of row) (end_of from + least)
 
-is_behind : (most : ℕ) (from : Option Event) (row : Event) → Decided (IsBehind most from row)
-is_behind most None row = never (λ h. h)
-is_behind most (Some from) row = less (end_of from + most) (start_of row)
+is_after : (most : ℕ) (from : Option Event) (row : Event) → Decided (IsAfter most from row)
+is_after most None row = never (λ h. h)
+is_after most (Some from) row = less (end_of from + most) (start_of row)
 
 -- what isn't too early comes in time
 not_before : (least : ℕ) (from : Option Event) (row : Event) → (IsBefore least from row → ⊥) → NotBefore least from row
 not_before least None row none = tt
 not_before least (Some from) row none = omega (arith, none)
 
--- nor is it too late where it is not behind
-not_behind : (most : ℕ) (from : Option Event) (row : Event) → (IsBehind most from row → ⊥) → NotBehind most from row
-not_behind most None row none = tt
-not_behind most (Some from) row none = omega (arith, none)
+-- nor is it too late where it is not after
+not_after : (most : ℕ) (from : Option Event) (row : Event) → (IsAfter most from row → ⊥) → NotAfter most from row
+not_after most None row none = tt
+not_after most (Some from) row none = omega (arith, none)
 
 out_of_order : (from : Option Event) (row : Event) → Decided (OutOfOrder from row)
 out_of_order None row = never (λ h. h)
@@ -73,9 +73,9 @@ wrong_speaker Quiet from (Word at Peripheral word) = inl tt
 wrong_speaker (InAsk bytes) from (Word at Peripheral word) = inl tt
 wrong_speaker (Replied command reply) from (Word at Peripheral word) = inl tt
 wrong_speaker (InReply command bytes) from (Word at Controller word) =
-    denied (is_behind BLOCK_GAP_MAX from (Word at Controller word))
+    denied (is_after BLOCK_GAP_MAX from (Word at Controller word))
 wrong_speaker (InRepeat command reply words) from (Word at Controller word) =
-    denied (is_behind BLOCK_GAP_MAX from (Word at Controller word))
+    denied (is_after BLOCK_GAP_MAX from (Word at Controller word))
 wrong_speaker position from row = never (λ h. h)
 
 wrong_mode : (position : Position) (row : Event) → Decided (WrongMode position row)
@@ -97,17 +97,17 @@ too_early (Returned command reply) from (Word at Controller word) =
 too_early position from (Word at line word) = is_before WORD_GAP_MIN from (Word at line word)
 
 too_late : (position : Position) (from : Option Event) (row : Event) → Decided (TooLate position from row)
-too_late (Asked command) from (Word at Peripheral word) = is_behind ANSWER_GAP_MAX from (Word at Peripheral word)
+too_late (Asked command) from (Word at Peripheral word) = is_after ANSWER_GAP_MAX from (Word at Peripheral word)
 too_late (Replied command reply) from (Word at Controller word) =
-    both (less word 256) (is_behind ANSWER_GAP_MAX from (Word at Controller word))
+    both (less word 256) (is_after ANSWER_GAP_MAX from (Word at Controller word))
 too_late (Returned command reply) from (Word at Peripheral word) =
-    is_behind ANSWER_GAP_MAX from (Word at Peripheral word)
+    is_after ANSWER_GAP_MAX from (Word at Peripheral word)
 too_late position from row = never (λ h. h)
 
 too_far_apart : (position : Position) (from : Option Event) (row : Event) → Decided (TooFarApart position from row)
-too_far_apart (InAsk bytes) from (Word at Controller word) = is_behind BLOCK_GAP_MAX from (Word at Controller word)
-too_far_apart (InReply command bytes) from (Word at line word) = is_behind BLOCK_GAP_MAX from (Word at line word)
-too_far_apart (InRepeat command reply words) from (Word at line word) = is_behind BLOCK_GAP_MAX from (Word at line word)
+too_far_apart (InAsk bytes) from (Word at Controller word) = is_after BLOCK_GAP_MAX from (Word at Controller word)
+too_far_apart (InReply command bytes) from (Word at line word) = is_after BLOCK_GAP_MAX from (Word at line word)
+too_far_apart (InRepeat command reply words) from (Word at line word) = is_after BLOCK_GAP_MAX from (Word at line word)
 too_far_apart position from row = never (λ h. h)
 
 -- a form allows so many bytes
@@ -348,7 +348,7 @@ opens grammar position from to word high inside comes =
 
 -- a whole ask
 ask_whole : Grammar → (bytes : List ℕ) (from : Option Event) (to : Event) (word : ℕ) → All IsByte bytes
-    → needed bytes ≡ need.Exactly (length bytes + 1) → word < 256 → word ≡ sum bytes % 256 → InBlock from to
+    → needed bytes ≡ need.Exactly (length bytes + 1) → word < 256 → word ≡ sum bytes % 256 → InTime BLOCK_GAP_MAX from to
     → (next : Step) × GoesOnAsking bytes from to word next
 ask_whole grammar bytes from to word low told small total near =
     let found = grammar.is_command bytes low told in
@@ -357,7 +357,7 @@ ask_whole grammar bytes from to word low told small total near =
 
 -- a longer front of an ask
 ask_longer : Grammar → (bytes : List ℕ) (from : Option Event) (to : Event) (word n : ℕ) → bytes ≢ [] → All IsByte bytes
-    → needed (bytes ++ word ∷ []) ≡ need.Exactly n → length bytes + 1 < n → word < 256 → InBlock from to
+    → needed (bytes ++ word ∷ []) ≡ need.Exactly n → length bytes + 1 < n → word < 256 → InTime BLOCK_GAP_MAX from to
     → (next : Step) × GoesOnAsking bytes from to word next
 ask_longer grammar bytes from to word n some low told long small near =
     let longer = bytes ++ word ∷ [] in
@@ -373,7 +373,7 @@ ask_longer grammar bytes from to word n some low told long small near =
 
 -- the second byte of a block
 second_byte : Grammar → (first : ℕ) (from : Option Event) (to : Event) (word : ℕ) → All IsByte (first ∷ [])
-    → needed (first ∷ []) ≡ need.More → (needed (first ∷ word ∷ []) ≡ need.Outside → ⊥) → word < 256 → InBlock from to
+    → needed (first ∷ []) ≡ need.More → (needed (first ∷ word ∷ []) ≡ need.Outside → ⊥) → word < 256 → InTime BLOCK_GAP_MAX from to
     → (n : Need) → needed (first ∷ word ∷ []) ≡ n → (next : Step) × GoesOnAsking (first ∷ []) from to word next
 second_byte grammar first from to word low more inside small near (need.Exactly n) told =
     let three : 3 ≤ n = need_three first word n more told in
@@ -386,7 +386,7 @@ second_byte grammar first from to word low more inside small near need.Outside t
 -- where the first byte left it to the second
 asks_second : Grammar → (bytes : List ℕ) (from : Option Event) (to : Event) (word : ℕ) → length bytes ≡ 1
     → All IsByte bytes
-    → needed bytes ≡ need.More → (needed (bytes ++ word ∷ []) ≡ need.Outside → ⊥) → word < 256 → InBlock from to
+    → needed bytes ≡ need.More → (needed (bytes ++ word ∷ []) ≡ need.Outside → ⊥) → word < 256 → InTime BLOCK_GAP_MAX from to
     → (next : Step) × GoesOnAsking bytes from to word next
 asks_second grammar [] from to word one low more inside small near = absurd (omega (arith, one))
 asks_second grammar (first ∷ []) from to word one low more inside small near =
@@ -397,7 +397,7 @@ asks_second grammar (first ∷ second ∷ bytes) from to word one low more insid
 asks_further : Grammar → (bytes : List ℕ) (from : Option Event) (to : Event) (word n : ℕ) → bytes ≢ []
     → All IsByte bytes
     → needed bytes ≡ need.Exactly n → length bytes + 1 ≤ n
-    → ((needed bytes ≡ need.Exactly (length bytes + 1)) × (word ≢ sum bytes % 256) → ⊥) → word < 256 → InBlock from to
+    → ((needed bytes ≡ need.Exactly (length bytes + 1)) × (word ≢ sum bytes % 256) → ⊥) → word < 256 → InTime BLOCK_GAP_MAX from to
     → Decided (n ≡ length bytes + 1) → (next : Step) × GoesOnAsking bytes from to word next
 asks_further grammar bytes from to word n some low told enough summed small near (inl is) =
     let whole : needed bytes ≡ need.Exactly (length bytes + 1) = told ∙ ap need.Exactly is in
@@ -411,7 +411,7 @@ asks_further grammar bytes from to word n some low told enough summed small near
 asks : Grammar → (bytes : List ℕ) (from : Option Event) (to : Event) (word whole : ℕ) → bytes ≢ [] → All IsByte bytes
     → length bytes + 1 ≤ whole
     → ((needed bytes ≡ need.Exactly (length bytes + 1)) × (word ≢ sum bytes % 256) → ⊥)
-    → ((needed bytes ≡ need.More) × (needed (bytes ++ word ∷ []) ≡ need.Outside) → ⊥) → word < 256 → InBlock from to
+    → ((needed bytes ≡ need.More) × (needed (bytes ++ word ∷ []) ≡ need.Outside) → ⊥) → word < 256 → InTime BLOCK_GAP_MAX from to
     → (n : Need) → needed bytes ≡ n → IsTold n (length bytes) whole
     → (next : Step) × GoesOnAsking bytes from to word next
 asks grammar bytes from to word whole some low enough summed inside small near (need.Exactly n) told is =
@@ -428,9 +428,9 @@ goes_on_asking : Grammar → (bytes : List ℕ) (from : Option Event) (levels : 
     → LeadsOn (InAsk bytes) from levels (Word at Controller word)
 goes_on_asking grammar bytes from levels at word front none =
     let small : word < 256 = held (less word 256) (λ high. none rule.Mode (omega (arith, high))) in
-    let near : InBlock from (Word at Controller word) = (
+    let near : InTime BLOCK_GAP_MAX from (Word at Controller word) = (
       not_before WORD_GAP_MIN from (Word at Controller word) (none rule.Early),
-      not_behind BLOCK_GAP_MAX from (Word at Controller word) (none rule.Spacing),
+      not_after BLOCK_GAP_MAX from (Word at Controller word) (none rule.Spacing),
     ) in
     let some : 0 < length bytes = some_long bytes front.some in
     let more : 0 < length front.rest = some_long front.rest front.open_end in
@@ -452,17 +452,17 @@ when_asked command from levels at word none (inl low) = (
     held (may_have_data command) (λ no. none rule.Answer (inr (low, no))),
     (
       not_before WORD_GAP_MIN from (Word at Peripheral word) (none rule.Early),
-      not_behind ANSWER_GAP_MAX from (Word at Peripheral word) (none rule.Late),
+      not_after ANSWER_GAP_MAX from (Word at Peripheral word) (none rule.Late),
     ),
   ),
 )
 when_asked command from levels at word none (inr high) =
     marked (same word (answer_word Peripheral answers.Ack)) (same word (answer_word Peripheral answers.Nak))
   where
-    near : InTime from (Word at Peripheral word)
+    near : InTime ANSWER_GAP_MAX from (Word at Peripheral word)
     near = (
       not_before WORD_GAP_MIN from (Word at Peripheral word) (none rule.Early),
-      not_behind ANSWER_GAP_MAX from (Word at Peripheral word) (none rule.Late),
+      not_after ANSWER_GAP_MAX from (Word at Peripheral word) (none rule.Late),
     )
 
     marked : Decided (word ≡ answer_word Peripheral answers.Ack) → Decided (word ≡ answer_word Peripheral answers.Nak)
@@ -474,7 +474,7 @@ when_asked command from levels at word none (inr high) =
 -- an unmarked word goes on with a reply
 reply_longer : (command : Command) (bytes : List ℕ) (from : Option Event) (levels : Levels) (at word : ℕ)
     → NoneBroken (InReply command bytes) from levels (Word at Peripheral word) → word < 256
-    → InBlock from (Word at Peripheral word) → LeadsOn (InReply command bytes) from levels (Word at Peripheral word)
+    → InTime BLOCK_GAP_MAX from (Word at Peripheral word) → LeadsOn (InReply command bytes) from levels (Word at Peripheral word)
 reply_longer command bytes from levels at word none low near =
     let short : length bytes < 35 =
     held (less (length bytes) 35) (λ long. none rule.Length (inl (low, omega (arith, long)))) in
@@ -483,7 +483,7 @@ reply_longer command bytes from levels at word none low near =
 -- a marked word ends it
 reply_whole : Grammar → (command : Command) (bytes : List ℕ) (from : Option Event) (levels : Levels) (at word : ℕ)
     → NoneBroken (InReply command bytes) from levels (Word at Peripheral word) → 256 ≤ word
-    → InBlock from (Word at Peripheral word) → Read command bytes
+    → InTime BLOCK_GAP_MAX from (Word at Peripheral word) → Read command bytes
     → LeadsOn (InReply command bytes) from levels (Word at Peripheral word)
 reply_whole grammar command bytes from levels at word none high near (inl good) =
     let total : word ≡ 256 + sum bytes % 256 =
@@ -519,10 +519,10 @@ replies : Grammar → (command : Command) (bytes : List ℕ) (from : Option Even
     → LeadsOn (InReply command bytes) from levels (Word at Peripheral word)
 replies grammar command bytes from levels at word front none sized = by sized
   where
-    near : InBlock from (Word at Peripheral word)
+    near : InTime BLOCK_GAP_MAX from (Word at Peripheral word)
     near = (
       not_before WORD_GAP_MIN from (Word at Peripheral word) (none rule.Early),
-      not_behind BLOCK_GAP_MAX from (Word at Peripheral word) (none rule.Spacing),
+      not_after BLOCK_GAP_MAX from (Word at Peripheral word) (none rule.Spacing),
     )
 
     by : Decided (word < 256) → LeadsOn (InReply command bytes) from levels (Word at Peripheral word)
@@ -539,10 +539,10 @@ vmc_answers : (command : Command) (reply : Reply) (from : Option Event) (levels 
     → LeadsOn (Replied command reply) from levels (Word at Controller word)
 vmc_answers command reply from levels at word none low ack nak ret = by ack nak ret
   where
-    near : InTime from (Word at Controller word)
+    near : InTime ANSWER_GAP_MAX from (Word at Controller word)
     near = (
       not_before WORD_GAP_MIN from (Word at Controller word) (λ early. none rule.Early (inr (low, early))),
-      not_behind ANSWER_GAP_MAX from (Word at Controller word) (λ late. none rule.Late (low, late)),
+      not_after ANSWER_GAP_MAX from (Word at Controller word) (λ late. none rule.Late (low, late)),
     )
 
     no_answer : (word ≢ answer_word Controller answers.Ack) → (word ≢ answer_word Controller answers.Nak)
@@ -560,7 +560,7 @@ vmc_answers command reply from levels at word none low ack nak ret = by ack nak 
     by (inr a) (inr n) (inl is) = (step.VmcRet, (is, near))
     by (inr a) (inr n) (inr r) = absurd (none rule.Answer (low, no_answer a n r))
 
--- an opening leads on behind a reply too
+-- an opening leads on after a reply too
 opening_leads : (command : Command) (reply : Reply) (from : Option Event) (levels : Levels) (at word : ℕ) (next : Step)
     → Opens (Replied command reply) from (Word at Controller word) word next
     → Leads (record { position = Replied command reply; last = from; levels = levels }) (Word at Controller word) next
@@ -568,7 +568,7 @@ opening_leads command reply from levels at word (step.AskByte byte) leads = lead
 opening_leads command reply from levels at word step.Foreign leads = leads
 opening_leads command reply from levels at word next leads = absurd leads
 
--- an answer to a reply, or a block behind it
+-- an answer to a reply, or a block after it
 when_replied : Grammar → (command : Command) (reply : Reply) (from : Option Event) (levels : Levels) (at word : ℕ)
     → NoneBroken (Replied command reply) from levels (Word at Controller word) → Decided (word < 256)
     → LeadsOn (Replied command reply) from levels (Word at Controller word)
@@ -596,7 +596,7 @@ words_long command reply good =
 -- a word begins a repeat
 repeat_begins : (command : Command) (reply : Reply) (from : Option Event) (levels : Levels) (at word : ℕ)
     → IsReply command reply
-    → InTime from (Word at Peripheral word) → (rest : List ℕ) → word ∷ rest ≡ reply_words reply
+    → InTime ANSWER_GAP_MAX from (Word at Peripheral word) → (rest : List ℕ) → word ∷ rest ≡ reply_words reply
     → LeadsOn (Returned command reply) from levels (Word at Peripheral word)
 repeat_begins command reply from levels at word good near [] is =
     absurd (omega (arith, words_long command reply good, ap length is))
@@ -624,7 +624,7 @@ when_returned command reply from levels at word good none =
     let next = held (next_in (reply_words reply) [] word) (none rule.Same) in
     repeat_begins command reply from levels at word good (
       not_before WORD_GAP_MIN from (Word at Peripheral word) (none rule.Early),
-      not_behind ANSWER_GAP_MAX from (Word at Peripheral word) (none rule.Late),
+      not_after ANSWER_GAP_MAX from (Word at Peripheral word) (none rule.Late),
     ) next.0 next.1
 
 -- what a word ends is not empty
@@ -635,7 +635,7 @@ not_empty (w ∷ words) word none = cc
 -- a word goes on with a repeat, or ends it
 repeat_goes_on : (command : Command) (reply : Reply) (words : List ℕ) (from : Option Event) (levels : Levels)
     (at word : ℕ)
-    → InBlock from (Word at Peripheral word) → (rest : List ℕ) → words ++ word ∷ rest ≡ reply_words reply
+    → InTime BLOCK_GAP_MAX from (Word at Peripheral word) → (rest : List ℕ) → words ++ word ∷ rest ≡ reply_words reply
     → LeadsOn (InRepeat command reply words) from levels (Word at Peripheral word)
 repeat_goes_on command reply words from levels at word near [] is = (step.Repeat, (is, near))
 repeat_goes_on command reply words from levels at word near (next ∷ rest) is = (
@@ -660,10 +660,10 @@ in_repeat command reply words from levels at word none =
     let next = held (next_in (reply_words reply) words word) (none rule.Same) in
     repeat_goes_on command reply words from levels at word (
       not_before WORD_GAP_MIN from (Word at Peripheral word) (none rule.Early),
-      not_behind BLOCK_GAP_MAX from (Word at Peripheral word) (none rule.Spacing),
+      not_after BLOCK_GAP_MAX from (Word at Peripheral word) (none rule.Spacing),
     ) next.0 next.1
 
--- foreign traffic, or a block behind it
+-- foreign traffic, or a block after it
 in_foreign : Grammar → (from : Option Event) (levels : Levels) (at word : ℕ)
     → NoneBroken InForeign from levels (Word at Controller word) → Decided (word < 256)
     → LeadsOn InForeign from levels (Word at Controller word)

@@ -15,7 +15,7 @@ use Rattle.mdb_bus.specs.inner.Steps.{IsSound}
 use Rattle.mdb_bus.proofs.SomeRule.{HasReply}
 use Rattle.mdb_bus.proofs.Stops.{LastIsLong}
 
--- the position behind pieces in order is sound
+-- the position after pieces in order is sound
 pub is_sound : (pieces : List Piece) → ArePieces pieces → IsSound (position_of pieces)
 is_sound [] order = tt
 is_sound (Whole (acts.Ask command) events ∷ pieces) order = tt
@@ -32,12 +32,12 @@ is_sound (AskTail bytes events ∷ pieces) order = order.0.said.0
 is_sound (ReplyTail command bytes events ∷ pieces) order = order.0.said.0
 is_sound (RepeatTail command reply words events ∷ pieces) order = tt
 
--- the last of some rows behind others
-last_behind : (front : List Event) (first : Event) (others : List Event)
+-- the last of some rows after others
+rest_last : (front : List Event) (first : Event) (others : List Event)
     → last_of (front ++ first ∷ others) ≡ last_of (first ∷ others)
-last_behind [] first others = refl
-last_behind (x ∷ []) first others = refl
-last_behind (x ∷ y ∷ front) first others = last_behind (y ∷ front) first others
+rest_last [] first others = refl
+rest_last (x ∷ []) first others = refl
+rest_last (x ∷ y ∷ front) first others = rest_last (y ∷ front) first others
 
 -- words aren't a break
 say_long : (line : Line) (words : List ℕ) (events : List Event) → Say line words events → LastIsLong (last_of events)
@@ -93,9 +93,9 @@ last_is_long (piece ∷ pieces) order =
     let Q : List Event → Type 0 = λ es. LastIsLong (last_of (events_of pieces ++ es)) in
     let R : Option Event → Type 0 = λ last. LastIsLong last in
     let here : LastIsLong (last_of (stands.first ∷ stands.others)) = subst P begins (piece_long piece order.0.said) in
-    subst Q (sym begins) (subst R (sym (last_behind (events_of pieces) stands.first stands.others)) here)
+    subst Q (sym begins) (subst R (sym (rest_last (events_of pieces) stands.first stands.others)) here)
 
--- behind a reply or a repeat, and where it was asked for again, there is a reply
+-- after a reply or a repeat, and where it was asked for again, there is a reply
 pub has_reply : (pieces : List Piece) → ArePieces pieces → HasReply (position_of pieces)
 has_reply [] order = tt
 has_reply (Whole (acts.Ask command) events ∷ pieces) order = tt

@@ -26,9 +26,9 @@ use Rattle.mdb_bus.specs.declared.levels.Levels.{Levels}
 use Rattle.mdb_bus.specs.inner.Step.{Step}
 use Rattle.mdb_bus.specs.inner.Step as step
 use Rattle.mdb_bus.specs.Acts.{IsForeignOpening, IsForeignWord, IsReply, reply_words}
-use Rattle.mdb_bus.specs.ActLists.{Position, Quiet, InAsk, Asked, InReply, Replied, Returned, InRepeat, InForeign, BlockMayCome, InTime, IsAskFront, IsLow, IsRepeatFront, NotBefore, NotBehind, level_for, rest_before_block, rest_before_break, tells_high}
-use Rattle.mdb_bus.specs.LinkFaults.{HasHighLevels, IsBefore, IsBehind, IsNext, IsOutside, OutOfOrder, RowBreaks, Situation}
-use Rattle.mdb_bus.specs.inner.Steps.{Answers, AnswersReply, BeginsRepeat, GoesOnAsking, GoesOnForeign, GoesOnRepeating, GoesOnReplying, InBlock, IsSound, Leads, Opens, WordLeads}
+use Rattle.mdb_bus.specs.ActLists.{Position, Quiet, InAsk, Asked, InReply, Replied, Returned, InRepeat, InForeign, BlockMayCome, InTime, IsAskFront, IsLow, IsRepeatFront, NotBefore, NotAfter, level_for, rest_before_block, rest_before_break, tells_high}
+use Rattle.mdb_bus.specs.LinkFaults.{HasHighLevels, IsBefore, IsAfter, IsNext, IsOutside, OutOfOrder, RowBreaks, Situation}
+use Rattle.mdb_bus.specs.inner.Steps.{Answers, AnswersReply, BeginsRepeat, GoesOnAsking, GoesOnForeign, GoesOnRepeating, GoesOnReplying, IsSound, Leads, Opens, WordLeads}
 use Rattle.mdb_bus.specs.inner.Grammar.{Grammar}
 
 -- a last row that is a break lasts long enough for one
@@ -43,7 +43,7 @@ not_early least None row early comes = early
 not_early least (Some from) row early comes = absurd (omega (arith, early, comes))
 
 -- nor too late
-not_late : (most : ℕ) (from : Option Event) (row : Event) → IsBehind most from row → NotBehind most from row → ⊥
+not_late : (most : ℕ) (from : Option Event) (row : Event) → IsAfter most from row → NotAfter most from row → ⊥
 not_late most None row late comes = late
 not_late most (Some from) row late comes = absurd (omega (arith, late, comes))
 
@@ -52,7 +52,7 @@ starts : (event : Event) → start_of event ≤ end_of event
 starts (Word at line word) = omega arith
 starts (Break at length) = omega arith
 
--- a row that rests comes behind the row before it
+-- a row that rests comes after the row before it
 in_order : (least : ℕ) (from : Option Event) (row : Event) → 0 < least → OutOfOrder from row
     → NotBefore least from row → ⊥
 in_order least None row some out comes = out
@@ -145,7 +145,7 @@ when_quiet grammar from levels at word rule.Profile next breaks leads =
     opens_inside grammar Quiet from (Word at Controller word) word next leads breaks
 when_quiet grammar from levels at word other next breaks leads = breaks
 
--- nor does one behind a command
+-- nor does one after a command
 ask_when_asked : Grammar → (command : Command) (from : Option Event) (levels : Levels) (at word : ℕ) (broken : Rule)
     (next : Step)
     → Broken (Asked command) from levels (Word at Controller word) broken
@@ -162,7 +162,7 @@ ask_when_asked grammar command from levels at word rule.Profile next breaks lead
     opens_inside grammar (Asked command) from (Word at Controller word) word next leads breaks
 ask_when_asked grammar command from levels at word other next breaks leads = breaks
 
--- nor behind RET
+-- nor after RET
 ask_when_returned : Grammar
     → (command : Command) (reply : Reply) (from : Option Event) (levels : Levels) (at word : ℕ) (broken : Rule)
     (next : Step)
@@ -180,7 +180,7 @@ ask_when_returned grammar command reply from levels at word rule.Profile next br
     opens_inside grammar (Returned command reply) from (Word at Controller word) word next leads breaks
 ask_when_returned grammar command reply from levels at word other next breaks leads = breaks
 
--- nor behind a reply
+-- nor after a reply
 ask_when_replied : Grammar
     → (command : Command) (reply : Reply) (from : Option Event) (levels : Levels) (at word : ℕ) (broken : Rule)
     (next : Step)
@@ -218,7 +218,7 @@ ask_when_replied grammar command reply from levels at word other next breaks lea
 vmc_answers : (command : Command) (reply : Reply) (from : Option Event) (levels : Levels) (at word : ℕ)
     (answer : Answer) (broken : Rule)
     → Broken (Replied command reply) from levels (Word at Controller word) broken
-    → word < 256 → word ≡ answer_word Controller answer → InTime from (Word at Controller word) → ⊥
+    → word < 256 → word ≡ answer_word Controller answer → InTime ANSWER_GAP_MAX from (Word at Controller word) → ⊥
 vmc_answers command reply from levels at word answer rule.Order breaks low is near =
     in_order WORD_GAP_MIN from (Word at Controller word) (omega arith) breaks near.0
 vmc_answers command reply from levels at word answer rule.Early (inl breaks) low is near =
@@ -232,7 +232,7 @@ vmc_answers command reply from levels at word answer rule.Profile breaks low is 
     absurd (omega (arith, breaks.1, low))
 vmc_answers command reply from levels at word answer other breaks low is near = breaks
 
--- an answer to a reply, or a block behind it
+-- an answer to a reply, or a block after it
 when_replied : Grammar → (command : Command) (reply : Reply) (from : Option Event) (levels : Levels) (at word : ℕ)
     (broken : Rule) (next : Step)
     → Broken (Replied command reply) from levels (Word at Controller word) broken
@@ -267,7 +267,7 @@ foreign_goes_on Peripheral from levels at word rule.Early step.Foreign breaks lo
 foreign_goes_on Peripheral from levels at word other step.Foreign breaks low comes = breaks
 foreign_goes_on line from levels at word broken next breaks low comes = comes
 
--- a block behind foreign traffic
+-- a block after foreign traffic
 ask_in_foreign : Grammar → (from : Option Event) (levels : Levels) (at word : ℕ) (broken : Rule) (next : Step)
     → Broken InForeign from levels (Word at Controller word) broken
     → Opens InForeign from (Word at Controller word) word next → ⊥
@@ -281,7 +281,7 @@ ask_in_foreign grammar from levels at word rule.Profile next breaks leads =
     opens_inside grammar InForeign from (Word at Controller word) word next leads breaks
 ask_in_foreign grammar from levels at word other next breaks leads = breaks
 
--- foreign traffic, or a block behind it
+-- foreign traffic, or a block after it
 in_foreign : Grammar → (from : Option Event) (levels : Levels) (at word : ℕ) (broken : Rule) (next : Step)
     → Broken InForeign from levels (Word at Controller word) broken
     → WordLeads InForeign from levels (Word at Controller word) Controller word next → ⊥
@@ -293,7 +293,7 @@ in_foreign grammar from levels at word broken next breaks (inr leads) =
 -- a further byte of an ask
 ask_goes_on : Grammar → (bytes : List ℕ) (from : Option Event) (levels : Levels) (at word byte : ℕ) (broken : Rule)
     → bytes ≢ [] → Broken (InAsk bytes) from levels (Word at Controller word) broken
-    → word ≡ byte → word < 256 → IsAskFront (bytes ++ byte ∷ []) → InBlock from (Word at Controller word) → ⊥
+    → word ≡ byte → word < 256 → IsAskFront (bytes ++ byte ∷ []) → InTime BLOCK_GAP_MAX from (Word at Controller word) → ⊥
 ask_goes_on grammar bytes from levels at word byte rule.Order some breaks is low front near =
     in_order WORD_GAP_MIN from (Word at Controller word) (omega arith) breaks near.0
 ask_goes_on grammar bytes from levels at word byte rule.Mode some breaks is low front near =
@@ -321,7 +321,7 @@ last_is_sum bytes word command spelled =
 ask_ends : Grammar → (bytes : List ℕ) (from : Option Event) (levels : Levels) (at word : ℕ) (command : Command)
     (broken : Rule)
     → Broken (InAsk bytes) from levels (Word at Controller word) broken
-    → word < 256 → Spells command (bytes ++ word ∷ []) → InBlock from (Word at Controller word) → ⊥
+    → word < 256 → Spells command (bytes ++ word ∷ []) → InTime BLOCK_GAP_MAX from (Word at Controller word) → ⊥
 ask_ends grammar bytes from levels at word command rule.Order breaks low spelled near =
     in_order WORD_GAP_MIN from (Word at Controller word) (omega arith) breaks near.0
 ask_ends grammar bytes from levels at word command rule.Mode breaks low spelled near =
@@ -349,7 +349,7 @@ foreign_opening (first ∷ second ∷ third ∷ bytes) word some opening = absur
 -- the second word of a foreign opening
 foreign_begins : (bytes : List ℕ) (from : Option Event) (levels : Levels) (at word : ℕ) (broken : Rule)
     → bytes ≢ [] → Broken (InAsk bytes) from levels (Word at Controller word) broken
-    → word < 256 → IsForeignOpening (bytes ++ word ∷ []) → InBlock from (Word at Controller word) → ⊥
+    → word < 256 → IsForeignOpening (bytes ++ word ∷ []) → InTime BLOCK_GAP_MAX from (Word at Controller word) → ⊥
 foreign_begins bytes from levels at word rule.Order some breaks low opening near =
     in_order WORD_GAP_MIN from (Word at Controller word) (omega arith) breaks near.0
 foreign_begins bytes from levels at word rule.Mode some breaks low opening near = absurd (omega (arith, breaks, low))
@@ -383,7 +383,7 @@ in_ask grammar bytes from levels at word broken next some breaks leads = leads
 ack_comes : (command : Command) (from : Option Event) (levels : Levels) (at word : ℕ) (broken : Rule)
     → Broken (Asked command) from levels (Word at Peripheral word) broken
     → (word ≡ answer_word Peripheral answers.Ack) ⊎ (word ≡ answer_word Peripheral answers.Nak)
-    → InTime from (Word at Peripheral word) → ⊥
+    → InTime ANSWER_GAP_MAX from (Word at Peripheral word) → ⊥
 ack_comes command from levels at word rule.Order breaks is near =
     in_order WORD_GAP_MIN from (Word at Peripheral word) (omega arith) breaks near.0
 ack_comes command from levels at word rule.Early breaks is near =
@@ -399,7 +399,7 @@ ack_comes command from levels at word other breaks is near = breaks
 -- the first word of a reply
 reply_begins : (command : Command) (from : Option Event) (levels : Levels) (at word : ℕ) (broken : Rule)
     → Broken (Asked command) from levels (Word at Peripheral word) broken
-    → word < 256 → MayHaveData command → InTime from (Word at Peripheral word) → ⊥
+    → word < 256 → MayHaveData command → InTime ANSWER_GAP_MAX from (Word at Peripheral word) → ⊥
 reply_begins command from levels at word rule.Order breaks low may near =
     in_order WORD_GAP_MIN from (Word at Peripheral word) (omega arith) breaks near.0
 reply_begins command from levels at word rule.Early breaks low may near =
@@ -426,7 +426,7 @@ when_asked command from levels at word broken next breaks leads = leads
 reply_goes_on : (command : Command) (bytes : List ℕ) (from : Option Event) (levels : Levels) (at word : ℕ)
     (broken : Rule)
     → Broken (InReply command bytes) from levels (Word at Peripheral word) broken
-    → word < 256 → length bytes < 35 → InBlock from (Word at Peripheral word) → ⊥
+    → word < 256 → length bytes < 35 → InTime BLOCK_GAP_MAX from (Word at Peripheral word) → ⊥
 reply_goes_on command bytes from levels at word rule.Order breaks low short near =
     in_order WORD_GAP_MIN from (Word at Peripheral word) (omega arith) breaks near.0
 reply_goes_on command bytes from levels at word rule.Early breaks low short near =
@@ -484,7 +484,7 @@ reply_ends : Grammar → (command : Command) (bytes : List ℕ) (from : Option E
     (reply : Reply) (broken : Rule)
     → Broken (InReply command bytes) from levels (Word at Peripheral word) broken
     → word ≡ 256 + sum bytes % 256 → IsReply command reply → bytes ≡ reply_bytes reply
-    → (tells_high reply ≡ true → IsLow (level_for command levels)) → InBlock from (Word at Peripheral word) → ⊥
+    → (tells_high reply ≡ true → IsLow (level_for command levels)) → InTime BLOCK_GAP_MAX from (Word at Peripheral word) → ⊥
 reply_ends grammar command bytes from levels at word reply rule.Order breaks is good same low near =
     in_order WORD_GAP_MIN from (Word at Peripheral word) (omega arith) breaks near.0
 reply_ends grammar command bytes from levels at word reply rule.Early breaks is good same low near =
@@ -519,7 +519,7 @@ in_reply grammar command bytes from levels at word broken next breaks leads = le
 repeat_begins : (command : Command) (reply : Reply) (from : Option Event) (levels : Levels) (at word : ℕ)
     (broken : Rule)
     → Broken (Returned command reply) from levels (Word at Peripheral word) broken
-    → IsRepeatFront reply (word ∷ []) → InTime from (Word at Peripheral word) → ⊥
+    → IsRepeatFront reply (word ∷ []) → InTime ANSWER_GAP_MAX from (Word at Peripheral word) → ⊥
 repeat_begins command reply from levels at word rule.Order breaks front near =
     in_order WORD_GAP_MIN from (Word at Peripheral word) (omega arith) breaks near.0
 repeat_begins command reply from levels at word rule.Early breaks front near =
@@ -542,7 +542,7 @@ when_returned command reply from levels at word broken next breaks leads = leads
 repeat_goes_on : (command : Command) (reply : Reply) (words : List ℕ) (from : Option Event) (levels : Levels)
     (at word : ℕ) (broken : Rule)
     → Broken (InRepeat command reply words) from levels (Word at Peripheral word) broken
-    → IsNext (reply_words reply) words word → InBlock from (Word at Peripheral word) → ⊥
+    → IsNext (reply_words reply) words word → InTime BLOCK_GAP_MAX from (Word at Peripheral word) → ⊥
 repeat_goes_on command reply words from levels at word rule.Order breaks next near =
     in_order WORD_GAP_MIN from (Word at Peripheral word) (omega arith) breaks near.0
 repeat_goes_on command reply words from levels at word rule.Early breaks next near =
@@ -597,7 +597,7 @@ word_stops grammar InForeign from levels at Controller word broken next sound br
 word_stops grammar InForeign from levels at Peripheral word broken next sound breaks leads =
     foreign_goes_on Peripheral from levels at word broken next breaks tt leads
 
--- a break comes behind the row before it
+-- a break comes after the row before it
 break_in_order : (from : Option Event) (at lasted : ℕ) → LastIsLong from → OutOfOrder from (Break at lasted)
     → NotBefore (rest_before_break from) from (Break at lasted) → ⊥
 break_in_order None at lasted long out comes = out

@@ -32,13 +32,13 @@ use Rattle.mdb_bus.specs.declared.place.Place.{Place}
 use Rattle.mdb_bus.specs.declared.judged.Judged.{Judged}
 use Rattle.mdb_bus.specs.declared.judged.Judged.TheVariants as judged
 use Rattle.mdb_bus.specs.Acts.{IsForeignOpening, IsReply, reply_words}
-use Rattle.mdb_bus.specs.ActLists.{Asked, InAsk, InReply, IsAskFront, IsRepeatFront, NotBefore, NotBehind}
+use Rattle.mdb_bus.specs.ActLists.{Asked, InAsk, InReply, IsAskFront, IsRepeatFront, NotBefore, NotAfter}
 use Rattle.mdb_bus.specs.declared.phase.Phase.{Phase}
 use Rattle.mdb_bus.specs.declared.phase.Phase.TheVariants as phase
 use Rattle.mdb_bus.specs.Bus.{position_at, position_in}
-use Rattle.mdb_bus.specs.LinkFaults.{IsBefore, IsBehind, IsFirstBroken, OutOfOrder, RowBreaks, Situation, WrongLength, place_of}
+use Rattle.mdb_bus.specs.LinkFaults.{IsBefore, IsAfter, IsFirstBroken, OutOfOrder, RowBreaks, Situation, WrongLength, place_of}
 use Rattle.mdb_bus.specs.inner.Steps.{Belongs, IsGoingOn, IsJudged, IsOpened, IsRead, IsReplyEnd, IsSettled, MayAsk, rule_of}
-use Rattle.mdb_bus.proofs.Needs.{at_least_two, at_most_32, not_left, stays, tells}
+use Rattle.mdb_bus.proofs.Needs.{at_least_two, at_most_32, not_left, stays, narrows}
 
 -- a row isn't both too early and in time
 pub not_early : (least : ℕ) (from : Option Event) (to : Event) → NotBefore least from to → IsBefore least from to → ⊥
@@ -50,7 +50,7 @@ pub in_time : (least : ℕ) (from : Option Event) (to : Event) → (IsBefore lea
 in_time least None to early = tt
 in_time least (Some before) to early = omega (arith, early)
 
-pub not_late : (most : ℕ) (from : Option Event) (to : Event) → (IsBehind most from to → ⊥) → NotBehind most from to
+pub not_late : (most : ℕ) (from : Option Event) (to : Event) → (IsAfter most from to → ⊥) → NotAfter most from to
 not_late most None to late = tt
 not_late most (Some before) to late = omega (arith, late)
 
@@ -104,7 +104,7 @@ begins law word one byte told same again is wanting =
 left_by : (first word : ℕ) (told : Need) → needed (first ∷ []) ≡ told → IsShort told 1
     → ((n : ℕ) → needed (first ∷ word ∷ []) ≡ Exactly n → ⊥) → needed (first ∷ []) ≡ More
 left_by first word More is short other = is
-left_by first word (Exactly n) is short other = absurd (other n ((tells first).known word n is))
+left_by first word (Exactly n) is short other = absurd (other n ((narrows first).known word n is))
 left_by first word Foreign is short other = absurd short
 left_by first word Outside is short other = absurd short
 
@@ -149,10 +149,10 @@ second_short first byte alone told is tell short other (inl more) =
     absurd (not_left (first ∷ byte ∷ []) (omega arith) (tell ∙ more))
 second_short first byte More told is tell short other (inr exact) =
     let P : Need → Type 0 = λ need. IsShort need 2 in
-    subst P (sym exact.1) ((tells first).left byte exact.0 is (tell ∙ exact.1))
+    subst P (sym exact.1) ((narrows first).left byte exact.0 is (tell ∙ exact.1))
 second_short first byte (Exactly m) told is tell short other (inr exact) =
     let P : Need → Type 0 = λ need. IsShort need 2 in
-    let stays_so : needed (first ∷ byte ∷ []) ≡ Exactly m = (tells first).known byte m is in
+    let stays_so : needed (first ∷ byte ∷ []) ≡ Exactly m = (narrows first).known byte m is in
     let e : Exactly m ≡ Exactly exact.0 = sym stays_so ∙ (tell ∙ exact.1) in
     let same : m ≡ exact.0 = cc in
     let two : 2 ≤ m = at_least_two (first ∷ []) m (omega arith) is in
@@ -224,7 +224,7 @@ AskBreaks bytes from at word levels broken =
 -- an unmarked word inside a block of the controller, in its time
 pub going_on : (bytes : List ℕ) (from : Option Event) (at word : ℕ) (levels : Levels) (result : Result Judged Rule)
     → (OutOfOrder from (Word at Controller word) → ⊥) → (IsBefore WORD_GAP_MIN from (Word at Controller word) → ⊥)
-    → (IsBehind BLOCK_GAP_MAX from (Word at Controller word) → ⊥) → word < 256 → IsGoingOn bytes word result
+    → (IsAfter BLOCK_GAP_MAX from (Word at Controller word) → ⊥) → word < 256 → IsGoingOn bytes word result
     → IsJudged (record { position = InAsk bytes; last = from; levels = levels }) (Word at Controller word) result
 going_on bytes from at word levels (Ok judged.AskByte) order early late small h =
     let soon = in_time WORD_GAP_MIN from (Word at Controller word) early in
@@ -290,7 +290,7 @@ length_read command bytes has bad =
 pub no_answer : (command : Command) (from : Option Event) (at word byte : ℕ) (levels : Levels)
     → (OutOfOrder from (Word at Peripheral word) → ⊥)
     → (IsBefore WORD_GAP_MIN from (Word at Peripheral word) → ⊥)
-    → (IsBehind ANSWER_GAP_MAX from (Word at Peripheral word) → ⊥) → 256 ≤ word → word < 512 → byte ≡ word % 256
+    → (IsAfter ANSWER_GAP_MAX from (Word at Peripheral word) → ⊥) → 256 ≤ word → word < 512 → byte ≡ word % 256
     → ((answer : Answer) → answer_byte answer ≢ byte)
     → IsFirstBroken (record { position = Asked command; last = from; levels = levels }) (Word at Peripheral word)
     rule.Answer
@@ -349,7 +349,7 @@ reply_read : BytesHaveOneFault → ReplyHasNoFault
     → (command : Command) (bytes : List ℕ) (from : Option Event) (at word : ℕ) (levels : Levels)
     (result : Result Reply Rule)
     → (OutOfOrder from (Word at Peripheral word) → ⊥) → (IsBefore WORD_GAP_MIN from (Word at Peripheral word) → ⊥)
-    → (IsBehind BLOCK_GAP_MAX from (Word at Peripheral word) → ⊥)
+    → (IsAfter BLOCK_GAP_MAX from (Word at Peripheral word) → ⊥)
     → 256 ≤ word → HasDataAnswer command (length bytes) → word ≡ 256 + sum bytes % 256
     → IsRead command bytes levels result
     → IsSettled (record { position = InReply command bytes; last = from; levels = levels }) (Word at Peripheral word)
@@ -423,7 +423,7 @@ pub reply_ended : BytesHaveOneFault → ReplyHasNoFault
     → (command : Command) (bytes : List ℕ) (from : Option Event) (at word : ℕ) (levels : Levels)
     (result : Result Judged Rule)
     → (OutOfOrder from (Word at Peripheral word) → ⊥) → (IsBefore WORD_GAP_MIN from (Word at Peripheral word) → ⊥)
-    → (IsBehind BLOCK_GAP_MAX from (Word at Peripheral word) → ⊥)
+    → (IsAfter BLOCK_GAP_MAX from (Word at Peripheral word) → ⊥)
     → 256 ≤ word → IsReplyEnd command bytes word result
     → IsJudged (record { position = InReply command bytes; last = from; levels = levels }) (Word at Peripheral word)
     result
@@ -502,9 +502,9 @@ word_there bytes content block i word same sealed within is =
     let here : word ≡ slice_index words i = is ∙ ap (λ b. slice_index (peripheral_words b) i) whole in
     ap Some here ∙ sym (slice_get-get_or words i 0 (omega arith))
 
-pub word_behind : (bytes content block : List ℕ) (i : ℕ) → content ≡ bytes → block ≡ block_of content → length block ≤ i
+pub word_after : (bytes content block : List ℕ) (i : ℕ) → content ≡ bytes → block ≡ block_of content → length block ≤ i
     → None ≡ slice_get (peripheral_words (block_of bytes)) i
-word_behind bytes content block i same sealed past =
+word_after bytes content block i same sealed past =
     let whole : block ≡ block_of bytes = sealed ∙ ap block_of same in
     let count : length (peripheral_words (block_of bytes)) ≡ length bytes + 1 = words_count bytes in
     let long : length block ≡ length bytes + 1 = ap length whole ∙ length-append bytes ((sum bytes % 256) ∷ []) in

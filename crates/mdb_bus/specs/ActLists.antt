@@ -125,7 +125,7 @@ left_open (acts.Repeat command reply) = Replied command reply
 left_open acts.Foreign = InForeign
 left_open (acts.Break length) = Quiet
 
--- where the bus is behind pieces
+-- where the bus is after pieces
 abbrev pub position_of : List Piece → Position
 position_of [] = Quiet
 position_of (Whole act events ∷ pieces) = left_open act
@@ -139,24 +139,24 @@ abbrev pub NotBefore : ℕ → Option Event → Event → Type 0
 NotBefore least None to = Unit {0}
 NotBefore least (Some from) to = AtLeast least from to
 
-abbrev pub NotBehind : ℕ → Option Event → Event → Type 0
-NotBehind most None to = Unit {0}
-NotBehind most (Some from) to = AtMost most from to
+abbrev pub NotAfter : ℕ → Option Event → Event → Type 0
+NotAfter most None to = Unit {0}
+NotAfter most (Some from) to = AtMost most from to
 
--- how long a block waits behind a row that leaves nothing open: behind a break for the setup of the
+-- how long a block waits after a row that leaves nothing open: after a break for the setup of the
 -- devices
 abbrev pub rest_before_block : Option Event → ℕ
 rest_before_block (Some (Break at length)) = SETUP_GAP_MIN
 rest_before_block _ = WORD_GAP_MIN
 
--- how long a break waits: behind a break not at all
+-- how long a break waits: after a break not at all
 abbrev pub rest_before_break : Option Event → ℕ
 rest_before_break (Some (Break at length)) = 0
 rest_before_break _ = WORD_GAP_MIN
 
--- an answer, or a repeat, begins in its time
-abbrev pub InTime : Option Event → Event → Type 0
-InTime from to = NotBefore WORD_GAP_MIN from to × NotBehind ANSWER_GAP_MAX from to
+-- a row comes in time: not too soon after the row before it, and at most so long after it
+abbrev pub InTime : ℕ → Option Event → Event → Type 0
+InTime most from to = NotBefore WORD_GAP_MIN from to × NotAfter most from to
 
 -- a block of the controller may begin: an ask, or a foreign opening
 abbrev pub BlockMayCome : Position → Option Event → Event → Type 0
@@ -171,16 +171,18 @@ BlockMayCome InForeign from to = NotBefore WORD_GAP_MIN from to
 
 -- a peripheral's ACK, NAK or reply to a command may come
 abbrev pub AnswerMayCome : Command → Position → Option Event → Event → Type 0
-AnswerMayCome command position from to = (position ≡ Asked command) × InTime from to
+AnswerMayCome command position from to = (position ≡ Asked command)
+    × InTime ANSWER_GAP_MAX from to
 
 -- the controller's ACK, NAK or RET to a reply may come
 abbrev pub VmcAnswerMayCome : Command → Reply → Position → Option Event → Event → Type 0
 VmcAnswerMayCome command reply position from to = (position ≡ Replied command reply)
-    × InTime from to
+    × InTime ANSWER_GAP_MAX from to
 
 -- a repeat of a reply may come
 abbrev pub RepeatMayCome : Command → Reply → Position → Option Event → Event → Type 0
-RepeatMayCome command reply position from to = (position ≡ Returned command reply) × InTime from to
+RepeatMayCome command reply position from to = (position ≡ Returned command reply)
+    × InTime ANSWER_GAP_MAX from to
 
 -- a foreign act may come: a block where its first event is a marked word of the controller, and
 -- else a further word
@@ -228,7 +230,7 @@ levels_after (commands.Reader Second (readers.SetupConfig level columns rows dis
     record levels { second = Some level }
 levels_after _ levels = levels
 
--- the same behind pieces: the level of the last whole SETUP config ask to each reader
+-- the same after pieces: the level of the last whole SETUP config ask to each reader
 abbrev pub levels_of : List Piece → Levels
 levels_of [] = record { first = None; second = None }
 levels_of (Whole (acts.Ask command) events ∷ pieces) = levels_after command (levels_of pieces)
@@ -260,7 +262,7 @@ abbrev pub PieceFitsLevels : Levels → Piece → Type 0
 PieceFitsLevels levels (Whole act events) = FitsLevels levels act
 PieceFitsLevels levels _ = Unit {0}
 
--- a piece may stand behind the pieces before it
+-- a piece may stand after the pieces before it
 pub record MayStand (pieces : List Piece) (piece : Piece) : Type 0 where
   pub first : Event
   pub others : List Event
@@ -268,7 +270,7 @@ pub record MayStand (pieces : List Piece) (piece : Piece) : Type 0 where
   pub comes : MayCome piece (position_of pieces) (last_of (events_of pieces)) first
   pub levels : PieceFitsLevels (levels_of pieces) piece
 
--- pieces, each right by itself and behind those before it
+-- pieces, each right by itself and after those before it
 abbrev pub ArePieces : List Piece → Type 0
 ArePieces [] = Unit {0}
 ArePieces (piece ∷ pieces) = IsPiece piece × MayStand pieces piece × ArePieces pieces

@@ -66,7 +66,7 @@ IsForeignWord (Word at Controller word) = word < 256
 IsForeignWord (Word at Peripheral word) = Unit {0}
 IsForeignWord (Break at length) = ⊥
 
--- a foreign act: the opening of a foreign block, or a word behind one
+-- a foreign act: the opening of a foreign block, or a word after one
 abbrev pub IsForeign : List Event → Type 0
 IsForeign events =
     ((bytes : List ℕ) × IsForeignOpening bytes × Say Controller (words_on Controller bytes) events)

@@ -58,9 +58,9 @@ abbrev pub IsBefore : ℕ → Option Event → Event → Type 0
 IsBefore least None to = ⊥
 IsBefore least (Some from) to = start_of to < end_of from + least
 
-abbrev pub IsBehind : ℕ → Option Event → Event → Type 0
-IsBehind most None to = ⊥
-IsBehind most (Some from) to = end_of from + most < start_of to
+abbrev pub IsAfter : ℕ → Option Event → Event → Type 0
+IsAfter most None to = ⊥
+IsAfter most (Some from) to = end_of from + most < start_of to
 
 -- Order: a row doesn't start after the row before it.
 abbrev pub OutOfOrder : Option Event → Event → Type 0
@@ -74,9 +74,9 @@ WrongSpeaker Quiet from (Word at Peripheral word) = Unit {0}
 WrongSpeaker (InAsk bytes) from (Word at Peripheral word) = Unit {0}
 WrongSpeaker (Replied command reply) from (Word at Peripheral word) = Unit {0}
 WrongSpeaker (InReply command bytes) from (Word at Controller word) =
-    ¬ IsBehind BLOCK_GAP_MAX from (Word at Controller word)
+    ¬ IsAfter BLOCK_GAP_MAX from (Word at Controller word)
 WrongSpeaker (InRepeat command reply words) from (Word at Controller word) =
-    ¬ IsBehind BLOCK_GAP_MAX from (Word at Controller word)
+    ¬ IsAfter BLOCK_GAP_MAX from (Word at Controller word)
 WrongSpeaker _ from _ = ⊥
 
 -- Mode: a block of the controller begins with an unmarked word, or goes on with a marked one.
@@ -103,22 +103,22 @@ TooEarly position from to = IsBefore WORD_GAP_MIN from to
 -- Late: an answer or a repeat begins after its time.
 abbrev pub TooLate : Position → Option Event → Event → Type 0
 TooLate (Asked command) from (Word at Peripheral word) =
-    IsBehind ANSWER_GAP_MAX from (Word at Peripheral word)
+    IsAfter ANSWER_GAP_MAX from (Word at Peripheral word)
 TooLate (Replied command reply) from (Word at Controller word) =
-    (word < 256) × IsBehind ANSWER_GAP_MAX from (Word at Controller word)
+    (word < 256) × IsAfter ANSWER_GAP_MAX from (Word at Controller word)
 TooLate (Returned command reply) from (Word at Peripheral word) =
-    IsBehind ANSWER_GAP_MAX from (Word at Peripheral word)
+    IsAfter ANSWER_GAP_MAX from (Word at Peripheral word)
 TooLate _ from _ = ⊥
 
 -- Spacing: the words of a block are too far apart, or the controller's word finds a peripheral's
 -- block left open.
 abbrev pub TooFarApart : Position → Option Event → Event → Type 0
 TooFarApart (InAsk bytes) from (Word at Controller word) =
-    IsBehind BLOCK_GAP_MAX from (Word at Controller word)
+    IsAfter BLOCK_GAP_MAX from (Word at Controller word)
 TooFarApart (InReply command bytes) from (Word at line word) =
-    IsBehind BLOCK_GAP_MAX from (Word at line word)
+    IsAfter BLOCK_GAP_MAX from (Word at line word)
 TooFarApart (InRepeat command reply words) from (Word at line word) =
-    IsBehind BLOCK_GAP_MAX from (Word at line word)
+    IsAfter BLOCK_GAP_MAX from (Word at line word)
 TooFarApart _ from _ = ⊥
 
 -- Length: a reply's 36th word is unmarked, or the command isn't answered by so many data bytes.
@@ -265,7 +265,7 @@ blame_of position asked (Word at Peripheral word) broken = blame_on asked
 blame_of position asked (Word at Controller word) broken = vmc_blame position asked broken
 blame_of position asked (Break at length) broken = blame.Controller
 
--- the fault of a row behind pieces
+-- the fault of a row after pieces
 pub record IsLinkFault (pieces : List Piece) (row : Event) (broken : Rule)
     (blamed : Blame) : Type 0 where
   pub rule : IsFirstBroken (situation_of pieces) row broken

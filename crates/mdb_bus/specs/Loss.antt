@@ -9,7 +9,7 @@ use Rattle.mdb_bus.specs.ActLists.{Piece, Whole, IsActList, events_of}
 abbrev pub Loss : Type 0
 Loss = ℕ → Bool
 
--- none of so many rows behind the first `before` ones was damaged
+-- none of so many rows after the first `before` ones was damaged
 abbrev pub AllArrive : Loss → ℕ → ℕ → Type 0
 AllArrive loss before count = (k : ℕ) → before < k → k ≤ before + count → loss k ≡ false
 
@@ -52,16 +52,16 @@ IsAsTold Heard heard = heard
 IsAsTold Unheard heard = ¬ heard
 IsAsTold Open heard = Unit {0}
 
--- the loss of the rows of the newest piece is as the act behind it tells
-abbrev pub FitsBehind : Loss → List Piece → Act → Type 0
-FitsBehind loss (Whole act events ∷ pieces) next =
+-- the loss of the rows of the newest piece is as the act after it tells
+abbrev pub FitsNext : Loss → List Piece → Act → Type 0
+FitsNext loss (Whole act events ∷ pieces) next =
     IsAsTold (told_by next act) (IsHeard loss act (length (events_of pieces)) (length events))
-FitsBehind loss _ next = Unit {0}
+FitsNext loss _ next = Unit {0}
 
 -- A loss fits pieces: each two neighbouring acts agree on whether the first of them was heard.
 abbrev pub LossFits : Loss → List Piece → Type 0
 LossFits loss [] = Unit {0}
-LossFits loss (Whole act events ∷ pieces) = FitsBehind loss pieces act × LossFits loss pieces
+LossFits loss (Whole act events ∷ pieces) = FitsNext loss pieces act × LossFits loss pieces
 LossFits loss (piece ∷ pieces) = LossFits loss pieces
 
 -- The acts and the loss of a transcript.

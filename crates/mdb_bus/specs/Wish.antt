@@ -10,7 +10,7 @@ use Rattle.mdb_bus.specs.Loss.{Hearing, IsHeard, Loss, Open, told_by}
 abbrev pub Wish : Type 0
 Wish = ℕ → Bool
 
--- the act behind so many rows, of so many rows itself, is heard exactly where it is wished
+-- the act after so many rows, of so many rows itself, is heard exactly where it is wished
 abbrev pub IsHeardAsWished : Loss → Wish → Act → ℕ → ℕ → Type 0
 IsHeardAsWished loss wish act before count =
     IsHeard loss act before count ↔ (wish before ≡ true)
@@ -35,7 +35,7 @@ IsFree act hearing = hearing ≡ Open
 abbrev pub nothing_told : Act → Hearing
 nothing_told act = Open
 
--- Each free act of the pieces is heard exactly where it is wished, if what is behind the pieces
+-- Each free act of the pieces is heard exactly where it is wished, if what is after the pieces
 -- tells so of the newest act.
 abbrev pub HearsFreeAsWished : Loss → Wish → (Act → Hearing) → List Piece → Type 0
 HearsFreeAsWished loss wish tells [] = Unit {0}

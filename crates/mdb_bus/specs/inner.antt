@@ -1,5 +1,5 @@
-pub mod Begun
 pub mod Gone
 pub mod Grammar
+pub mod PlaceBytes
 pub mod Step
 pub mod Steps

@@ -24,7 +24,7 @@ pub enum Act {
     VmcRet(Command, Reply),
     /// The peripheral sends the words of the reply again.
     Repeat(Command, Reply),
-    /// Traffic that isn't followed: the opening of a foreign block, or a word behind one.
+    /// Traffic that isn't followed: the opening of a foreign block, or a word after one.
     Foreign,
     /// The controller held its line low for so many microseconds, at least 100,000: a break.
     Break(u64),

@@ -17,7 +17,7 @@ use super::spelled::Spelled;
 use mdb_msgs::{ChangerCommand, Command, Device};
 use mdb_words::{Event, Line};
 
-/// The bus behind the rows that it was fed.
+/// The bus after the rows that it was fed.
 ///
 /// It keeps where the bus is, and no rows: its size doesn't depend on how many there were.
 #[derive(Drop)]
@@ -146,7 +146,7 @@ impl Bus {
         ensures none { result ≡ false → act.new ≡ act.old }
     {
         let ended = self.place.advance(judged, &event, act);
-        // Behind the step, since it was measured to be quicker: so no store stands between judging
+        // After the step, since it was measured to be quicker: so no store stands between judging
         // a row and choosing its step.
         self.last = Some(event);
         match judged {

@@ -74,7 +74,6 @@ impl Rule {
     }
 }
 
-/// Its word.
 impl fmt::Display for Rule {
     ghost output = { λ rule. Some (rule_word rule) };
 
@@ -129,7 +128,6 @@ impl Blame {
     }
 }
 
-/// Its word.
 impl fmt::Display for Blame {
     ghost output = { λ blame. Some (blame_word blame) };
 

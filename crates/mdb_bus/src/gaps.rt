@@ -4,8 +4,8 @@ ghost use Rattle.std.specs.Prelude.{◌≡◌, ◌<◌, ◌^◌, ◌↔◌, IsTr
 ghost use Rattle.mdb_words.specs.declared.limits.TheConstants as limits;
 ghost use Rattle.mdb_bus.specs.declared.fault.Rule.TheVariants as rules;
 ghost use Rattle.mdb_bus.specs.ActLists as lists;
-ghost use Rattle.mdb_bus.specs.LinkFaults.{IsBefore, IsBehind, OutOfOrder};
-ghost use Rattle.mdb_bus.specs.inner.Steps.{IsOnTime, IsUntimely};
+ghost use Rattle.mdb_bus.specs.LinkFaults.{IsBefore, IsAfter, OutOfOrder};
+ghost use Rattle.mdb_bus.specs.inner.Steps.{IsUntimely};
 
 use super::fault::Rule;
 use mdb_words::{
@@ -30,7 +30,7 @@ pub(crate) fn is_out_of_order(from: &Option<Event>, row: &Event) -> bool
     }
 }
 
-/// Whether a row starts less than `least` behind the row before it.
+/// Whether a row starts less than `least` after the row before it.
 pub(crate) fn is_before(from: &Option<Event>, row: &Event, least: u64) -> bool
     requires { least < 2 ^ 32 }
     ensures { IsTrue result ↔ IsBefore least from.now row.now }
@@ -41,10 +41,10 @@ pub(crate) fn is_before(from: &Option<Event>, row: &Event, least: u64) -> bool
     }
 }
 
-/// Whether a row starts more than `most` behind the row before it.
-pub(crate) fn is_behind(from: &Option<Event>, row: &Event, most: u64) -> bool
+/// Whether a row starts more than `most` after the row before it.
+pub(crate) fn is_after(from: &Option<Event>, row: &Event, most: u64) -> bool
     requires { most < 2 ^ 32 }
-    ensures { IsTrue result ↔ IsBehind most from.now row.now }
+    ensures { IsTrue result ↔ IsAfter most from.now row.now }
 {
     match from {
         None => false,
@@ -55,14 +55,14 @@ pub(crate) fn is_behind(from: &Option<Event>, row: &Event, most: u64) -> bool
 /// Refuses a row that is no answer in its time: it comes too soon, or too late.
 #[inline(always)]
 pub(crate) fn in_answer_time(from: &Option<Event>, row: &Event) -> Result<(), Rule>
-    ensures timely { OnOk result (IsOnTime limits.ANSWER_GAP_MAX from.now row.now) }
+    ensures timely { OnOk result (lists.InTime limits.ANSWER_GAP_MAX from.now row.now) }
     ensures untimely { IfErr result
         (IsUntimely rules.Late limits.ANSWER_GAP_MAX from.now row.now) }
 {
     if is_before(from, row, WORD_GAP_MIN) {
         return Err(Rule::Early);
     }
-    if is_behind(from, row, ANSWER_GAP_MAX) {
+    if is_after(from, row, ANSWER_GAP_MAX) {
         return Err(Rule::Late);
     }
     Ok(())
@@ -72,20 +72,20 @@ pub(crate) fn in_answer_time(from: &Option<Event>, row: &Event) -> Result<(), Ru
 /// the word before it.
 #[inline(always)]
 pub(crate) fn in_block_time(from: &Option<Event>, row: &Event) -> Result<(), Rule>
-    ensures timely { OnOk result (IsOnTime limits.BLOCK_GAP_MAX from.now row.now) }
+    ensures timely { OnOk result (lists.InTime limits.BLOCK_GAP_MAX from.now row.now) }
     ensures untimely { IfErr result
         (IsUntimely rules.Spacing limits.BLOCK_GAP_MAX from.now row.now) }
 {
     if is_before(from, row, WORD_GAP_MIN) {
         return Err(Rule::Early);
     }
-    if is_behind(from, row, BLOCK_GAP_MAX) {
+    if is_after(from, row, BLOCK_GAP_MAX) {
         return Err(Rule::Spacing);
     }
     Ok(())
 }
 
-/// How long a block waits behind a row that leaves nothing open.
+/// How long a block waits after a row that leaves nothing open.
 pub(crate) fn rest_before_block(from: &Option<Event>) -> u64
     ensures value { result ≡ lists.rest_before_block from.now }
     ensures small { result < 2 ^ 32 }

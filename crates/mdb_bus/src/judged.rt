@@ -7,7 +7,7 @@ pub enum Judged {
     AskByte,
     /// The last word of a command's block, which the bytes so far tell.
     Ask,
-    /// What opens a foreign block, or a word behind it.
+    /// What opens a foreign block, or a word after it.
     Foreign,
     /// The peripheral's ACK.
     Ack,

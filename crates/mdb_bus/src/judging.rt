@@ -26,7 +26,7 @@ use mdb_words::{BREAK_LENGTH_MIN, Event, Line, NEW_BLOCK_GAP_MIN, Span, Time, WO
 use repeating::{begin_repeat, go_on_repeating};
 use replying::{cut_in, go_on_replying};
 
-/// What is made of a row, which comes behind `from`.
+/// What is made of a row, which comes after `from`.
 #[inline(always)]
 pub(crate) fn judge(place: &Place, from: &Option<Event>, row: &Event) -> Result<Judged, Rule>
     ensures judged { (levels : Levels)

@@ -83,7 +83,7 @@ pub fn act_lists_have_a_fitting_loss()
     free_acts_may_be_heard_or_not();
 }
 
-/// Behind pieces, no act list goes on with a row that breaks a rule of the link, whichever rule
+/// After pieces, no act list goes on with a row that breaks a rule of the link, whichever rule
 /// that is.
 pub fn rows_that_break_a_rule_end_the_act_list()
     ensures { (pieces : List Piece) (row : Event) (broken : Rule) → ArePieces pieces
@@ -93,7 +93,7 @@ pub fn rows_that_break_a_rule_end_the_act_list()
     grammar();
 }
 
-/// Behind pieces, a row that no act list goes on with breaks some rule of the link: there is a
+/// After pieces, a row that no act list goes on with breaks some rule of the link: there is a
 /// first one to tell.
 pub fn rows_that_end_the_act_list_break_a_rule()
     ensures { (pieces : List Piece) (row : Event) → ArePieces pieces
@@ -103,7 +103,7 @@ pub fn rows_that_end_the_act_list_break_a_rule()
     grammar();
 }
 
-/// Behind pieces, a row has at most one fault.
+/// After pieces, a row has at most one fault.
 pub fn rows_have_one_fault()
     ensures { (pieces : List Piece) (row : Event) (r s : Rule) (a b : Blame)
         → IsLinkFault pieces row r a

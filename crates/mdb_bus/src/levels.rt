@@ -26,7 +26,7 @@ impl Levels {
         second: None,
     };
 
-    /// The levels behind a whole ask.
+    /// The levels after a whole ask.
     pub(crate) fn after(self, command: Command) -> Levels
         ensures { result ≡ levels_after command self }
     {

@@ -1,7 +1,7 @@
 //! Where the bus is, and how that goes on.
 
 ghost use Rattle.std.specs.Prelude.{◌≡◌, ◌≢◌, ◌%◌, ℕ, false, true, Some, None, IfOk, IfErr, OnErr, Ok, Err};
-ghost use Rattle.mdb_bus.specs.inner.Begun.{HasBegun, HasBegun-prop};
+ghost use Rattle.mdb_bus.specs.inner.PlaceBytes.{HasBegun, HasBegun-prop};
 ghost use Rattle.mdb_bus.specs.inner.Step.{word_in};
 ghost use Rattle.mdb_bus.specs.inner.Steps.{IsWord, rule_of as rule_of_lem};
 

@@ -38,7 +38,7 @@ impl Spelled {
         }
     }
 
-    /// The word at an index of the reply, its sum included; `None` behind it.
+    /// The word at an index of the reply, its sum included; `None` after it.
     pub(crate) fn word(&self, index: usize) -> Option<Word>
         ensures word { result ≡ word_at self.now.reply index }
         ensures count { length (reply_words self.now.reply) ≡ length self.now.bytes + 1 }

@@ -57,12 +57,12 @@ by_device first false false false false = record { by_first = λ second n told. 
 widens : (first : ℕ) → Widens (need first)
 widens first = by_device first (is_for 0x08 first) (is_for 0x10 first) (is_for 0x30 first) (is_for 0x60 first)
 
--- nor do bytes behind
-told_behind : (bytes more : List ℕ) (n : ℕ) → needed bytes ≡ Exactly n → needed (bytes ++ more) ≡ Exactly n
-told_behind [] more n told = cc told
-told_behind (first ∷ []) [] n told = told
-told_behind (first ∷ []) (second ∷ more) n told = (widens first).by_first second n told
-told_behind (first ∷ second ∷ bytes) more n told = told
+-- nor do bytes after
+told_after : (bytes more : List ℕ) (n : ℕ) → needed bytes ≡ Exactly n → needed (bytes ++ more) ≡ Exactly n
+told_after [] more n told = cc told
+told_after (first ∷ []) [] n told = told
+told_after (first ∷ []) (second ∷ more) n told = (widens first).by_first second n told
+told_after (first ∷ second ∷ bytes) more n told = told
 
 -- where the length is known, zeros make a command
 by_zeros : (bytes : List ℕ) (n : ℕ) → All IsByte bytes → needed bytes ≡ Exactly n → length bytes < n → Goes bytes
@@ -72,7 +72,7 @@ by_zeros bytes n low told short =
     let count : length zeros ≡ n - 1 - length bytes = length-replicate (n - 1 - length bytes) 0 in
     let long : n ≡ length content + 1 = omega (arith, length-append bytes zeros) in
     let all_low : All IsByte content = All-append IsByte bytes zeros low (All-replicate IsByte (n - 1 - length bytes) 0 (omega arith)) in
-    let found = spelled content all_low (told_behind bytes zeros n told ∙ ap Exactly long) in
+    let found = spelled content all_low (told_after bytes zeros n told ∙ ap Exactly long) in
     let last : List ℕ = (sum content % 256) ∷ [] in
     let joined : block_of content ≡ bytes ++ (zeros ++ last) = append_assoc bytes zeros last in
     record {

@@ -37,24 +37,24 @@ ReaderEnds rest = Ends NoReaderMsg rest ⊎ ((time : ℕ) × (text : List ℕ) �
 
 -- bytes that a message other than a display request begins
 abbrev IsFront : ℕ → List ℕ → Type 0
-IsFront first behind =
-    (first ≤ 11) × (first ≢ 2) × (first ≡ 1 → 7 ≤ length behind) × (first ≡ 3 → 2 ≤ length behind) × (first ≡ 5 → 2 ≤ length behind) × (first ≡ 9 → 29 ≤ length behind) × (first ≡ 10 → 1 ≤ length behind)
+IsFront first further =
+    (first ≤ 11) × (first ≢ 2) × (first ≡ 1 → 7 ≤ length further) × (first ≡ 3 → 2 ≤ length further) × (first ≡ 5 → 2 ≤ length further) × (first ≡ 9 → 29 ≤ length further) × (first ≡ 10 → 1 ≤ length further)
 
-no_fault : (first : ℕ) (behind : List ℕ) (fault : MsgFault) → IsFront first behind → NoReaderMsg (first ∷ behind) fault → ⊥
-no_fault first behind faults.Message h (inl none) = omega (arith, h.2 none.0, none.1)
-no_fault first behind faults.Message h (inr (inl none)) = h.1 none.0
-no_fault first behind faults.Message h (inr (inr (inl (inl three, short)))) = omega (arith, h.3 three, short)
-no_fault first behind faults.Message h (inr (inr (inl (inr five, short)))) = omega (arith, h.4 five, short)
-no_fault first behind faults.Message h (inr (inr (inr (inl none)))) = omega (arith, h.5 none.0, none.1)
-no_fault first behind faults.Message h (inr (inr (inr (inr none)))) = let nothing : length behind ≡ 0 = ap length none.1 in omega (arith, h.6 none.0, nothing)
-no_fault first behind faults.Profile h none = omega (arith, h.0, none)
-no_fault first behind faults.Length h none = none
-no_fault first behind faults.Answer h none = none
+no_fault : (first : ℕ) (further : List ℕ) (fault : MsgFault) → IsFront first further → NoReaderMsg (first ∷ further) fault → ⊥
+no_fault first further faults.Message h (inl none) = omega (arith, h.2 none.0, none.1)
+no_fault first further faults.Message h (inr (inl none)) = h.1 none.0
+no_fault first further faults.Message h (inr (inr (inl (inl three, short)))) = omega (arith, h.3 three, short)
+no_fault first further faults.Message h (inr (inr (inl (inr five, short)))) = omega (arith, h.4 five, short)
+no_fault first further faults.Message h (inr (inr (inr (inl none)))) = omega (arith, h.5 none.0, none.1)
+no_fault first further faults.Message h (inr (inr (inr (inr none)))) = let nothing : length further ≡ 0 = ap length none.1 in omega (arith, h.6 none.0, nothing)
+no_fault first further faults.Profile h none = omega (arith, h.0, none)
+no_fault first further faults.Length h none = none
+no_fault first further faults.Answer h none = none
 
-no_end : (first : ℕ) (behind : List ℕ) → IsFront first behind → ReaderEnds (first ∷ behind) → ⊥
-no_end first behind h (inl (inl e)) = cc e
-no_end first behind h (inl (inr none)) = no_fault first behind none.0 h none.1
-no_end first behind h (inr shown) = h.1 (ap (λ x. get_or x 0 0) shown.2)
+no_end : (first : ℕ) (further : List ℕ) → IsFront first further → ReaderEnds (first ∷ further) → ⊥
+no_end first further h (inl (inl e)) = cc e
+no_end first further h (inl (inr none)) = no_fault first further none.0 h none.1
+no_end first further h (inr shown) = h.1 (ap (λ x. get_or x 0 0) shown.2)
 
 goes_on : (id text : List ℕ) → length id ≡ 29 → NoEnd (reader_msg_bytes id text) NotDisplay ReaderEnds
 goes_on id text l JustReset x h e = no_end 0 x (omega arith, omega arith, λ k. omega arith, λ k. omega arith, λ k. omega arith, λ k. omega arith, λ k. omega arith) e
@@ -155,36 +155,36 @@ message_stands bytes fault stand none =
     messages_no_stop stand.list fault stand.id_length stand.text_length stand.last
     (subst (λ x. ReaderStopsAt x fault) stand.spelled (replicate 29 0, refl, ([], bytes, tt, refl, none)))
 
--- so what stands behind an index is read: the next message, or none where nothing is left
+-- so what stands after an index is read: the next message, or none where nothing is left
 abbrev NextRead : Type 0
 NextRead = Result (ReaderMsg × Bor (List ℕ) × Bor (List ℕ)) MsgFault
 
-pub next_found : (bytes : List ℕ) (first : ℕ) (behind : List ℕ) → StandAsMessages bytes → bytes ≡ first ∷ behind → (read : NextRead) → IfOk read (λ x. first ∷ behind ≡ head_bytes x.0 ++ x.1.now ++ x.2.now) → IfOk read (λ x. IsTextOf x.0 x.1.now x.2.now) → IfSome (result_ok read) (λ x. IsNextMessage bytes x.0 x.1.now x.2.now)
-next_found bytes first behind stand e (Ok x) spelled is_text = next_is bytes x.0 x.1.now x.2.now stand (e ∙ spelled ∙ append_assoc (head_bytes x.0) x.1.now x.2.now) is_text
-next_found bytes first behind stand e (Err fault) spelled is_text = tt
+pub next_found : (bytes : List ℕ) (first : ℕ) (further : List ℕ) → StandAsMessages bytes → bytes ≡ first ∷ further → (read : NextRead) → IfOk read (λ x. first ∷ further ≡ head_bytes x.0 ++ x.1.now ++ x.2.now) → IfOk read (λ x. IsTextOf x.0 x.1.now x.2.now) → IfSome (result_ok read) (λ x. IsNextMessage bytes x.0 x.1.now x.2.now)
+next_found bytes first further stand e (Ok x) spelled is_text = next_is bytes x.0 x.1.now x.2.now stand (e ∙ spelled ∙ append_assoc (head_bytes x.0) x.1.now x.2.now) is_text
+next_found bytes first further stand e (Err fault) spelled is_text = tt
 
-pub never_none : (bytes : List ℕ) (first : ℕ) (behind : List ℕ) → StandAsMessages bytes → bytes ≡ first ∷ behind → (read : NextRead) → IfErr read (NoReaderMsg (first ∷ behind)) → IsNone (result_ok read) → ⊥
-never_none bytes first behind stand e (Ok x) fault none = cc none
-never_none bytes first behind stand e (Err a) fault none =
+pub never_none : (bytes : List ℕ) (first : ℕ) (further : List ℕ) → StandAsMessages bytes → bytes ≡ first ∷ further → (read : NextRead) → IfErr read (NoReaderMsg (first ∷ further)) → IsNone (result_ok read) → ⊥
+never_none bytes first further stand e (Ok x) fault none = cc none
+never_none bytes first further stand e (Err a) fault none =
     message_stands bytes a stand (subst (λ x. NoReaderMsg x a) (sym e) fault)
 
 -- reading stops at one place, with one fault
 no_length : (rest : List ℕ) → NoReaderMsg rest faults.Length → ⊥
 no_length [] h = h
-no_length (first ∷ behind) h = h
+no_length (first ∷ further) h = h
 
 no_answer : (rest : List ℕ) → NoReaderMsg rest faults.Answer → ⊥
 no_answer [] h = h
-no_answer (first ∷ behind) h = h
+no_answer (first ∷ further) h = h
 
 not_both : (rest : List ℕ) → NoReaderMsg rest faults.Message → NoReaderMsg rest faults.Profile → ⊥
 not_both [] h k = h
-not_both (first ∷ behind) (inl none) k = omega (arith, none.0, k)
-not_both (first ∷ behind) (inr (inl none)) k = omega (arith, none.0, k)
-not_both (first ∷ behind) (inr (inr (inl (inl three, short)))) k = omega (arith, three, k)
-not_both (first ∷ behind) (inr (inr (inl (inr five, short)))) k = omega (arith, five, k)
-not_both (first ∷ behind) (inr (inr (inr (inl none)))) k = omega (arith, none.0, k)
-not_both (first ∷ behind) (inr (inr (inr (inr none)))) k = omega (arith, none.0, k)
+not_both (first ∷ further) (inl none) k = omega (arith, none.0, k)
+not_both (first ∷ further) (inr (inl none)) k = omega (arith, none.0, k)
+not_both (first ∷ further) (inr (inr (inl (inl three, short)))) k = omega (arith, three, k)
+not_both (first ∷ further) (inr (inr (inl (inr five, short)))) k = omega (arith, five, k)
+not_both (first ∷ further) (inr (inr (inr (inl none)))) k = omega (arith, none.0, k)
+not_both (first ∷ further) (inr (inr (inr (inr none)))) k = omega (arith, none.0, k)
 
 pub one_reader_stop : (bytes : List ℕ) (a b : MsgFault) → ReaderStopsAt bytes a → ReaderStopsAt bytes b → a ≡ b
 one_reader_stop bytes a b h k =

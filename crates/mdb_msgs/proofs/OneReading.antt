@@ -75,13 +75,13 @@ pub one_changer : OneFront changer_msg_bytes changer_msg_bytes IsChangerMsg
 one_changer = one_front changer_msg_bytes IsChangerMsg changer_find changer_found
 
 -- what a message of the changer begins with
-changer_class : (first : ℕ) (behind : List ℕ) (fault : MsgFault) → ((first < 27) ⊎ ((32 ≤ first) × (first < 64))) ⊎ (((first < 96) ⊎ (112 ≤ first)) × (27 < first) × (32 ≤ first) × (0 < length behind)) → NoChangerMsg (first ∷ behind) fault → ⊥
+changer_class : (first : ℕ) (further : List ℕ) (fault : MsgFault) → ((first < 27) ⊎ ((32 ≤ first) × (first < 64))) ⊎ (((first < 96) ⊎ (112 ≤ first)) × (27 < first) × (32 ≤ first) × (0 < length further)) → NoChangerMsg (first ∷ further) fault → ⊥
 changer_class first [] faults.Message h none = omega (arith, h, none)
-changer_class first (b ∷ behind) faults.Message h (inl none) = omega (arith, h, none)
-changer_class first (b ∷ behind) faults.Message h (inr none) = cc (none.1)
-changer_class first behind faults.Profile h none = omega (arith, h, none)
-changer_class first behind faults.Length h none = none
-changer_class first behind faults.Answer h none = none
+changer_class first (b ∷ further) faults.Message h (inl none) = omega (arith, h, none)
+changer_class first (b ∷ further) faults.Message h (inr none) = cc (none.1)
+changer_class first further faults.Profile h none = omega (arith, h, none)
+changer_class first further faults.Length h none = none
+changer_class first further faults.Answer h none = none
 
 changer_goes_on : NoEnd changer_msg_bytes IsChangerMsg (Ends NoChangerMsg)
 changer_goes_on m x h (inl e) = not_empty m e
@@ -122,11 +122,11 @@ pub one_bill : OneFront bill_msg_bytes bill_msg_bytes IsBillMsg
 one_bill = one_front bill_msg_bytes IsBillMsg bill_find bill_found
 
 -- what a message of the validator begins with
-bill_class : (first : ℕ) (behind : List ℕ) (fault : MsgFault) → ((first < 27) ⊎ ((32 ≤ first) × (first < 96))) ⊎ (((128 ≤ first) × (first < 176)) ⊎ ((192 ≤ first) × (first < 208))) → NoBillMsg (first ∷ behind) fault → ⊥
-bill_class first behind faults.Message h none = omega (arith, h, none)
-bill_class first behind faults.Profile h none = omega (arith, h, none)
-bill_class first behind faults.Length h none = none
-bill_class first behind faults.Answer h none = none
+bill_class : (first : ℕ) (further : List ℕ) (fault : MsgFault) → ((first < 27) ⊎ ((32 ≤ first) × (first < 96))) ⊎ (((128 ≤ first) × (first < 176)) ⊎ ((192 ≤ first) × (first < 208))) → NoBillMsg (first ∷ further) fault → ⊥
+bill_class first further faults.Message h none = omega (arith, h, none)
+bill_class first further faults.Profile h none = omega (arith, h, none)
+bill_class first further faults.Length h none = none
+bill_class first further faults.Answer h none = none
 
 bill_goes_on : NoEnd bill_msg_bytes IsBillMsg (Ends NoBillMsg)
 bill_goes_on m x h (inl e) = not_empty m e
@@ -185,28 +185,28 @@ bill_no_stop xs fault h stop =
 
 changer_no_length : (rest : List ℕ) → NoChangerMsg rest faults.Length → ⊥
 changer_no_length [] h = h
-changer_no_length (first ∷ behind) h = h
+changer_no_length (first ∷ further) h = h
 
 changer_no_answer : (rest : List ℕ) → NoChangerMsg rest faults.Answer → ⊥
 changer_no_answer [] h = h
-changer_no_answer (first ∷ behind) h = h
+changer_no_answer (first ∷ further) h = h
 
 changer_not_both : (rest : List ℕ) → NoChangerMsg rest faults.Message → NoChangerMsg rest faults.Profile → ⊥
 changer_not_both [] h k = h
-changer_not_both (first ∷ behind) (inl none) k = omega (arith, none.0, k)
-changer_not_both (first ∷ behind) (inr none) k = omega (arith, none.0, k)
+changer_not_both (first ∷ further) (inl none) k = omega (arith, none.0, k)
+changer_not_both (first ∷ further) (inr none) k = omega (arith, none.0, k)
 
 bill_no_length : (rest : List ℕ) → NoBillMsg rest faults.Length → ⊥
 bill_no_length [] h = h
-bill_no_length (first ∷ behind) h = h
+bill_no_length (first ∷ further) h = h
 
 bill_no_answer : (rest : List ℕ) → NoBillMsg rest faults.Answer → ⊥
 bill_no_answer [] h = h
-bill_no_answer (first ∷ behind) h = h
+bill_no_answer (first ∷ further) h = h
 
 bill_not_both : (rest : List ℕ) → NoBillMsg rest faults.Message → NoBillMsg rest faults.Profile → ⊥
 bill_not_both [] h k = h
-bill_not_both (first ∷ behind) h k = omega (arith, h, k)
+bill_not_both (first ∷ further) h k = omega (arith, h, k)
 
 pub one_changer_stop : (bytes : List ℕ) (a b : MsgFault) → StopsAt changer_msg_bytes IsChangerMsg NoChangerMsg bytes a → StopsAt changer_msg_bytes IsChangerMsg NoChangerMsg bytes b → a ≡ b
 one_changer_stop bytes a b h k =

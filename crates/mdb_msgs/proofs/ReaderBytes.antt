@@ -46,10 +46,10 @@ take_front [] x = refl
 take_front (b ∷ s) x = ap (λ t. b ∷ t) (take_front s x)
 
 -- and its text is
-text_found : (m : ReaderMsg) (text behind : List ℕ) → IsTextOf m text behind → front_text m (text ++ behind) ≡ text
-text_found PeripheralId text behind h = ap (λ n. take n (text ++ behind)) (sym h) ∙ take_front text behind
-text_found (Display time) text behind h = ap (λ x. text ++ x) h.1 ∙ append-nil text
-text_found _ text behind h = sym h
+text_found : (m : ReaderMsg) (text further : List ℕ) → IsTextOf m text further → front_text m (text ++ further) ≡ text
+text_found PeripheralId text further h = ap (λ n. take n (text ++ further)) (sym h) ∙ take_front text further
+text_found (Display time) text further h = ap (λ x. text ++ x) h.1 ∙ append-nil text
+text_found _ text further h = sym h
 
 with_text : ℕ → List ℕ → ReaderMsg → List ℕ → ReaderMessages
 with_text fuel bytes message text =
@@ -62,7 +62,7 @@ with_front fuel bytes message =
 steps : (fuel : ℕ) (bytes : List ℕ) → 0 < length bytes → messages_in (suc fuel) bytes ≡ with_front fuel bytes (front_message bytes)
 unfolding messages_in with_front with_text
 steps fuel [] h = absurd (omega arith)
-steps fuel (first ∷ behind) h = refl
+steps fuel (first ∷ further) h = refl
 
 head_counts : (m : ReaderMsg) → 0 < length (head_bytes m)
 head_counts JustReset = omega arith
@@ -79,15 +79,15 @@ head_counts (Malfunction code) = omega arith
 head_counts OutOfSequence = omega arith
 
 -- a message in front of other bytes is read before them
-reads_front : (fuel : ℕ) (m : ReaderMsg) (text behind : List ℕ) → IsTextOf m text behind → messages_in (suc fuel) (head_bytes m ++ (text ++ behind)) ≡ before_messages m text (messages_in fuel behind)
+reads_front : (fuel : ℕ) (m : ReaderMsg) (text further : List ℕ) → IsTextOf m text further → messages_in (suc fuel) (head_bytes m ++ (text ++ further)) ≡ before_messages m text (messages_in fuel further)
 unfolding with_front with_text
-reads_front fuel m text behind h =
+reads_front fuel m text further h =
     let head = head_bytes m in
-    let bytes = head ++ (text ++ behind) in
-    let long : 0 < length bytes = omega (arith, head_counts m, length-append head (text ++ behind)) in
-    let found : with_front fuel bytes (front_message bytes) ≡ with_front fuel bytes m = ap (with_front fuel bytes) (front_found m (text ++ behind)) in
-    let told : front_text m (drop (length head) bytes) ≡ text = ap (front_text m) (drop_front head (text ++ behind)) ∙ text_found m text behind h in
-    let left : drop (length (head ++ text)) bytes ≡ behind = ap (drop (length (head ++ text))) (sym (append_assoc head text behind)) ∙ drop_front (head ++ text) behind in
+    let bytes = head ++ (text ++ further) in
+    let long : 0 < length bytes = omega (arith, head_counts m, length-append head (text ++ further)) in
+    let found : with_front fuel bytes (front_message bytes) ≡ with_front fuel bytes m = ap (with_front fuel bytes) (front_found m (text ++ further)) in
+    let told : front_text m (drop (length head) bytes) ≡ text = ap (front_text m) (drop_front head (text ++ further)) ∙ text_found m text further h in
+    let left : drop (length (head ++ text)) bytes ≡ further = ap (drop (length (head ++ text))) (sym (append_assoc head text further)) ∙ drop_front (head ++ text) further in
     steps fuel bytes long ∙ found ∙ ap (with_text fuel bytes m) told ∙ ap (λ x. before_messages m text (messages_in fuel x)) left
 
 -- messages, with blanks for texts that none of them has
@@ -104,9 +104,9 @@ tidy_more id text PeripheralId ms = refl
 tidy_more id text (Display time) ms = refl
 tidy_more id text _ ms = refl
 
-last_behind : (m : ReaderMsg) (ms : List ReaderMsg) → IsDisplayLast (m ∷ ms) → IsDisplayLast ms
-last_behind m [] h = tt
-last_behind m (n ∷ ms) h = h.1
+rest_last : (m : ReaderMsg) (ms : List ReaderMsg) → IsDisplayLast (m ∷ ms) → IsDisplayLast ms
+rest_last m [] h = tt
+rest_last m (n ∷ ms) h = h.1
 
 has_its_text : (id text : List ℕ) (m : ReaderMsg) (ms : List ReaderMsg) → length id ≡ 29 → length text ≤ 32 → IsDisplayLast (m ∷ ms) → IsTextOf m (text_of id text m) (flat_map (reader_msg_bytes id text) ms)
 has_its_text id text PeripheralId ms l k h = l
@@ -126,14 +126,14 @@ reads_all zero id text (m ∷ ms) l k h few =
 reads_all (suc fuel) id text (m ∷ ms) l k h few =
     let head = head_bytes m in
     let own = text_of id text m in
-    let behind = flat_map (reader_msg_bytes id text) ms in
+    let further = flat_map (reader_msg_bytes id text) ms in
     let one = head_counts m in
     let front = length-append head own in
-    let all = length-append (reader_msg_bytes id text m) behind in
-    let less : length behind ≤ fuel = omega arith in
-    ap (messages_in (suc fuel)) (append_assoc head own behind)
-    ∙ reads_front fuel m own behind (has_its_text id text m ms l k h)
-    ∙ ap (before_messages m own) (reads_all fuel id text ms l k (last_behind m ms h) less)
+    let all = length-append (reader_msg_bytes id text m) further in
+    let less : length further ≤ fuel = omega arith in
+    ap (messages_in (suc fuel)) (append_assoc head own further)
+    ∙ reads_front fuel m own further (has_its_text id text m ms l k h)
+    ∙ ap (before_messages m own) (reads_all fuel id text ms l k (rest_last m ms h) less)
     ∙ tidy_more id text m ms
 
 reads_tidy : (id text : List ℕ) (ms : List ReaderMsg) → length id ≡ 29 → length text ≤ 32 → IsDisplayLast ms → messages_of (flat_map (reader_msg_bytes id text) ms) ≡ tidy id text ms
@@ -175,7 +175,7 @@ stand_as_messages bytes h = record {
   spelled = sym h.spelled;
 }
 
--- a message with a text and what is behind it are told by their bytes
+-- a message with a text and what is after it are told by their bytes
 same_text : (m : ReaderMsg) (text words x y : List ℕ) → IsTextOf m text x → IsTextOf m words y → text ++ x ≡ words ++ y → (text ≡ words) × (x ≡ y)
 same_text PeripheralId text words x y h k e = same_fronts text words x y (h ∙ sym k) e
 same_text (Display time) text words x y h k e =
@@ -183,15 +183,15 @@ same_text (Display time) text words x y h k e =
 same_text _ text words x y h k e = (h ∙ sym k, ap (λ l. l ++ x) (sym h) ∙ e ∙ ap (λ l. l ++ y) k)
 
 -- the message in front is the first of the messages
-pub next_is : (bytes : List ℕ) (m : ReaderMsg) (text behind : List ℕ) → StandAsMessages bytes → bytes ≡ head_bytes m ++ (text ++ behind) → IsTextOf m text behind → IsNextMessage bytes m text behind
-next_is bytes m text behind stand e is_text = by stand.list.messages refl
+pub next_is : (bytes : List ℕ) (m : ReaderMsg) (text further : List ℕ) → StandAsMessages bytes → bytes ≡ head_bytes m ++ (text ++ further) → IsTextOf m text further → IsNextMessage bytes m text further
+next_is bytes m text further stand e is_text = by stand.list.messages refl
   where
-    front : length behind < length bytes
+    front : length further < length bytes
     front =
         let long = ap length e in
-        omega (arith, long, head_counts m, length-append (head_bytes m) (text ++ behind), length-append text behind)
+        omega (arith, long, head_counts m, length-append (head_bytes m) (text ++ further), length-append text further)
 
-    by : (ms : List ReaderMsg) → stand.list.messages ≡ ms → IsNextMessage bytes m text behind
+    by : (ms : List ReaderMsg) → stand.list.messages ≡ ms → IsNextMessage bytes m text further
     by [] none =
         let id = stand.list.id in
         let words = stand.list.text in
@@ -205,19 +205,19 @@ next_is bytes m text behind stand e is_text = by stand.list.messages refl
         let own = text_of id words n in
         let last : IsDisplayLast (n ∷ ms) = subst IsDisplayLast some stand.last in
         let spelled : bytes ≡ flat_map (reader_msg_bytes id words) (n ∷ ms) = stand.spelled ∙ ap (flat_map (reader_msg_bytes id words)) some in
-        let there : head_bytes n ++ (own ++ rest) ≡ head_bytes m ++ (text ++ behind) = sym (append_assoc (head_bytes n) own rest) ∙ sym spelled ∙ e in
-        let same : n ≡ m = sym (front_found n (own ++ rest)) ∙ ap front_message there ∙ front_found m (text ++ behind) in
+        let there : head_bytes n ++ (own ++ rest) ≡ head_bytes m ++ (text ++ further) = sym (append_assoc (head_bytes n) own rest) ∙ sym spelled ∙ e in
+        let same : n ≡ m = sym (front_found n (own ++ rest)) ∙ ap front_message there ∙ front_found m (text ++ further) in
         let its : IsTextOf m (text_of id words m) rest = subst (λ x. IsTextOf x (text_of id words x) rest) same (has_its_text id words n ms stand.id_length stand.text_length last) in
-        let back : text_of id words m ++ rest ≡ text ++ behind = append_cancel_left (head_bytes m) (text_of id words m ++ rest) (text ++ behind) (ap (λ x. head_bytes x ++ (text_of id words x ++ rest)) (sym same) ∙ there) in
-        let parts = same_text m (text_of id words m) text rest behind its is_text back in
-        let later = last_behind n ms last in
-        let behind_read : messages_of behind ≡ tidy id words ms = ap messages_of (sym parts.1) ∙ reads_tidy id words ms stand.id_length stand.text_length later in
+        let back : text_of id words m ++ rest ≡ text ++ further = append_cancel_left (head_bytes m) (text_of id words m ++ rest) (text ++ further) (ap (λ x. head_bytes x ++ (text_of id words x ++ rest)) (sym same) ∙ there) in
+        let parts = same_text m (text_of id words m) text rest further its is_text back in
+        let later = rest_last n ms last in
+        let rest_read : messages_of further ≡ tidy id words ms = ap messages_of (sym parts.1) ∙ reads_tidy id words ms stand.id_length stand.text_length later in
         record {
           before =
               ap messages_of spelled ∙ reads_tidy id words (n ∷ ms) stand.id_length stand.text_length last
               ∙ ap (λ x. tidy id words (x ∷ ms)) same ∙ sym (tidy_more id words m ms)
               ∙ ap (λ x. before_messages m x (tidy id words ms)) parts.0
-              ∙ ap (before_messages m text) (sym behind_read);
+              ∙ ap (before_messages m text) (sym rest_read);
           is_text = is_text;
           stand = record { list = record { messages = ms; id = id; text = words }; id_length = stand.id_length; text_length = stand.text_length; last = later; spelled = sym parts.1 };
           shorter = front;
@@ -228,8 +228,8 @@ few_in : (fuel : ℕ) (bytes : List ℕ) → length (messages_in fuel bytes).mes
 unfolding messages_in
 few_in zero bytes = omega arith
 few_in (suc fuel) [] = omega arith
-few_in (suc fuel) (first ∷ behind) =
-    let bytes = first ∷ behind in
+few_in (suc fuel) (first ∷ further) =
+    let bytes = first ∷ further in
     let message = front_message bytes in
     let head = head_bytes message in
     let text = front_text message (drop (length head) bytes) in

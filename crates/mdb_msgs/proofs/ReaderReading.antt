@@ -71,7 +71,7 @@ id_long id text (m ∷ ms) l h =
       | false ↦ λ e. let there = id_long id text ms l (or_first (is_id m) (list_any is_id ms) h e) in omega arith
     ] refl
 
--- behind messages that are no display requests any message may stand
+-- after messages that are no display requests any message may stand
 pub last_more : (ms : List ReaderMsg) (m : ReaderMsg) → AllByRecursion NotDisplay ms → IsDisplayLast (ms ++ m ∷ [])
 last_more [] m h = tt
 last_more (x ∷ []) m h = (h.0, tt)
@@ -133,7 +133,7 @@ takes_id whole list rest text after short t left l d =
         absurd (omega arith)
     no_id_yet false h = h
 
--- the same for a display request, behind which nothing stands
+-- the same for a display request, after which nothing stands
 pub takes_display : (whole : List ℕ) (list : ReaderMessages) (rest : List ℕ) (time : ℕ) (text after : List ℕ) → Taken whole list rest → 0 < length rest → length text ≤ 32 → after ≡ [] → rest ≡ head_bytes (Display time) ++ text ++ after → Taken whole (with_message list (Display time) text) after
 takes_display whole list rest time text after t left l none d =
     let ms = list.messages in
@@ -176,12 +176,12 @@ stops_reading whole list rest fault t left none =
     (list.id, t.is_list.id_length, (list.messages, rest, t.bare left, t.spelled ∙ ap (λ e. e ++ rest) same, none))
 
 -- the same two at a rest that is known by its first byte
-pub takes_next : (whole : List ℕ) (list : ReaderMessages) (rest : List ℕ) (first : ℕ) (behind : List ℕ) (m : ReaderMsg) (text after : List ℕ) → length whole ≤ 35 → Taken whole list rest → rest ≡ first ∷ behind → first ∷ behind ≡ head_bytes m ++ text ++ after → length after ≤ length behind → IsTextOf m text after → Taken whole (with_message list m text) after
-takes_next whole list rest first behind m text after short t e d shorter h =
-    let longer : length rest ≡ length (first ∷ behind) = ap length e in
+pub takes_next : (whole : List ℕ) (list : ReaderMessages) (rest : List ℕ) (first : ℕ) (further : List ℕ) (m : ReaderMsg) (text after : List ℕ) → length whole ≤ 35 → Taken whole list rest → rest ≡ first ∷ further → first ∷ further ≡ head_bytes m ++ text ++ after → length after ≤ length further → IsTextOf m text after → Taken whole (with_message list m text) after
+takes_next whole list rest first further m text after short t e d shorter h =
+    let longer : length rest ≡ length (first ∷ further) = ap length e in
     takes whole list rest m text after short t (omega arith) (omega arith) (e ∙ d) h
 
-pub stops_next : (whole : List ℕ) (list : ReaderMessages) (rest : List ℕ) (first : ℕ) (behind : List ℕ) (fault : MsgFault) → Taken whole list rest → rest ≡ first ∷ behind → NoReaderMsg (first ∷ behind) fault → ReaderStopsAt whole fault
-stops_next whole list rest first behind fault t e none =
-    let longer : length rest ≡ length (first ∷ behind) = ap length e in
+pub stops_next : (whole : List ℕ) (list : ReaderMessages) (rest : List ℕ) (first : ℕ) (further : List ℕ) (fault : MsgFault) → Taken whole list rest → rest ≡ first ∷ further → NoReaderMsg (first ∷ further) fault → ReaderStopsAt whole fault
+stops_next whole list rest first further fault t e none =
+    let longer : length rest ≡ length (first ∷ further) = ap length e in
     stops_reading whole list rest fault t (omega arith) (subst (λ bytes. NoReaderMsg bytes fault) (sym e) none)

@@ -28,7 +28,7 @@ IsChangerMsg (Status byte) = (byte < 27) × (byte ≢ 11)
 -- no message stands at the front of these bytes: 60 to 6F, or one byte of a message of two; 1B to
 -- 1F is file transfer
 abbrev pub NoChangerMsg : List ℕ → MsgFault → Type 0
-NoChangerMsg (first ∷ behind) Message =
-    ((96 ≤ first) × (first < 112)) ⊎ ((64 ≤ first) × (behind ≡ []))
-NoChangerMsg (first ∷ behind) Profile = (27 ≤ first) × (first < 32)
+NoChangerMsg (first ∷ further) Message =
+    ((96 ≤ first) × (first < 112)) ⊎ ((64 ≤ first) × (further ≡ []))
+NoChangerMsg (first ∷ further) Profile = (27 ≤ first) × (first < 32)
 NoChangerMsg _ _ = ⊥

@@ -99,20 +99,20 @@ IsListFault list Message = FitsABlock list × (IsReaderList list → ⊥)
 IsListFault list Profile = ⊥
 IsListFault list Answer = ⊥
 
--- a message that isn't a display request may have messages behind it
+-- a message that isn't a display request may have messages after it
 abbrev pub NotDisplay : ReaderMsg → Type 0
 NotDisplay message = is_display message ≡ false
 
 -- no message stands at the front of these bytes: they are too few for it, or too many for a display
 -- request, which takes them all; from 0C on the messages are left out of this profile
 abbrev pub NoReaderMsg : List ℕ → MsgFault → Type 0
-NoReaderMsg (first ∷ behind) Message =
-    ((first ≡ 1) × (length behind < 7))
-    ⊎ (((first ≡ 2) × ((behind ≡ []) ⊎ (33 < length behind)))
-    ⊎ ((((first ≡ 3) ⊎ (first ≡ 5)) × (length behind < 2))
-    ⊎ (((first ≡ 9) × (length behind < 29))
-    ⊎ ((first ≡ 10) × (behind ≡ [])))))
-NoReaderMsg (first ∷ behind) Profile = 12 ≤ first
+NoReaderMsg (first ∷ further) Message =
+    ((first ≡ 1) × (length further < 7))
+    ⊎ (((first ≡ 2) × ((further ≡ []) ⊎ (33 < length further)))
+    ⊎ ((((first ≡ 3) ⊎ (first ≡ 5)) × (length further < 2))
+    ⊎ (((first ≡ 9) × (length further < 29))
+    ⊎ ((first ≡ 10) × (further ≡ [])))))
+NoReaderMsg (first ∷ further) Profile = 12 ≤ first
 NoReaderMsg _ _ = ⊥
 
 -- in front stand messages, and where they end no message stands, for this reason

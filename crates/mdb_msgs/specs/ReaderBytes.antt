@@ -27,11 +27,11 @@ front_message bytes =
     else (if first == 10 then Malfunction (slice_index bytes 1)
     else OutOfSequence))))))))))
 
--- its text, of the bytes behind its others: an identification takes 29, a display request all
+-- its text, of the bytes after its others: an identification takes 29, a display request all
 abbrev pub front_text : ReaderMsg → List ℕ → List ℕ
-front_text PeripheralId behind = take 29 behind
-front_text (Display time) behind = behind
-front_text _ behind = []
+front_text PeripheralId further = take 29 further
+front_text (Display time) further = further
+front_text _ further = []
 
 -- no message
 abbrev pub no_messages : ReaderMessages
@@ -50,8 +50,8 @@ before_messages message text list =
 unfoldable pub messages_in : (fuel : ℕ) → List ℕ → ReaderMessages
 messages_in zero bytes = no_messages
 messages_in (suc fuel) [] = no_messages
-messages_in (suc fuel) (first ∷ behind) =
-    let bytes = first ∷ behind in
+messages_in (suc fuel) (first ∷ further) =
+    let bytes = first ∷ further in
     let message = front_message bytes in
     let head = head_bytes message in
     let text = front_text message (drop (length head) bytes) in

@@ -47,7 +47,6 @@ impl Device {
     }
 }
 
-/// Its word.
 impl fmt::Display for Device {
     ghost output = { λ device. Some (device_word device) };
 

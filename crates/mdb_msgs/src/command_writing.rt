@@ -96,7 +96,7 @@ fn identity_block(first: u8, identity: &[u8; 29]) -> Block
     joined(&[first, 0x00], identity)
 }
 
-/// The block that carries these bytes, one list behind the other.
+/// The block that carries these bytes, one list after the other.
 fn joined(head: &[u8], tail: &[u8]) -> Block
     requires least { 1 ≤ length head.now }
     requires most { length head.now + length tail.now ≤ 35 }

@@ -5,12 +5,12 @@ use Rattle.mdb_bus.specs.declared.act.Act.{Act}
 use Rattle.mdb_bus.specs.declared.bus.Bus.{Bus}
 use Rattle.mdb_bus.specs.Bus.{position_at}
 use Rattle.mdb_bus.specs.inner.Step.{Step}
-use Rattle.mdb_bus.specs.inner.Steps.{HasAdvanced, asked_behind, levels_behind}
+use Rattle.mdb_bus.specs.inner.Steps.{HasAdvanced, asked_after, levels_after_step}
 
 -- A bus has gone a step by a row.
 pub record HasGone (old : Bus) (next : Step) (row : Event) (new : Bus)
     (act : Option Act) : Type 0 where
   pub advanced : HasAdvanced (position_at old.place) next (position_at new.place) act
   pub last : new.last ≡ Some row
-  pub levels : new.levels ≡ levels_behind old.levels next
-  pub asked : new.asked ≡ asked_behind old.asked next
+  pub levels : new.levels ≡ levels_after_step old.levels next
+  pub asked : new.asked ≡ asked_after old.asked next

@@ -1,6 +1,6 @@
 -- How a row leads from one situation to the next.
 use Rattle.std.specs.Prelude.{◌≡◌, ◌≢◌, ◌+◌, ◌%◌, ◌<◌, ◌≤◌, ◌⊎◌, ℕ, true, List, [], ◌∷◌, ◌++◌, length, slice_get, sum, Option, Some, None, Result, Ok, Err}
-use Rattle.mdb_words.specs.declared.limits.TheConstants.{WORD_GAP_MIN, BLOCK_GAP_MAX, BREAK_LENGTH_MIN}
+use Rattle.mdb_words.specs.declared.limits.TheConstants.{WORD_GAP_MIN, BLOCK_GAP_MAX, ANSWER_GAP_MAX, BREAK_LENGTH_MIN}
 use Rattle.mdb_words.specs.declared.event.Event.{Event}
 use Rattle.mdb_words.specs.declared.event.Event.TheVariants.{Word, Break}
 use Rattle.mdb_words.specs.declared.word.Line.{Line}
@@ -30,22 +30,15 @@ use Rattle.mdb_bus.specs.declared.judged.Judged.TheVariants as judged
 use Rattle.mdb_bus.specs.inner.Step.{Step, SomeStep, word_in}
 use Rattle.mdb_bus.specs.inner.Step as step
 use Rattle.mdb_bus.specs.Acts.{IsForeignOpening, IsReply, reply_words}
-use Rattle.mdb_bus.specs.ActLists.{Piece, Whole, AskTail, ReplyTail, RepeatTail, Position, Quiet, InAsk, Asked, InReply, Replied, Returned, InRepeat, InForeign, BlockMayCome, BreakMayCome, InTime, IsAskFront, IsLow, IsRepeatFront, IsReplyFront, NotBefore, NotBehind, act_in, level_for, levels_after, position_of, tells_high}
-use Rattle.mdb_bus.specs.LinkFaults.{HasHighLevels, IsBefore, IsBehind, IsFirstBroken, IsOutside, Situation}
+use Rattle.mdb_bus.specs.ActLists.{Piece, Whole, AskTail, ReplyTail, RepeatTail, Position, Quiet, InAsk, Asked, InReply, Replied, Returned, InRepeat, InForeign, BlockMayCome, BreakMayCome, InTime, IsAskFront, IsLow, IsRepeatFront, IsReplyFront, NotBefore, act_in, level_for, levels_after, position_of, tells_high}
+use Rattle.mdb_bus.specs.LinkFaults.{HasHighLevels, IsBefore, IsAfter, IsFirstBroken, IsOutside, Situation}
 
--- in the time of the next word of a block
-abbrev pub InBlock : Option Event → Event → Type 0
-InBlock from to = NotBefore WORD_GAP_MIN from to × NotBehind BLOCK_GAP_MAX from to
-
--- a row that goes on is on time: neither too soon, nor more than so long after the row before
-abbrev pub IsOnTime : ℕ → Option Event → Event → Type 0
-IsOnTime most from to = ¬ IsBefore WORD_GAP_MIN from to × ¬ IsBehind most from to
-
--- the rule of time that it breaks otherwise: it is early, or it is late by this rule
+-- the rule of time that a row breaks which doesn't come in time: it is early, or it is late by this
+-- rule
 abbrev pub IsUntimely : Rule → ℕ → Option Event → Event → Rule → Type 0
 IsUntimely late most from to broken =
     ((broken ≡ rule.Early) × IsBefore WORD_GAP_MIN from to)
-    ⊎ ((broken ≡ late) × ¬ IsBefore WORD_GAP_MIN from to × IsBehind most from to)
+    ⊎ ((broken ≡ late) × ¬ IsBefore WORD_GAP_MIN from to × IsAfter most from to)
 
 -- a marked word of the controller begins a block
 abbrev pub Opens : Position → Option Event → Event → ℕ → Step → Type 0
@@ -58,52 +51,54 @@ Opens position from to word _ = ⊥
 -- a word goes on with a block of the controller, or ends it
 abbrev pub GoesOnAsking : List ℕ → Option Event → Event → ℕ → Step → Type 0
 GoesOnAsking bytes from to word (step.AskByte byte) =
-    (word ≡ byte) × (word < 256) × IsAskFront (bytes ++ byte ∷ []) × InBlock from to
+    (word ≡ byte) × (word < 256) × IsAskFront (bytes ++ byte ∷ []) × InTime BLOCK_GAP_MAX from to
 GoesOnAsking bytes from to word (step.Ask command) =
-    (word < 256) × Spells command (bytes ++ word ∷ []) × InBlock from to
+    (word < 256) × Spells command (bytes ++ word ∷ []) × InTime BLOCK_GAP_MAX from to
 GoesOnAsking bytes from to word step.Foreign =
-    (word < 256) × IsForeignOpening (bytes ++ word ∷ []) × InBlock from to
+    (word < 256) × IsForeignOpening (bytes ++ word ∷ []) × InTime BLOCK_GAP_MAX from to
 GoesOnAsking bytes from to word _ = ⊥
 
 -- a word answers a command, or begins to
 abbrev pub Answers : Command → Option Event → Event → ℕ → Step → Type 0
-Answers command from to word step.Ack = (word ≡ answer_word Peripheral answers.Ack) × InTime from to
-Answers command from to word step.Nak = (word ≡ answer_word Peripheral answers.Nak) × InTime from to
+Answers command from to word step.Ack =
+    (word ≡ answer_word Peripheral answers.Ack) × InTime ANSWER_GAP_MAX from to
+Answers command from to word step.Nak =
+    (word ≡ answer_word Peripheral answers.Nak) × InTime ANSWER_GAP_MAX from to
 Answers command from to word (step.ReplyByte byte) =
-    (word ≡ byte) × (word < 256) × MayHaveData command × InTime from to
+    (word ≡ byte) × (word < 256) × MayHaveData command × InTime ANSWER_GAP_MAX from to
 Answers command from to word _ = ⊥
 
 -- a word goes on with a reply, or ends it
 abbrev pub GoesOnReplying : Command → List ℕ → Option Event → Levels → Event → ℕ → Step → Type 0
 GoesOnReplying command bytes from levels to word (step.ReplyByte byte) =
-    (word ≡ byte) × (word < 256) × (length bytes < 35) × InBlock from to
+    (word ≡ byte) × (word < 256) × (length bytes < 35) × InTime BLOCK_GAP_MAX from to
 GoesOnReplying command bytes from levels to word (step.Reply reply) =
     (word ≡ 256 + sum bytes % 256) × IsReply command reply × (bytes ≡ reply_bytes reply)
-    × (tells_high reply ≡ true → IsLow (level_for command levels)) × InBlock from to
+    × (tells_high reply ≡ true → IsLow (level_for command levels)) × InTime BLOCK_GAP_MAX from to
 GoesOnReplying command bytes from levels to word _ = ⊥
 
 -- a word of the controller answers a reply, or begins a block
 abbrev pub AnswersReply : Command → Reply → Option Event → Event → ℕ → Step → Type 0
 AnswersReply command reply from to word step.VmcAck =
-    (word ≡ answer_word Controller answers.Ack) × InTime from to
+    (word ≡ answer_word Controller answers.Ack) × InTime ANSWER_GAP_MAX from to
 AnswersReply command reply from to word step.VmcNak =
-    (word ≡ answer_word Controller answers.Nak) × InTime from to
+    (word ≡ answer_word Controller answers.Nak) × InTime ANSWER_GAP_MAX from to
 AnswersReply command reply from to word step.VmcRet =
-    (word ≡ answer_word Controller answers.Ret) × InTime from to
+    (word ≡ answer_word Controller answers.Ret) × InTime ANSWER_GAP_MAX from to
 AnswersReply command reply from to word next = Opens (Replied command reply) from to word next
 
 -- a word begins a repeat
 abbrev pub BeginsRepeat : Reply → Option Event → Event → ℕ → Step → Type 0
 BeginsRepeat reply from to word (step.RepeatWord said) =
-    (word ≡ said) × IsRepeatFront reply (word ∷ []) × InTime from to
+    (word ≡ said) × IsRepeatFront reply (word ∷ []) × InTime ANSWER_GAP_MAX from to
 BeginsRepeat reply from to word _ = ⊥
 
 -- a word goes on with a repeat, or ends it
 abbrev pub GoesOnRepeating : Reply → List ℕ → Option Event → Event → ℕ → Step → Type 0
 GoesOnRepeating reply words from to word (step.RepeatWord said) =
-    (word ≡ said) × IsRepeatFront reply (words ++ word ∷ []) × InBlock from to
+    (word ≡ said) × IsRepeatFront reply (words ++ word ∷ []) × InTime BLOCK_GAP_MAX from to
 GoesOnRepeating reply words from to word step.Repeat =
-    (words ++ word ∷ [] ≡ reply_words reply) × InBlock from to
+    (words ++ word ∷ [] ≡ reply_words reply) × InTime BLOCK_GAP_MAX from to
 GoesOnRepeating reply words from to word _ = ⊥
 
 -- a further word of foreign traffic
@@ -166,7 +161,8 @@ abbrev pub IsSettled : Situation → Event → Result Reply Rule → Type 0
 IsSettled s row (Ok reply) = Leads s row (step.Reply reply)
 IsSettled s row (Err broken) = IsFirstBroken s row broken
 
--- a row ends a reply, and what is read decides of it
+-- What is made of a row that ends a reply is as the reply is read. This says nothing of the rows of
+-- other positions, at which nothing is read.
 abbrev pub IsEnded : Situation → Event → Type 0
 IsEnded s row = (result : Result Reply Rule) → IsReadAt s.position s.levels result
     → IsSettled s row result
@@ -272,7 +268,7 @@ Belongs here bytes row judged.Break = IsBreak row
 abbrev pub word_at : Reply → ℕ → Option ℕ
 word_at reply index = slice_get (reply_words reply) index
 
--- The newest piece behind a step, with its events. What no step leads to stands as a foreign act.
+-- The newest piece after a step, with its events. What no step leads to stands as a foreign act.
 abbrev pub piece_after : Position → Step → List Event → Piece
 piece_after (InAsk bytes) (step.AskByte byte) = AskTail (bytes ++ byte ∷ [])
 piece_after position (step.AskByte byte) = AskTail (byte ∷ [])
@@ -292,7 +288,7 @@ piece_after (InRepeat command reply words) step.Repeat = Whole (acts.Repeat comm
 piece_after position (step.Break length) = Whole (acts.Break length)
 piece_after position _ = Whole acts.Foreign
 
--- pieces with one row more: a tail goes on, and a new piece stands behind a whole act
+-- pieces with one row more: a tail goes on, and a new piece stands after a whole act
 abbrev pub grown : List Piece → Event → (List Event → Piece) → List Piece
 grown (AskTail bytes events ∷ pieces) row piece = piece (events ++ row ∷ []) ∷ pieces
 grown (ReplyTail command bytes events ∷ pieces) row piece = piece (events ++ row ∷ []) ∷ pieces
@@ -300,12 +296,12 @@ grown (RepeatTail command reply words events ∷ pieces) row piece =
     piece (events ++ row ∷ []) ∷ pieces
 grown pieces row piece = piece (row ∷ []) ∷ pieces
 
--- pieces behind a step: a break stands behind a tail too
+-- pieces after a step: a break stands after a tail too
 abbrev pub pieces_after : List Piece → Event → Step → List Piece
 pieces_after pieces row (step.Break length) = Whole (acts.Break length) (row ∷ []) ∷ pieces
 pieces_after pieces row next = grown pieces row (piece_after (position_of pieces) next)
 
--- where the bus is behind a step
+-- where the bus is after a step
 abbrev pub position_after : Position → Step → Position
 position_after position next = position_of (piece_after position next [] ∷ [])
 
@@ -313,16 +309,16 @@ position_after position next = position_of (piece_after position next [] ∷ [])
 abbrev pub act_after : Position → Step → Option Act
 act_after position next = act_in (piece_after position next [])
 
--- the levels behind a step, and the device that was asked last
-abbrev pub levels_behind : Levels → Step → Levels
-levels_behind levels (step.Ask command) = levels_after command levels
-levels_behind levels _ = levels
+-- the levels after a step, and the device that was asked last
+abbrev pub levels_after_step : Levels → Step → Levels
+levels_after_step levels (step.Ask command) = levels_after command levels
+levels_after_step levels _ = levels
 
-abbrev pub asked_behind : Option Device → Step → Option Device
-asked_behind asked (step.Ask command) = Some (device_of command)
-asked_behind asked step.Foreign = None
-asked_behind asked (step.Break length) = None
-asked_behind asked _ = asked
+abbrev pub asked_after : Option Device → Step → Option Device
+asked_after asked (step.Ask command) = Some (device_of command)
+asked_after asked step.Foreign = None
+asked_after asked (step.Break length) = None
+asked_after asked _ = asked
 
 -- a step belongs to a position
 abbrev pub IsAt : Position → Step → Type 0

@@ -94,7 +94,7 @@ fn second_byte(bytes: &Begun, first: u8, word: Word) -> Result<Judged, Rule>
     }
 }
 
-/// A byte of a block behind its first two.
+/// A byte of a block after its first two.
 fn further_byte(bytes: &Begun, so_far: &[u8], word: Word) -> Result<Judged, Rule>
     requires is { bytes.now ≡ so_far.now }
     requires two { 2 ≤ length so_far.now }

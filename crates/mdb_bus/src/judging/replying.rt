@@ -11,7 +11,7 @@ ghost use Rattle.mdb_bus.specs.inner.Steps.{Belongs, IsJudged, IsReplyEnd};
 
 use crate::begun::Begun;
 use crate::fault::Rule;
-use crate::gaps::{in_block_time, is_behind, word_row};
+use crate::gaps::{in_block_time, is_after, word_row};
 use crate::judged::Judged;
 use crate::phase::Phase;
 use mdb_blocks::sum_of;
@@ -84,7 +84,7 @@ pub(crate) fn cut_in(from: &Option<Event>, at: Time, word: Word) -> Result<Judge
     ensures refused { IsErr result }
 {
     let row = word_row(at, Line::Controller, word);
-    if is_behind(from, &row, BLOCK_GAP_MAX) {
+    if is_after(from, &row, BLOCK_GAP_MAX) {
         Err(Rule::Spacing)
     } else {
         Err(Rule::Speaker)

@@ -1,4 +1,4 @@
--- One step of reading a reader's answer: a message, its text, and the bytes behind it. What a value
+-- One step of reading a reader's answer: a message, its text, and the bytes after it. What a value
 -- of `ReaderIter` holds is told by `StandAsMessages`; the rest is cited by private functions.
 use Rattle.std.specs.Prelude.{◌≡◌, ℕ, ◌<◌, ◌≤◌, List, [], ◌∷◌, ◌++◌, length}
 use Rattle.mdb_msgs.specs.declared.reply.reader.ReaderMsg.{ReaderMsg}
@@ -6,7 +6,7 @@ use Rattle.mdb_msgs.specs.declared.reply.reader.ReaderMsg.TheVariants.{Display, 
 use Rattle.mdb_msgs.specs.Reader.{ReaderMessages, reader_list_bytes, IsDisplayLast}
 use Rattle.mdb_msgs.specs.ReaderBytes.{before_messages, messages_of}
 
--- a message is followed by its text, and that by the bytes behind it
+-- a message is followed by its text, and that by the bytes after it
 abbrev pub IsTextOf : ReaderMsg → List ℕ → List ℕ → Type 0
 IsTextOf PeripheralId text rest = length text ≡ 29
 IsTextOf (Display time) text rest = (length text ≤ 32) × (rest ≡ [])
@@ -28,10 +28,10 @@ pub record StandAsMessages (bytes : List ℕ) : Type 0 where
   pub last : IsDisplayLast list.messages
   pub spelled : bytes ≡ reader_list_bytes list
 
--- of bytes that are messages the first message, its text, and the bytes behind it
-pub record IsNextMessage (bytes : List ℕ) (message : ReaderMsg) (text behind : List ℕ)
+-- of bytes that are messages the first message, its text, and the bytes after it
+pub record IsNextMessage (bytes : List ℕ) (message : ReaderMsg) (text further : List ℕ)
     : Type 0 where
-  pub before : messages_of bytes ≡ before_messages message text (messages_of behind)
-  pub is_text : IsTextOf message text behind
-  pub stand : StandAsMessages behind
-  pub shorter : length behind < length bytes
+  pub before : messages_of bytes ≡ before_messages message text (messages_of further)
+  pub is_text : IsTextOf message text further
+  pub stand : StandAsMessages further
+  pub shorter : length further < length bytes

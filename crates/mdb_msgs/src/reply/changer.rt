@@ -127,20 +127,20 @@ fn read_pair(first: u8, second: u8) -> ChangerMsg
     }
 }
 
-/// The message that begins with `first`, and the bytes behind it.
-fn read_message(first: u8, behind: &[u8]) -> Result<(ChangerMsg, &[u8]), MsgFault>
+/// The message that begins with `first` and goes on with `further`, and the bytes after it.
+fn read_message(first: u8, further: &[u8]) -> Result<(ChangerMsg, &[u8]), MsgFault>
     ensures fields { IfOk result (λ x. IsChangerMsg x.0) }
-    ensures bytes { IfOk result (λ x. first ∷ behind.now ≡ changer_msg_bytes x.0 ++ x.1.now) }
-    ensures rest { IfOk result (λ x. length x.1.now ≤ length behind.now) }
-    ensures err { IfErr result (NoChangerMsg (first ∷ behind.now)) }
+    ensures bytes { IfOk result (λ x. first ∷ further.now ≡ changer_msg_bytes x.0 ++ x.1.now) }
+    ensures rest { IfOk result (λ x. length x.1.now ≤ length further.now) }
+    ensures err { IfErr result (NoChangerMsg (first ∷ further.now)) }
 {
     match first {
-        0x0B => Ok((ChangerMsg::Reset, behind)),
-        0x00..=0x1A => Ok((ChangerMsg::Status(first), behind)),
+        0x0B => Ok((ChangerMsg::Reset, further)),
+        0x00..=0x1A => Ok((ChangerMsg::Status(first), further)),
         0x1B..=0x1F => Err(MsgFault::Profile),
-        0x20..=0x3F => Ok((ChangerMsg::Slugs(first - 0x20), behind)),
+        0x20..=0x3F => Ok((ChangerMsg::Slugs(first - 0x20), further)),
         0x60..=0x6F => Err(MsgFault::Message),
-        _ => match behind {
+        _ => match further {
             [second, rest @ ..] => Ok((read_pair(first, *second), rest)),
             [] => Err(MsgFault::Message),
         },
@@ -156,8 +156,8 @@ pub(crate) fn read_messages(bytes: &[u8]) -> Result<ArrayVec<ChangerMsg, 16>, Ms
 {
     let mut messages = ArrayVec::new();
     let mut rest = bytes;
-    while let Some((first, behind)) = rest.split_first() {
-        let (message, after) = read_message(*first, behind)?;
+    while let Some((first, further)) = rest.split_first() {
+        let (message, after) = read_message(*first, further)?;
         messages.push(message);
         rest = after;
     }

@@ -432,26 +432,26 @@ fn is_display_last(messages: &[ReaderMsg]) -> bool
     }
 }
 
-/// The number in two bytes, and the bytes behind it.
+/// The number in the first two bytes, and the bytes after it.
 #[inline(always)]
-fn read_number(behind: &[u8]) -> Result<(u16, &[u8]), MsgFault>
-    ensures ok { IfOk result (λ x. behind.now ≡ two_bytes x.0 ++ x.1.now) }
-    ensures err { IfErr result (λ fault. (fault ≡ Message) × (length behind.now < 2)) }
+fn read_number(bytes: &[u8]) -> Result<(u16, &[u8]), MsgFault>
+    ensures ok { IfOk result (λ x. bytes.now ≡ two_bytes x.0 ++ x.1.now) }
+    ensures err { IfErr result (λ fault. (fault ≡ Message) × (length bytes.now < 2)) }
 {
-    match behind {
+    match bytes {
         [high, low, rest @ ..] => Ok((number(*high, *low), rest)),
         _ => Err(MsgFault::Message),
     }
 }
 
-/// The config message behind its first byte, and the bytes behind it.
+/// The config message that goes on so after its first byte, and the bytes after it.
 #[inline(always)]
-fn read_config(behind: &[u8]) -> Result<(ReaderMsg, &[u8]), MsgFault>
-    ensures bytes { IfOk result (λ x. 1 ∷ behind.now ≡ head_bytes x.0 ++ x.1.now) }
+fn read_config(further: &[u8]) -> Result<(ReaderMsg, &[u8]), MsgFault>
+    ensures bytes { IfOk result (λ x. 1 ∷ further.now ≡ head_bytes x.0 ++ x.1.now) }
     ensures text { IfOk result (λ x. IsTextOf x.0 [] x.1.now) }
-    ensures err { IfErr result (λ fault. (fault ≡ Message) × (length behind.now < 7)) }
+    ensures err { IfErr result (λ fault. (fault ≡ Message) × (length further.now < 7)) }
 {
-    match behind {
+    match further {
         [
             level,
             high,
@@ -476,68 +476,70 @@ fn read_config(behind: &[u8]) -> Result<(ReaderMsg, &[u8]), MsgFault>
     }
 }
 
-/// The message without a text that begins with `first`, and the bytes behind it.
+/// The message without a text that begins with `first` and goes on with `further`, and the bytes
+/// after it.
 #[inline(always)]
-fn read_short(first: u8, behind: &[u8]) -> Result<(ReaderMsg, &[u8]), MsgFault>
+fn read_short(first: u8, further: &[u8]) -> Result<(ReaderMsg, &[u8]), MsgFault>
     requires no_display { first ≢ 2 }
     requires no_id { first ≢ 9 }
-    ensures bytes { IfOk result (λ x. first ∷ behind.now ≡ head_bytes x.0 ++ x.1.now) }
+    ensures bytes { IfOk result (λ x. first ∷ further.now ≡ head_bytes x.0 ++ x.1.now) }
     ensures text { IfOk result (λ x. IsTextOf x.0 [] x.1.now) }
-    ensures err { IfErr result (NoReaderMsg (first ∷ behind.now)) }
+    ensures err { IfErr result (NoReaderMsg (first ∷ further.now)) }
 {
     let message = match first {
         0x00 => ReaderMsg::JustReset,
-        0x01 => return read_config(behind),
+        0x01 => return read_config(further),
         0x03 => {
-            let (funds, rest) = read_number(behind)?;
+            let (funds, rest) = read_number(further)?;
             return Ok((ReaderMsg::BeginSession { funds }, rest));
         }
         0x04 => ReaderMsg::CancelRequest,
         0x05 => {
-            let (amount, rest) = read_number(behind)?;
+            let (amount, rest) = read_number(further)?;
             return Ok((ReaderMsg::VendApproved { amount }, rest));
         }
         0x06 => ReaderMsg::VendDenied,
         0x07 => ReaderMsg::EndSession,
         0x08 => ReaderMsg::Cancelled,
         0x0A => {
-            let (code, rest) = behind.split_first().ok_or(MsgFault::Message)?;
+            let (code, rest) = further.split_first().ok_or(MsgFault::Message)?;
             return Ok((ReaderMsg::Malfunction(*code), rest));
         }
         0x0B => ReaderMsg::OutOfSequence,
         _ => return Err(MsgFault::Profile),
     };
-    Ok((message, behind))
+    Ok((message, further))
 }
 
-/// The message that begins with `first`, its text, and the bytes behind it.
+/// The message that begins with `first` and goes on with `further`, its text, and the bytes after
+/// it.
 #[inline(always)]
-fn read_message(first: u8, behind: &[u8]) -> Result<(ReaderMsg, &[u8], &[u8]), MsgFault>
-    ensures bytes { IfOk result (λ x. first ∷ behind.now ≡ head_bytes x.0 ++ x.1.now ++ x.2.now) }
+fn read_message(first: u8, further: &[u8]) -> Result<(ReaderMsg, &[u8], &[u8]), MsgFault>
+    ensures bytes { IfOk result (λ x. first ∷ further.now ≡ head_bytes x.0 ++ x.1.now ++ x.2.now) }
     ensures text { IfOk result (λ x. IsTextOf x.0 x.1.now x.2.now) }
-    ensures rest { IfOk result (λ x. length x.2.now ≤ length behind.now) }
-    ensures err { IfErr result (NoReaderMsg (first ∷ behind.now)) }
+    ensures rest { IfOk result (λ x. length x.2.now ≤ length further.now) }
+    ensures err { IfErr result (NoReaderMsg (first ∷ further.now)) }
 {
     match first {
-        0x02 => match behind {
+        0x02 => match further {
             [time, text @ ..] if text.len() <= 32 => {
                 Ok((ReaderMsg::Display { time: *time }, text, &[]))
             }
             _ => Err(MsgFault::Message),
         },
-        0x09 if behind.len() < 29 => Err(MsgFault::Message),
+        0x09 if further.len() < 29 => Err(MsgFault::Message),
         0x09 => {
-            let (id, rest) = behind.split_at(29);
+            let (id, rest) = further.split_at(29);
             Ok((ReaderMsg::PeripheralId, id, rest))
         }
         _ => {
-            let (message, rest) = read_short(first, behind)?;
+            let (message, rest) = read_short(first, further)?;
             Ok((message, &[], rest))
         }
     }
 }
 
-/// The message at the front of bytes that are messages, its text, and the bytes behind it; `None`
+/// The message at the front of bytes that are messages, its text, and the bytes after it; `None`
 /// where none are left.
 #[inline(always)]
 fn next_message(rest: &[u8]) -> Option<(ReaderMsg, &[u8], &[u8])>
@@ -545,8 +547,8 @@ fn next_message(rest: &[u8]) -> Option<(ReaderMsg, &[u8], &[u8])>
     ensures some { IfSome result (λ x. IsNextMessage rest.now x.0 x.1.now x.2.now) }
     ensures none { IsNone result → messages_of rest.now ≡ no_messages }
 {
-    let (first, behind) = rest.split_first()?;
-    read_message(*first, behind).ok()
+    let (first, further) = rest.split_first()?;
+    read_message(*first, further).ok()
 }
 
 /// The messages that these bytes are, or the fault of the leftmost that can't be taken.
@@ -557,8 +559,8 @@ pub(crate) fn read_messages(bytes: &[u8]) -> Result<ReaderList, MsgFault>
     ensures err { IfErr result (ReaderStopsAt bytes.now) }
 {
     let mut rest = bytes;
-    while let Some((first, behind)) = rest.split_first() {
-        let (_, _, after) = read_message(*first, behind)?;
+    while let Some((first, further)) = rest.split_first() {
+        let (_, _, after) = read_message(*first, further)?;
         rest = after;
     }
     Ok(ReaderList {

@@ -23,7 +23,7 @@ pub struct ChangerSetup {
     pub decimals: u8,
     /// Z6-Z7: the coin types that go to tubes, the lowest bit type 0.
     pub routing: u16,
-    /// Z8 and on: the credits of the types from 0 on that were sent. A type behind them has credit
+    /// Z8 and on: the credits of the types from 0 on that were sent. A type after them has credit
     /// 0; FF is a token.
     pub credits: ArrayVec<u8, 16>,
 }
@@ -130,7 +130,7 @@ pub struct BillSetup {
     pub security: u16,
     /// Z11: whether there is an escrow, FF or 00.
     pub escrow: bool,
-    /// Z12 and on: the credits of the types from 0 on that were sent. A type behind them has credit
+    /// Z12 and on: the credits of the types from 0 on that were sent. A type after them has credit
     /// 0.
     pub credits: ArrayVec<u8, 16>,
 }

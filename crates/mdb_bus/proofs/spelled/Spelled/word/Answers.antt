@@ -1,6 +1,6 @@
 use Rattle.std.proofs.Common.{arith, ap, sym, ◌∙◌, ◌<◌, ◌≤◌, ◌+◌, length, List, ℕ}
 use Rattle.mdb_msgs.specs.Replies.{reply_bytes}
-use Rattle.mdb_bus.proofs.Verdicts.{word_behind, word_there, words_count}
+use Rattle.mdb_bus.proofs.Verdicts.{word_after, word_there, words_count}
 use Rattle.mdb_bus.proofs.spelled.Spelled.word.Goals as goal
 
 pub returns-then-index-bytes-clause-word : goal.returns-then-index-bytes-clause-word
@@ -17,7 +17,7 @@ returns-then-index-bytes-clause-count c =
 pub returns-else-index-bytes-clause-word : goal.returns-else-index-bytes-clause-word
 returns-else-index-bytes-clause-word c =
     let past : length c.sealed-block.result ≤ c.args.index = omega (arith, ap length c.bytes.ensures.bytes) in
-    word_behind (reply_bytes c.args.self.now.reply) c.args.self.now.bytes c.sealed-block.result c.args.index
+    word_after (reply_bytes c.args.self.now.reply) c.args.self.now.bytes c.sealed-block.result c.args.index
     c.args.self.now.spelled c.sealed-block.ensures past
 
 pub returns-else-index-bytes-clause-count : goal.returns-else-index-bytes-clause-count
