@@ -36,18 +36,21 @@ pub record Before (pieces : List Piece) (rows : List Event) (row : Event) : Type
   pub is : pieces ≡ pieces_after before row next
 
 -- a word leads where the words of its line do
-led : (s : Situation) (row : Event) (line : Line) (word : ℕ) (next : Step) → said_by row ≡ Some (line, word)
+led : (s : Situation) (row : Event) (line : Line) (word : ℕ) (next : Step)
+    → said_by row ≡ Some (line, word)
     → WordLeads s.position s.last s.levels row line word next → Leads s row next
 led s (Word at l w) line word next said leads =
     let same : (line, word) ≡ (l, w) = cc in
-    let P : Line × ℕ → Type 0 = λ p. WordLeads s.position s.last s.levels (Word at l w) p.0 p.1 next in
+    let P : Line × ℕ → Type 0 = λ p. WordLeads s.position s.last s.levels (Word at l w) p.0 p.1
+    next in
     subst P same leads
 led s (Break at length) line word next said leads = cc
 
 -- the events of a piece in another form
 with_events : (make : List Event → Piece) (rest : List Piece) (rows : List Event) (row : Event)
     (events shown : List Event)
-    → events ≡ shown → (IsPiece (make shown) → MayStand rest (make shown) → Before (make shown ∷ rest) rows row)
+    → events ≡ shown → (IsPiece (make shown) → MayStand rest (make shown)
+    → Before (make shown ∷ rest) rows row)
     → IsPiece (make events) → MayStand rest (make events) → Before (make events ∷ rest) rows row
 with_events make rest rows row events shown is known =
     let P : List Event → Type 0 = λ es. IsPiece (make es) → MayStand rest (make es)
@@ -55,7 +58,8 @@ with_events make rest rows row events shown is known =
     subst P (sym is) known
 
 -- what a piece may come by at its first event
-comes_at : (rest : List Piece) (piece : Piece) (to : Event) (back : List Event) → MayStand rest piece
+comes_at : (rest : List Piece) (piece : Piece) (to : Event) (back : List Event)
+    → MayStand rest piece
     → piece_events piece ≡ to ∷ back
     → MayCome piece (position_of rest) (last_of (events_of rest)) to
 comes_at rest piece to back stands is =
@@ -90,7 +94,8 @@ IsSettled (InRepeat command reply words) = ⊥
 IsSettled _ = Unit {0}
 
 -- there a new piece begins
-grown_alone : (rest : List Piece) (row : Event) (piece : List Event → Piece) → IsSettled (position_of rest)
+grown_alone : (rest : List Piece) (row : Event) (piece : List Event → Piece)
+    → IsSettled (position_of rest)
     → grown rest row piece ≡ piece (row ∷ []) ∷ rest
 grown_alone [] row piece settled = refl
 grown_alone (Whole act events ∷ rest) row piece settled = refl
@@ -99,32 +104,40 @@ grown_alone (ReplyTail command bytes events ∷ rest) row piece settled = absurd
 grown_alone (RepeatTail command reply words events ∷ rest) row piece settled = absurd settled
 
 -- a piece of one word
-fresh : (rest : List Piece) (row : Event) (line : Line) (word : ℕ) (position : Position) (next : Step)
+fresh : (rest : List Piece) (row : Event) (line : Line) (word : ℕ) (position : Position)
+    (next : Step)
     (piece : List Event → Piece)
-    → ArePieces rest → position_of rest ≡ position → IsSettled position → said_by row ≡ Some (line, word)
+    → ArePieces rest → position_of rest ≡ position → IsSettled position
+    → said_by row ≡ Some (line, word)
     → WordLeads position (last_of (events_of rest)) (levels_of rest) row line word next
     → pieces_after rest row next ≡ grown rest row (piece_after (position_of rest) next)
     → piece_after position next ≡ piece
     → Before (piece (row ∷ []) ∷ rest) (events_of rest) row
 fresh rest row line word position next piece earlier at settled said leads same made =
     let Settled : Position → Type 0 = λ p. IsSettled p in
-    let Led : Position → Type 0 = λ p. WordLeads p (last_of (events_of rest)) (levels_of rest) row line word next in
-    let new : piece_after (position_of rest) next ≡ piece = ap (λ p. piece_after p next) at ∙ made in
+    let Led : Position → Type 0 = λ p. WordLeads p (last_of (events_of rest)) (levels_of rest) row
+    line word next in
+    let new : piece_after (position_of rest) next ≡ piece = ap (λ p. piece_after p next) at
+    ∙ made in
     record {
       before = rest;
       in_order = earlier;
       rows_before = refl;
       next = next;
       leads = led (situation_of rest) row line word next said (subst Led (sym at) leads);
-      is = sym (same ∙ (ap (grown rest row) new ∙ grown_alone rest row piece (subst Settled (sym at) settled)));
+      is = sym (same
+          ∙ (ap (grown rest row) new
+          ∙ grown_alone rest row piece (subst Settled (sym at) settled)));
     }
 
 -- what an event says that is one word
-said_alone : (line : Line) (word : ℕ) (row : Event) → Say line (word ∷ []) (row ∷ []) → said_by row ≡ Some (line, word)
+said_alone : (line : Line) (word : ℕ) (row : Event) → Say line (word ∷ []) (row ∷ [])
+    → said_by row ≡ Some (line, word)
 said_alone line word row says = cc
 
 -- a block begins after a settled position
-block_settled : (position : Position) (from : Option Event) (to : Event) → BlockMayCome position from to
+block_settled : (position : Position) (from : Option Event) (to : Event)
+    → BlockMayCome position from to
     → IsSettled position
 block_settled Quiet from to may = tt
 block_settled (InAsk bytes) from to may = may
@@ -136,7 +149,8 @@ block_settled (InRepeat command reply words) from to may = may
 block_settled InForeign from to may = tt
 
 -- an ask begins
-ask_opens : (position : Position) (from : Option Event) (levels : Levels) (to : Event) (word byte : ℕ)
+ask_opens : (position : Position) (from : Option Event) (levels : Levels) (to : Event)
+    (word byte : ℕ)
     → word ≡ 256 + byte
     → IsAskFront (byte ∷ []) → BlockMayCome position from to
     → WordLeads position from levels to Controller word (step.AskByte byte)
@@ -161,7 +175,8 @@ ask_made (InRepeat command reply words) byte settled = refl
 ask_made InForeign byte settled = refl
 
 -- a foreign block begins
-foreign_opens : (position : Position) (from : Option Event) (levels : Levels) (to : Event) (word byte : ℕ)
+foreign_opens : (position : Position) (from : Option Event) (levels : Levels) (to : Event)
+    (word byte : ℕ)
     → word ≡ 256 + byte
     → IsForeignOpening (byte ∷ []) → BlockMayCome position from to
     → WordLeads position from levels to Controller word step.Foreign
@@ -169,8 +184,10 @@ foreign_opens Quiet from levels to word byte is opening may = (byte, is, opening
 foreign_opens (InAsk bytes) from levels to word byte is opening may = absurd may
 foreign_opens (Asked command) from levels to word byte is opening may = (byte, is, opening, may)
 foreign_opens (InReply command bytes) from levels to word byte is opening may = absurd may
-foreign_opens (Replied command reply) from levels to word byte is opening may = (byte, is, opening, may)
-foreign_opens (Returned command reply) from levels to word byte is opening may = (byte, is, opening, may)
+foreign_opens (Replied command reply) from levels to word byte is opening may =
+    (byte, is, opening, may)
+foreign_opens (Returned command reply) from levels to word byte is opening may =
+    (byte, is, opening, may)
 foreign_opens (InRepeat command reply words) from levels to word byte is opening may = absurd may
 foreign_opens InForeign from levels to word byte is opening may = inl (byte, is, opening, may)
 
@@ -190,7 +207,8 @@ not_both (Word at Controller word) marked unmarked = omega (arith, marked, unmar
 not_both (Word at Peripheral word) marked unmarked = marked
 not_both (Break at length) marked unmarked = marked
 
-marked_not_foreign : (event : Event) (byte : ℕ) → said_by event ≡ Some (Controller, 256 + byte) → IsForeignWord event
+marked_not_foreign : (event : Event) (byte : ℕ) → said_by event ≡ Some (Controller, 256 + byte)
+    → IsForeignWord event
     → ⊥
 marked_not_foreign (Word at Controller word) byte said foreign =
     let here : Line × ℕ = (Controller, word) in
@@ -207,30 +225,36 @@ marked_not_foreign (Word at Peripheral word) byte said foreign =
 marked_not_foreign (Break at length) byte said foreign = foreign
 
 -- a further word of foreign traffic
-foreign_word : (rest : List Piece) (row : Event) → ArePieces rest → position_of rest ≡ InForeign → IsForeignWord row
+foreign_word : (rest : List Piece) (row : Event) → ArePieces rest → position_of rest ≡ InForeign
+    → IsForeignWord row
     → WordLeads InForeign (last_of (events_of rest)) (levels_of rest) row Peripheral 0 step.Foreign
     → Before (Whole acts.Foreign (row ∷ []) ∷ rest) (events_of rest) row
 foreign_word rest (Word at Controller word) earlier position foreign may =
-    fresh rest (Word at Controller word) Controller word InForeign step.Foreign (Whole acts.Foreign) earlier position tt
+    fresh rest (Word at Controller word) Controller word InForeign step.Foreign (Whole acts.Foreign)
+    earlier position tt
     refl
     (inr (foreign, may)) refl refl
 foreign_word rest (Word at Peripheral word) earlier position foreign may =
-    fresh rest (Word at Peripheral word) Peripheral word InForeign step.Foreign (Whole acts.Foreign) earlier position tt
+    fresh rest (Word at Peripheral word) Peripheral word InForeign step.Foreign (Whole acts.Foreign)
+    earlier position tt
     refl
     may refl refl
 foreign_word rest (Break at length) earlier position foreign may = absurd foreign
 
 -- the opening of a foreign block, of one word
-foreign_block : (bytes : List ℕ) (rest : List Piece) (row : Event) → ArePieces rest → IsForeignOpening bytes
+foreign_block : (bytes : List ℕ) (rest : List Piece) (row : Event) → ArePieces rest
+    → IsForeignOpening bytes
     → Say Controller (controller_words bytes) (row ∷ [])
     → BlockMayCome (position_of rest) (last_of (events_of rest)) row
     → Before (Whole acts.Foreign (row ∷ []) ∷ rest) (events_of rest) row
 foreign_block [] rest row earlier opening says may = absurd opening
 foreign_block (byte ∷ []) rest row earlier opening says may =
-    fresh rest row Controller (256 + byte) (position_of rest) step.Foreign (Whole acts.Foreign) earlier refl
+    fresh rest row Controller (256 + byte) (position_of rest) step.Foreign (Whole acts.Foreign)
+    earlier refl
     (block_settled (position_of rest) (last_of (events_of rest)) row may)
     (said_alone Controller (256 + byte) row says)
-    (foreign_opens (position_of rest) (last_of (events_of rest)) (levels_of rest) row (256 + byte) byte refl
+    (foreign_opens (position_of rest) (last_of (events_of rest)) (levels_of rest) row (256 + byte)
+    byte refl
     opening may)
     refl (foreign_made (position_of rest))
 foreign_block (byte ∷ next ∷ bytes) rest row earlier opening says may =
@@ -242,11 +266,13 @@ alone_foreign : (rest : List Piece) (row : Event) → IsPiece (Whole acts.Foreig
 alone_foreign rest row right stands earlier =
     cases right.said (comes_at rest (Whole acts.Foreign (row ∷ [])) row [] stands refl)
   where
-    cases : ((bytes : List ℕ) × IsForeignOpening bytes × Say Controller (controller_words bytes) (row ∷ []))
+    cases : ((bytes : List ℕ) × IsForeignOpening bytes × Say Controller (controller_words bytes)
+        (row ∷ []))
         ⊎ ((event : Event) × (row ∷ [] ≡ event ∷ []) × IsForeignWord event)
         → MayCome (Whole acts.Foreign (row ∷ [])) (position_of rest) (last_of (events_of rest)) row
         → Before (Whole acts.Foreign (row ∷ []) ∷ rest) (events_of rest) row
-    cases (inl opening) (inl block) = foreign_block opening.0 rest row earlier opening.1 opening.2 block.1
+    cases (inl opening) (inl block) = foreign_block opening.0 rest row earlier opening.1 opening.2
+        block.1
     cases (inr word) (inl block) =
         let same : word.0 ≡ row = cc in
         let P : Event → Type 0 = λ e. IsForeignWord e in
@@ -295,7 +321,8 @@ reply_long reply events row some says is =
     )
 
 -- a piece of one event
-alone : (piece : Piece) (rest : List Piece) (row : Event) → IsPiece piece → MayStand rest piece → ArePieces rest
+alone : (piece : Piece) (rest : List Piece) (row : Event) → IsPiece piece → MayStand rest piece
+    → ArePieces rest
     → piece_events piece ≡ row ∷ [] → Before (piece ∷ rest) (events_of rest) row
 alone (Whole (acts.Ask command) events) rest row right stands earlier is =
     let bytes = command_bytes command in
@@ -310,51 +337,63 @@ alone (Whole (acts.Ask command) events) rest row right stands earlier is =
 alone (Whole (acts.Ack command) events) rest row right stands earlier is =
     with_events (Whole (acts.Ack command)) rest (events_of rest) row events (row ∷ []) is (λ r s.
     let comes = comes_at rest (Whole (acts.Ack command) (row ∷ [])) row [] s refl in
-    fresh rest row Peripheral 256 (Asked command) step.Ack (Whole (acts.Ack command)) earlier comes.0 tt
+    fresh rest row Peripheral 256 (Asked command) step.Ack (Whole (acts.Ack command)) earlier
+    comes.0 tt
     (said_alone Peripheral 256 row r.said) (refl, comes.1) refl refl) right stands
 alone (Whole (acts.Nak command) events) rest row right stands earlier is =
     with_events (Whole (acts.Nak command)) rest (events_of rest) row events (row ∷ []) is (λ r s.
     let comes = comes_at rest (Whole (acts.Nak command) (row ∷ [])) row [] s refl in
-    fresh rest row Peripheral 511 (Asked command) step.Nak (Whole (acts.Nak command)) earlier comes.0 tt
+    fresh rest row Peripheral 511 (Asked command) step.Nak (Whole (acts.Nak command)) earlier
+    comes.0 tt
     (said_alone Peripheral 511 row r.said) (refl, comes.1) refl refl) right stands
 alone (Whole (acts.Reply command reply) events) rest row right stands earlier is =
     absurd (reply_long reply events row right.said.0.content.at_least right.said.1 is)
 alone (Whole (acts.VmcAck command reply) events) rest row right stands earlier is =
-    with_events (Whole (acts.VmcAck command reply)) rest (events_of rest) row events (row ∷ []) is (λ r s.
+    with_events (Whole (acts.VmcAck command reply)) rest (events_of rest) row events (row ∷ []) is
+    (λ r s.
     let comes = comes_at rest (Whole (acts.VmcAck command reply) (row ∷ [])) row [] s refl in
-    fresh rest row Controller 0 (Replied command reply) step.VmcAck (Whole (acts.VmcAck command reply)) earlier
+    fresh rest row Controller 0 (Replied command reply) step.VmcAck
+    (Whole (acts.VmcAck command reply)) earlier
     comes.0 tt
     (said_alone Controller 0 row r.said) (refl, comes.1) refl refl) right stands
 alone (Whole (acts.VmcNak command reply) events) rest row right stands earlier is =
-    with_events (Whole (acts.VmcNak command reply)) rest (events_of rest) row events (row ∷ []) is (λ r s.
+    with_events (Whole (acts.VmcNak command reply)) rest (events_of rest) row events (row ∷ []) is
+    (λ r s.
     let comes = comes_at rest (Whole (acts.VmcNak command reply) (row ∷ [])) row [] s refl in
-    fresh rest row Controller 255 (Replied command reply) step.VmcNak (Whole (acts.VmcNak command reply)) earlier
+    fresh rest row Controller 255 (Replied command reply) step.VmcNak
+    (Whole (acts.VmcNak command reply)) earlier
     comes.0 tt
     (said_alone Controller 255 row r.said) (refl, comes.1) refl refl) right stands
 alone (Whole (acts.VmcRet command reply) events) rest row right stands earlier is =
-    with_events (Whole (acts.VmcRet command reply)) rest (events_of rest) row events (row ∷ []) is (λ r s.
+    with_events (Whole (acts.VmcRet command reply)) rest (events_of rest) row events (row ∷ []) is
+    (λ r s.
     let comes = comes_at rest (Whole (acts.VmcRet command reply) (row ∷ [])) row [] s refl in
-    fresh rest row Controller 170 (Replied command reply) step.VmcRet (Whole (acts.VmcRet command reply)) earlier
+    fresh rest row Controller 170 (Replied command reply) step.VmcRet
+    (Whole (acts.VmcRet command reply)) earlier
     comes.0 tt
     (said_alone Controller 170 row r.said) (refl, comes.1) refl refl) right stands
 alone (Whole (acts.Repeat command reply) events) rest row right stands earlier is =
     let P : Position → Type 0 = λ p. Holds p in
-    absurd (reply_long reply events row (subst P stands.comes.0 (replied rest earlier)) right.said is)
+    absurd (reply_long reply events row (subst P stands.comes.0 (replied rest earlier)) right.said
+    is)
 alone (Whole acts.Foreign events) rest row right stands earlier is =
     with_events (Whole acts.Foreign) rest (events_of rest) row events (row ∷ []) is
     (λ r s. alone_foreign rest row r s earlier)
     right stands
 alone (Whole (acts.Break length) events) rest row right stands earlier is =
-    with_events (Whole (acts.Break length)) rest (events_of rest) row events (row ∷ []) is (λ r s. alone_break r s)
+    with_events (Whole (acts.Break length)) rest (events_of rest) row events (row ∷ []) is
+    (λ r s. alone_break r s)
     right stands
   where
-    alone_break : IsPiece (Whole (acts.Break length) (row ∷ [])) → MayStand rest (Whole (acts.Break length) (row ∷ []))
+    alone_break : IsPiece (Whole (acts.Break length) (row ∷ []))
+        → MayStand rest (Whole (acts.Break length) (row ∷ []))
         → Before (Whole (acts.Break length) (row ∷ []) ∷ rest) (events_of rest) row
     alone_break right stands =
         let event : row ≡ Break right.said.0 length = cc in
         let comes = comes_at rest (Whole (acts.Break length) (row ∷ [])) row [] stands refl in
         let P : Event → Type 0 = λ e. Leads (situation_of rest) e (step.Break length) in
-        let May : Event → Type 0 = λ e. MayCome (Whole (acts.Break length) (row ∷ [])) (position_of rest)
+        let May : Event → Type 0 = λ e. MayCome (Whole (acts.Break length) (row ∷ []))
+        (position_of rest)
         (last_of (events_of rest)) e in
         record {
           before = rest;
@@ -365,24 +404,33 @@ alone (Whole (acts.Break length) events) rest row right stands earlier is =
           is = refl;
         }
 alone (AskTail bytes events) rest row right stands earlier is =
-    with_events (AskTail bytes) rest (events_of rest) row events (row ∷ []) is (λ r s. one bytes r s) right stands
+    with_events (AskTail bytes) rest (events_of rest) row events (row ∷ []) is
+    (λ r s. one bytes r s) right stands
   where
-    one : (bytes : List ℕ) → IsPiece (AskTail bytes (row ∷ [])) → MayStand rest (AskTail bytes (row ∷ []))
+    one : (bytes : List ℕ) → IsPiece (AskTail bytes (row ∷ []))
+        → MayStand rest (AskTail bytes (row ∷ []))
         → Before (AskTail bytes (row ∷ []) ∷ rest) (events_of rest) row
     one [] right stands = absurd (right.said.0.some refl)
     one (byte ∷ []) right stands =
         let may = comes_at rest (AskTail (byte ∷ []) (row ∷ [])) row [] stands refl in
         let settled = block_settled (position_of rest) (last_of (events_of rest)) row may in
-        fresh rest row Controller (256 + byte) (position_of rest) (step.AskByte byte) (AskTail (byte ∷ [])) earlier refl
+        fresh rest row Controller (256 + byte) (position_of rest) (step.AskByte byte)
+        (AskTail (byte ∷ [])) earlier refl
         settled
         (said_alone Controller (256 + byte) row right.said.1)
-        (ask_opens (position_of rest) (last_of (events_of rest)) (levels_of rest) row (256 + byte) byte refl
+        (ask_opens (position_of rest) (last_of (events_of rest)) (levels_of rest) row (256 + byte)
+        byte refl
         right.said.0 may)
         refl (ask_made (position_of rest) byte settled)
     one (byte ∷ next ∷ more) right stands =
-        absurd (omega (arith, say_length Controller ((256 + byte) ∷ next ∷ more) (row ∷ []) right.said.1))
+        absurd (omega (
+          arith,
+          say_length Controller ((256 + byte) ∷ next ∷ more) (row ∷ [])
+              right.said.1,
+        ))
 alone (ReplyTail command bytes events) rest row right stands earlier is =
-    with_events (ReplyTail command bytes) rest (events_of rest) row events (row ∷ []) is (λ r s. one bytes r s)
+    with_events (ReplyTail command bytes) rest (events_of rest) row events (row ∷ []) is
+    (λ r s. one bytes r s)
     right stands
   where
     one : (bytes : List ℕ) → IsPiece (ReplyTail command bytes (row ∷ []))
@@ -391,14 +439,17 @@ alone (ReplyTail command bytes events) rest row right stands earlier is =
     one [] right stands = absurd (omega (arith, right.said.0.some))
     one (byte ∷ []) right stands =
         let comes = comes_at rest (ReplyTail command (byte ∷ []) (row ∷ [])) row [] stands refl in
-        fresh rest row Peripheral byte (Asked command) (step.ReplyByte byte) (ReplyTail command (byte ∷ [])) earlier
+        fresh rest row Peripheral byte (Asked command) (step.ReplyByte byte)
+        (ReplyTail command (byte ∷ [])) earlier
         comes.0 tt
         (said_alone Peripheral byte row right.said.1)
-        (refl, all_last IsByte [] byte right.said.0.in_range, right.said.0.allowed, comes.1) refl refl
+        (refl, all_last IsByte [] byte right.said.0.in_range, right.said.0.allowed, comes.1) refl
+        refl
     one (byte ∷ next ∷ more) right stands =
         absurd (omega (arith, say_length Peripheral (byte ∷ next ∷ more) (row ∷ []) right.said.1))
 alone (RepeatTail command reply words events) rest row right stands earlier is =
-    with_events (RepeatTail command reply words) rest (events_of rest) row events (row ∷ []) is (λ r s. one words r s)
+    with_events (RepeatTail command reply words) rest (events_of rest) row events (row ∷ []) is
+    (λ r s. one words r s)
     right stands
   where
     one : (words : List ℕ) → IsPiece (RepeatTail command reply words (row ∷ []))
@@ -406,10 +457,12 @@ alone (RepeatTail command reply words events) rest row right stands earlier is =
         → Before (RepeatTail command reply words (row ∷ []) ∷ rest) (events_of rest) row
     one [] right stands = absurd (right.said.0.some refl)
     one (word ∷ []) right stands =
-        let comes = comes_at rest (RepeatTail command reply (word ∷ []) (row ∷ [])) row [] stands refl in
+        let comes = comes_at rest (RepeatTail command reply (word ∷ []) (row ∷ [])) row [] stands
+        refl in
         fresh rest row Peripheral word (Returned command reply) (step.RepeatWord word)
         (RepeatTail command reply (word ∷ [])) earlier
-        comes.0 tt (said_alone Peripheral word row right.said.1) (refl, right.said.0, comes.1) refl refl
+        comes.0 tt (said_alone Peripheral word row right.said.1) (refl, right.said.0, comes.1) refl
+        refl
     one (word ∷ next ∷ more) right stands =
         absurd (omega (arith, say_length Peripheral (word ∷ next ∷ more) (row ∷ []) right.said.1))
 
@@ -417,14 +470,16 @@ alone (RepeatTail command reply words events) rest row right stands earlier is =
 more_ask : (command : Command) (rest : List Piece) (front : List Event) (row : Event) → front ≢ []
     → IsPiece (Whole (acts.Ask command) (front ++ row ∷ []))
     → MayStand rest (Whole (acts.Ask command) (front ++ row ∷ []))
-    → ArePieces rest → Before (Whole (acts.Ask command) (front ++ row ∷ []) ∷ rest) (events_of rest ++ front) row
+    → ArePieces rest → Before (Whole (acts.Ask command) (front ++ row ∷ []) ∷ rest)
+    (events_of rest ++ front) row
 more_ask command rest front row some right stands earlier =
     let bytes = command_bytes command in
     let last = controller_last (block_of bytes) front row some right.said.1 in
     let gaps = inside (events_of rest) front row some right.spaced in
     let P : List ℕ → Type 0 = λ block. Spells command block in
     let spells : Spells command (last.start ++ last.byte ∷ []) = subst P last.is right.said.0 in
-    let same : sum bytes % 256 ≡ last.byte = (same_from_push bytes last.start (sum bytes % 256) last.byte last.is).1 in
+    let same : sum bytes % 256 ≡ last.byte =
+    (same_from_push bytes last.start (sum bytes % 256) last.byte last.is).1 in
     let low : last.byte < 256 = omega (arith, same) in
     let begun : IsAskFront last.start =
     record {
@@ -434,8 +489,12 @@ more_ask command rest front row some right stands earlier =
       open_end = λ none. cc;
       spelled = spells;
     } in
-    let tail : IsPiece (AskTail last.start front) = record { said = (begun, last.says); spaced = gaps.0 } in
-    let stood = shorter rest (Whole (acts.Ask command) (front ++ row ∷ [])) (AskTail last.start front) front row some
+    let tail : IsPiece (AskTail last.start front) = record {
+      said = (begun, last.says);
+      spaced = gaps.0;
+    } in
+    let stood = shorter rest (Whole (acts.Ask command) (front ++ row ∷ []))
+    (AskTail last.start front) front row some
     refl refl
     (λ to back is may. may) tt stands in
     record {
@@ -443,15 +502,18 @@ more_ask command rest front row some right stands earlier =
       in_order = (tail, stood, earlier);
       rows_before = refl;
       next = step.Ask command;
-      leads = led (situation_of (AskTail last.start front ∷ rest)) row Controller last.byte (step.Ask command) last.said
+      leads = led (situation_of (AskTail last.start front ∷ rest)) row Controller last.byte
+          (step.Ask command) last.said
           (low, spells, gaps.1);
       is = refl;
     }
 
 -- an ask goes on
 more_ask_tail : (bytes : List ℕ) (rest : List Piece) (front : List Event) (row : Event) → front ≢ []
-    → IsPiece (AskTail bytes (front ++ row ∷ [])) → MayStand rest (AskTail bytes (front ++ row ∷ []))
-    → ArePieces rest → Before (AskTail bytes (front ++ row ∷ []) ∷ rest) (events_of rest ++ front) row
+    → IsPiece (AskTail bytes (front ++ row ∷ []))
+    → MayStand rest (AskTail bytes (front ++ row ∷ []))
+    → ArePieces rest → Before (AskTail bytes (front ++ row ∷ []) ∷ rest) (events_of rest ++ front)
+    row
 more_ask_tail bytes rest front row some right stands earlier =
     let last = controller_last bytes front row some right.said.1 in
     let gaps = inside (events_of rest) front row some right.spaced in
@@ -469,26 +531,34 @@ more_ask_tail bytes rest front row some right stands earlier =
       open_end = λ none. cc;
       spelled = subst Q (append_assoc last.start (last.byte ∷ []) longer.rest) longer.spelled;
     } in
-    let tail : IsPiece (AskTail last.start front) = record { said = (begun, last.says); spaced = gaps.0 } in
-    let stood = shorter rest (AskTail bytes (front ++ row ∷ [])) (AskTail last.start front) front row some refl refl
+    let tail : IsPiece (AskTail last.start front) = record {
+      said = (begun, last.says);
+      spaced = gaps.0;
+    } in
+    let stood = shorter rest (AskTail bytes (front ++ row ∷ [])) (AskTail last.start front) front
+    row some refl refl
     (λ to back is may. may) tt stands in
     record {
       before = AskTail last.start front ∷ rest;
       in_order = (tail, stood, earlier);
       rows_before = refl;
       next = step.AskByte last.byte;
-      leads = led (situation_of (AskTail last.start front ∷ rest)) row Controller last.byte (step.AskByte last.byte)
+      leads = led (situation_of (AskTail last.start front ∷ rest)) row Controller last.byte
+          (step.AskByte last.byte)
           last.said
           (refl, low, longer, gaps.1);
       is = ap (λ bs. AskTail bs (front ++ row ∷ []) ∷ rest) last.is;
     }
 
 -- a foreign block of two words opens
-foreign_two : (opens : OpenIsAFront) (first second : ℕ) (rest : List Piece) (front : List Event) (row : Event)
+foreign_two : (opens : OpenIsAFront) (first second : ℕ) (rest : List Piece) (front : List Event)
+    (row : Event)
     → front ≢ []
-    → IsForeignOpening (first ∷ second ∷ []) → Say Controller ((256 + first) ∷ second ∷ []) (front ++ row ∷ [])
+    → IsForeignOpening (first ∷ second ∷ [])
+    → Say Controller ((256 + first) ∷ second ∷ []) (front ++ row ∷ [])
     → AreSpaced (front ++ row ∷ []) → MayStand rest (Whole acts.Foreign (front ++ row ∷ []))
-    → ArePieces rest → Before (Whole acts.Foreign (front ++ row ∷ []) ∷ rest) (events_of rest ++ front) row
+    → ArePieces rest → Before (Whole acts.Foreign (front ++ row ∷ []) ∷ rest)
+    (events_of rest ++ front) row
 foreign_two opens first second rest front row some opening says spaced stands earlier =
     let last = say_last Controller ((256 + first) ∷ second ∷ []) front row says in
     let same = same_from_push ((256 + first) ∷ []) last.0 second last.1 last.2 in
@@ -497,13 +567,22 @@ foreign_two opens first second rest front row some opening says spaced stands ea
     let spoken : Say Controller ((256 + first) ∷ []) front = subst Spoken (sym same.0) last.3 in
     let said : said_by row ≡ Some (Controller, second) = subst Said (sym same.1) last.4 in
     let gaps = inside (events_of rest) front row some spaced in
-    let low : All IsByte (first ∷ []) = All-from_recursion IsByte (first ∷ []) (more_low first opening.0, tt) in
+    let low : All IsByte (first ∷ []) = All-from_recursion IsByte (first ∷ [])
+    (more_low first opening.0, tt) in
     let Open : Need → Type 0 = λ need. IsShort need 1 in
     let goes = opens (first ∷ []) low (subst Open (sym opening.0) refl) in
     let begun : IsAskFront (first ∷ []) =
-    record { some = λ none. cc; command = goes.0; rest = goes.1; open_end = goes.2; spelled = goes.3 } in
-    let tail : IsPiece (AskTail (first ∷ []) front) = record { said = (begun, spoken); spaced = gaps.0 } in
-    let stood = shorter rest (Whole acts.Foreign (front ++ row ∷ [])) (AskTail (first ∷ []) front) front row some refl
+    record {
+      some = λ none. cc;
+      command = goes.0;
+      rest = goes.1;
+      open_end = goes.2;
+      spelled = goes.3;
+    } in
+    let tail : IsPiece (AskTail (first ∷ []) front) =
+    record { said = (begun, spoken); spaced = gaps.0 } in
+    let stood = shorter rest (Whole acts.Foreign (front ++ row ∷ [])) (AskTail (first ∷ []) front)
+    front row some refl
     refl
     (λ to back is may. comes to back is spoken may) tt stands in
     record {
@@ -511,49 +590,62 @@ foreign_two opens first second rest front row some opening says spaced stands ea
       in_order = (tail, stood, earlier);
       rows_before = refl;
       next = step.Foreign;
-      leads = led (situation_of (AskTail (first ∷ []) front ∷ rest)) row Controller second step.Foreign said
+      leads = led (situation_of (AskTail (first ∷ []) front ∷ rest)) row Controller second
+          step.Foreign said
           (opening.2, opening, gaps.1);
       is = refl;
     }
   where
-    begins : (to : Event) (back : List Event) → front ≡ to ∷ back → Say Controller ((256 + first) ∷ []) front
+    begins : (to : Event) (back : List Event) → front ≡ to ∷ back
+        → Say Controller ((256 + first) ∷ []) front
         → said_by to ≡ Some (Controller, 256 + first)
     begins to back is spoken =
         let Spoken : List Event → Type 0 = λ es. Say Controller ((256 + first) ∷ []) es in
         let here : Say Controller ((256 + first) ∷ []) (to ∷ back) = subst Spoken is spoken in
         cc
 
-    comes : (to : Event) (back : List Event) → front ≡ to ∷ back → Say Controller ((256 + first) ∷ []) front
-        → MayCome (Whole acts.Foreign (front ++ row ∷ [])) (position_of rest) (last_of (events_of rest)) to
+    comes : (to : Event) (back : List Event) → front ≡ to ∷ back
+        → Say Controller ((256 + first) ∷ []) front
+        → MayCome (Whole acts.Foreign (front ++ row ∷ [])) (position_of rest)
+        (last_of (events_of rest)) to
         → BlockMayCome (position_of rest) (last_of (events_of rest)) to
     comes to back is spoken (inl block) = block.1
-    comes to back is spoken (inr further) = absurd (marked_not_foreign to first (begins to back is spoken) further.0)
+    comes to back is spoken (inr further) =
+        absurd (marked_not_foreign to first (begins to back is spoken) further.0)
 
-more_foreign : (opens : OpenIsAFront) (rest : List Piece) (front : List Event) (row : Event) → front ≢ []
-    → IsPiece (Whole acts.Foreign (front ++ row ∷ [])) → MayStand rest (Whole acts.Foreign (front ++ row ∷ []))
-    → ArePieces rest → Before (Whole acts.Foreign (front ++ row ∷ []) ∷ rest) (events_of rest ++ front) row
+more_foreign : (opens : OpenIsAFront) (rest : List Piece) (front : List Event) (row : Event)
+    → front ≢ []
+    → IsPiece (Whole acts.Foreign (front ++ row ∷ []))
+    → MayStand rest (Whole acts.Foreign (front ++ row ∷ []))
+    → ArePieces rest → Before (Whole acts.Foreign (front ++ row ∷ []) ∷ rest)
+    (events_of rest ++ front) row
 more_foreign opens rest front row some right stands earlier = cases right.said
   where
-    block : (bytes : List ℕ) → IsForeignOpening bytes → Say Controller (controller_words bytes) (front ++ row ∷ [])
+    block : (bytes : List ℕ) → IsForeignOpening bytes
+        → Say Controller (controller_words bytes) (front ++ row ∷ [])
         → Before (Whole acts.Foreign (front ++ row ∷ []) ∷ rest) (events_of rest ++ front) row
     block [] opening says = absurd opening
-    block (first ∷ []) opening says = absurd (some (one_alone Controller (256 + first) front row says))
+    block (first ∷ []) opening says =
+        absurd (some (one_alone Controller (256 + first) front row says))
     block (first ∷ second ∷ []) opening says =
         foreign_two opens first second rest front row some opening says right.spaced stands earlier
     block (first ∷ second ∷ third ∷ bytes) opening says = absurd opening
 
-    cases : ((bytes : List ℕ) × IsForeignOpening bytes × Say Controller (controller_words bytes) (front ++ row ∷ []))
+    cases : ((bytes : List ℕ) × IsForeignOpening bytes × Say Controller (controller_words bytes)
+        (front ++ row ∷ []))
         ⊎ ((event : Event) × (front ++ row ∷ [] ≡ event ∷ []) × IsForeignWord event)
         → Before (Whole acts.Foreign (front ++ row ∷ []) ∷ rest) (events_of rest ++ front) row
     cases (inl opening) = block opening.0 opening.1 opening.2
     cases (inr word) = absurd (some (same_from_push front [] row word.0 word.1).0)
 
 -- a reply ends
-more_reply : (command : Command) (reply : Reply) (rest : List Piece) (front : List Event) (row : Event) → front ≢ []
+more_reply : (command : Command) (reply : Reply) (rest : List Piece) (front : List Event)
+    (row : Event) → front ≢ []
     → IsPiece (Whole (acts.Reply command reply) (front ++ row ∷ []))
     → MayStand rest (Whole (acts.Reply command reply) (front ++ row ∷ []))
     → ArePieces rest
-    → Before (Whole (acts.Reply command reply) (front ++ row ∷ []) ∷ rest) (events_of rest ++ front) row
+    → Before (Whole (acts.Reply command reply) (front ++ row ∷ []) ∷ rest) (events_of rest ++ front)
+    row
 more_reply command reply rest front row some right stands earlier =
     let bytes = reply_bytes reply in
     let Ended : List ℕ → Type 0 = λ words. Say Peripheral words (front ++ row ∷ []) in
@@ -572,7 +664,8 @@ more_reply command reply rest front row some right stands earlier =
     } in
     let tail : IsPiece (ReplyTail command bytes front) =
     record { said = (begun, subst Spoken (sym same.0) last.3); spaced = gaps.0 } in
-    let stood = shorter rest (Whole (acts.Reply command reply) (front ++ row ∷ [])) (ReplyTail command bytes front)
+    let stood = shorter rest (Whole (acts.Reply command reply) (front ++ row ∷ []))
+    (ReplyTail command bytes front)
     front row some
     refl refl (λ to back is may. may) tt stands in
     record {
@@ -580,17 +673,20 @@ more_reply command reply rest front row some right stands earlier =
       in_order = (tail, stood, earlier);
       rows_before = refl;
       next = step.Reply reply;
-      leads = led (situation_of (ReplyTail command bytes front ∷ rest)) row Peripheral last.1 (step.Reply reply) last.4
+      leads = led (situation_of (ReplyTail command bytes front ∷ rest)) row Peripheral last.1
+          (step.Reply reply) last.4
           (sym same.1, is_reply, refl, stands.levels, gaps.1);
       is = refl;
     }
 
 -- a reply goes on
-more_reply_tail : (command : Command) (bytes : List ℕ) (rest : List Piece) (front : List Event) (row : Event)
+more_reply_tail : (command : Command) (bytes : List ℕ) (rest : List Piece) (front : List Event)
+    (row : Event)
     → front ≢ []
     → IsPiece (ReplyTail command bytes (front ++ row ∷ []))
     → MayStand rest (ReplyTail command bytes (front ++ row ∷ []))
-    → ArePieces rest → Before (ReplyTail command bytes (front ++ row ∷ []) ∷ rest) (events_of rest ++ front) row
+    → ArePieces rest → Before (ReplyTail command bytes (front ++ row ∷ []) ∷ rest)
+    (events_of rest ++ front) row
 more_reply_tail command bytes rest front row some right stands earlier =
     let last = say_last Peripheral bytes front row right.said.1 in
     let gaps = inside (events_of rest) front row some right.spaced in
@@ -606,8 +702,10 @@ more_reply_tail command bytes rest front row some right stands earlier =
       few = omega (arith, few);
       in_range = all_front IsByte last.0 (last.1 ∷ []) longer.in_range;
     } in
-    let tail : IsPiece (ReplyTail command last.0 front) = record { said = (begun, last.3); spaced = gaps.0 } in
-    let stood = shorter rest (ReplyTail command bytes (front ++ row ∷ [])) (ReplyTail command last.0 front) front row
+    let tail : IsPiece (ReplyTail command last.0 front) =
+    record { said = (begun, last.3); spaced = gaps.0 } in
+    let stood = shorter rest (ReplyTail command bytes (front ++ row ∷ []))
+    (ReplyTail command last.0 front) front row
     some
     refl refl (λ to back is may. may) tt stands in
     record {
@@ -615,23 +713,32 @@ more_reply_tail command bytes rest front row some right stands earlier =
       in_order = (tail, stood, earlier);
       rows_before = refl;
       next = step.ReplyByte last.1;
-      leads = led (situation_of (ReplyTail command last.0 front ∷ rest)) row Peripheral last.1 (step.ReplyByte last.1)
+      leads = led (situation_of (ReplyTail command last.0 front ∷ rest)) row Peripheral last.1
+          (step.ReplyByte last.1)
           last.4
           (refl, all_last IsByte last.0 last.1 longer.in_range, few, gaps.1);
       is = ap (λ bs. ReplyTail command bs (front ++ row ∷ []) ∷ rest) last.2;
     }
 
 -- the words of a front are some
-some_words : (words : List ℕ) (front : List Event) → front ≢ [] → Say Peripheral words front → words ≢ []
+some_words : (words : List ℕ) (front : List Event) → front ≢ [] → Say Peripheral words front
+    → words ≢ []
 some_words words front some says none =
-    absurd (omega (arith, some_length front some, say_length Peripheral words front says, ap length none))
+    absurd (omega (
+      arith,
+      some_length front some,
+      say_length Peripheral words front says,
+      ap length none,
+    ))
 
 -- a repeat goes on
-more_repeat_tail : (command : Command) (reply : Reply) (words : List ℕ) (rest : List Piece) (front : List Event)
+more_repeat_tail : (command : Command) (reply : Reply) (words : List ℕ) (rest : List Piece)
+    (front : List Event)
     (row : Event) → front ≢ []
     → IsPiece (RepeatTail command reply words (front ++ row ∷ []))
     → MayStand rest (RepeatTail command reply words (front ++ row ∷ []))
-    → ArePieces rest → Before (RepeatTail command reply words (front ++ row ∷ []) ∷ rest) (events_of rest ++ front) row
+    → ArePieces rest → Before (RepeatTail command reply words (front ++ row ∷ []) ∷ rest)
+    (events_of rest ++ front) row
 more_repeat_tail command reply words rest front row some right stands earlier =
     let last = say_last Peripheral words front row right.said.1 in
     let gaps = inside (events_of rest) front row some right.spaced in
@@ -643,7 +750,8 @@ more_repeat_tail command reply words rest front row some right stands earlier =
       open_end = λ none. cc;
       same = sym (append_assoc last.0 (last.1 ∷ []) longer.rest) ∙ longer.same;
     } in
-    let tail : IsPiece (RepeatTail command reply last.0 front) = record { said = (begun, last.3); spaced = gaps.0 } in
+    let tail : IsPiece (RepeatTail command reply last.0 front) =
+    record { said = (begun, last.3); spaced = gaps.0 } in
     let stood = shorter rest (RepeatTail command reply words (front ++ row ∷ []))
     (RepeatTail command reply last.0 front) front row some
     refl refl (λ to back is may. may) tt stands in
@@ -652,18 +760,21 @@ more_repeat_tail command reply words rest front row some right stands earlier =
       in_order = (tail, stood, earlier);
       rows_before = refl;
       next = step.RepeatWord last.1;
-      leads = led (situation_of (RepeatTail command reply last.0 front ∷ rest)) row Peripheral last.1
+      leads = led (situation_of (RepeatTail command reply last.0 front ∷ rest)) row Peripheral
+          last.1
           (step.RepeatWord last.1) last.4
           (refl, longer, gaps.1);
       is = ap (λ ws. RepeatTail command reply ws (front ++ row ∷ []) ∷ rest) last.2;
     }
 
 -- a repeat ends
-more_repeat : (command : Command) (reply : Reply) (rest : List Piece) (front : List Event) (row : Event) → front ≢ []
+more_repeat : (command : Command) (reply : Reply) (rest : List Piece) (front : List Event)
+    (row : Event) → front ≢ []
     → IsPiece (Whole (acts.Repeat command reply) (front ++ row ∷ []))
     → MayStand rest (Whole (acts.Repeat command reply) (front ++ row ∷ []))
     → ArePieces rest
-    → Before (Whole (acts.Repeat command reply) (front ++ row ∷ []) ∷ rest) (events_of rest ++ front) row
+    → Before (Whole (acts.Repeat command reply) (front ++ row ∷ []) ∷ rest)
+    (events_of rest ++ front) row
 more_repeat command reply rest front row some right stands earlier =
     let last = say_last Peripheral (reply_words reply) front row right.said in
     let gaps = inside (events_of rest) front row some right.spaced in
@@ -673,7 +784,8 @@ more_repeat command reply rest front row some right stands earlier =
       open_end = λ none. cc;
       same = sym last.2;
     } in
-    let tail : IsPiece (RepeatTail command reply last.0 front) = record { said = (begun, last.3); spaced = gaps.0 } in
+    let tail : IsPiece (RepeatTail command reply last.0 front) =
+    record { said = (begun, last.3); spaced = gaps.0 } in
     let stood = shorter rest (Whole (acts.Repeat command reply) (front ++ row ∷ []))
     (RepeatTail command reply last.0 front) front row some
     refl refl (λ to back is may. may) tt stands in
@@ -682,7 +794,8 @@ more_repeat command reply rest front row some right stands earlier =
       in_order = (tail, stood, earlier);
       rows_before = refl;
       next = step.Repeat;
-      leads = led (situation_of (RepeatTail command reply last.0 front ∷ rest)) row Peripheral last.1 step.Repeat last.4
+      leads = led (situation_of (RepeatTail command reply last.0 front ∷ rest)) row Peripheral
+          last.1 step.Repeat last.4
           (sym last.2, gaps.1);
       is = refl;
     }
@@ -696,18 +809,21 @@ answer_alone line word events front row some says is =
     some (one_alone line word front row (subst Spoken is says))
 
 -- a piece of more events
-more : (opens : OpenIsAFront) (piece : Piece) (rest : List Piece) (front : List Event) (row : Event) → front ≢ []
+more : (opens : OpenIsAFront) (piece : Piece) (rest : List Piece) (front : List Event) (row : Event)
+    → front ≢ []
     → IsPiece piece → MayStand rest piece → ArePieces rest → piece_events piece ≡ front ++ row ∷ []
     → Before (piece ∷ rest) (events_of rest ++ front) row
 more opens (Whole (acts.Ask command) events) rest front row some right stands earlier is =
-    with_events (Whole (acts.Ask command)) rest (events_of rest ++ front) row events (front ++ row ∷ []) is
+    with_events (Whole (acts.Ask command)) rest (events_of rest ++ front) row events
+    (front ++ row ∷ []) is
     (λ r s. more_ask command rest front row some r s earlier) right stands
 more opens (Whole (acts.Ack command) events) rest front row some right stands earlier is =
     absurd (answer_alone Peripheral 256 events front row some right.said is)
 more opens (Whole (acts.Nak command) events) rest front row some right stands earlier is =
     absurd (answer_alone Peripheral 511 events front row some right.said is)
 more opens (Whole (acts.Reply command reply) events) rest front row some right stands earlier is =
-    with_events (Whole (acts.Reply command reply)) rest (events_of rest ++ front) row events (front ++ row ∷ []) is
+    with_events (Whole (acts.Reply command reply)) rest (events_of rest ++ front) row events
+    (front ++ row ∷ []) is
     (λ r s. more_reply command reply rest front row some r s earlier) right stands
 more opens (Whole (acts.VmcAck command reply) events) rest front row some right stands earlier is =
     absurd (answer_alone Controller 0 events front row some right.said is)
@@ -716,25 +832,31 @@ more opens (Whole (acts.VmcNak command reply) events) rest front row some right 
 more opens (Whole (acts.VmcRet command reply) events) rest front row some right stands earlier is =
     absurd (answer_alone Controller 170 events front row some right.said is)
 more opens (Whole (acts.Repeat command reply) events) rest front row some right stands earlier is =
-    with_events (Whole (acts.Repeat command reply)) rest (events_of rest ++ front) row events (front ++ row ∷ []) is
+    with_events (Whole (acts.Repeat command reply)) rest (events_of rest ++ front) row events
+    (front ++ row ∷ []) is
     (λ r s. more_repeat command reply rest front row some r s earlier) right stands
 more opens (Whole acts.Foreign events) rest front row some right stands earlier is =
-    with_events (Whole acts.Foreign) rest (events_of rest ++ front) row events (front ++ row ∷ []) is
+    with_events (Whole acts.Foreign) rest (events_of rest ++ front) row events (front ++ row ∷ [])
+    is
     (λ r s. more_foreign opens rest front row some r s earlier) right stands
 more opens (Whole (acts.Break length) events) rest front row some right stands earlier is =
-    absurd (some (same_from_push front [] row (Break right.said.0 length) (sym is ∙ right.said.1)).0)
+    absurd (some (same_from_push front [] row (Break right.said.0 length) (sym is
+    ∙ right.said.1)).0)
 more opens (AskTail bytes events) rest front row some right stands earlier is =
     with_events (AskTail bytes) rest (events_of rest ++ front) row events (front ++ row ∷ []) is
     (λ r s. more_ask_tail bytes rest front row some r s earlier) right stands
 more opens (ReplyTail command bytes events) rest front row some right stands earlier is =
-    with_events (ReplyTail command bytes) rest (events_of rest ++ front) row events (front ++ row ∷ []) is
+    with_events (ReplyTail command bytes) rest (events_of rest ++ front) row events
+    (front ++ row ∷ []) is
     (λ r s. more_reply_tail command bytes rest front row some r s earlier) right stands
 more opens (RepeatTail command reply words events) rest front row some right stands earlier is =
-    with_events (RepeatTail command reply words) rest (events_of rest ++ front) row events (front ++ row ∷ []) is
+    with_events (RepeatTail command reply words) rest (events_of rest ++ front) row events
+    (front ++ row ∷ []) is
     (λ r s. more_repeat_tail command reply words rest front row some r s earlier) right stands
 
 -- a piece by its last event
-back_at : (opens : OpenIsAFront) (piece : Piece) (rest : List Piece) (front : List Event) (row : Event)
+back_at : (opens : OpenIsAFront) (piece : Piece) (rest : List Piece) (front : List Event)
+    (row : Event)
     → IsPiece piece → MayStand rest piece → ArePieces rest → piece_events piece ≡ front ++ row ∷ []
     → Before (piece ∷ rest) (events_of rest ++ front) row
 back_at opens piece rest [] row right stands earlier is =
@@ -745,9 +867,11 @@ back_at opens piece rest (f ∷ front) row right stands earlier is =
 
 -- a piece has events
 pub piece_some : (rest : List Piece) (piece : Piece) → MayStand rest piece → piece_events piece ≢ []
-piece_some rest piece stands none = let clash : [] ≡ stands.first ∷ stands.others = sym none ∙ stands.begins in cc
+piece_some rest piece stands none = let clash : [] ≡ stands.first ∷ stands.others = sym none
+    ∙ stands.begins in cc
 
-pub backward : (opens : OpenIsAFront) (pieces : List Piece) (rows : List Event) (row : Event) → ArePieces pieces
+pub backward : (opens : OpenIsAFront) (pieces : List Piece) (rows : List Event) (row : Event)
+    → ArePieces pieces
     → events_of pieces ≡ rows ++ row ∷ [] → Before pieces rows row
 backward opens [] rows row right whole = absurd (not_empty rows row (sym whole))
 backward opens (piece ∷ rest) rows row right whole =

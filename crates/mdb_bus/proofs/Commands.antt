@@ -40,34 +40,40 @@ command_some (Reader unit command) = reader_some (reader_address unit) command
 two_low : (number : ℕ) → IsNumber number → (number / 256 < 256) × (number % 256 < 256)
 two_low number low = (omega arith, omega arith)
 
-four_low : (one other : ℕ) → IsNumber one → IsNumber other → AllByRecursion IsByte (two_bytes one ++ two_bytes other)
+four_low : (one other : ℕ) → IsNumber one → IsNumber other
+    → AllByRecursion IsByte (two_bytes one ++ two_bytes other)
 four_low one other low also =
     let p = two_low one low in
     let q = two_low other also in
     (p.0, (p.1, (q.0, (q.1, tt))))
 
 -- the bytes of a command are bytes
-changer_low : (command : ChangerCommand) → HasChangerFields command → AllByRecursion IsByte (changer_bytes command)
+changer_low : (command : ChangerCommand) → HasChangerFields command
+    → AllByRecursion IsByte (changer_bytes command)
 changer_low changer.Reset fields = (omega arith, tt)
 changer_low changer.Setup fields = (omega arith, tt)
 changer_low changer.TubeStatus fields = (omega arith, tt)
 changer_low changer.Poll fields = (omega arith, tt)
-changer_low (changer.CoinType enable manual) fields = (omega arith, four_low enable manual fields.0 fields.1)
+changer_low (changer.CoinType enable manual) fields =
+    (omega arith, four_low enable manual fields.0 fields.1)
 changer_low (changer.Dispense coins) fields = (omega arith, (fields, tt))
 changer_low changer.Identification fields = (omega arith, (omega arith, tt))
 changer_low (changer.Features features) fields =
     (omega arith, (omega arith, recursion_from_All IsByte features fields.1))
 
-bill_low : (command : BillCommand) → HasBillFields command → AllByRecursion IsByte (bill_bytes command)
+bill_low : (command : BillCommand) → HasBillFields command
+    → AllByRecursion IsByte (bill_bytes command)
 bill_low bill.Reset fields = (omega arith, tt)
 bill_low bill.Setup fields = (omega arith, tt)
 bill_low (bill.Security levels) fields = (omega arith, recursion_from_All IsByte levels fields.1)
 bill_low bill.Poll fields = (omega arith, tt)
-bill_low (bill.BillType enable escrow) fields = (omega arith, four_low enable escrow fields.0 fields.1)
+bill_low (bill.BillType enable escrow) fields =
+    (omega arith, four_low enable escrow fields.0 fields.1)
 bill_low (bill.Escrow order) fields = (omega arith, (fields, tt))
 bill_low bill.Stacker fields = (omega arith, tt)
 bill_low bill.Identification fields = (omega arith, (omega arith, tt))
-bill_low (bill.Features features) fields = (omega arith, (omega arith, recursion_from_All IsByte features fields.1))
+bill_low (bill.Features features) fields =
+    (omega arith, (omega arith, recursion_from_All IsByte features fields.1))
 bill_low bill.IdentificationWithOptions fields = (omega arith, (omega arith, tt))
 
 reader_low : (address : ℕ) (command : ReaderCommand) → address ≤ 0x60 → HasReaderFields command
@@ -105,16 +111,20 @@ content_low : (command : Command) (block : List ℕ) → Spells command block
     → AllByRecursion IsByte (command_bytes command)
 content_low (Changer command) block spells = changer_low command spells.fields
 content_low (Bill command) block spells = bill_low command spells.fields
-content_low (Reader First command) block spells = reader_low 0x10 command (omega arith) spells.fields
-content_low (Reader Second command) block spells = reader_low 0x60 command (omega arith) spells.fields
+content_low (Reader First command) block spells = reader_low 0x10 command (omega arith)
+    spells.fields
+content_low (Reader Second command) block spells = reader_low 0x60 command (omega arith)
+    spells.fields
 
 pub spelled_low : (command : Command) (block : List ℕ) → Spells command block → All IsByte block
 spelled_low command block spells =
     let Low : List ℕ → Type 0 = λ bytes. All IsByte bytes in
-    subst Low (sym spells.bytes) (block_low (command_bytes command) (content_low command block spells))
+    subst Low (sym spells.bytes)
+    (block_low (command_bytes command) (content_low command block spells))
 
 -- a first byte that leaves its length to the second is a byte
-by_device : (first : ℕ) (changer one bill other : Bool) → is_for 0x08 first ≡ changer → is_for 0x10 first ≡ one
+by_device : (first : ℕ) (changer one bill other : Bool) → is_for 0x08 first ≡ changer
+    → is_for 0x10 first ≡ one
     → is_for 0x30 first ≡ bill → is_for 0x60 first ≡ other
     → (if changer then changer_need first None
     else if one then reader_need (first % 8) None
@@ -138,5 +148,6 @@ by_device first false false false false a b c d more = cc more
 
 pub more_low : (first : ℕ) → needed (first ∷ []) ≡ More → first < 256
 more_low first more =
-    by_device first (is_for 0x08 first) (is_for 0x10 first) (is_for 0x30 first) (is_for 0x60 first) refl refl refl refl
+    by_device first (is_for 0x08 first) (is_for 0x10 first) (is_for 0x30 first) (is_for 0x60 first)
+    refl refl refl refl
     more

@@ -52,7 +52,8 @@ pub within : (a b : ℕ) → Decided (a ≤ b)
 within a b = meant (λ l. omega (arith, l)) (λ l. omega (arith, l)) (less a (b + 1))
 
 pub same : (a b : ℕ) → Decided (a ≡ b)
-same a b = meant {A = (a ≤ b) × (b ≤ a)} (λ h. omega (arith, h.0, h.1)) (λ e. (omega (arith, e), omega (arith, e)))
+same a b = meant {A = (a ≤ b) × (b ≤ a)} (λ h. omega (arith, h.0, h.1))
+    (λ e. (omega (arith, e), omega (arith, e)))
     (both (within a b) (within b a))
 
 pub is_true : (test : Bool) → Decided (test ≡ true)
@@ -86,8 +87,10 @@ next_in (w ∷ words) (s ∷ said) word = meant to from (both (same s w) (next_i
 -- the rules by their places
 abbrev rules_in_order : List Rule
 rules_in_order =
-    rule.Order ∷ rule.Speaker ∷ rule.Mode ∷ rule.Early ∷ rule.Late ∷ rule.Spacing ∷ rule.Length ∷ rule.Sum ∷ rule.Break
-    ∷ rule.Answer ∷ rule.Message ∷ rule.Same ∷ rule.Profile ∷ rule.Changer ∷ rule.Bill ∷ rule.Cashless ∷ []
+    rule.Order ∷ rule.Speaker ∷ rule.Mode ∷ rule.Early ∷ rule.Late ∷ rule.Spacing ∷ rule.Length
+    ∷ rule.Sum ∷ rule.Break
+    ∷ rule.Answer ∷ rule.Message ∷ rule.Same ∷ rule.Profile ∷ rule.Changer ∷ rule.Bill
+    ∷ rule.Cashless ∷ []
 
 -- each rule is the one at its place
 placed : (r : Rule) → get_or (rule.Order ∷ rules_in_order) (place_of r) rule.Order ≡ r
@@ -97,7 +100,8 @@ placed r = refl
 -- two rules at one place are one
 one_place : (one other : Rule) → place_of one ≡ place_of other → one ≡ other
 one_place one other is =
-    sym (placed one) ∙ (ap (λ n. get_or (rule.Order ∷ rules_in_order) n rule.Order) is ∙ placed other)
+    sym (placed one) ∙ (ap (λ n. get_or (rule.Order ∷ rules_in_order) n rule.Order) is
+    ∙ placed other)
 
 -- a broken rule that has no broken one before it
 pub record Found (Breaks : Rule → Type 0) : Type 0 where
@@ -116,9 +120,11 @@ last_place rule.Order = omega arith
 last_place r = omega arith
 
 -- where no rule before a place is broken, some rule is the first broken one, or none is broken
-first_from : (Breaks : Rule → Type 0) → ((r : Rule) → Decided (Breaks r)) → (place : ℕ) (order : List Rule)
+first_from : (Breaks : Rule → Type 0) → ((r : Rule) → Decided (Breaks r))
+    → (place : ℕ) (order : List Rule)
     → StandFrom place order
-    → ((other : Rule) → Breaks other → place ≤ place_of other) → Found Breaks ⊎ ((r : Rule) → Breaks r → ⊥)
+    → ((other : Rule) → Breaks other → place ≤ place_of other)
+    → Found Breaks ⊎ ((r : Rule) → Breaks r → ⊥)
 first_from Breaks decided place [] stand none =
     inr (λ r broken. absurd (omega (arith, stand, none r broken, last_place r)))
 first_from Breaks decided place (r ∷ order) stand none =
@@ -128,17 +134,23 @@ first_from Breaks decided place (r ∷ order) stand none =
     later clear other broken = at (same place (place_of other))
       where
         at : Decided (place ≡ place_of other) → place + 1 ≤ place_of other
-        at (inl is) = absurd (clear (subst Breaks (one_place other r (sym is ∙ sym stand.0)) broken))
+        at (inl is) =
+            absurd (clear (subst Breaks (one_place other r (sym is ∙ sym stand.0)) broken))
         at (inr not_is) = omega (arith, not_is, none other broken)
 
     here : Decided (Breaks r) → ((Breaks r → ⊥) → Found Breaks ⊎ ((r : Rule) → Breaks r → ⊥))
         → Found Breaks ⊎ ((r : Rule) → Breaks r → ⊥)
     here (inl broken) rest =
-        inl (record { rule = r; broken = broken; first = λ other breaks. omega (arith, stand.0, none other breaks) })
+        inl (record {
+          rule = r;
+          broken = broken;
+          first = λ other breaks. omega (arith, stand.0, none other breaks);
+        })
     here (inr clear) rest = rest clear
 
 -- where each rule is broken or isn't, some rule is the first broken one, or none is broken
-pub first_or_none : (Breaks : Rule → Type 0) → ((r : Rule) → Decided (Breaks r)) → Found Breaks ⊎ ((r : Rule)
+pub first_or_none : (Breaks : Rule → Type 0) → ((r : Rule) → Decided (Breaks r))
+    → Found Breaks ⊎ ((r : Rule)
     → Breaks r → ⊥)
 first_or_none Breaks decided = first_from Breaks decided 1 rules_in_order stand placed_after
   where
@@ -157,7 +169,13 @@ first_or_none Breaks decided = first_from Breaks decided 1 rules_in_order stand 
                 refl,
                 (
                   refl,
-                  (refl, (refl, (refl, (refl, (refl, (refl, (refl, (refl, (refl, omega arith))))))))),
+                  (
+                    refl,
+                    (
+                      refl,
+                      (refl, (refl, (refl, (refl, (refl, (refl, (refl, omega arith))))))),
+                    ),
+                  ),
                 ),
               ),
             ),

@@ -10,7 +10,8 @@ use Rattle.mdb_bus.specs.inner.Step.{EachStep, SomeStep, Step, word_in}
 use Rattle.mdb_bus.specs.inner.Step as step
 
 -- a step that has what some step has and what each step has
-pub some_each : (found : Judged) (row : Event) (One Two : Step → Type 0) → SomeStep found row One → EachStep found row Two → (next : Step) × One next × Two next
+pub some_each : (found : Judged) (row : Event) (One Two : Step → Type 0) → SomeStep found row One
+    → EachStep found row Two → (next : Step) × One next × Two next
 some_each judged.AskByte row One Two one two = (step.AskByte (word_in row % 256), one, two)
 some_each judged.Ask row One Two one two = (step.Ask one.0, one.1, two one.0)
 some_each judged.Foreign row One Two one two = (step.Foreign, one, two)
@@ -27,7 +28,8 @@ some_each judged.Break (Break at length) One Two one two = (step.Break length, o
 some_each judged.Break (Word at line word) One Two one two = absurd one
 
 -- what is made of a row that ends no reply is where it leads
-pub leads_of : (found : Judged) (s : Situation) (row : Event) → (found ≡ judged.Reply → ⊥) → IsJudged s row (Ok found)
+pub leads_of : (found : Judged) (s : Situation) (row : Event) → (found ≡ judged.Reply → ⊥)
+    → IsJudged s row (Ok found)
     → SomeStep found row (Leads s row)
 leads_of judged.AskByte s row other h = h
 leads_of judged.Ask s row other h = h

@@ -35,25 +35,30 @@ abbrev pub situation_at : Bus → Situation
 situation_at bus = record { position = position_at bus.place; last = bus.last; levels = bus.levels }
 
 -- it is that of the pieces that the bus stands for
-pub same_situation : (bus : Bus) (pieces : List Piece) → StandsFor bus pieces → situation_of pieces ≡ situation_at bus
+pub same_situation : (bus : Bus) (pieces : List Piece) → StandsFor bus pieces
+    → situation_of pieces ≡ situation_at bus
 same_situation bus pieces stands =
-    let make : Position → Option Event → Levels → Situation = λ p l v. record { position = p; last = l; levels = v } in
+    let make : Position → Option Event → Levels
+    → Situation = λ p l v. record { position = p; last = l; levels = v } in
     ap (λ p. make p (last_of (events_of pieces)) (levels_of pieces)) stands.position
     ∙ (ap (λ l. make (position_at bus.place) l (levels_of pieces)) stands.last
     ∙ ap (λ v. make (position_at bus.place) bus.last v) stands.levels)
 
 -- a step belongs to the position that it leads from
-word_at : (at : Position) (from : Option Event) (levels : Levels) (to : Event) (line : Line) (word : ℕ) (next : Step)
+word_at : (at : Position) (from : Option Event) (levels : Levels) (to : Event) (line : Line)
+    (word : ℕ) (next : Step)
     → WordLeads at from levels to line word next → IsAt at next
 word_at at from levels to line word (step.AskByte byte) leads = tt
-word_at (InAsk bytes) from levels to Controller word (step.Ask command) leads = sealed bytes word command leads.1
+word_at (InAsk bytes) from levels to Controller word (step.Ask command) leads =
+    sealed bytes word command leads.1
 word_at at from levels to line word step.Foreign leads = tt
 word_at at from levels to line word (step.Break length) leads = tt
 word_at (Asked command) from levels to line word step.Ack leads = tt
 word_at (Asked command) from levels to line word step.Nak leads = tt
 word_at (Asked command) from levels to line word (step.ReplyByte byte) leads = tt
 word_at (InReply command bytes) from levels to line word (step.ReplyByte byte) leads = tt
-word_at (InReply command bytes) from levels to Peripheral word (step.Reply reply) leads = (leads.1, leads.2)
+word_at (InReply command bytes) from levels to Peripheral word (step.Reply reply) leads =
+    (leads.1, leads.2)
 word_at (Replied command reply) from levels to line word step.VmcAck leads = tt
 word_at (Replied command reply) from levels to line word step.VmcNak leads = tt
 word_at (Replied command reply) from levels to line word step.VmcRet leads = tt
@@ -81,23 +86,27 @@ word_at InForeign from levels to Controller word next (inr leads) = absurd leads
 word_at InForeign from levels to Peripheral word next leads = absurd leads
 
 pub leads_at : (s : Situation) (row : Event) (next : Step) → Leads s row next → IsAt s.position next
-leads_at s (Word at line word) next leads = word_at s.position s.last s.levels (Word at line word) line word next leads
+leads_at s (Word at line word) next leads = word_at s.position s.last s.levels (Word at line word)
+    line word next leads
 leads_at s (Break at length) (step.Break lasted) leads = tt
 leads_at s (Break at length) next leads = absurd leads
 
 -- the bus stands for one row more
-stands_by : (old new : Bus) (pieces : List Piece) (row : Event) (next : Step) (act : Option Act) → StandsFor old pieces
+stands_by : (old new : Bus) (pieces : List Piece) (row : Event) (next : Step) (act : Option Act)
+    → StandsFor old pieces
     → Leads (situation_at old) row next
     → (IsAt (position_at old.place) next → HasGone old next row new act) → GoesOn new pieces row act
 stands_by old new pieces row next act stands leads gone =
     let went : HasGone old next row new act = gone (leads_at (situation_at old) row next leads) in
     let There : Situation → Type 0 = λ s. Leads s row next in
-    let more = forward pieces row next stands.in_order (subst There (sym (same_situation old pieces stands)) leads) in
+    let more = forward pieces row next stands.in_order
+    (subst There (sym (same_situation old pieces stands)) leads) in
     record {
       longer = pieces_after pieces row next;
       stands = record {
         in_order = more.in_order;
-        position = more.position ∙ (ap (λ p. position_after p next) stands.position ∙ sym went.advanced.position);
+        position = more.position ∙ (ap (λ p. position_after p next) stands.position
+            ∙ sym went.advanced.position);
         last = ap last_of more.rows ∙ (last_push (events_of pieces) row ∙ sym went.last);
         levels = more.levels ∙ (ap (λ l. levels_after_step l next) stands.levels ∙ sym went.levels);
         asked = more.asked ∙ (ap (λ a. asked_after a next) stands.asked ∙ sym went.asked);
@@ -110,21 +119,25 @@ stands_by old new pieces row next act stands leads gone =
     Goes : Option Act → Type 0
     Goes a = Grown pieces row a (pieces_after pieces row next)
 
-    ended : position_of pieces ≡ position_at old.place → act ≡ act_after (position_at old.place) next
+    ended : position_of pieces ≡ position_at old.place
+        → act ≡ act_after (position_at old.place) next
         → act_after (position_of pieces) next ≡ act
     ended position is = ap (λ p. act_after p next) position ∙ sym is
 
-    acts_same : position_of pieces ≡ position_at old.place → act ≡ act_after (position_at old.place) next
+    acts_same : position_of pieces ≡ position_at old.place
+        → act ≡ act_after (position_at old.place) next
         → with_act (act_after (position_of pieces) next) (acts_of pieces)
         ≡ with_act act (acts_of pieces)
     acts_same position ended =
         ap (λ p. with_act (act_after p next) (acts_of pieces)) position
         ∙ ap (λ a. with_act a (acts_of pieces)) (sym ended)
 
-pub stands_on : (old new : Bus) (pieces : List Piece) (row : Event) (found : Judged) (act : Option Act) → StandsFor old pieces
+pub stands_on : (old new : Bus) (pieces : List Piece) (row : Event) (found : Judged)
+    (act : Option Act) → StandsFor old pieces
     → (found ≡ judged.Reply → ⊥)
     → IsJudged (situation_at old) row (Ok found)
-    → EachStep found row (λ next. IsAt (position_at old.place) next → HasGone old next row new act) → GoesOn new pieces row act
+    → EachStep found row (λ next. IsAt (position_at old.place) next → HasGone old next row new act)
+    → GoesOn new pieces row act
 stands_on old new pieces row found act stands other judged gone =
     let both = some_each found row (Leads (situation_at old) row)
     (λ next. IsAt (position_at old.place) next → HasGone old next row new act)
@@ -132,25 +145,30 @@ stands_on old new pieces row found act stands other judged gone =
     stands_by old new pieces row both.0 act stands both.1 both.2
 
 -- the bus stands for one row more, where a reply has ended and was read
-pub stands_read : (old new : Bus) (pieces : List Piece) (row : Event) (reply : Reply) (act : Option Act) → StandsFor old pieces
+pub stands_read : (old new : Bus) (pieces : List Piece) (row : Event) (reply : Reply)
+    (act : Option Act) → StandsFor old pieces
     → IsEnded (situation_at old) row
-    → IsReadAt (position_at old.place) old.levels (Ok reply) → HasGone old (step.Reply reply) row new act
+    → IsReadAt (position_at old.place) old.levels (Ok reply)
+    → HasGone old (step.Reply reply) row new act
     → GoesOn new pieces row act
 stands_read old new pieces row reply act stands ended read gone =
     let leads = ended (Ok reply) read in
     stands_by old new pieces row (step.Reply reply) act stands leads (λ _. gone)
 
 -- a reply that has ended breaks the rule that is told of it
-pub read_breaks : (old : Bus) (pieces : List Piece) (row : Event) (broken : Rule) → StandsFor old pieces
+pub read_breaks : (old : Bus) (pieces : List Piece) (row : Event) (broken : Rule)
+    → StandsFor old pieces
     → IsEnded (situation_at old) row
     → IsReadAt (position_at old.place) old.levels (Err broken)
     → IsFirstBroken (situation_at old) row broken
 read_breaks old pieces row broken stands ended read = ended (Err broken) read
 
 -- the fault of a row that is refused
-pub fault_of : (old : Bus) (pieces : List Piece) (row : Event) (broken told : Rule) (blamed : Blame) → StandsFor old pieces
+pub fault_of : (old : Bus) (pieces : List Piece) (row : Event) (broken told : Rule) (blamed : Blame)
+    → StandsFor old pieces
     → IsFirstBroken (situation_at old) row broken → told ≡ broken
-    → blamed ≡ blame_of (position_at old.place) old.asked row broken → IsLinkFault pieces row told blamed
+    → blamed ≡ blame_of (position_at old.place) old.asked row broken
+    → IsLinkFault pieces row told blamed
 fault_of old pieces row broken told blamed stands judged same blame =
     let first : IsFirstBroken (situation_at old) row broken = judged in
     let There : Situation → Type 0 = λ s. IsFirstBroken s row told in
@@ -172,7 +190,8 @@ ended_by old row found is judged =
     let P : Judged → Type 0 = λ f. IsJudged (situation_at old) row (Ok f) in
     subst P is judged
 
-pub read_goes_on : (old new : Bus) (pieces : List Piece) (row : Event) (act : Act) (result : Result Bool LinkFault)
+pub read_goes_on : (old new : Bus) (pieces : List Piece) (row : Event) (act : Act)
+    (result : Result Bool LinkFault)
     → StandsFor old pieces → IsEnded (situation_at old) row
     → IfOk result (λ ends. (reply : Reply) × IsReadAt (position_at old.place) old.levels (Ok reply)
     × HasGone old (step.Reply reply) row new (ended_act ends act))
@@ -181,10 +200,12 @@ read_goes_on old new pieces row act (Ok ends) stands ended h =
     stands_read old new pieces row h.0 (ended_act ends act) stands ended h.1 h.2
 read_goes_on old new pieces row act (Err fault) stands ended h = tt
 
-pub read_has_fault : (old : Bus) (pieces : List Piece) (row : Event) (result : Result Bool LinkFault)
+pub read_has_fault : (old : Bus) (pieces : List Piece) (row : Event)
+    (result : Result Bool LinkFault)
     → StandsFor old pieces → IsEnded (situation_at old) row
     → IfErr result (λ fault. IsReadAt (position_at old.place) old.levels (Err fault.rule))
-    → IfErr result (λ fault. fault.blame ≡ blame_of (position_at old.place) old.asked row fault.rule)
+    → IfErr result (λ fault. fault.blame ≡ blame_of (position_at old.place) old.asked row
+    fault.rule)
     → IfErr result (λ fault. IsLinkFault pieces row fault.rule fault.blame)
 read_has_fault old pieces row (Ok act) stands ended read blame = tt
 read_has_fault old pieces row (Err fault) stands ended read blame =
@@ -194,7 +215,8 @@ read_has_fault old pieces row (Err fault) stands ended read blame =
 -- what is refused ends the act list
 pub fault_ends : ((pieces : List Piece) (row : Event) (broken : Rule) → ArePieces pieces
     → RowBreaks (situation_of pieces) row broken → HasActList (events_of pieces ++ row ∷ []) → ⊥)
-    → (old : Bus) (pieces : List Piece) (row : Event) (result : Result Bool LinkFault) → StandsFor old pieces
+    → (old : Bus) (pieces : List Piece) (row : Event) (result : Result Bool LinkFault)
+    → StandsFor old pieces
     → IfErr result (λ fault. IsLinkFault pieces row fault.rule fault.blame)
     → OnErr result (HasActList (events_of pieces ++ row ∷ []) → ⊥)
 fault_ends law old pieces row (Ok act) stands faulty = tt
@@ -202,7 +224,8 @@ fault_ends law old pieces row (Err fault) stands faulty =
     λ has. law pieces row fault.rule stands.in_order faulty.rule.breaks has
 
 -- the act that an ask ends
-asks : (at : Position) (command : Command) → IsAt at (step.Ask command) → act_after at (step.Ask command) ≡ Some (acts.Ask command)
+asks : (at : Position) (command : Command) → IsAt at (step.Ask command)
+    → act_after at (step.Ask command) ≡ Some (acts.Ask command)
 asks Quiet command there = absurd there
 asks (InAsk bytes) command there = refl
 asks (Asked other) command there = absurd there
@@ -217,14 +240,16 @@ ended_is true act told is = cc
 ended_is false act told is = absurd (cc)
 
 -- a bus has gone by the ask that its place has advanced by, where it keeps what the act tells
-pub gone_ask : (old new : Bus) (place : Place) (row : Event) (found : Judged) (ended : Bool) (act : Act)
+pub gone_ask : (old new : Bus) (place : Place) (row : Event) (found : Judged) (ended : Bool)
+    (act : Act)
     → found ≡ judged.Ask → new.place ≡ place
     → new.last ≡ Some row
     → ((command : Command) → act ≡ acts.Ask command → new.levels ≡ levels_after command old.levels)
     → ((command : Command) → act ≡ acts.Ask command → new.asked ≡ Some (device_of command))
     → EachStep found row (λ next. IsAt (position_at old.place) next
     → HasAdvanced (position_at old.place) next (position_at place) (ended_act ended act))
-    → EachStep found row (λ next. IsAt (position_at old.place) next → HasGone old next row new (ended_act ended act))
+    → EachStep found row (λ next. IsAt (position_at old.place) next
+    → HasGone old next row new (ended_act ended act))
 gone_ask old new place row judged.Ask ended act is there last levels asked advanced = λ command at.
     let Led : Place → Type 0 = λ p.
     HasAdvanced (position_at old.place) (step.Ask command) (position_at p) (ended_act ended act) in
@@ -254,8 +279,8 @@ gone_off old new (Word at line word) judged.Break act is last levels asked advan
 gone_off old new row found act (inl is) last levels asked advanced = absurd (cc)
 gone_off old new row found act (inr is) last levels asked advanced = absurd (cc)
 
--- a bus has gone by another step that its place has advanced by, which changes neither the levels nor
--- the device that was asked
+-- a bus has gone by another step that its place has advanced by, which changes neither the levels
+-- nor the device that was asked
 pub gone_on : (old new : Bus) (row : Event) (found : Judged) (act : Option Act)
     → (found ≡ judged.Ask → ⊥) → (found ≡ judged.Foreign → ⊥) → (found ≡ judged.Break → ⊥)
     → new.last ≡ Some row → new.levels ≡ old.levels → new.asked ≡ old.asked
@@ -263,8 +288,10 @@ pub gone_on : (old new : Bus) (row : Event) (found : Judged) (act : Option Act)
     → HasAdvanced (position_at old.place) next (position_at new.place) act)
     → EachStep found row (λ next. IsAt (position_at old.place) next → HasGone old next row new act)
 gone_on old new row judged.Ask act ask foreign pause last levels asked advanced = absurd (ask refl)
-gone_on old new row judged.Foreign act ask foreign pause last levels asked advanced = absurd (foreign refl)
-gone_on old new row judged.Break act ask foreign pause last levels asked advanced = absurd (pause refl)
+gone_on old new row judged.Foreign act ask foreign pause last levels asked advanced =
+    absurd (foreign refl)
+gone_on old new row judged.Break act ask foreign pause last levels asked advanced =
+    absurd (pause refl)
 gone_on old new row judged.Reply act ask foreign pause last levels asked advanced = tt
 gone_on old new row judged.AskByte act ask foreign pause last levels asked advanced = λ at.
     record { advanced = advanced at; last = last; levels = levels; asked = asked }

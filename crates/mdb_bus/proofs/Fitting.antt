@@ -1,5 +1,6 @@
--- Each act list has a loss that fits, whichever free acts are to be heard: the rows of an act are damaged where the act
--- after it tells so, and where it tells nothing and the act is not to be heard.
+-- Each act list has a loss that fits, whichever free acts are to be heard: the rows of an act are
+-- damaged where the act after it tells so, and where it tells nothing and the act is not to be
+-- heard.
 use Rattle.std.proofs.Common.{arith, refl, ap, sym, ◌∙◌, ◌≡◌, ◌+◌, ◌<◌, ◌≤◌, ◌↔◌, ℕ, Bool, true, false, List, [], ◌∷◌, ◌++◌, Option, length, length-append}
 use Rattle.std.proofs.Math.Dec.{leb}
 use Rattle.std.proofs.lemmas.Bool.{le-leb, lt-leb}
@@ -23,8 +24,8 @@ is_damaged Unheard wished = true
 is_damaged Open true = false
 is_damaged Open false = true
 
--- The loss of pieces, where what is after them tells so of their newest act. The rows of an act are all damaged, or
--- none is.
+-- The loss of pieces, where what is after them tells so of their newest act. The rows of an act are
+-- all damaged, or none is.
 abbrev damage : Wish → List Piece → (Act → Hearing) → Loss
 damage wish [] tells = λ row. false
 damage wish (Whole act events ∷ pieces) tells = λ row.
@@ -38,12 +39,15 @@ Agree one other rows = (row : ℕ) → row ≤ rows → one row ≡ other row
 
 -- of so many rows after the first `before` ones, all are damaged or none is
 abbrev AreAll : Loss → ℕ → ℕ → Bool → Type 0
-AreAll loss before count damaged = (row : ℕ) → before < row → row ≤ before + count → loss row ≡ damaged
+AreAll loss before count damaged = (row : ℕ) → before < row → row ≤ before + count
+    → loss row ≡ damaged
 
 -- losses that agree on all rows agree on those before the newest piece
-agree_before : (one other : Loss) (rows events : List Event) → Agree one other (length (rows ++ events))
+agree_before : (one other : Loss) (rows events : List Event)
+    → Agree one other (length (rows ++ events))
     → Agree one other (length rows)
-agree_before one other rows events agree = λ row h. agree row (omega (arith, h, length-append rows events))
+agree_before one other rows events agree =
+    λ row h. agree row (omega (arith, h, length-append rows events))
 
 -- a loss that picks one of two at a row has the first up to there
 agree_early : (first other : Loss) (second : Bool) (rows events : List Event)
@@ -51,7 +55,8 @@ agree_early : (first other : Loss) (second : Bool) (rows events : List Event)
     → Agree first other (length rows)
 agree_early first other second rows events agree = λ row h.
     sym (ap (λ b. pick b (first row) second) (le-leb row (length rows) h))
-    ∙ agree_before (λ row. pick (leb row (length rows)) (first row) second) other rows events agree row h
+    ∙ agree_before (λ row. pick (leb row (length rows)) (first row) second) other rows events agree
+    row h
 
 -- and the second after it
 agree_late : (first other : Loss) (second : Bool) (rows events : List Event)
@@ -71,8 +76,10 @@ heard_where loss act before count all = all
 none_arrive : (loss : Loss) (before count : ℕ) → 1 ≤ count → AreAll loss before count true
     → AllArrive loss before count → ⊥
 none_arrive loss before count some rows all =
-    let arrived : loss (before + 1) ≡ false = all (before + 1) (omega arith) (omega (arith, some)) in
-    let damaged : loss (before + 1) ≡ true = rows (before + 1) (omega arith) (omega (arith, some)) in
+    let arrived : loss (before + 1) ≡ false =
+    all (before + 1) (omega arith) (omega (arith, some)) in
+    let damaged : loss (before + 1) ≡ true = rows (before + 1) (omega arith)
+    (omega (arith, some)) in
     cc
 
 -- a block tells nothing of an act that leaves nothing open
@@ -95,7 +102,8 @@ sparing_told (acts.Break length) events act from to comes = λ quiet. refl
 sparing_told next events act from to comes = λ quiet. let stands = comes.0 in cc
 
 -- nothing is told of a free act
-free_open : (act : Act) (hearing : Hearing) → IsSparing hearing act → IsFree act hearing → hearing ≡ Open
+free_open : (act : Act) (hearing : Hearing) → IsSparing hearing act → IsFree act hearing
+    → hearing ≡ Open
 free_open (acts.Ack command) hearing sparing free = sparing refl
 free_open (acts.VmcAck command reply) hearing sparing free = sparing refl
 free_open (acts.Break length) hearing sparing free = absurd free
@@ -110,14 +118,17 @@ free_arrives act hearing loss before count free heard = heard
 -- and so was an act that is told not to have been heard
 unheard_arrives : (act : Act) (loss : Loss) (before count : ℕ) → IsSparing Unheard act
     → IsHeard loss act before count → AllArrive loss before count
-unheard_arrives (acts.Break length) loss before count sparing heard = let untold = sparing refl in cc
+unheard_arrives (acts.Break length) loss before count sparing heard = let untold = sparing refl in
+    cc
 unheard_arrives act loss before count sparing heard = heard
 
 -- an act whose rows are damaged as it is told, and else as it is wished, is heard as it is told
-is_told : (hearing : Hearing) (wished : Bool) (loss : Loss) (act : Act) (before count : ℕ) → 1 ≤ count
+is_told : (hearing : Hearing) (wished : Bool) (loss : Loss) (act : Act) (before count : ℕ)
+    → 1 ≤ count
     → AreAll loss before count (is_damaged hearing wished) → IsSparing hearing act
     → IsAsTold hearing (IsHeard loss act before count)
-is_told Heard wished loss act before count some rows sparing = heard_where loss act before count rows
+is_told Heard wished loss act before count some rows sparing = heard_where loss act before count
+    rows
 is_told Unheard wished loss act before count some rows sparing = λ heard.
     none_arrive loss before count some rows (unheard_arrives act loss before count sparing heard)
 is_told Open wished loss act before count some rows sparing = tt
@@ -131,8 +142,10 @@ arrive_wished Open false loss before count some rows untold =
     (λ all. absurd (none_arrive loss before count some rows all), λ is. cc)
 arrive_wished hearing wished loss before count some rows untold = cc
 
-is_wished : (hearing : Hearing) (wished : Bool) (loss : Loss) (act : Act) (before count : ℕ) → 1 ≤ count
-    → AreAll loss before count (is_damaged hearing wished) → IsSparing hearing act → IsFree act hearing
+is_wished : (hearing : Hearing) (wished : Bool) (loss : Loss) (act : Act) (before count : ℕ)
+    → 1 ≤ count
+    → AreAll loss before count (is_damaged hearing wished) → IsSparing hearing act
+    → IsFree act hearing
     → IsHeard loss act before count ↔ (wished ≡ true)
 is_wished hearing wished loss act before count some rows sparing free =
     let untold = free_open act hearing sparing free in
@@ -150,14 +163,16 @@ nothing_sparing : (pieces : List Piece) → TellsSparingly nothing_told pieces
 nothing_sparing (Whole act events ∷ pieces) = λ quiet. refl
 nothing_sparing _ = tt
 
-next_sparing : (pieces : List Piece) (next : Act) (events : List Event) → MayStand pieces (Whole next events)
+next_sparing : (pieces : List Piece) (next : Act) (events : List Event)
+    → MayStand pieces (Whole next events)
     → TellsSparingly (told_by next) pieces
 next_sparing (Whole act rows ∷ pieces) next events stands =
     sparing_told next events act _ stands.first stands.comes
 next_sparing _ next events stands = tt
 
 -- a piece has a row
-has_row : (pieces : List Piece) (act : Act) (events : List Event) → MayStand pieces (Whole act events)
+has_row : (pieces : List Piece) (act : Act) (events : List Event)
+    → MayStand pieces (Whole act events)
     → 1 ≤ length events
 has_row pieces act events stands = omega (arith, ap length stands.begins)
 
@@ -167,22 +182,26 @@ fits_next : (wish : Wish) (loss : Loss) (pieces : List Piece) (next : Act)
     → TellsSparingly (told_by next) pieces → FitsNext loss pieces next
 fits_next wish loss (Whole act rows ∷ pieces) next agree are sparing =
     let before = length (events_of pieces) in
-    is_told (told_by next act) (wish before) loss act before (length rows) (has_row pieces act rows are.1)
+    is_told (told_by next act) (wish before) loss act before (length rows)
+    (has_row pieces act rows are.1)
     (agree_late (damage wish pieces (told_by act)) loss _ (events_of pieces) rows agree) sparing
 fits_next wish loss _ next agree are sparing = tt
 
 -- the loss fits, whatever is told of the newest act
 fits : (wish : Wish) (loss : Loss) (pieces : List Piece) (tells : Act → Hearing)
-    → Agree (damage wish pieces tells) loss (length (events_of pieces)) → ArePieces pieces → LossFits loss pieces
+    → Agree (damage wish pieces tells) loss (length (events_of pieces)) → ArePieces pieces
+    → LossFits loss pieces
 fits wish loss [] tells agree are = tt
 fits wish loss (Whole act events ∷ pieces) tells agree are =
-    let early = agree_early (damage wish pieces (told_by act)) loss _ (events_of pieces) events agree in (
+    let early = agree_early (damage wish pieces (told_by act)) loss _ (events_of pieces) events
+    agree in (
       fits_next wish loss pieces act early are.2 (next_sparing pieces act events are.1),
       fits wish loss pieces (told_by act) early are.2,
     )
 fits wish loss (piece ∷ pieces) tells agree are =
     fits wish loss pieces nothing_told
-    (agree_before (damage wish pieces nothing_told) loss (events_of pieces) (piece_events piece) agree) are.2
+    (agree_before (damage wish pieces nothing_told) loss (events_of pieces) (piece_events piece)
+    agree) are.2
 
 -- the free acts are heard as wished
 wished : (wish : Wish) (loss : Loss) (pieces : List Piece) (tells : Act → Hearing)
@@ -192,14 +211,17 @@ wished wish loss [] tells agree are sparing = tt
 wished wish loss (Whole act events ∷ pieces) tells agree are sparing =
     let before = length (events_of pieces) in
     let inner : Loss = damage wish pieces (told_by act) in (
-      is_wished (tells act) (wish before) loss act before (length events) (has_row pieces act events are.1)
+      is_wished (tells act) (wish before) loss act before (length events)
+          (has_row pieces act events are.1)
           (agree_late inner loss _ (events_of pieces) events agree) sparing,
-      wished wish loss pieces (told_by act) (agree_early inner loss _ (events_of pieces) events agree) are.2
+      wished wish loss pieces (told_by act) (agree_early inner loss _ (events_of pieces) events
+          agree) are.2
           (next_sparing pieces act events are.1),
     )
 wished wish loss (piece ∷ pieces) tells agree are sparing =
     wished wish loss pieces nothing_told
-    (agree_before (damage wish pieces nothing_told) loss (events_of pieces) (piece_events piece) agree) are.2
+    (agree_before (damage wish pieces nothing_told) loss (events_of pieces) (piece_events piece)
+    agree) are.2
     (nothing_sparing pieces)
 
 pub fitting : (pieces : List Piece) → ArePieces pieces → (wish : Wish)

@@ -25,8 +25,10 @@ use Rattle.mdb_bus.proofs.Rows.{begins_block, say_byte, say_sum, say_word, space
 pub record Extended (pieces : List Piece) (row : Event) (next : Step) : Type 0 where
   pub in_order : ArePieces (pieces_after pieces row next)
   pub rows : events_of (pieces_after pieces row next) ≡ events_of pieces ++ row ∷ []
-  pub acts : acts_of (pieces_after pieces row next) ≡ with_act (act_after (position_of pieces) next) (acts_of pieces)
-  pub position : position_of (pieces_after pieces row next) ≡ position_after (position_of pieces) next
+  pub acts : acts_of (pieces_after pieces row next) ≡ with_act (act_after (position_of pieces) next)
+      (acts_of pieces)
+  pub position : position_of (pieces_after pieces row next) ≡ position_after (position_of pieces)
+      next
   pub levels : levels_of (pieces_after pieces row next) ≡ levels_after_step (levels_of pieces) next
   pub asked : asked_device (pieces_after pieces row next) ≡ asked_after (asked_device pieces) next
   pub grown : Grown pieces row (act_after (position_of pieces) next) (pieces_after pieces row next)
@@ -94,7 +96,8 @@ adds_nak command = record {
   asked = λ e p. refl;
 }
 
-adds_reply_byte : (command : Command) (byte : ℕ) (bytes : List ℕ) → Adds (step.ReplyByte byte) (ReplyTail command bytes)
+adds_reply_byte : (command : Command) (byte : ℕ) (bytes : List ℕ)
+    → Adds (step.ReplyByte byte) (ReplyTail command bytes)
 adds_reply_byte command byte bytes = record {
   rows = λ e. refl;
   acts = λ e p. refl;
@@ -104,7 +107,8 @@ adds_reply_byte command byte bytes = record {
   asked = λ e p. refl;
 }
 
-adds_reply : (command : Command) (reply : Reply) → Adds (step.Reply reply) (Whole (acts.Reply command reply))
+adds_reply : (command : Command) (reply : Reply)
+    → Adds (step.Reply reply) (Whole (acts.Reply command reply))
 adds_reply command reply = record {
   rows = λ e. refl;
   acts = λ e p. refl;
@@ -114,7 +118,8 @@ adds_reply command reply = record {
   asked = λ e p. refl;
 }
 
-adds_vmc_ack : (command : Command) (reply : Reply) → Adds step.VmcAck (Whole (acts.VmcAck command reply))
+adds_vmc_ack : (command : Command) (reply : Reply)
+    → Adds step.VmcAck (Whole (acts.VmcAck command reply))
 adds_vmc_ack command reply = record {
   rows = λ e. refl;
   acts = λ e p. refl;
@@ -124,7 +129,8 @@ adds_vmc_ack command reply = record {
   asked = λ e p. refl;
 }
 
-adds_vmc_nak : (command : Command) (reply : Reply) → Adds step.VmcNak (Whole (acts.VmcNak command reply))
+adds_vmc_nak : (command : Command) (reply : Reply)
+    → Adds step.VmcNak (Whole (acts.VmcNak command reply))
 adds_vmc_nak command reply = record {
   rows = λ e. refl;
   acts = λ e p. refl;
@@ -134,7 +140,8 @@ adds_vmc_nak command reply = record {
   asked = λ e p. refl;
 }
 
-adds_vmc_ret : (command : Command) (reply : Reply) → Adds step.VmcRet (Whole (acts.VmcRet command reply))
+adds_vmc_ret : (command : Command) (reply : Reply)
+    → Adds step.VmcRet (Whole (acts.VmcRet command reply))
 adds_vmc_ret command reply = record {
   rows = λ e. refl;
   acts = λ e p. refl;
@@ -155,7 +162,8 @@ adds_repeat_word command reply word words = record {
   asked = λ e p. refl;
 }
 
-adds_repeat : (command : Command) (reply : Reply) → Adds step.Repeat (Whole (acts.Repeat command reply))
+adds_repeat : (command : Command) (reply : Reply)
+    → Adds step.Repeat (Whole (acts.Repeat command reply))
 adds_repeat command reply = record {
   rows = λ e. refl;
   acts = λ e p. refl;
@@ -182,17 +190,20 @@ GoesOnFromPieces pieces begun rest =
     ⊎ ((tail : Piece) × IsTail tail × (piece_events tail ≡ begun) × (pieces ≡ tail ∷ rest))
 
 -- pieces that a step leads to, as they stand, are what it makes of the pieces before it
-extended : (pieces rest : List Piece) (begun events : List Event) (row : Event) (next : Step) (piece : List Event → Piece)
+extended : (pieces rest : List Piece) (begun events : List Event) (row : Event) (next : Step)
+    (piece : List Event → Piece)
     → Adds next piece → piece_after (position_of pieces) next ≡ piece
     → pieces_after pieces row next ≡ piece events ∷ rest → ArePieces (piece events ∷ rest)
     → events_of rest ++ events ≡ events_of pieces ++ row ∷ [] → acts_of pieces ≡ acts_of rest
     → levels_of pieces ≡ levels_of rest → asked_device pieces ≡ asked_device rest
     → events ≡ begun ++ row ∷ [] → GoesOnFromPieces pieces begun rest → Extended pieces row next
-extended pieces rest begun events row next piece adds added made are rows same_acts same_levels same_asked begins from =
+extended pieces rest begun events row next piece adds added made are rows same_acts same_levels
+    same_asked begins from =
     let Right : List Piece → Type 0 = λ ps. ArePieces ps in
     let act : act_in (piece []) ≡ act_after (position_of pieces) next =
     ap (λ (p : List Event → Piece). act_in (p [])) (sym added) in
-    let acts : acts_of (piece events ∷ rest) ≡ with_act (act_after (position_of pieces) next) (acts_of pieces) =
+    let acts : acts_of (piece events ∷ rest) ≡ with_act (act_after (position_of pieces) next)
+    (acts_of pieces) =
     adds.acts events rest ∙ (ap (λ a. with_act a (acts_of rest)) act
     ∙ ap (λ more. with_act (act_after (position_of pieces) next) more) (sym same_acts)) in
     record {
@@ -200,7 +211,8 @@ extended pieces rest begun events row next piece adds added made are rows same_a
       rows = ap events_of made ∙ (ap (λ es. events_of rest ++ es) (adds.rows events) ∙ rows);
       acts = ap acts_of made ∙ acts;
       position = ap position_of made
-          ∙ (adds.position events rest ∙ ap (λ (p : List Event → Piece). position_of (p [] ∷ [])) (sym added));
+          ∙ (adds.position events rest ∙ ap (λ (p : List Event → Piece). position_of (p [] ∷ []))
+          (sym added));
       levels = ap levels_of made
           ∙ (adds.levels events rest ∙ ap (λ ls. levels_after_step ls next) (sym same_levels));
       asked = ap asked_device made
@@ -219,7 +231,8 @@ extended pieces rest begun events row next piece adds added made are rows same_a
 -- a piece of one event after pieces
 fresh : (pieces : List Piece) (row : Event) (next : Step) (piece : List Event → Piece)
     → Adds next piece → piece_after (position_of pieces) next ≡ piece
-    → pieces_after pieces row next ≡ piece (row ∷ []) ∷ pieces → ArePieces pieces → IsSaid (piece (row ∷ []))
+    → pieces_after pieces row next ≡ piece (row ∷ []) ∷ pieces → ArePieces pieces
+    → IsSaid (piece (row ∷ []))
     → MayCome (piece (row ∷ [])) (position_of pieces) (last_of (events_of pieces)) row
     → PieceFitsLevels (levels_of pieces) (piece (row ∷ [])) → Extended pieces row next
 fresh pieces row next piece adds added made are said comes levels =
@@ -227,8 +240,15 @@ fresh pieces row next piece adds added made are said comes levels =
     let right : IsPiece (piece (row ∷ [])) =
     record { said = said; spaced = subst Spaced (sym (adds.rows (row ∷ []))) tt } in
     let stands : MayStand pieces (piece (row ∷ [])) =
-    record { first = row; others = []; begins = adds.rows (row ∷ []); comes = comes; levels = levels } in
-    extended pieces pieces [] (row ∷ []) row next piece adds added made (right, stands, are) refl refl refl refl
+    record {
+      first = row;
+      others = [];
+      begins = adds.rows (row ∷ []);
+      comes = comes;
+      levels = levels;
+    } in
+    extended pieces pieces [] (row ∷ []) row next piece adds added made (right, stands, are) refl
+    refl refl refl
     refl (inl (refl, refl))
 
 -- a tail has no effect on what pieces leave
@@ -239,23 +259,28 @@ record HasNoEffect (tail : Piece) : Type 0 where
   asked : (pieces : List Piece) → asked_device (tail ∷ pieces) ≡ asked_device pieces
 
 -- a tail at the head goes on, or ends
-longer : (tail : Piece) (pieces : List Piece) (row : Event) (next : Step) (piece : List Event → Piece)
+longer : (tail : Piece) (pieces : List Piece) (row : Event) (next : Step) (piece : List Event
+    → Piece)
     → HasNoEffect tail → Adds next piece → piece_after (position_of (tail ∷ pieces)) next ≡ piece
     → pieces_after (tail ∷ pieces) row next ≡ piece (piece_events tail ++ row ∷ []) ∷ pieces
     → ArePieces (tail ∷ pieces) → IsSaid (piece (piece_events tail ++ row ∷ []))
     → ((first : Event) (others : List Event) → piece_events tail ≡ first ∷ others
     → MayCome tail (position_of pieces) (last_of (events_of pieces)) first
-    → MayCome (piece (piece_events tail ++ row ∷ [])) (position_of pieces) (last_of (events_of pieces)) first)
+    → MayCome (piece (piece_events tail ++ row ∷ [])) (position_of pieces)
+    (last_of (events_of pieces)) first)
     → PieceFitsLevels (levels_of pieces) (piece (piece_events tail ++ row ∷ []))
-    → InTime BLOCK_GAP_MAX (last_of (events_of (tail ∷ pieces))) row → Extended (tail ∷ pieces) row next
+    → InTime BLOCK_GAP_MAX (last_of (events_of (tail ∷ pieces))) row
+    → Extended (tail ∷ pieces) row next
 longer tail pieces row next piece is_tail adds added made are said comes levels gap =
     let stood = are.1 in
     let old = piece_events tail in
-    let Timed : List Event → Type 0 = λ es. InTime BLOCK_GAP_MAX (last_of (events_of pieces ++ es)) row in
+    let Timed : List Event → Type 0 = λ es. InTime BLOCK_GAP_MAX (last_of (events_of pieces ++ es))
+    row in
     let Spaced : List Event → Type 0 = λ es. AreSpaced es in
     let Longer : List Event → Type 0 = λ es. AreSpaced (es ++ row ∷ []) in
     let more : AreSpaced (old ++ row ∷ []) = subst Longer (sym stood.begins)
-    (spaced_more (events_of pieces) stood.first stood.others row (subst Spaced stood.begins are.0.spaced)
+    (spaced_more (events_of pieces) stood.first stood.others row
+    (subst Spaced stood.begins are.0.spaced)
     (subst Timed stood.begins gap)) in
     let right : IsPiece (piece (old ++ row ∷ [])) =
     record { said = said; spaced = subst Spaced (sym (adds.rows (old ++ row ∷ []))) more } in
@@ -266,8 +291,10 @@ longer tail pieces row next piece is_tail adds added made are said comes levels 
       comes = comes stood.first stood.others stood.begins stood.comes;
       levels = levels;
     } in
-    extended (tail ∷ pieces) pieces old (old ++ row ∷ []) row next piece adds added made (right, stands, are.2)
-    (sym (append_assoc (events_of pieces) old (row ∷ []))) (is_tail.acts pieces) (is_tail.levels pieces)
+    extended (tail ∷ pieces) pieces old (old ++ row ∷ []) row next piece adds added made
+    (right, stands, are.2)
+    (sym (append_assoc (events_of pieces) old (row ∷ []))) (is_tail.acts pieces)
+    (is_tail.levels pieces)
     (is_tail.asked pieces) refl (inr (tail, is_tail.open_end, refl, refl))
 
 -- a position where no tail is open
@@ -293,13 +320,15 @@ foreign_after (InAsk bytes) = refl
 foreign_after position = refl
 
 -- a break stands everywhere
-break_after : (position : Position) (length : ℕ) → piece_after position (step.Break length) ≡ Whole (acts.Break length)
+break_after : (position : Position) (length : ℕ) → piece_after position (step.Break length)
+    ≡ Whole (acts.Break length)
 break_after (InAsk bytes) length = refl
 break_after position length = refl
 
 -- pieces after which each row begins a new piece
 abbrev AreClosed : List Piece → Type 0
-AreClosed pieces = (row : Event) (piece : List Event → Piece) → grown pieces row piece ≡ piece (row ∷ []) ∷ pieces
+AreClosed pieces = (row : Event) (piece : List Event → Piece)
+    → grown pieces row piece ≡ piece (row ∷ []) ∷ pieces
 
 -- a marked word of the controller begins a block
 opens : (pieces : List Piece) (at word : ℕ) (next : Step) → ArePieces pieces → AreClosed pieces
@@ -309,12 +338,14 @@ opens : (pieces : List Piece) (at word : ℕ) (next : Step) → ArePieces pieces
 opens pieces at word (step.AskByte byte) are closed is leads =
     let row = Word at Controller word in
     let added = asks (position_of pieces) byte is in
-    let made : pieces_after pieces row (step.AskByte byte) ≡ AskTail (byte ∷ []) (row ∷ []) ∷ pieces =
+    let made : pieces_after pieces row (step.AskByte byte) ≡ AskTail (byte ∷ []) (row ∷ [])
+    ∷ pieces =
     closed row (piece_after (position_of pieces) (step.AskByte byte))
     ∙ ap (λ (p : List Event → Piece). p (row ∷ []) ∷ pieces) added in
     let says : Say Controller ((256 + byte) ∷ []) (row ∷ []) =
     ap (λ w. Some (Controller, w) ∷ []) leads.0 in
-    fresh pieces row (step.AskByte byte) (AskTail (byte ∷ [])) (adds_ask_byte byte (byte ∷ [])) added made are
+    fresh pieces row (step.AskByte byte) (AskTail (byte ∷ [])) (adds_ask_byte byte (byte ∷ []))
+    added made are
     (leads.1, says) leads.2 tt
 opens pieces at word step.Foreign are closed is leads =
     let row = Word at Controller word in
@@ -331,39 +362,46 @@ opens pieces at word step.Foreign are closed is leads =
 opens pieces at word next are closed is leads = absurd leads
 
 -- the same, from a block that may begin at a position that is told
-opens_at : (position : Position) (pieces : List Piece) (at word : ℕ) (next : Step) → ArePieces pieces
+opens_at : (position : Position) (pieces : List Piece) (at word : ℕ) (next : Step)
+    → ArePieces pieces
     → AreClosed pieces → position_of pieces ≡ position → IsFree position
     → Opens position (last_of (events_of pieces)) (Word at Controller word) word next
     → Extended pieces (Word at Controller word) next
 opens_at position pieces at word next are closed here is leads =
     let Free : Position → Type 0 = λ p. IsFree p in
-    let Led : Position → Type 0 = λ p. Opens p (last_of (events_of pieces)) (Word at Controller word) word next in
+    let Led : Position → Type 0 = λ p. Opens p (last_of (events_of pieces))
+    (Word at Controller word) word next in
     opens pieces at word next are closed (subst Free (sym here) is) (subst Led (sym here) leads)
 
 -- a new piece of one word at a position that is told
-begun : (position : Position) (pieces : List Piece) (row : Event) (next : Step) (piece : List Event → Piece)
+begun : (position : Position) (pieces : List Piece) (row : Event) (next : Step) (piece : List Event
+    → Piece)
     → Adds next piece → ArePieces pieces → AreClosed pieces → position_of pieces ≡ position
     → pieces_after pieces row next ≡ grown pieces row (piece_after (position_of pieces) next)
     → piece_after position next ≡ piece → IsSaid (piece (row ∷ []))
     → MayCome (piece (row ∷ [])) (position_of pieces) (last_of (events_of pieces)) row
     → PieceFitsLevels (levels_of pieces) (piece (row ∷ [])) → Extended pieces row next
 begun position pieces row next piece adds are closed here grows gives said comes levels =
-    let added : piece_after (position_of pieces) next ≡ piece = ap (λ p. piece_after p next) here ∙ gives in
+    let added : piece_after (position_of pieces) next ≡ piece = ap (λ p. piece_after p next) here
+    ∙ gives in
     let made : pieces_after pieces row next ≡ piece (row ∷ []) ∷ pieces =
     grows ∙ (closed row (piece_after (position_of pieces) next)
     ∙ ap (λ (p : List Event → Piece). p (row ∷ []) ∷ pieces) added) in
     fresh pieces row next piece adds added made are said comes levels
 
 -- an answer to a command
-answered : (command : Command) (pieces : List Piece) (at word : ℕ) (next : Step) → ArePieces pieces → AreClosed pieces
+answered : (command : Command) (pieces : List Piece) (at word : ℕ) (next : Step) → ArePieces pieces
+    → AreClosed pieces
     → position_of pieces ≡ Asked command
     → Answers command (last_of (events_of pieces)) (Word at Peripheral word) word next
     → Extended pieces (Word at Peripheral word) next
 answered command pieces at word step.Ack are closed here leads =
-    begun (Asked command) pieces (Word at Peripheral word) step.Ack (Whole (acts.Ack command)) (adds_ack command) are
+    begun (Asked command) pieces (Word at Peripheral word) step.Ack (Whole (acts.Ack command))
+    (adds_ack command) are
     closed here refl refl (ap (λ w. Some (Peripheral, w) ∷ []) leads.0) (here, leads.1) tt
 answered command pieces at word step.Nak are closed here leads =
-    begun (Asked command) pieces (Word at Peripheral word) step.Nak (Whole (acts.Nak command)) (adds_nak command) are
+    begun (Asked command) pieces (Word at Peripheral word) step.Nak (Whole (acts.Nak command))
+    (adds_nak command) are
     closed here refl refl (ap (λ w. Some (Peripheral, w) ∷ []) leads.0) (here, leads.1) tt
 answered command pieces at word (step.ReplyByte byte) are closed here leads =
     let below : byte < 256 = omega (arith, leads.0, leads.1) in
@@ -373,27 +411,35 @@ answered command pieces at word (step.ReplyByte byte) are closed here leads =
       few = omega arith;
       in_range = All-from_recursion IsByte (byte ∷ []) (below, tt);
     } in
-    begun (Asked command) pieces (Word at Peripheral word) (step.ReplyByte byte) (ReplyTail command (byte ∷ []))
+    begun (Asked command) pieces (Word at Peripheral word) (step.ReplyByte byte)
+    (ReplyTail command (byte ∷ []))
     (adds_reply_byte command byte (byte ∷ [])) are closed here refl refl
     (front, ap (λ w. Some (Peripheral, w) ∷ []) leads.0) (here, leads.3) tt
 answered command pieces at word next are closed here leads = absurd leads
 
 -- an answer of the controller to a reply, or a new block
-replied : (command : Command) (reply : Reply) (pieces : List Piece) (at word : ℕ) (next : Step) → ArePieces pieces
+replied : (command : Command) (reply : Reply) (pieces : List Piece) (at word : ℕ) (next : Step)
+    → ArePieces pieces
     → AreClosed pieces → position_of pieces ≡ Replied command reply
     → AnswersReply command reply (last_of (events_of pieces)) (Word at Controller word) word next
     → Extended pieces (Word at Controller word) next
 replied command reply pieces at word step.VmcAck are closed here leads =
-    begun (Replied command reply) pieces (Word at Controller word) step.VmcAck (Whole (acts.VmcAck command reply))
-    (adds_vmc_ack command reply) are closed here refl refl (ap (λ w. Some (Controller, w) ∷ []) leads.0)
+    begun (Replied command reply) pieces (Word at Controller word) step.VmcAck
+    (Whole (acts.VmcAck command reply))
+    (adds_vmc_ack command reply) are closed here refl refl
+    (ap (λ w. Some (Controller, w) ∷ []) leads.0)
     (here, leads.1) tt
 replied command reply pieces at word step.VmcNak are closed here leads =
-    begun (Replied command reply) pieces (Word at Controller word) step.VmcNak (Whole (acts.VmcNak command reply))
-    (adds_vmc_nak command reply) are closed here refl refl (ap (λ w. Some (Controller, w) ∷ []) leads.0)
+    begun (Replied command reply) pieces (Word at Controller word) step.VmcNak
+    (Whole (acts.VmcNak command reply))
+    (adds_vmc_nak command reply) are closed here refl refl
+    (ap (λ w. Some (Controller, w) ∷ []) leads.0)
     (here, leads.1) tt
 replied command reply pieces at word step.VmcRet are closed here leads =
-    begun (Replied command reply) pieces (Word at Controller word) step.VmcRet (Whole (acts.VmcRet command reply))
-    (adds_vmc_ret command reply) are closed here refl refl (ap (λ w. Some (Controller, w) ∷ []) leads.0)
+    begun (Replied command reply) pieces (Word at Controller word) step.VmcRet
+    (Whole (acts.VmcRet command reply))
+    (adds_vmc_ret command reply) are closed here refl refl
+    (ap (λ w. Some (Controller, w) ∷ []) leads.0)
     (here, leads.1) tt
 replied command reply pieces at word (step.AskByte byte) are closed here leads =
     opens_at (Replied command reply) pieces at word (step.AskByte byte) are closed here tt leads
@@ -402,37 +448,46 @@ replied command reply pieces at word step.Foreign are closed here leads =
 replied command reply pieces at word next are closed here leads = absurd leads
 
 -- the first word of a repeat
-returned : (command : Command) (reply : Reply) (pieces : List Piece) (at word : ℕ) (next : Step) → ArePieces pieces
+returned : (command : Command) (reply : Reply) (pieces : List Piece) (at word : ℕ) (next : Step)
+    → ArePieces pieces
     → AreClosed pieces → position_of pieces ≡ Returned command reply
     → BeginsRepeat reply (last_of (events_of pieces)) (Word at Peripheral word) word next
     → Extended pieces (Word at Peripheral word) next
 returned command reply pieces at word (step.RepeatWord said) are closed here leads =
-    let Front : ℕ → Type 0 = λ w. IsSaid (RepeatTail command reply (w ∷ []) (Word at Peripheral word ∷ [])) in
+    let Front : ℕ
+    → Type 0 = λ w. IsSaid (RepeatTail command reply (w ∷ []) (Word at Peripheral word ∷ [])) in
     begun (Returned command reply) pieces (Word at Peripheral word) (step.RepeatWord said)
-    (RepeatTail command reply (said ∷ [])) (adds_repeat_word command reply said (said ∷ [])) are closed here refl refl
+    (RepeatTail command reply (said ∷ [])) (adds_repeat_word command reply said (said ∷ [])) are
+    closed here refl refl
     (subst Front leads.0 (leads.1, refl)) (here, leads.2) tt
 returned command reply pieces at word next are closed here leads = absurd leads
 
 -- a further word of foreign traffic
-foreign_word : (pieces : List Piece) (at : ℕ) (line : Line) (word : ℕ) (next : Step) → ArePieces pieces
+foreign_word : (pieces : List Piece) (at : ℕ) (line : Line) (word : ℕ) (next : Step)
+    → ArePieces pieces
     → AreClosed pieces → position_of pieces ≡ InForeign
-    → WordLeads InForeign (last_of (events_of pieces)) (levels_of pieces) (Word at line word) line word next
+    → WordLeads InForeign (last_of (events_of pieces)) (levels_of pieces) (Word at line word) line
+    word next
     → Extended pieces (Word at line word) next
 foreign_word pieces at Controller word next are closed here (inl leads) =
     opens_at InForeign pieces at word next are closed here tt leads
 foreign_word pieces at Controller word step.Foreign are closed here (inr leads) =
-    begun InForeign pieces (Word at Controller word) step.Foreign (Whole acts.Foreign) adds_foreign are closed
+    begun InForeign pieces (Word at Controller word) step.Foreign (Whole acts.Foreign) adds_foreign
+    are closed
     here refl refl (inr (Word at Controller word, refl, leads.0)) (inr (leads.0, here, leads.1)) tt
 foreign_word pieces at Controller word next are closed here (inr leads) = absurd leads.1
 foreign_word pieces at Peripheral word step.Foreign are closed here leads =
-    begun InForeign pieces (Word at Peripheral word) step.Foreign (Whole acts.Foreign) adds_foreign are closed
+    begun InForeign pieces (Word at Peripheral word) step.Foreign (Whole acts.Foreign) adds_foreign
+    are closed
     here refl refl (inr (Word at Peripheral word, refl, tt)) (inr (tt, here, leads)) tt
 foreign_word pieces at Peripheral word next are closed here leads = absurd leads
 
 -- a word after closed pieces
-after_closed : (position : Position) (pieces : List Piece) (at : ℕ) (line : Line) (word : ℕ) (next : Step)
+after_closed : (position : Position) (pieces : List Piece) (at : ℕ) (line : Line) (word : ℕ)
+    (next : Step)
     → ArePieces pieces → AreClosed pieces → position_of pieces ≡ position → IsFree position
-    → WordLeads position (last_of (events_of pieces)) (levels_of pieces) (Word at line word) line word next
+    → WordLeads position (last_of (events_of pieces)) (levels_of pieces) (Word at line word) line
+    word next
     → Extended pieces (Word at line word) next
 after_closed Quiet pieces at Controller word next are closed here is leads =
     opens_at Quiet pieces at word next are closed here tt leads
@@ -445,12 +500,14 @@ after_closed (Asked command) pieces at Peripheral word next are closed here is l
 after_closed (InReply command bytes) pieces at line word next are closed here is leads = absurd is
 after_closed (Replied command reply) pieces at Controller word next are closed here is leads =
     replied command reply pieces at word next are closed here leads
-after_closed (Replied command reply) pieces at Peripheral word next are closed here is leads = absurd leads
+after_closed (Replied command reply) pieces at Peripheral word next are closed here is leads =
+    absurd leads
 after_closed (Returned command reply) pieces at Controller word next are closed here is leads =
     opens_at (Returned command reply) pieces at word next are closed here tt leads
 after_closed (Returned command reply) pieces at Peripheral word next are closed here is leads =
     returned command reply pieces at word next are closed here leads
-after_closed (InRepeat command reply words) pieces at line word next are closed here is leads = absurd is
+after_closed (InRepeat command reply words) pieces at line word next are closed here is leads =
+    absurd is
 after_closed InForeign pieces at line word next are closed here is leads =
     foreign_word pieces at line word next are closed here leads
 
@@ -462,7 +519,8 @@ in_ask : (bytes : List ℕ) (events : List Event) (pieces : List Piece) (at word
 in_ask bytes events pieces at word (step.AskByte byte) are leads =
     let said = are.0.said in
     let row = Word at Controller word in
-    let Spoken : ℕ → Type 0 = λ w. Say Controller (controller_words (bytes ++ w ∷ [])) (events ++ row ∷ []) in
+    let Spoken : ℕ → Type 0 = λ w. Say Controller (controller_words (bytes ++ w ∷ []))
+    (events ++ row ∷ []) in
     let says : Say Controller (controller_words (bytes ++ byte ∷ [])) (events ++ row ∷ []) =
     subst Spoken leads.0 (say_byte bytes events at word said.0.some said.1) in
     longer (AskTail bytes events) pieces row (step.AskByte byte) (AskTail (bytes ++ byte ∷ []))
@@ -473,9 +531,11 @@ in_ask bytes events pieces at word (step.Ask command) are leads =
     let said = are.0.said in
     let row = Word at Controller word in
     let spells : Spells command (bytes ++ word ∷ []) = leads.1 in
-    let Spoken : List ℕ → Type 0 = λ ws. Say Controller (controller_words ws) (events ++ row ∷ []) in
+    let Spoken : List ℕ → Type 0 = λ ws. Say Controller (controller_words ws)
+    (events ++ row ∷ []) in
     let Spelled : List ℕ → Type 0 = λ ws. Spells command ws in
-    let says : Say Controller (controller_words (block_of (command_bytes command))) (events ++ row ∷ []) =
+    let says : Say Controller (controller_words (block_of (command_bytes command)))
+    (events ++ row ∷ []) =
     subst Spoken spells.bytes (say_byte bytes events at word said.0.some said.1) in
     longer (AskTail bytes events) pieces row (step.Ask command) (Whole (acts.Ask command))
     (record { open_end = tt; acts = λ ps. refl; levels = λ ps. refl; asked = λ ps. refl })
@@ -490,14 +550,17 @@ in_ask bytes events pieces at word step.Foreign are leads =
     longer (AskTail bytes events) pieces row step.Foreign (Whole acts.Foreign)
     (record { open_end = tt; acts = λ ps. refl; levels = λ ps. refl; asked = λ ps. refl })
     adds_foreign refl refl are (inl (bytes ++ word ∷ [], leads.1, says))
-    (λ first others is comes. inl (begins_block bytes first others said.0.some (subst Spoken is said.1), comes))
+    (λ first others is comes. inl
+    (begins_block bytes first others said.0.some (subst Spoken is said.1), comes))
     tt leads.2
 in_ask bytes events pieces at word next are leads = absurd leads
 
 -- a word in a reply
-in_reply : (command : Command) (bytes : List ℕ) (events : List Event) (pieces : List Piece) (at word : ℕ) (next : Step)
+in_reply : (command : Command) (bytes : List ℕ) (events : List Event) (pieces : List Piece)
+    (at word : ℕ) (next : Step)
     → ArePieces (ReplyTail command bytes events ∷ pieces)
-    → GoesOnReplying command bytes (last_of (events_of pieces ++ events)) (levels_of pieces) (Word at Peripheral word)
+    → GoesOnReplying command bytes (last_of (events_of pieces ++ events)) (levels_of pieces)
+    (Word at Peripheral word)
     word next
     → Extended (ReplyTail command bytes events ∷ pieces) (Word at Peripheral word) next
 in_reply command bytes events pieces at word (step.ReplyByte byte) are leads =
@@ -512,7 +575,8 @@ in_reply command bytes events pieces at word (step.ReplyByte byte) are leads =
           (All-from_recursion IsByte (byte ∷ []) (below, tt));
     } in
     let Spoken : ℕ → Type 0 = λ w. Say Peripheral (bytes ++ w ∷ []) (events ++ row ∷ []) in
-    longer (ReplyTail command bytes events) pieces row (step.ReplyByte byte) (ReplyTail command (bytes ++ byte ∷ []))
+    longer (ReplyTail command bytes events) pieces row (step.ReplyByte byte)
+    (ReplyTail command (bytes ++ byte ∷ []))
     (record { open_end = tt; acts = λ ps. refl; levels = λ ps. refl; asked = λ ps. refl })
     (adds_reply_byte command byte (bytes ++ byte ∷ [])) refl refl are
     (front, subst Spoken leads.0 (say_word Peripheral bytes events at word said.1))
@@ -520,8 +584,10 @@ in_reply command bytes events pieces at word (step.ReplyByte byte) are leads =
 in_reply command bytes events pieces at word (step.Reply reply) are leads =
     let said = are.0.said in
     let row = Word at Peripheral word in
-    let Spoken : List ℕ → Type 0 = λ bs. Say Peripheral (peripheral_words (block_of bs)) (events ++ row ∷ []) in
-    longer (ReplyTail command bytes events) pieces row (step.Reply reply) (Whole (acts.Reply command reply))
+    let Spoken : List ℕ → Type 0 = λ bs. Say Peripheral (peripheral_words (block_of bs))
+    (events ++ row ∷ []) in
+    longer (ReplyTail command bytes events) pieces row (step.Reply reply)
+    (Whole (acts.Reply command reply))
     (record { open_end = tt; acts = λ ps. refl; levels = λ ps. refl; asked = λ ps. refl })
     (adds_reply command reply) refl refl are
     (leads.1, subst Spoken leads.2 (say_sum bytes events at word leads.0 said.1))
@@ -529,13 +595,16 @@ in_reply command bytes events pieces at word (step.Reply reply) are leads =
 in_reply command bytes events pieces at word next are leads = absurd leads
 
 -- a word in a repeat
-in_repeat : (command : Command) (reply : Reply) (words : List ℕ) (events : List Event) (pieces : List Piece)
+in_repeat : (command : Command) (reply : Reply) (words : List ℕ) (events : List Event)
+    (pieces : List Piece)
     (at word : ℕ) (next : Step) → ArePieces (RepeatTail command reply words events ∷ pieces)
-    → GoesOnRepeating reply words (last_of (events_of pieces ++ events)) (Word at Peripheral word) word next
+    → GoesOnRepeating reply words (last_of (events_of pieces ++ events)) (Word at Peripheral word)
+    word next
     → Extended (RepeatTail command reply words events ∷ pieces) (Word at Peripheral word) next
 in_repeat command reply words events pieces at word (step.RepeatWord told) are leads =
     let row = Word at Peripheral word in
-    let Front : ℕ → Type 0 = λ w. IsSaid (RepeatTail command reply (words ++ w ∷ []) (events ++ row ∷ [])) in
+    let Front : ℕ
+    → Type 0 = λ w. IsSaid (RepeatTail command reply (words ++ w ∷ []) (events ++ row ∷ [])) in
     longer (RepeatTail command reply words events) pieces row (step.RepeatWord told)
     (RepeatTail command reply (words ++ told ∷ []))
     (record { open_end = tt; acts = λ ps. refl; levels = λ ps. refl; asked = λ ps. refl })
@@ -545,7 +614,8 @@ in_repeat command reply words events pieces at word (step.RepeatWord told) are l
 in_repeat command reply words events pieces at word step.Repeat are leads =
     let row = Word at Peripheral word in
     let Spoken : List ℕ → Type 0 = λ ws. Say Peripheral ws (events ++ row ∷ []) in
-    longer (RepeatTail command reply words events) pieces row step.Repeat (Whole (acts.Repeat command reply))
+    longer (RepeatTail command reply words events) pieces row step.Repeat
+    (Whole (acts.Repeat command reply))
     (record { open_end = tt; acts = λ ps. refl; levels = λ ps. refl; asked = λ ps. refl })
     (adds_repeat command reply) refl refl are
     (subst Spoken leads.0 (say_word Peripheral words events at word are.0.said.1))
@@ -570,14 +640,17 @@ forward pieces (Break at length) next are leads = broken pieces at length next a
 forward [] (Word at line word) next are leads =
     after_closed Quiet [] at line word next are (λ row piece. refl) refl tt leads
 forward (Whole act events ∷ pieces) (Word at line word) next are leads =
-    after_closed (left_open act) (Whole act events ∷ pieces) at line word next are (λ row piece. refl) refl
+    after_closed (left_open act) (Whole act events ∷ pieces) at line word next are
+    (λ row piece. refl) refl
     (free act) leads
 forward (AskTail bytes events ∷ pieces) (Word at Controller word) next are leads =
     in_ask bytes events pieces at word next are leads
 forward (AskTail bytes events ∷ pieces) (Word at Peripheral word) next are leads = absurd leads
-forward (ReplyTail command bytes events ∷ pieces) (Word at Controller word) next are leads = absurd leads
+forward (ReplyTail command bytes events ∷ pieces) (Word at Controller word) next are leads =
+    absurd leads
 forward (ReplyTail command bytes events ∷ pieces) (Word at Peripheral word) next are leads =
     in_reply command bytes events pieces at word next are leads
-forward (RepeatTail command reply words events ∷ pieces) (Word at Controller word) next are leads = absurd leads
+forward (RepeatTail command reply words events ∷ pieces) (Word at Controller word) next are leads =
+    absurd leads
 forward (RepeatTail command reply words events ∷ pieces) (Word at Peripheral word) next are leads =
     in_repeat command reply words events pieces at word next are leads

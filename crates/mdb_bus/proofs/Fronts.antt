@@ -26,8 +26,8 @@ use Rattle.mdb_bus.proofs.Stops.{some_long}
 pub need_two : (first n : ℕ) → need_of first None ≡ need.Exactly n → 2 ≤ n
 need_two first n told = grind (arith, common_steps)
 
--- What two bytes tell fits what the first one tells: that stays, and a subcommand is told by the second byte and
--- doesn't end its block.
+-- What two bytes tell fits what the first one tells: that stays, and a subcommand is told by the
+-- second byte and doesn't end its block.
 record Fits (told : Option ℕ → Need) : Type 0 where
   stays : (second n : ℕ) → told None ≡ need.Exactly n → told (Some second) ≡ need.Exactly n
   three : (second n : ℕ) → told None ≡ need.More → told (Some second) ≡ need.Exactly n → 3 ≤ n
@@ -55,7 +55,11 @@ reader_fits command = record {
 }
 
 foreign_fits : Fits (λ second. need.Foreign)
-foreign_fits = record { stays = λ second n told. told; three = λ second n more told. cc; ends = λ second more. cc }
+foreign_fits = record {
+  stays = λ second n told. told;
+  three = λ second n more told. cc;
+  ends = λ second more. cc;
+}
 
 either_fits : (test : Bool) (one other : Option ℕ → Need) → Fits one → Fits other
     → Fits (λ second. if test then one second else other second)
@@ -67,10 +71,12 @@ need_fits first =
     either_fits (is_for 0x08 first) (changer_need first) _ (changer_fits first)
     (either_fits (is_for 0x10 first) (reader_need (first % 8)) _ (reader_fits (first % 8))
     (either_fits (is_for 0x30 first) (bill_need first) _ (bill_fits first)
-    (either_fits (is_for 0x60 first) (reader_need (first % 8)) _ (reader_fits (first % 8)) foreign_fits)))
+    (either_fits (is_for 0x60 first) (reader_need (first % 8)) _ (reader_fits (first % 8))
+    foreign_fits)))
 
 -- a subcommand doesn't end its block
-pub need_three : (first second n : ℕ) → need_of first None ≡ need.More → need_of first (Some second) ≡ need.Exactly n
+pub need_three : (first second n : ℕ) → need_of first None ≡ need.More
+    → need_of first (Some second) ≡ need.Exactly n
     → 3 ≤ n
 need_three first second n more told = (need_fits first).three second n more told
 
@@ -84,29 +90,36 @@ need_high first high = grind (arith, common_steps)
 
 -- the bytes of a command
 
-changer_low : (command : ChangerCommand) → HasChangerFields command → AllByRecursion IsByte (changer_bytes command)
+changer_low : (command : ChangerCommand) → HasChangerFields command
+    → AllByRecursion IsByte (changer_bytes command)
 changer_low changer.Reset fields = (omega arith, tt)
 changer_low changer.Setup fields = (omega arith, tt)
 changer_low changer.TubeStatus fields = (omega arith, tt)
 changer_low changer.Poll fields = (omega arith, tt)
-changer_low (changer.CoinType enable manual) fields =
-    (omega arith, (omega (arith, fields.0), (omega arith, (omega (arith, fields.1), (omega arith, tt)))))
+changer_low (changer.CoinType enable manual) fields = (
+  omega arith,
+  (omega (arith, fields.0), (omega arith, (omega (arith, fields.1), (omega arith, tt)))),
+)
 changer_low (changer.Dispense coins) fields = (omega arith, (omega (arith, fields), tt))
 changer_low changer.Identification fields = (omega arith, (omega arith, tt))
 changer_low (changer.Features features) fields =
     (omega arith, (omega arith, recursion_from_All IsByte features fields.1))
 
-bill_low : (command : BillCommand) → HasBillFields command → AllByRecursion IsByte (bill_bytes command)
+bill_low : (command : BillCommand) → HasBillFields command
+    → AllByRecursion IsByte (bill_bytes command)
 bill_low bill.Reset fields = (omega arith, tt)
 bill_low bill.Setup fields = (omega arith, tt)
 bill_low (bill.Security levels) fields = (omega arith, recursion_from_All IsByte levels fields.1)
 bill_low bill.Poll fields = (omega arith, tt)
-bill_low (bill.BillType enable escrow) fields =
-    (omega arith, (omega (arith, fields.0), (omega arith, (omega (arith, fields.1), (omega arith, tt)))))
+bill_low (bill.BillType enable escrow) fields = (
+  omega arith,
+  (omega (arith, fields.0), (omega arith, (omega (arith, fields.1), (omega arith, tt)))),
+)
 bill_low (bill.Escrow order) fields = (omega arith, (omega (arith, fields), tt))
 bill_low bill.Stacker fields = (omega arith, tt)
 bill_low bill.Identification fields = (omega arith, (omega arith, tt))
-bill_low (bill.Features features) fields = (omega arith, (omega arith, recursion_from_All IsByte features fields.1))
+bill_low (bill.Features features) fields =
+    (omega arith, (omega arith, recursion_from_All IsByte features fields.1))
 bill_low bill.IdentificationWithOptions fields = (omega arith, (omega arith, tt))
 
 reader_low : (address : ℕ) (command : ReaderCommand) → address < 249 → HasReaderFields command
@@ -116,7 +129,10 @@ reader_low address (reader.SetupConfig level columns rows display) low fields = 
   omega (arith, low),
   (
     omega arith,
-    (omega (arith, fields.0), (omega (arith, fields.1), (omega (arith, fields.2), (omega (arith, fields.3), tt)))),
+    (
+      omega (arith, fields.0),
+      (omega (arith, fields.1), (omega (arith, fields.2), (omega (arith, fields.3), tt))),
+    ),
   ),
 )
 reader_low address (reader.SetupPrices maximum minimum) low fields = (
@@ -152,7 +168,8 @@ reader_low address reader.Cancel low fields = (omega (arith, low), (omega arith,
 reader_low address (reader.RequestId identity) low fields =
     (omega (arith, low), (omega arith, recursion_from_All IsByte identity fields.1))
 
-command_low : (command : Command) → HasFields command → AllByRecursion IsByte (command_bytes command)
+command_low : (command : Command) → HasFields command
+    → AllByRecursion IsByte (command_bytes command)
 command_low (Changer command) fields = changer_low command fields
 command_low (Bill command) fields = bill_low command fields
 command_low (Reader First command) fields = reader_low 0x10 command (omega arith) fields
@@ -163,7 +180,8 @@ sum_low : (bytes : List ℕ) → sum bytes % 256 < 256
 sum_low bytes = omega arith
 
 -- a front of a list of bytes is of bytes
-low_front : (bytes rest : List ℕ) → AllByRecursion IsByte (bytes ++ rest) → AllByRecursion IsByte bytes
+low_front : (bytes rest : List ℕ) → AllByRecursion IsByte (bytes ++ rest)
+    → AllByRecursion IsByte bytes
 low_front [] rest low = tt
 low_front (byte ∷ bytes) rest low = (low.0, low_front bytes rest low.1)
 
@@ -171,11 +189,14 @@ low_front (byte ∷ bytes) rest low = (low.0, low_front bytes rest low.1)
 pub front_bytes : (bytes : List ℕ) → IsAskFront bytes → All IsByte bytes
 front_bytes bytes front =
     let content = command_bytes front.command in
-    let low : All IsByte content = All-from_recursion IsByte content (command_low front.command front.spelled.fields) in
-    let block : All IsByte (block_of content) = All-push IsByte content (sum content % 256) low (sum_low content) in
+    let low : All IsByte content = All-from_recursion IsByte content
+    (command_low front.command front.spelled.fields) in
+    let block : All IsByte (block_of content) = All-push IsByte content (sum content % 256) low
+    (sum_low content) in
     let P : List ℕ → Type 0 = λ bs. All IsByte bs in
     let whole : All IsByte (bytes ++ front.rest) = subst P (sym front.spelled.bytes) block in
-    All-from_recursion IsByte bytes (low_front bytes front.rest (recursion_from_All IsByte (bytes ++ front.rest) whole))
+    All-from_recursion IsByte bytes
+    (low_front bytes front.rest (recursion_from_All IsByte (bytes ++ front.rest) whole))
 
 -- what two bytes need stays as more come, and what one byte does unless it is left to the second
 pub needed_stays : (bytes : List ℕ) (byte n : ℕ) → bytes ≢ [] → needed bytes ≡ need.Exactly n
@@ -203,10 +224,12 @@ first_byte grammar byte inside = by_size (less byte 256)
 
     by_need : byte < 256 → (n : Need) → needed (byte ∷ []) ≡ n
         → IsAskFront (byte ∷ []) ⊎ (needed (byte ∷ []) ≡ need.Foreign)
-    by_need small need.More told = inl (front_of grammar (byte ∷ []) (λ none. cc) (low small) (inl (told, refl)))
+    by_need small need.More told =
+        inl (front_of grammar (byte ∷ []) (λ none. cc) (low small) (inl (told, refl)))
     by_need small (need.Exactly n) told =
         let two : 2 ≤ n = need_two byte n told in
-        inl (front_of grammar (byte ∷ []) (λ none. cc) (low small) (inr (n, told, omega (arith, two))))
+        inl (front_of grammar (byte ∷ []) (λ none. cc) (low small)
+        (inr (n, told, omega (arith, two))))
     by_need small need.Foreign told = inr told
     by_need small need.Outside told = absurd (inside told)
 

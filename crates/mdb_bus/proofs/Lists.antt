@@ -13,7 +13,8 @@ use Rattle.mdb_bus.specs.Acts.{Say, said_by}
 use Rattle.mdb_bus.specs.ActLists.{AreSpaced, InTime, last_of}
 
 -- a list that isn't empty has a last element
-pub front_and_last : {X : Type 0} (xs : List X) → xs ≢ [] → (front : List X) × (last : X) × (xs ≡ front ++ last ∷ [])
+pub front_and_last : {X : Type 0} (xs : List X) → xs ≢ [] → (front : List X) × (last : X)
+    × (xs ≡ front ++ last ∷ [])
 front_and_last [] some = absurd (some refl)
 front_and_last (x ∷ []) some = ([], x, refl)
 front_and_last (x ∷ y ∷ ys) some =
@@ -26,7 +27,8 @@ not_empty [] x none = cc
 not_empty (y ∷ xs) x none = cc
 
 -- a list begins with what it begins with when an element stands after it
-pub first_stays : {X : Type 0} (xs : List X) (x to : X) (back : List X) → xs ≢ [] → xs ++ x ∷ [] ≡ to ∷ back
+pub first_stays : {X : Type 0} (xs : List X) (x to : X) (back : List X) → xs ≢ []
+    → xs ++ x ∷ [] ≡ to ∷ back
     → (rest : List X) × (xs ≡ to ∷ rest)
 first_stays [] x to back some is = absurd (some refl)
 first_stays (y ∷ ys) x to back some is = (ys, cc)
@@ -51,7 +53,8 @@ last_push (x ∷ y ∷ ys) event = last_push (y ∷ ys) event
 pub say_length : (line : Line) (words : List ℕ) (events : List Event) → Say line words events
     → length words ≡ length events
 say_length line words events says =
-    sym (length-map words (λ word. Some (line, word))) ∙ (sym (ap length says) ∙ length-map events said_by)
+    sym (length-map words (λ word. Some (line, word)))
+    ∙ (sym (ap length says) ∙ length-map events said_by)
 
 -- the words of events that end in one
 pub say_last : (line : Line) (words : List ℕ) (events : List Event) (event : Event)
@@ -73,7 +76,11 @@ pub one_alone : (line : Line) (word : ℕ) (front : List Event) (event : Event)
     → front ≡ []
 one_alone line word [] event says = refl
 one_alone line word (f ∷ front) event says =
-    absurd (omega (arith, say_length line (word ∷ []) (f ∷ front ++ event ∷ []) says, length-append front (event ∷ [])))
+    absurd (omega (
+      arith,
+      say_length line (word ∷ []) (f ∷ front ++ event ∷ []) says,
+      length-append front (event ∷ []),
+    ))
 
 -- the controller's words that end in one, after others: the last is no marked one
 pub record ControllerEnd (bytes : List ℕ) (front : List Event) (event : Event) : Type 0 where
@@ -85,7 +92,8 @@ pub record ControllerEnd (bytes : List ℕ) (front : List Event) (event : Event)
   pub said : said_by event ≡ Some (Controller, byte)
 
 pub controller_last : (bytes : List ℕ) (front : List Event) (event : Event) → front ≢ []
-    → Say Controller (controller_words bytes) (front ++ event ∷ []) → ControllerEnd bytes front event
+    → Say Controller (controller_words bytes) (front ++ event ∷ [])
+    → ControllerEnd bytes front event
 controller_last bytes [] event some says = absurd (behind refl)
 controller_last [] (f ∷ front) event some says = cc
 controller_last (b ∷ bytes) (f ∷ front) event some says =
@@ -108,13 +116,15 @@ controller_length [] = refl
 controller_length (byte ∷ bytes) = refl
 
 -- a peripheral marks the last of its words alone
-pub peripheral_push : (bytes : List ℕ) (byte : ℕ) → peripheral_words (bytes ++ byte ∷ []) ≡ bytes ++ (256 + byte) ∷ []
+pub peripheral_push : (bytes : List ℕ) (byte : ℕ) → peripheral_words (bytes ++ byte ∷ [])
+    ≡ bytes ++ (256 + byte) ∷ []
 peripheral_push [] byte = refl
 peripheral_push (x ∷ []) byte = refl
 peripheral_push (x ∷ y ∷ ys) byte = ap (λ ws. x ∷ ws) (peripheral_push (y ∷ ys) byte)
 
 -- the gaps of events that end in one
-pub spaced_front : (events : List Event) (from to : Event) → AreSpaced ((events ++ from ∷ []) ++ to ∷ [])
+pub spaced_front : (events : List Event) (from to : Event)
+    → AreSpaced ((events ++ from ∷ []) ++ to ∷ [])
     → AreSpaced (events ++ from ∷ []) × AtLeast WORD_GAP_MIN from to × AtMost BLOCK_GAP_MAX from to
 spaced_front [] from to spaced = (tt, spaced.0, spaced.1)
 spaced_front (x ∷ []) from to spaced = ((spaced.0, spaced.1, tt), spaced.2.0, spaced.2.1)
@@ -123,7 +133,8 @@ spaced_front (x ∷ y ∷ ys) from to spaced =
     ((spaced.0, spaced.1, rest.0), rest.1, rest.2)
 
 -- the same after other events
-pub inside : (before front : List Event) (event : Event) → front ≢ [] → AreSpaced (front ++ event ∷ [])
+pub inside : (before front : List Event) (event : Event) → front ≢ []
+    → AreSpaced (front ++ event ∷ [])
     → AreSpaced front × InTime BLOCK_GAP_MAX (last_of (before ++ front)) event
 inside before front event some spaced =
     let split = front_and_last front some in
@@ -133,11 +144,13 @@ inside before front event some spaced =
     let apart = spaced_front split.0 split.1 event (subst Longer split.2 spaced) in
     let joined : before ++ front ≡ (before ++ split.0) ++ split.1 ∷ [] =
     ap (λ es. before ++ es) split.2 ∙ sym (append_assoc before split.0 (split.1 ∷ [])) in
-    let last : last_of (before ++ front) ≡ Some split.1 = ap last_of joined ∙ last_push (before ++ split.0) split.1 in
+    let last : last_of (before ++ front) ≡ Some split.1 = ap last_of joined
+    ∙ last_push (before ++ split.0) split.1 in
     (subst Alone (sym split.2) apart.0, subst In (sym last) (apart.1, apart.2))
 
 -- what holds of each element holds of each in a front, and of the last
-front_by_recursion : (P : ℕ → Type 0) (xs ys : List ℕ) → AllByRecursion P (xs ++ ys) → AllByRecursion P xs
+front_by_recursion : (P : ℕ → Type 0) (xs ys : List ℕ) → AllByRecursion P (xs ++ ys)
+    → AllByRecursion P xs
 front_by_recursion P [] ys all = tt
 front_by_recursion P (x ∷ xs) ys all = (all.0, front_by_recursion P xs ys all.1)
 
@@ -146,7 +159,8 @@ last_by_recursion P [] x all = all.0
 last_by_recursion P (y ∷ xs) x all = last_by_recursion P xs x all.1
 
 pub all_front : (P : ℕ → Type 0) (xs ys : List ℕ) → All P (xs ++ ys) → All P xs
-all_front P xs ys all = All-from_recursion P xs (front_by_recursion P xs ys (recursion_from_All P (xs ++ ys) all))
+all_front P xs ys all =
+    All-from_recursion P xs (front_by_recursion P xs ys (recursion_from_All P (xs ++ ys) all))
 
 pub all_last : (P : ℕ → Type 0) (xs : List ℕ) (x : ℕ) → All P (xs ++ x ∷ []) → P x
 all_last P xs x all = last_by_recursion P xs x (recursion_from_All P (xs ++ x ∷ []) all)

@@ -5,8 +5,8 @@ use Rattle.mdb_msgs.specs.declared.need.Need.{Need}
 use Rattle.mdb_msgs.specs.declared.need.Need.TheVariants.{More, Exactly, Foreign}
 use Rattle.mdb_msgs.specs.Needs.{bill_need, changer_need, is_for, need, needed, reader_need}
 
--- How the need of a first byte goes with that of two. What the first byte tells stays, and what it leaves to the second
--- is told then.
+-- How the need of a first byte goes with that of two. What the first byte tells stays, and what it
+-- leaves to the second is told then.
 pub record Narrows (told : Option ℕ → Need) : Type 0 where
   -- a length stays
   pub known : (second n : ℕ) → told None ≡ Exactly n → told (Some second) ≡ Exactly n
@@ -22,25 +22,30 @@ changer_known : (first second n : ℕ) → changer_need first None ≡ Exactly n
     → changer_need first (Some second) ≡ Exactly n
 changer_known first second n told = grind (arith, common_steps)
 
-changer_left : (first second n : ℕ) → changer_need first None ≡ More → changer_need first (Some second) ≡ Exactly n
+changer_left : (first second n : ℕ) → changer_need first None ≡ More
+    → changer_need first (Some second) ≡ Exactly n
     → 2 < n
 changer_left first second n left told = grind (arith, common_steps)
 
-changer_least : (first : ℕ) (second : Option ℕ) (n : ℕ) → changer_need first second ≡ Exactly n → 2 ≤ n
+changer_least : (first : ℕ) (second : Option ℕ) (n : ℕ) → changer_need first second ≡ Exactly n
+    → 2 ≤ n
 changer_least first None n told = grind (arith, common_steps)
 changer_least first (Some second) n told = grind (arith, common_steps)
 
-changer_most : (first : ℕ) (second : Option ℕ) (n : ℕ) → changer_need first second ≡ Exactly n → n ≤ 32
+changer_most : (first : ℕ) (second : Option ℕ) (n : ℕ) → changer_need first second ≡ Exactly n
+    → n ≤ 32
 changer_most first None n told = grind (arith, common_steps)
 changer_most first (Some second) n told = grind (arith, common_steps)
 
 changer_done : (first second : ℕ) → changer_need first (Some second) ≡ More → ⊥
 changer_done first second told = grind (arith, common_steps)
 
-bill_known : (first second n : ℕ) → bill_need first None ≡ Exactly n → bill_need first (Some second) ≡ Exactly n
+bill_known : (first second n : ℕ) → bill_need first None ≡ Exactly n
+    → bill_need first (Some second) ≡ Exactly n
 bill_known first second n told = grind (arith, common_steps)
 
-bill_left : (first second n : ℕ) → bill_need first None ≡ More → bill_need first (Some second) ≡ Exactly n → 2 < n
+bill_left : (first second n : ℕ) → bill_need first None ≡ More
+    → bill_need first (Some second) ≡ Exactly n → 2 < n
 bill_left first second n left told = grind (arith, common_steps)
 
 bill_least : (first : ℕ) (second : Option ℕ) (n : ℕ) → bill_need first second ≡ Exactly n → 2 ≤ n
@@ -58,15 +63,18 @@ reader_known : (command second n : ℕ) → reader_need command None ≡ Exactly
     → reader_need command (Some second) ≡ Exactly n
 reader_known command second n told = grind (arith, common_steps)
 
-reader_left : (command second n : ℕ) → reader_need command None ≡ More → reader_need command (Some second) ≡ Exactly n
+reader_left : (command second n : ℕ) → reader_need command None ≡ More
+    → reader_need command (Some second) ≡ Exactly n
     → 2 < n
 reader_left command second n left told = grind (arith, common_steps)
 
-reader_least : (command : ℕ) (second : Option ℕ) (n : ℕ) → reader_need command second ≡ Exactly n → 2 ≤ n
+reader_least : (command : ℕ) (second : Option ℕ) (n : ℕ) → reader_need command second ≡ Exactly n
+    → 2 ≤ n
 reader_least command None n told = grind (arith, common_steps)
 reader_least command (Some second) n told = grind (arith, common_steps)
 
-reader_most : (command : ℕ) (second : Option ℕ) (n : ℕ) → reader_need command second ≡ Exactly n → n ≤ 32
+reader_most : (command : ℕ) (second : Option ℕ) (n : ℕ) → reader_need command second ≡ Exactly n
+    → n ≤ 32
 reader_most command None n told = grind (arith, common_steps)
 reader_most command (Some second) n told = grind (arith, common_steps)
 
@@ -110,8 +118,10 @@ foreign_narrows = record {
 }
 
 by_device : (first : ℕ) (changer one bill other : Bool)
-    → Narrows (λ second. if changer then changer_need first second else if one then reader_need (first % 8) second else
-    if bill then bill_need first second else if other then reader_need (first % 8) second else Foreign)
+    → Narrows (λ second. if changer then changer_need first second else if one then reader_need
+    (first % 8) second else
+    if bill then bill_need first second else if other then reader_need (first % 8) second else
+    Foreign)
 by_device first true one bill other = changer_narrows first
 by_device first false true bill other = reader_narrows (first % 8)
 by_device first false false true other = bill_narrows first
@@ -119,7 +129,8 @@ by_device first false false false true = reader_narrows (first % 8)
 by_device first false false false false = foreign_narrows
 
 pub narrows : (first : ℕ) → Narrows (need first)
-narrows first = by_device first (is_for 0x08 first) (is_for 0x10 first) (is_for 0x30 first) (is_for 0x60 first)
+narrows first = by_device first (is_for 0x08 first) (is_for 0x10 first) (is_for 0x30 first)
+    (is_for 0x60 first)
 
 -- a length is 2 to 32
 pub at_least_two : (bytes : List ℕ) (n : ℕ) → 0 < length bytes → needed bytes ≡ Exactly n → 2 ≤ n

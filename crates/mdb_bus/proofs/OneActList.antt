@@ -16,10 +16,12 @@ use Rattle.mdb_bus.proofs.Lists.{front_and_last, not_empty}
 use Rattle.mdb_bus.proofs.OneStep.{Readings, one_step}
 
 -- data bytes have one reply where their block has one
-pub reply_of_bytes : (one_reply : BlockHasOneReply) (command : Command) (one other : Reply) → IsReplyTo command one
+pub reply_of_bytes : (one_reply : BlockHasOneReply) (command : Command) (one other : Reply)
+    → IsReplyTo command one
     → IsReplyTo command other → reply_bytes one ≡ reply_bytes other → one ≡ other
 reply_of_bytes one_reply command one other first second same =
-    one_reply command (block_of (reply_bytes one)) one other (record { answers = first; bytes = refl })
+    one_reply command (block_of (reply_bytes one)) one other
+    (record { answers = first; bytes = refl })
     (record { answers = second; bytes = ap block_of same })
 
 -- a transcript without rows has the empty act list alone
@@ -35,46 +37,57 @@ none_of_none (piece ∷ pieces) list =
 -- from one act list before a row, one after it
 one_more : (opens : OpenIsAFront) (readings : Readings) (rows : List Event) (row : Event)
     → ((one other : List Piece) → IsActList one rows → IsActList other rows → one ≡ other)
-    → (one other : List Piece) → IsActList one (rows ++ row ∷ []) → IsActList other (rows ++ row ∷ []) → one ≡ other
+    → (one other : List Piece) → IsActList one (rows ++ row ∷ [])
+    → IsActList other (rows ++ row ∷ []) → one ≡ other
 one_more opens readings rows row known one other first second =
     let a = backward opens one rows row first.in_order first.whole in
     let b = backward opens other rows row second.in_order second.whole in
-    let before : a.before ≡ b.before = known a.before b.before (record { in_order = a.in_order; whole = a.rows_before })
+    let before : a.before ≡ b.before =
+    known a.before b.before (record { in_order = a.in_order; whole = a.rows_before })
     (record { in_order = b.in_order; whole = b.rows_before }) in
     let From : List Piece → Type 0 = λ pieces. Leads (situation_of pieces) row b.next in
     let next : a.next ≡ b.next =
-    one_step readings (situation_of a.before) row a.next b.next a.leads (subst From (sym before) b.leads) in
-    a.is ∙ (ap (pieces_after a.before row) next ∙ (ap (λ pieces. pieces_after pieces row b.next) before ∙ sym b.is))
+    one_step readings (situation_of a.before) row a.next b.next a.leads
+    (subst From (sym before) b.leads) in
+    a.is ∙ (ap (pieces_after a.before row) next
+    ∙ (ap (λ pieces. pieces_after pieces row b.next) before ∙ sym b.is))
 
 -- a list, its last element first
-by_last : (P : List Event → Type 0) → P [] → ((rows : List Event) (row : Event) → P rows → P (rows ++ row ∷ []))
+by_last : (P : List Event → Type 0) → P []
+    → ((rows : List Event) (row : Event) → P rows → P (rows ++ row ∷ []))
     → (rows : List Event) → P rows
 by_last P none more rows = all rows [] none
   where
     all : (rest done : List Event) → P done → P (done ++ rest)
     all [] done here = subst P (sym (append-nil done)) here
     all (row ∷ rest) done here =
-        subst P (append_assoc done (row ∷ []) rest) (all rest (done ++ row ∷ []) (more done row here))
+        subst P (append_assoc done (row ∷ []) rest)
+        (all rest (done ++ row ∷ []) (more done row here))
 
 -- a transcript has at most one act list
-pub one_act_list : (opens : OpenIsAFront) (readings : Readings) (rows : List Event) (one other : List Piece)
+pub one_act_list : (opens : OpenIsAFront) (readings : Readings) (rows : List Event)
+    (one other : List Piece)
     → IsActList one rows → IsActList other rows → one ≡ other
 one_act_list opens readings =
-    by_last (λ rows. (one other : List Piece) → IsActList one rows → IsActList other rows → one ≡ other)
+    by_last (λ rows. (one other : List Piece) → IsActList one rows → IsActList other rows
+    → one ≡ other)
     (λ one other first second. none_of_none one first ∙ sym (none_of_none other second))
     (one_more opens readings)
 
 -- what has an act list has one without its last row
-pub without_last : (opens : OpenIsAFront) (rows : List Event) (row : Event) → HasActList (rows ++ row ∷ [])
+pub without_last : (opens : OpenIsAFront) (rows : List Event) (row : Event)
+    → HasActList (rows ++ row ∷ [])
     → HasActList rows
 without_last opens rows row list =
     let b = backward opens list.0 rows row list.1.in_order list.1.whole in
     (b.before, record { in_order = b.in_order; whole = b.rows_before })
 
 -- what has an act list has one at each of its fronts
-pub fronts : (opens : OpenIsAFront) (rows more : List Event) → HasActList (rows ++ more) → HasActList rows
+pub fronts : (opens : OpenIsAFront) (rows more : List Event) → HasActList (rows ++ more)
+    → HasActList rows
 fronts opens rows =
-    by_last (λ more. HasActList (rows ++ more) → HasActList rows) (λ list. subst HasActList (append-nil rows) list)
+    by_last (λ more. HasActList (rows ++ more) → HasActList rows)
+    (λ list. subst HasActList (append-nil rows) list)
     (λ more row known list.
     known (without_last opens (rows ++ more) row
     (subst HasActList (sym (append_assoc rows more (row ∷ []))) list)))

@@ -13,8 +13,10 @@ rule_at n =
     if n == 1 then rule.Order else if n == 2 then rule.Speaker else if n == 3 then rule.Mode
     else if n == 4 then rule.Early else if n == 5 then rule.Late else if n == 6 then rule.Spacing
     else if n == 7 then rule.Length else if n == 8 then rule.Sum else if n == 9 then rule.Break
-    else if n == 10 then rule.Answer else if n == 11 then rule.Message else if n == 12 then rule.Same
-    else if n == 13 then rule.Profile else if n == 14 then rule.Changer else if n == 15 then rule.Bill
+    else if n == 10 then rule.Answer else if n == 11 then rule.Message else if n == 12 then
+    rule.Same
+    else if n == 13 then rule.Profile else if n == 14 then rule.Changer else if n == 15 then
+    rule.Bill
     else rule.Cashless
 
 rule_back : (r : Rule) → rule_at (place_of r) ≡ r
@@ -25,10 +27,14 @@ rule_back r = refl
 place_one : (r s : Rule) → place_of r ≡ place_of s → r ≡ s
 place_one r s same = sym (rule_back r) ∙ (ap rule_at same ∙ rule_back s)
 
-pub one_fault : (pieces : List Piece) (row : Event) (r s : Rule) (a b : Blame) → IsLinkFault pieces row r a
+pub one_fault : (pieces : List Piece) (row : Event) (r s : Rule) (a b : Blame)
+    → IsLinkFault pieces row r a
     → IsLinkFault pieces row s b → (r ≡ s) × (a ≡ b)
 one_fault pieces row r s a b first second =
     let up : place_of r ≤ place_of s = first.rule.first s second.rule.breaks in
     let down : place_of s ≤ place_of r = second.rule.first r first.rule.breaks in
-    let same : r ≡ s = place_one r s (omega arith) in
-    (same, first.blame ∙ (ap (λ x. blame_of (position_of pieces) (asked_device pieces) row x) same ∙ sym second.blame))
+    let same : r ≡ s = place_one r s (omega arith) in (
+      same,
+      first.blame ∙ (ap (λ x. blame_of (position_of pieces) (asked_device pieces) row x) same
+          ∙ sym second.blame),
+    )

@@ -23,11 +23,15 @@ use Rattle.mdb_bus.proofs.Lists.{nothing_after, some_length}
 
 -- what mdb_msgs promises of the commands and replies that a block may be
 pub record Readings : Type 0 where
-  pub one_command : (block : List ℕ) (one other : Command) → Spells one block → Spells other block → one ≡ other
-  pub needs : (block : List ℕ) (command : Command) → Spells command block → needed block ≡ Exactly (length block)
-  pub tells : (prefix rest : List ℕ) (command : Command) → 0 < length prefix → Spells command (prefix ++ rest)
+  pub one_command : (block : List ℕ) (one other : Command) → Spells one block → Spells other block
+      → one ≡ other
+  pub needs : (block : List ℕ) (command : Command) → Spells command block
+      → needed block ≡ Exactly (length block)
+  pub tells : (prefix rest : List ℕ) (command : Command) → 0 < length prefix
+      → Spells command (prefix ++ rest)
       → TellsLength prefix (length (prefix ++ rest))
-  pub one_reply : (command : Command) (one other : Reply) → IsReplyTo command one → IsReplyTo command other
+  pub one_reply : (command : Command) (one other : Reply) → IsReplyTo command one
+      → IsReplyTo command other
       → reply_bytes one ≡ reply_bytes other → one ≡ other
 
 pub readings_of : Grammar → Readings
@@ -46,14 +50,16 @@ opening_foreign (first ∷ second ∷ []) opening = opening.1
 opening_foreign (first ∷ second ∷ third ∷ bytes) opening = absurd opening
 
 -- no front of a command is
-front_not_foreign : (readings : Readings) (bytes : List ℕ) → IsAskFront bytes → IsForeignOpening bytes → ⊥
+front_not_foreign : (readings : Readings) (bytes : List ℕ) → IsAskFront bytes
+    → IsForeignOpening bytes → ⊥
 front_not_foreign readings bytes front opening =
     let Told : Need → Type 0 = λ need. IsTold need (length bytes) (length (bytes ++ front.rest)) in
     subst Told (opening_foreign bytes opening)
     (readings.tells bytes front.rest front.command (some_length bytes front.some) front.spelled)
 
 -- nor is a command
-command_not_foreign : (readings : Readings) (bytes : List ℕ) (command : Command) → Spells command bytes
+command_not_foreign : (readings : Readings) (bytes : List ℕ) (command : Command)
+    → Spells command bytes
     → IsForeignOpening bytes → ⊥
 command_not_foreign readings bytes command spells opening =
     let clash : Exactly (length bytes) ≡ Foreign = sym (readings.needs bytes command spells)
@@ -65,19 +71,23 @@ front_not_command : (readings : Readings) (bytes : List ℕ) (command : Command)
     → Spells command bytes → ⊥
 front_not_command readings bytes command front spells =
     let Told : Need → Type 0 = λ need. IsTold need (length bytes) (length (bytes ++ front.rest)) in
-    let same : length bytes ≡ length (bytes ++ front.rest) = subst Told (readings.needs bytes command spells)
+    let same : length bytes ≡ length (bytes ++ front.rest) =
+    subst Told (readings.needs bytes command spells)
     (readings.tells bytes front.rest front.command (some_length bytes front.some) front.spelled) in
     front.open_end (nothing_after bytes front.rest same)
 
 -- the words of a reply don't go on
-repeat_not_whole : (reply : Reply) (words : List ℕ) → IsRepeatFront reply words → words ≡ reply_words reply → ⊥
+repeat_not_whole : (reply : Reply) (words : List ℕ) → IsRepeatFront reply words
+    → words ≡ reply_words reply → ⊥
 repeat_not_whole reply words front whole =
     front.open_end (nothing_after words front.rest (ap length (whole ∙ sym front.same)))
 
 -- a block begins with one step
-open_byte : (readings : Readings) (position : Position) (from : Option Event) (to : Event) (word byte : ℕ)
+open_byte : (readings : Readings) (position : Position) (from : Option Event) (to : Event)
+    (word byte : ℕ)
     (other : Step)
-    → Opens position from to word (step.AskByte byte) → Opens position from to word other → step.AskByte byte ≡ other
+    → Opens position from to word (step.AskByte byte) → Opens position from to word other
+    → step.AskByte byte ≡ other
 open_byte readings position from to word byte (step.AskByte other) p q =
     let same : byte ≡ other = omega (arith, p.0, q.0) in ap step.AskByte same
 open_byte readings position from to word byte step.Foreign p q =
@@ -86,14 +96,17 @@ open_byte readings position from to word byte step.Foreign p q =
     absurd (front_not_foreign readings (byte ∷ []) p.1 (subst P same q.2))
 open_byte readings position from to word byte other p q = absurd q
 
-open_foreign : (readings : Readings) (position : Position) (from : Option Event) (to : Event) (word : ℕ) (other : Step)
-    → Opens position from to word step.Foreign → Opens position from to word other → step.Foreign ≡ other
+open_foreign : (readings : Readings) (position : Position) (from : Option Event) (to : Event)
+    (word : ℕ) (other : Step)
+    → Opens position from to word step.Foreign → Opens position from to word other
+    → step.Foreign ≡ other
 open_foreign readings position from to word (step.AskByte byte) p q =
     sym (open_byte readings position from to word byte step.Foreign q p)
 open_foreign readings position from to word step.Foreign p q = refl
 open_foreign readings position from to word other p q = absurd q
 
-one_opening : (readings : Readings) (position : Position) (from : Option Event) (to : Event) (word : ℕ)
+one_opening : (readings : Readings) (position : Position) (from : Option Event) (to : Event)
+    (word : ℕ)
     (one other : Step)
     → Opens position from to word one → Opens position from to word other → one ≡ other
 one_opening readings position from to word (step.AskByte byte) other p q =
@@ -110,7 +123,8 @@ opens_marked position from to word step.Foreign p low = omega (arith, p.1, low)
 opens_marked position from to word next p low = absurd p
 
 -- a block goes on with one step
-ask_byte : (readings : Readings) (bytes : List ℕ) (from : Option Event) (to : Event) (word byte : ℕ) (other : Step)
+ask_byte : (readings : Readings) (bytes : List ℕ) (from : Option Event) (to : Event) (word byte : ℕ)
+    (other : Step)
     → GoesOnAsking bytes from to word (step.AskByte byte) → GoesOnAsking bytes from to word other
     → step.AskByte byte ≡ other
 ask_byte readings bytes from to word byte (step.AskByte other) p q = ap step.AskByte (sym p.0 ∙ q.0)
@@ -122,7 +136,8 @@ ask_byte readings bytes from to word byte step.Foreign p q =
     absurd (front_not_foreign readings (bytes ++ byte ∷ []) p.2 (subst P p.0 q.1))
 ask_byte readings bytes from to word byte other p q = absurd q
 
-ask_end : (readings : Readings) (bytes : List ℕ) (from : Option Event) (to : Event) (word : ℕ) (command : Command)
+ask_end : (readings : Readings) (bytes : List ℕ) (from : Option Event) (to : Event) (word : ℕ)
+    (command : Command)
     (other : Step)
     → GoesOnAsking bytes from to word (step.Ask command) → GoesOnAsking bytes from to word other
     → step.Ask command ≡ other
@@ -134,8 +149,10 @@ ask_end readings bytes from to word command step.Foreign p q =
     absurd (command_not_foreign readings (bytes ++ word ∷ []) command p.1 q.1)
 ask_end readings bytes from to word command other p q = absurd q
 
-ask_foreign : (readings : Readings) (bytes : List ℕ) (from : Option Event) (to : Event) (word : ℕ) (other : Step)
-    → GoesOnAsking bytes from to word step.Foreign → GoesOnAsking bytes from to word other → step.Foreign ≡ other
+ask_foreign : (readings : Readings) (bytes : List ℕ) (from : Option Event) (to : Event) (word : ℕ)
+    (other : Step)
+    → GoesOnAsking bytes from to word step.Foreign → GoesOnAsking bytes from to word other
+    → step.Foreign ≡ other
 ask_foreign readings bytes from to word (step.AskByte byte) p q =
     sym (ask_byte readings bytes from to word byte step.Foreign q p)
 ask_foreign readings bytes from to word (step.Ask command) p q =
@@ -143,13 +160,15 @@ ask_foreign readings bytes from to word (step.Ask command) p q =
 ask_foreign readings bytes from to word step.Foreign p q = refl
 ask_foreign readings bytes from to word other p q = absurd q
 
-one_asking : (readings : Readings) (bytes : List ℕ) (from : Option Event) (to : Event) (word : ℕ) (one other : Step)
+one_asking : (readings : Readings) (bytes : List ℕ) (from : Option Event) (to : Event) (word : ℕ)
+    (one other : Step)
     → GoesOnAsking bytes from to word one → GoesOnAsking bytes from to word other → one ≡ other
 one_asking readings bytes from to word (step.AskByte byte) other p q =
     ask_byte readings bytes from to word byte other p q
 one_asking readings bytes from to word (step.Ask command) other p q =
     ask_end readings bytes from to word command other p q
-one_asking readings bytes from to word step.Foreign other p q = ask_foreign readings bytes from to word other p q
+one_asking readings bytes from to word step.Foreign other p q = ask_foreign readings bytes from to
+    word other p q
 one_asking readings bytes from to word one other p q = absurd p
 
 -- a command is answered with one step
@@ -179,28 +198,36 @@ one_answer : (command : Command) (from : Option Event) (to : Event) (word : ℕ)
     → Answers command from to word one → Answers command from to word other → one ≡ other
 one_answer command from to word step.Ack other p q = answer_ack command from to word other p q
 one_answer command from to word step.Nak other p q = answer_nak command from to word other p q
-one_answer command from to word (step.ReplyByte byte) other p q = answer_byte command from to word byte other p q
+one_answer command from to word (step.ReplyByte byte) other p q = answer_byte command from to word
+    byte other p q
 one_answer command from to word one other p q = absurd p
 
 -- a reply goes on with one step
-reply_byte : (command : Command) (bytes : List ℕ) (from : Option Event) (levels : Levels) (to : Event) (word byte : ℕ)
+reply_byte : (command : Command) (bytes : List ℕ) (from : Option Event) (levels : Levels)
+    (to : Event) (word byte : ℕ)
     (other : Step)
     → GoesOnReplying command bytes from levels to word (step.ReplyByte byte)
     → GoesOnReplying command bytes from levels to word other → step.ReplyByte byte ≡ other
-reply_byte command bytes from levels to word byte (step.ReplyByte other) p q = ap step.ReplyByte (sym p.0 ∙ q.0)
-reply_byte command bytes from levels to word byte (step.Reply reply) p q = absurd (omega (arith, p.1, q.0))
+reply_byte command bytes from levels to word byte (step.ReplyByte other) p q =
+    ap step.ReplyByte (sym p.0 ∙ q.0)
+reply_byte command bytes from levels to word byte (step.Reply reply) p q =
+    absurd (omega (arith, p.1, q.0))
 reply_byte command bytes from levels to word byte other p q = absurd q
 
-reply_end : (readings : Readings) (command : Command) (bytes : List ℕ) (from : Option Event) (levels : Levels)
+reply_end : (readings : Readings) (command : Command) (bytes : List ℕ) (from : Option Event)
+    (levels : Levels)
     (to : Event) (word : ℕ)
-    (reply : Reply) (other : Step) → GoesOnReplying command bytes from levels to word (step.Reply reply)
+    (reply : Reply) (other : Step) → GoesOnReplying command bytes from levels to word
+    (step.Reply reply)
     → GoesOnReplying command bytes from levels to word other → step.Reply reply ≡ other
-reply_end readings command bytes from levels to word reply (step.ReplyByte byte) p q = absurd (omega (arith, q.1, p.0))
+reply_end readings command bytes from levels to word reply (step.ReplyByte byte) p q =
+    absurd (omega (arith, q.1, p.0))
 reply_end readings command bytes from levels to word reply (step.Reply other) p q =
     ap step.Reply (readings.one_reply command reply other p.1.answers q.1.answers (sym p.2 ∙ q.2))
 reply_end readings command bytes from levels to word reply other p q = absurd q
 
-one_replying : (readings : Readings) (command : Command) (bytes : List ℕ) (from : Option Event) (levels : Levels)
+one_replying : (readings : Readings) (command : Command) (bytes : List ℕ) (from : Option Event)
+    (levels : Levels)
     (to : Event) (word : ℕ)
     (one other : Step) → GoesOnReplying command bytes from levels to word one
     → GoesOnReplying command bytes from levels to word other → one ≡ other
@@ -211,39 +238,48 @@ one_replying readings command bytes from levels to word (step.Reply reply) other
 one_replying readings command bytes from levels to word one other p q = absurd p
 
 -- the controller answers a reply with one step
-vmc_low : (command : Command) (reply : Reply) (from : Option Event) (to : Event) (word answer : ℕ) (one other : Step)
+vmc_low : (command : Command) (reply : Reply) (from : Option Event) (to : Event) (word answer : ℕ)
+    (one other : Step)
     → word ≡ answer
     → answer < 256 → Opens (Replied command reply) from to word other → one ≡ other
 vmc_low command reply from to word answer one other is low opens =
     absurd (opens_marked (Replied command reply) from to word other opens (omega (arith, is, low)))
 
-vmc_ack : (command : Command) (reply : Reply) (from : Option Event) (to : Event) (word : ℕ) (other : Step) → word ≡ 0x00
+vmc_ack : (command : Command) (reply : Reply) (from : Option Event) (to : Event) (word : ℕ)
+    (other : Step) → word ≡ 0x00
     → AnswersReply command reply from to word other → step.VmcAck ≡ other
 vmc_ack command reply from to word step.VmcAck is q = refl
 vmc_ack command reply from to word step.VmcNak is q = absurd (omega (arith, is, q.0))
 vmc_ack command reply from to word step.VmcRet is q = absurd (omega (arith, is, q.0))
-vmc_ack command reply from to word other is q = vmc_low command reply from to word 0x00 step.VmcAck other is
+vmc_ack command reply from to word other is q = vmc_low command reply from to word 0x00 step.VmcAck
+    other is
     (omega arith) q
 
-vmc_nak : (command : Command) (reply : Reply) (from : Option Event) (to : Event) (word : ℕ) (other : Step) → word ≡ 0xFF
+vmc_nak : (command : Command) (reply : Reply) (from : Option Event) (to : Event) (word : ℕ)
+    (other : Step) → word ≡ 0xFF
     → AnswersReply command reply from to word other → step.VmcNak ≡ other
 vmc_nak command reply from to word step.VmcAck is q = absurd (omega (arith, is, q.0))
 vmc_nak command reply from to word step.VmcNak is q = refl
 vmc_nak command reply from to word step.VmcRet is q = absurd (omega (arith, is, q.0))
-vmc_nak command reply from to word other is q = vmc_low command reply from to word 0xFF step.VmcNak other is
+vmc_nak command reply from to word other is q = vmc_low command reply from to word 0xFF step.VmcNak
+    other is
     (omega arith) q
 
-vmc_ret : (command : Command) (reply : Reply) (from : Option Event) (to : Event) (word : ℕ) (other : Step) → word ≡ 0xAA
+vmc_ret : (command : Command) (reply : Reply) (from : Option Event) (to : Event) (word : ℕ)
+    (other : Step) → word ≡ 0xAA
     → AnswersReply command reply from to word other → step.VmcRet ≡ other
 vmc_ret command reply from to word step.VmcAck is q = absurd (omega (arith, is, q.0))
 vmc_ret command reply from to word step.VmcNak is q = absurd (omega (arith, is, q.0))
 vmc_ret command reply from to word step.VmcRet is q = refl
-vmc_ret command reply from to word other is q = vmc_low command reply from to word 0xAA step.VmcRet other is
+vmc_ret command reply from to word other is q = vmc_low command reply from to word 0xAA step.VmcRet
+    other is
     (omega arith) q
 
-vmc_opens : (readings : Readings) (command : Command) (reply : Reply) (from : Option Event) (to : Event) (word : ℕ)
+vmc_opens : (readings : Readings) (command : Command) (reply : Reply) (from : Option Event)
+    (to : Event) (word : ℕ)
     (one other : Step)
-    → Opens (Replied command reply) from to word one → AnswersReply command reply from to word other → one ≡ other
+    → Opens (Replied command reply) from to word one → AnswersReply command reply from to word other
+    → one ≡ other
 vmc_opens readings command reply from to word one step.VmcAck p q =
     sym (vmc_low command reply from to word 0x00 step.VmcAck one q.0 (omega arith) p)
 vmc_opens readings command reply from to word one step.VmcNak p q =
@@ -253,9 +289,11 @@ vmc_opens readings command reply from to word one step.VmcRet p q =
 vmc_opens readings command reply from to word one other p q =
     one_opening readings (Replied command reply) from to word one other p q
 
-one_vmc_answer : (readings : Readings) (command : Command) (reply : Reply) (from : Option Event) (to : Event)
+one_vmc_answer : (readings : Readings) (command : Command) (reply : Reply) (from : Option Event)
+    (to : Event)
     (word : ℕ) (one other : Step)
-    → AnswersReply command reply from to word one → AnswersReply command reply from to word other → one ≡ other
+    → AnswersReply command reply from to word one → AnswersReply command reply from to word other
+    → one ≡ other
 one_vmc_answer readings command reply from to word step.VmcAck other p q =
     vmc_ack command reply from to word other p.0 q
 one_vmc_answer readings command reply from to word step.VmcNak other p q =
@@ -269,45 +307,59 @@ one_vmc_answer readings command reply from to word one other p q =
 repeat_first : (reply : Reply) (from : Option Event) (to : Event) (word said : ℕ) (other : Step)
     → BeginsRepeat reply from to word (step.RepeatWord said) → BeginsRepeat reply from to word other
     → step.RepeatWord said ≡ other
-repeat_first reply from to word said (step.RepeatWord other) p q = ap step.RepeatWord (sym p.0 ∙ q.0)
+repeat_first reply from to word said (step.RepeatWord other) p q =
+    ap step.RepeatWord (sym p.0 ∙ q.0)
 repeat_first reply from to word said other p q = absurd q
 
 one_repeat : (reply : Reply) (from : Option Event) (to : Event) (word : ℕ) (one other : Step)
     → BeginsRepeat reply from to word one → BeginsRepeat reply from to word other → one ≡ other
-one_repeat reply from to word (step.RepeatWord said) other p q = repeat_first reply from to word said other p q
+one_repeat reply from to word (step.RepeatWord said) other p q = repeat_first reply from to word
+    said other p q
 one_repeat reply from to word one other p q = absurd p
 
 -- it goes on with one step
-repeat_word : (reply : Reply) (words : List ℕ) (from : Option Event) (to : Event) (word said : ℕ) (other : Step)
-    → GoesOnRepeating reply words from to word (step.RepeatWord said) → GoesOnRepeating reply words from to word other
+repeat_word : (reply : Reply) (words : List ℕ) (from : Option Event) (to : Event) (word said : ℕ)
+    (other : Step)
+    → GoesOnRepeating reply words from to word (step.RepeatWord said)
+    → GoesOnRepeating reply words from to word other
     → step.RepeatWord said ≡ other
-repeat_word reply words from to word said (step.RepeatWord other) p q = ap step.RepeatWord (sym p.0 ∙ q.0)
-repeat_word reply words from to word said step.Repeat p q = absurd (repeat_not_whole reply (words ++ word ∷ []) p.1 q.0)
+repeat_word reply words from to word said (step.RepeatWord other) p q =
+    ap step.RepeatWord (sym p.0 ∙ q.0)
+repeat_word reply words from to word said step.Repeat p q =
+    absurd (repeat_not_whole reply (words ++ word ∷ []) p.1 q.0)
 repeat_word reply words from to word said other p q = absurd q
 
-repeat_end : (reply : Reply) (words : List ℕ) (from : Option Event) (to : Event) (word : ℕ) (other : Step)
-    → GoesOnRepeating reply words from to word step.Repeat → GoesOnRepeating reply words from to word other
+repeat_end : (reply : Reply) (words : List ℕ) (from : Option Event) (to : Event) (word : ℕ)
+    (other : Step)
+    → GoesOnRepeating reply words from to word step.Repeat
+    → GoesOnRepeating reply words from to word other
     → step.Repeat ≡ other
 repeat_end reply words from to word (step.RepeatWord said) p q =
     sym (repeat_word reply words from to word said step.Repeat q p)
 repeat_end reply words from to word step.Repeat p q = refl
 repeat_end reply words from to word other p q = absurd q
 
-one_repeating : (reply : Reply) (words : List ℕ) (from : Option Event) (to : Event) (word : ℕ) (one other : Step)
-    → GoesOnRepeating reply words from to word one → GoesOnRepeating reply words from to word other → one ≡ other
+one_repeating : (reply : Reply) (words : List ℕ) (from : Option Event) (to : Event) (word : ℕ)
+    (one other : Step)
+    → GoesOnRepeating reply words from to word one → GoesOnRepeating reply words from to word other
+    → one ≡ other
 one_repeating reply words from to word (step.RepeatWord said) other p q =
     repeat_word reply words from to word said other p q
-one_repeating reply words from to word step.Repeat other p q = repeat_end reply words from to word other p q
+one_repeating reply words from to word step.Repeat other p q = repeat_end reply words from to word
+    other p q
 one_repeating reply words from to word one other p q = absurd p
 
 -- foreign traffic goes on with one step
-is_foreign : (from : Option Event) (to : Event) (next : Step) → GoesOnForeign from to next → next ≡ step.Foreign
+is_foreign : (from : Option Event) (to : Event) (next : Step) → GoesOnForeign from to next
+    → next ≡ step.Foreign
 is_foreign from to step.Foreign p = refl
 is_foreign from to next p = absurd p
 
-one_after_foreign : (readings : Readings) (from : Option Event) (to : Event) (word : ℕ) (one other : Step)
+one_after_foreign : (readings : Readings) (from : Option Event) (to : Event) (word : ℕ)
+    (one other : Step)
     → Opens InForeign from to word one ⊎ ((word < 256) × GoesOnForeign from to one)
-    → Opens InForeign from to word other ⊎ ((word < 256) × GoesOnForeign from to other) → one ≡ other
+    → Opens InForeign from to word other ⊎ ((word < 256) × GoesOnForeign from to other)
+    → one ≡ other
 one_after_foreign readings from to word one other (inl p) (inl q) =
     one_opening readings InForeign from to word one other p q
 one_after_foreign readings from to word one other (inl p) (inr q) =
@@ -318,7 +370,8 @@ one_after_foreign readings from to word one other (inr p) (inr q) =
     is_foreign from to one p.1 ∙ sym (is_foreign from to other q.1)
 
 -- a word leads to one step
-one_word : (readings : Readings) (position : Position) (from : Option Event) (levels : Levels) (to : Event)
+one_word : (readings : Readings) (position : Position) (from : Option Event) (levels : Levels)
+    (to : Event)
     (line : Line) (word : ℕ)
     (one other : Step) → WordLeads position from levels to line word one
     → WordLeads position from levels to line word other → one ≡ other
@@ -342,7 +395,8 @@ one_word readings (Returned command reply) from levels to Controller word one ot
     one_opening readings (Returned command reply) from to word one other p q
 one_word readings (Returned command reply) from levels to Peripheral word one other p q =
     one_repeat reply from to word one other p q
-one_word readings (InRepeat command reply words) from levels to Controller word one other p q = absurd p
+one_word readings (InRepeat command reply words) from levels to Controller word one other p q =
+    absurd p
 one_word readings (InRepeat command reply words) from levels to Peripheral word one other p q =
     one_repeating reply words from to word one other p q
 one_word readings InForeign from levels to Controller word one other p q =
@@ -351,13 +405,16 @@ one_word readings InForeign from levels to Peripheral word one other p q =
     is_foreign from to one p ∙ sym (is_foreign from to other q)
 
 -- a break leads to one step
-is_break : (s : Situation) (at length : ℕ) (next : Step) → Leads s (Break at length) next → next ≡ step.Break length
+is_break : (s : Situation) (at length : ℕ) (next : Step) → Leads s (Break at length) next
+    → next ≡ step.Break length
 is_break s at length (step.Break lasted) p = ap step.Break p.0
 is_break s at length next p = absurd p
 
 -- a row leads to one step
-pub one_step : (readings : Readings) (s : Situation) (row : Event) (one other : Step) → Leads s row one
+pub one_step : (readings : Readings) (s : Situation) (row : Event) (one other : Step)
+    → Leads s row one
     → Leads s row other → one ≡ other
 one_step readings s (Word at line word) one other p q =
     one_word readings s.position s.last s.levels (Word at line word) line word one other p q
-one_step readings s (Break at length) one other p q = is_break s at length one p ∙ sym (is_break s at length other q)
+one_step readings s (Break at length) one other p q = is_break s at length one p
+    ∙ sym (is_break s at length other q)

@@ -12,7 +12,8 @@ use Rattle.mdb_bus.specs.Acts.{IsBlockWord, Say, said_by}
 use Rattle.mdb_bus.specs.ActLists.{AreSpaced, InTime, last_of}
 
 -- a list that begins with an element has a last one
-front_and_last : {X : Type 0} (x : X) (xs : List X) → (front : List X) × (last : X) × (x ∷ xs ≡ front ++ last ∷ [])
+front_and_last : {X : Type 0} (x : X) (xs : List X) → (front : List X) × (last : X)
+    × (x ∷ xs ≡ front ++ last ∷ [])
 front_and_last x [] = ([], x, refl)
 front_and_last x (y ∷ ys) =
     let rest = front_and_last y ys in
@@ -25,7 +26,8 @@ last_push (x ∷ []) event = refl
 last_push (x ∷ y ∷ ys) event = last_push (y ∷ ys) event
 
 -- words with one more are said by events with one more
-say_push : (line : Line) (words : List ℕ) (events : List Event) (word : ℕ) (event : Event) → Say line words events
+say_push : (line : Line) (words : List ℕ) (events : List Event) (word : ℕ) (event : Event)
+    → Say line words events
     → said_by event ≡ Some (line, word) → Say line (words ++ word ∷ []) (events ++ event ∷ [])
 say_push line words events word event says said =
     let told = map-append said_by events (event ∷ []) in
@@ -33,22 +35,28 @@ say_push line words events word event says said =
     let meant : map say (words ++ word ∷ []) ≡ map say words ++ Some (line, word) ∷ [] =
     map-append say words (word ∷ []) in
     let here : said_by event ∷ [] ≡ Some (line, word) ∷ [] = ap (λ x. x ∷ []) said in
-    told ∙ (ap (λ xs. xs ++ said_by event ∷ []) says ∙ (ap (λ xs. map say words ++ xs) here ∙ sym meant))
+    told ∙ (ap (λ xs. xs ++ said_by event ∷ []) says
+    ∙ (ap (λ xs. map say words ++ xs) here ∙ sym meant))
 
 -- the same on one line, for a word as it stands in a row
-pub say_word : (line : Line) (words : List ℕ) (events : List Event) (at word : ℕ) → Say line words events
+pub say_word : (line : Line) (words : List ℕ) (events : List Event) (at word : ℕ)
+    → Say line words events
     → Say line (words ++ word ∷ []) (events ++ Word at line word ∷ [])
-say_word line words events at word says = say_push line words events word (Word at line word) says refl
+say_word line words events at word says = say_push line words events word (Word at line word) says
+    refl
 
 -- a block of the controller with one byte more
 pub say_byte : (bytes : List ℕ) (events : List Event) (at word : ℕ) → bytes ≢ []
     → Say Controller (controller_words bytes) events
-    → Say Controller (controller_words (bytes ++ word ∷ [])) (events ++ Word at Controller word ∷ [])
+    → Say Controller (controller_words (bytes ++ word ∷ []))
+    (events ++ Word at Controller word ∷ [])
 say_byte [] events at word some says = absurd (some refl)
-say_byte (byte ∷ bytes) events at word some says = say_word Controller ((256 + byte) ∷ bytes) events at word says
+say_byte (byte ∷ bytes) events at word some says = say_word Controller ((256 + byte) ∷ bytes) events
+    at word says
 
 -- the words of a peripheral's block with one byte more
-peripheral_push : (bytes : List ℕ) (byte : ℕ) → peripheral_words (bytes ++ byte ∷ []) ≡ bytes ++ (256 + byte) ∷ []
+peripheral_push : (bytes : List ℕ) (byte : ℕ) → peripheral_words (bytes ++ byte ∷ [])
+    ≡ bytes ++ (256 + byte) ∷ []
 peripheral_push [] byte = refl
 peripheral_push (x ∷ []) byte = refl
 peripheral_push (x ∷ y ∷ ys) byte = ap (λ ws. x ∷ ws) (peripheral_push (y ∷ ys) byte)
@@ -58,7 +66,8 @@ pub say_sum : (bytes : List ℕ) (events : List Event) (at word : ℕ) → word 
     → Say Peripheral bytes events
     → Say Peripheral (peripheral_words (block_of bytes)) (events ++ Word at Peripheral word ∷ [])
 say_sum bytes events at word is says =
-    let Spoken : List ℕ → Type 0 = λ ws. Say Peripheral ws (events ++ Word at Peripheral word ∷ []) in
+    let Spoken : List ℕ
+    → Type 0 = λ ws. Say Peripheral ws (events ++ Word at Peripheral word ∷ []) in
     subst Spoken (ap (λ w. bytes ++ w ∷ []) is ∙ sym (peripheral_push bytes (sum bytes % 256)))
     (say_word Peripheral bytes events at word says)
 
@@ -81,7 +90,8 @@ begins_block (byte ∷ bytes) (Word at Peripheral word) others some says =
 begins_block (byte ∷ bytes) (Break at length) others some says = cc
 
 -- spaced events with one more in time
-spaced_push : (events : List Event) (from to : Event) → AreSpaced (events ++ from ∷ []) → AtLeast WORD_GAP_MIN from to
+spaced_push : (events : List Event) (from to : Event) → AreSpaced (events ++ from ∷ [])
+    → AtLeast WORD_GAP_MIN from to
     → AtMost BLOCK_GAP_MAX from to → AreSpaced ((events ++ from ∷ []) ++ to ∷ [])
 spaced_push [] from to spaced least most = (least, most, tt)
 spaced_push (x ∷ []) from to spaced least most = (spaced.0, spaced.1, (least, most, tt))
@@ -89,8 +99,10 @@ spaced_push (x ∷ y ∷ ys) from to spaced least most =
     (spaced.0, spaced.1, spaced_push (y ∷ ys) from to spaced.2 least most)
 
 -- the newest events with a row in time for their block
-pub spaced_more : (rows : List Event) (first : Event) (others : List Event) (row : Event) → AreSpaced (first ∷ others)
-    → InTime BLOCK_GAP_MAX (last_of (rows ++ first ∷ others)) row → AreSpaced ((first ∷ others) ++ row ∷ [])
+pub spaced_more : (rows : List Event) (first : Event) (others : List Event) (row : Event)
+    → AreSpaced (first ∷ others)
+    → InTime BLOCK_GAP_MAX (last_of (rows ++ first ∷ others)) row
+    → AreSpaced ((first ∷ others) ++ row ∷ [])
 spaced_more rows first others row spaced gap =
     let split = front_and_last first others in
     let joined : rows ++ first ∷ others ≡ (rows ++ split.0) ++ split.1 ∷ [] =
@@ -101,4 +113,5 @@ spaced_more rows first others row spaced gap =
     let here : InTime BLOCK_GAP_MAX (Some split.1) row = subst Near last gap in
     let Spaced : List Event → Type 0 = λ es. AreSpaced es in
     let Longer : List Event → Type 0 = λ es. AreSpaced (es ++ row ∷ []) in
-    subst Longer (sym split.2) (spaced_push split.0 split.1 row (subst Spaced split.2 spaced) here.0 here.1)
+    subst Longer (sym split.2) (spaced_push split.0 split.1 row (subst Spaced split.2 spaced) here.0
+    here.1)

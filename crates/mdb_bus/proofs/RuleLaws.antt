@@ -12,7 +12,8 @@ use Rattle.mdb_bus.proofs.Stops.{LastIsLong}
 
 -- a row that breaks a rule leads nowhere
 abbrev pub Stops : Type 0
-Stops = (s : Situation) (row : Event) (broken : Rule) (next : Step) → IsSound s.position → LastIsLong s.last
+Stops = (s : Situation) (row : Event) (broken : Rule) (next : Step) → IsSound s.position
+    → LastIsLong s.last
     → RowBreaks s row broken → Leads s row next → ⊥
 
 -- a row that breaks no rule leads on
@@ -29,7 +30,8 @@ ComesFrom = (pieces : List Piece) (rows : List Event) (row : Event) → ArePiece
 
 -- a transcript has one act list
 abbrev pub OneActList : Type 0
-OneActList = (rows : List Event) (one other : List Piece) → IsActList one rows → IsActList other rows → one ≡ other
+OneActList = (rows : List Event) (one other : List Piece) → IsActList one rows
+    → IsActList other rows → one ≡ other
 
 -- pieces go on by a row that leads on
 abbrev pub GoesForward : Type 0
@@ -39,19 +41,22 @@ GoesForward = (pieces : List Piece) (row : Event) (next : Step) → ArePieces pi
     × (events_of (pieces_after pieces row next) ≡ events_of pieces ++ row ∷ [])
 
 -- no act list goes on with a row that breaks a rule
-pub ends : Stops → ComesFrom → OneActList → (pieces : List Piece) (row : Event) (broken : Rule) → ArePieces pieces
+pub ends : Stops → ComesFrom → OneActList → (pieces : List Piece) (row : Event) (broken : Rule)
+    → ArePieces pieces
     → RowBreaks (situation_of pieces) row broken → HasActList (events_of pieces ++ row ∷ []) → ⊥
 ends stops comes unique pieces row broken order breaks list =
     let from = comes list.0 (events_of pieces) row list.1.in_order list.1.whole in
     let same : from.0 ≡ pieces = unique (events_of pieces) from.0 pieces
     (record { in_order = from.2; whole = from.3 }) (record { in_order = order; whole = refl }) in
     let P : List Piece → Type 0 = λ before. Leads (situation_of before) row from.1 in
-    stops (situation_of pieces) row broken from.1 (is_sound pieces order) (last_is_long pieces order) breaks
+    stops (situation_of pieces) row broken from.1 (is_sound pieces order)
+    (last_is_long pieces order) breaks
     (subst P same from.4)
 
 -- where no act list goes on, some rule is the first that the row breaks
 pub some_rule : Decides → GoesForward → (pieces : List Piece) (row : Event) → ArePieces pieces
-    → (HasActList (events_of pieces ++ row ∷ []) → ⊥) → (broken : Rule) × IsFirstBroken (situation_of pieces) row broken
+    → (HasActList (events_of pieces ++ row ∷ []) → ⊥)
+    → (broken : Rule) × IsFirstBroken (situation_of pieces) row broken
 some_rule decides forward pieces row order none =
     told (decides (situation_of pieces) row (is_sound pieces order) (has_reply pieces order))
   where
@@ -60,5 +65,8 @@ some_rule decides forward pieces row order none =
         → (broken : Rule) × IsFirstBroken (situation_of pieces) row broken
     told (inl on) =
         let longer = forward pieces row on.0 order on.1 in
-        absurd (none (pieces_after pieces row on.0, record { in_order = longer.0; whole = longer.1 }))
+        absurd (none (
+          pieces_after pieces row on.0,
+          record { in_order = longer.0; whole = longer.1 },
+        ))
     told (inr broken) = broken

@@ -55,12 +55,14 @@ is_after most None row = never (λ h. h)
 is_after most (Some from) row = less (end_of from + most) (start_of row)
 
 -- what isn't too early comes in time
-not_before : (least : ℕ) (from : Option Event) (row : Event) → (IsBefore least from row → ⊥) → NotBefore least from row
+not_before : (least : ℕ) (from : Option Event) (row : Event) → (IsBefore least from row → ⊥)
+    → NotBefore least from row
 not_before least None row none = tt
 not_before least (Some from) row none = omega (arith, none)
 
 -- nor is it too late where it is not after
-not_after : (most : ℕ) (from : Option Event) (row : Event) → (IsAfter most from row → ⊥) → NotAfter most from row
+not_after : (most : ℕ) (from : Option Event) (row : Event) → (IsAfter most from row → ⊥)
+    → NotAfter most from row
 not_after most None row none = tt
 not_after most (Some from) row none = omega (arith, none)
 
@@ -68,7 +70,8 @@ out_of_order : (from : Option Event) (row : Event) → Decided (OutOfOrder from 
 out_of_order None row = never (λ h. h)
 out_of_order (Some from) row = within (start_of row) (start_of from)
 
-wrong_speaker : (position : Position) (from : Option Event) (row : Event) → Decided (WrongSpeaker position from row)
+wrong_speaker : (position : Position) (from : Option Event) (row : Event)
+    → Decided (WrongSpeaker position from row)
 wrong_speaker Quiet from (Word at Peripheral word) = inl tt
 wrong_speaker (InAsk bytes) from (Word at Peripheral word) = inl tt
 wrong_speaker (Replied command reply) from (Word at Peripheral word) = inl tt
@@ -85,10 +88,14 @@ wrong_mode (Returned command reply) (Word at Controller word) = less word 256
 wrong_mode (InAsk bytes) (Word at Controller word) = within 256 word
 wrong_mode position row = never (λ h. h)
 
-too_early : (position : Position) (from : Option Event) (row : Event) → Decided (TooEarly position from row)
-too_early position from (Break at length) = is_before (rest_before_break from) from (Break at length)
-too_early Quiet from (Word at line word) = is_before (rest_before_block from) from (Word at line word)
-too_early (Asked command) from (Word at Controller word) = is_before NEW_BLOCK_GAP_MIN from (Word at Controller word)
+too_early : (position : Position) (from : Option Event) (row : Event)
+    → Decided (TooEarly position from row)
+too_early position from (Break at length) = is_before (rest_before_break from) from
+    (Break at length)
+too_early Quiet from (Word at line word) = is_before (rest_before_block from) from
+    (Word at line word)
+too_early (Asked command) from (Word at Controller word) = is_before NEW_BLOCK_GAP_MIN from
+    (Word at Controller word)
 too_early (Replied command reply) from (Word at Controller word) =
     either (both (within 256 word) (is_before NEW_BLOCK_GAP_MIN from (Word at Controller word)))
     (both (less word 256) (is_before WORD_GAP_MIN from (Word at Controller word)))
@@ -96,18 +103,24 @@ too_early (Returned command reply) from (Word at Controller word) =
     is_before NEW_BLOCK_GAP_MIN from (Word at Controller word)
 too_early position from (Word at line word) = is_before WORD_GAP_MIN from (Word at line word)
 
-too_late : (position : Position) (from : Option Event) (row : Event) → Decided (TooLate position from row)
-too_late (Asked command) from (Word at Peripheral word) = is_after ANSWER_GAP_MAX from (Word at Peripheral word)
+too_late : (position : Position) (from : Option Event) (row : Event)
+    → Decided (TooLate position from row)
+too_late (Asked command) from (Word at Peripheral word) =
+    is_after ANSWER_GAP_MAX from (Word at Peripheral word)
 too_late (Replied command reply) from (Word at Controller word) =
     both (less word 256) (is_after ANSWER_GAP_MAX from (Word at Controller word))
 too_late (Returned command reply) from (Word at Peripheral word) =
     is_after ANSWER_GAP_MAX from (Word at Peripheral word)
 too_late position from row = never (λ h. h)
 
-too_far_apart : (position : Position) (from : Option Event) (row : Event) → Decided (TooFarApart position from row)
-too_far_apart (InAsk bytes) from (Word at Controller word) = is_after BLOCK_GAP_MAX from (Word at Controller word)
-too_far_apart (InReply command bytes) from (Word at line word) = is_after BLOCK_GAP_MAX from (Word at line word)
-too_far_apart (InRepeat command reply words) from (Word at line word) = is_after BLOCK_GAP_MAX from (Word at line word)
+too_far_apart : (position : Position) (from : Option Event) (row : Event)
+    → Decided (TooFarApart position from row)
+too_far_apart (InAsk bytes) from (Word at Controller word) =
+    is_after BLOCK_GAP_MAX from (Word at Controller word)
+too_far_apart (InReply command bytes) from (Word at line word) =
+    is_after BLOCK_GAP_MAX from (Word at line word)
+too_far_apart (InRepeat command reply words) from (Word at line word) =
+    is_after BLOCK_GAP_MAX from (Word at line word)
 too_far_apart position from row = never (λ h. h)
 
 -- a form allows so many bytes
@@ -149,7 +162,8 @@ wrong_length position row = never (λ h. h)
 
 is_exactly : (needs : Need) (n : ℕ) → Decided (needs ≡ need.Exactly n)
 is_exactly (need.Exactly m) n =
-    meant (λ (e : m ≡ n). ap need.Exactly e) (λ (e : need.Exactly m ≡ need.Exactly n). cc) (same m n)
+    meant (λ (e : m ≡ n). ap need.Exactly e) (λ (e : need.Exactly m ≡ need.Exactly n). cc)
+    (same m n)
 is_exactly needs n = never (λ e. cc)
 
 is_more : (needs : Need) → Decided (needs ≡ need.More)
@@ -173,7 +187,11 @@ too_short (Word at line word) = never (λ h. h)
 
 -- the bytes of a reply that has begun are a content
 content_of : (command : Command) (bytes : List ℕ) → IsReplyFront command bytes → IsContent bytes
-content_of command bytes front = record { at_least = front.some; at_most = front.few; in_range = front.in_range }
+content_of command bytes front = record {
+  at_least = front.some;
+  at_most = front.few;
+  in_range = front.in_range;
+}
 
 same_fault : (one other : MsgFault) → Decided (one ≡ other)
 same_fault reading.Length reading.Length = inl refl
@@ -202,9 +220,11 @@ read grammar command bytes content = told (grammar.readable command bytes conten
 
 read_fault : Grammar → (command : Command) (bytes : List ℕ) (fault : MsgFault) → Read command bytes
     → Decided (IsReadFault command bytes fault)
-read_fault grammar command bytes fault (inl good) = never (none_bad grammar command bytes good.0 fault good.1 good.2)
+read_fault grammar command bytes fault (inl good) =
+    never (none_bad grammar command bytes good.0 fault good.1 good.2)
 read_fault grammar command bytes fault (inr bad) =
-    meant (λ (e : bad.0 ≡ fault). let P : MsgFault → Type 0 = λ f. IsReadFault command bytes f in subst P e bad.1)
+    meant (λ (e : bad.0 ≡ fault). let P : MsgFault → Type 0 = λ f. IsReadFault command bytes f in
+    subst P e bad.1)
     (λ other. grammar.one_fault command bytes bad.0 fault bad.1 other) (same_fault bad.0 fault)
 
 is_low : (level : Option ℕ) → Decided (IsLow level)
@@ -216,12 +236,15 @@ high_levels : Grammar → (command : Command) (bytes : List ℕ) (levels : Level
 high_levels grammar command bytes levels (inl good) =
     meant to from (both (is_true (tells_high good.0)) (denied (is_low (level_for command levels))))
   where
-    to : (tells_high good.0 ≡ true) × (IsLow (level_for command levels) → ⊥) → HasHighLevels command bytes levels
+    to : (tells_high good.0 ≡ true) × (IsLow (level_for command levels) → ⊥)
+        → HasHighLevels command bytes levels
     to h = (good.0, good.1, good.2, h.0, h.1)
 
-    from : HasHighLevels command bytes levels → (tells_high good.0 ≡ true) × (IsLow (level_for command levels) → ⊥)
+    from : HasHighLevels command bytes levels → (tells_high good.0 ≡ true)
+        × (IsLow (level_for command levels) → ⊥)
     from h =
-        let one : h.0 ≡ good.0 = same_reply grammar command bytes h.0 good.0 h.1 h.2 good.1 good.2 in
+        let one : h.0 ≡ good.0 = same_reply grammar command bytes h.0 good.0 h.1 h.2 good.1
+        good.2 in
         let P : Reply → Type 0 = λ r. tells_high r ≡ true in
         (subst P one h.3, h.4)
 high_levels grammar command bytes levels (inr bad) =
@@ -246,7 +269,8 @@ no_vmc_answer word =
         × (word ≢ answer_word Controller answers.Ret)
     from h = (h answers.Ack, h answers.Nak, h answers.Ret)
 
-wrong_answer : Grammar → (position : Position) (row : Event) → IsSound position → Decided (WrongAnswer position row)
+wrong_answer : Grammar → (position : Position) (row : Event) → IsSound position
+    → Decided (WrongAnswer position row)
 wrong_answer grammar (Asked command) (Word at Peripheral word) sound =
     either (all_three (within 256 word) (denied (same word (answer_word Peripheral answers.Ack)))
     (denied (same word (answer_word Peripheral answers.Nak))))
@@ -254,18 +278,22 @@ wrong_answer grammar (Asked command) (Word at Peripheral word) sound =
 wrong_answer grammar (InReply command bytes) (Word at Peripheral word) sound =
     both (within 256 word) (read_fault grammar command bytes reading.Answer
     (read grammar command bytes (content_of command bytes sound)))
-wrong_answer grammar (Replied command reply) (Word at Controller word) sound = both (less word 256) (no_vmc_answer word)
+wrong_answer grammar (Replied command reply) (Word at Controller word) sound =
+    both (less word 256) (no_vmc_answer word)
 wrong_answer grammar position row sound = never (λ h. h)
 
-bad_message : Grammar → (position : Position) (row : Event) → IsSound position → Decided (HasBadMessage position row)
+bad_message : Grammar → (position : Position) (row : Event) → IsSound position
+    → Decided (HasBadMessage position row)
 bad_message grammar (InReply command bytes) (Word at Peripheral word) sound =
     both (within 256 word) (read_fault grammar command bytes reading.Message
     (read grammar command bytes (content_of command bytes sound)))
 bad_message grammar position row sound = never (λ h. h)
 
 is_changed : (position : Position) (row : Event) → Decided (IsChanged position row)
-is_changed (Returned command reply) (Word at Peripheral word) = denied (next_in (reply_words reply) [] word)
-is_changed (InRepeat command reply words) (Word at Peripheral word) = denied (next_in (reply_words reply) words word)
+is_changed (Returned command reply) (Word at Peripheral word) =
+    denied (next_in (reply_words reply) [] word)
+is_changed (InRepeat command reply words) (Word at Peripheral word) =
+    denied (next_in (reply_words reply) words word)
 is_changed position row = never (λ h. h)
 
 outside_word : (word : ℕ) → Decided (IsOutside word)
@@ -299,7 +327,8 @@ left_out grammar position levels (Word at Controller word) sound = outside_word 
 left_out grammar position levels row sound = never (λ h. h)
 
 -- each rule is broken or isn't
-breaks : Grammar → (s : Situation) (row : Event) → IsSound s.position → (r : Rule) → Decided (RowBreaks s row r)
+breaks : Grammar → (s : Situation) (row : Event) → IsSound s.position → (r : Rule)
+    → Decided (RowBreaks s row r)
 breaks grammar s row sound rule.Order = out_of_order s.last row
 breaks grammar s row sound rule.Speaker = wrong_speaker s.position s.last row
 breaks grammar s row sound rule.Mode = wrong_mode s.position row
@@ -329,9 +358,11 @@ abbrev NoneBroken : Position → Option Event → Levels → Event → Type 0
 NoneBroken position from levels row = (r : Rule) → Broken position from levels row r → ⊥
 
 -- a marked word that isn't left out opens a block
-opens_on : Grammar → (position : Position) (from : Option Event) (to : Event) (word : ℕ) → 256 ≤ word
+opens_on : Grammar → (position : Position) (from : Option Event) (to : Event) (word : ℕ)
+    → 256 ≤ word
     → (IsOutside word → ⊥)
-    → BlockMayCome position from to → (IsAskFront ((word - 256) ∷ []) ⊎ (needed ((word - 256) ∷ []) ≡ need.Foreign))
+    → BlockMayCome position from to
+    → (IsAskFront ((word - 256) ∷ []) ⊎ (needed ((word - 256) ∷ []) ≡ need.Foreign))
     → (next : Step) × Opens position from to word next
 opens_on grammar position from to word high inside comes (inl front) =
     (step.AskByte (word - 256), (omega arith, front, comes))
@@ -347,8 +378,10 @@ opens grammar position from to word high inside comes =
     (first_byte grammar (word - 256) (λ out. inside (word - 256, omega arith, out)))
 
 -- a whole ask
-ask_whole : Grammar → (bytes : List ℕ) (from : Option Event) (to : Event) (word : ℕ) → All IsByte bytes
-    → needed bytes ≡ need.Exactly (length bytes + 1) → word < 256 → word ≡ sum bytes % 256 → InTime BLOCK_GAP_MAX from to
+ask_whole : Grammar → (bytes : List ℕ) (from : Option Event) (to : Event) (word : ℕ)
+    → All IsByte bytes
+    → needed bytes ≡ need.Exactly (length bytes + 1) → word < 256 → word ≡ sum bytes % 256
+    → InTime BLOCK_GAP_MAX from to
     → (next : Step) × GoesOnAsking bytes from to word next
 ask_whole grammar bytes from to word low told small total near =
     let found = grammar.is_command bytes low told in
@@ -356,12 +389,15 @@ ask_whole grammar bytes from to word low told small total near =
     (step.Ask found.0, (small, subst P (sym total) found.1, near))
 
 -- a longer front of an ask
-ask_longer : Grammar → (bytes : List ℕ) (from : Option Event) (to : Event) (word n : ℕ) → bytes ≢ [] → All IsByte bytes
-    → needed (bytes ++ word ∷ []) ≡ need.Exactly n → length bytes + 1 < n → word < 256 → InTime BLOCK_GAP_MAX from to
+ask_longer : Grammar → (bytes : List ℕ) (from : Option Event) (to : Event) (word n : ℕ) → bytes ≢ []
+    → All IsByte bytes
+    → needed (bytes ++ word ∷ []) ≡ need.Exactly n → length bytes + 1 < n → word < 256
+    → InTime BLOCK_GAP_MAX from to
     → (next : Step) × GoesOnAsking bytes from to word next
 ask_longer grammar bytes from to word n some low told long small near =
     let longer = bytes ++ word ∷ [] in
-    let count : length (bytes ++ word ∷ []) ≡ length bytes + 1 = omega (arith, length-append bytes (word ∷ [])) in
+    let count : length (bytes ++ word ∷ []) ≡ length bytes + 1 =
+    omega (arith, length-append bytes (word ∷ [])) in
     let front : IsAskFront (bytes ++ word ∷ []) =
     front_of grammar (bytes ++ word ∷ []) (some_there bytes) (All-push IsByte bytes word low small)
     (inr (n, told, omega (arith, count, long))) in
@@ -372,58 +408,78 @@ ask_longer grammar bytes from to word n some low told long small near =
     some_there (b ∷ bs) is = cc
 
 -- the second byte of a block
-second_byte : Grammar → (first : ℕ) (from : Option Event) (to : Event) (word : ℕ) → All IsByte (first ∷ [])
-    → needed (first ∷ []) ≡ need.More → (needed (first ∷ word ∷ []) ≡ need.Outside → ⊥) → word < 256 → InTime BLOCK_GAP_MAX from to
-    → (n : Need) → needed (first ∷ word ∷ []) ≡ n → (next : Step) × GoesOnAsking (first ∷ []) from to word next
+second_byte : Grammar → (first : ℕ) (from : Option Event) (to : Event) (word : ℕ)
+    → All IsByte (first ∷ [])
+    → needed (first ∷ []) ≡ need.More → (needed (first ∷ word ∷ []) ≡ need.Outside → ⊥) → word < 256
+    → InTime BLOCK_GAP_MAX from to
+    → (n : Need) → needed (first ∷ word ∷ []) ≡ n → (next : Step) × GoesOnAsking (first ∷ []) from
+    to word next
 second_byte grammar first from to word low more inside small near (need.Exactly n) told =
     let three : 3 ≤ n = need_three first word n more told in
-    ask_longer grammar (first ∷ []) from to word n (λ none. cc) low told (omega (arith, three)) small near
-second_byte grammar first from to word low more inside small near need.More told = absurd (need_ends first word told)
+    ask_longer grammar (first ∷ []) from to word n (λ none. cc) low told (omega (arith, three))
+    small near
+second_byte grammar first from to word low more inside small near need.More told =
+    absurd (need_ends first word told)
 second_byte grammar first from to word low more inside small near need.Foreign told =
     (step.Foreign, (small, (more, told, small), near))
-second_byte grammar first from to word low more inside small near need.Outside told = absurd (inside told)
+second_byte grammar first from to word low more inside small near need.Outside told =
+    absurd (inside told)
 
 -- where the first byte left it to the second
-asks_second : Grammar → (bytes : List ℕ) (from : Option Event) (to : Event) (word : ℕ) → length bytes ≡ 1
+asks_second : Grammar → (bytes : List ℕ) (from : Option Event) (to : Event) (word : ℕ)
+    → length bytes ≡ 1
     → All IsByte bytes
-    → needed bytes ≡ need.More → (needed (bytes ++ word ∷ []) ≡ need.Outside → ⊥) → word < 256 → InTime BLOCK_GAP_MAX from to
+    → needed bytes ≡ need.More → (needed (bytes ++ word ∷ []) ≡ need.Outside → ⊥) → word < 256
+    → InTime BLOCK_GAP_MAX from to
     → (next : Step) × GoesOnAsking bytes from to word next
 asks_second grammar [] from to word one low more inside small near = absurd (omega (arith, one))
 asks_second grammar (first ∷ []) from to word one low more inside small near =
-    second_byte grammar first from to word low more inside small near (needed (first ∷ word ∷ [])) refl
-asks_second grammar (first ∷ second ∷ bytes) from to word one low more inside small near = absurd (omega (arith, one))
+    second_byte grammar first from to word low more inside small near (needed (first ∷ word ∷ []))
+    refl
+asks_second grammar (first ∷ second ∷ bytes) from to word one low more inside small near =
+    absurd (omega (arith, one))
 
 -- where the first bytes told the length
-asks_further : Grammar → (bytes : List ℕ) (from : Option Event) (to : Event) (word n : ℕ) → bytes ≢ []
+asks_further : Grammar → (bytes : List ℕ) (from : Option Event) (to : Event) (word n : ℕ)
+    → bytes ≢ []
     → All IsByte bytes
     → needed bytes ≡ need.Exactly n → length bytes + 1 ≤ n
-    → ((needed bytes ≡ need.Exactly (length bytes + 1)) × (word ≢ sum bytes % 256) → ⊥) → word < 256 → InTime BLOCK_GAP_MAX from to
+    → ((needed bytes ≡ need.Exactly (length bytes + 1)) × (word ≢ sum bytes % 256) → ⊥) → word < 256
+    → InTime BLOCK_GAP_MAX from to
     → Decided (n ≡ length bytes + 1) → (next : Step) × GoesOnAsking bytes from to word next
 asks_further grammar bytes from to word n some low told enough summed small near (inl is) =
     let whole : needed bytes ≡ need.Exactly (length bytes + 1) = told ∙ ap need.Exactly is in
     ask_whole grammar bytes from to word low whole small
     (held (same word (sum bytes % 256)) (λ wrong. summed (whole, wrong))) near
 asks_further grammar bytes from to word n some low told enough summed small near (inr more) =
-    ask_longer grammar bytes from to word n some low (needed_stays bytes word n some told) (omega (arith, enough, more))
+    ask_longer grammar bytes from to word n some low (needed_stays bytes word n some told)
+    (omega (arith, enough, more))
     small near
 
 -- an unmarked word goes on with a block, or ends it
-asks : Grammar → (bytes : List ℕ) (from : Option Event) (to : Event) (word whole : ℕ) → bytes ≢ [] → All IsByte bytes
+asks : Grammar → (bytes : List ℕ) (from : Option Event) (to : Event) (word whole : ℕ) → bytes ≢ []
+    → All IsByte bytes
     → length bytes + 1 ≤ whole
     → ((needed bytes ≡ need.Exactly (length bytes + 1)) × (word ≢ sum bytes % 256) → ⊥)
-    → ((needed bytes ≡ need.More) × (needed (bytes ++ word ∷ []) ≡ need.Outside) → ⊥) → word < 256 → InTime BLOCK_GAP_MAX from to
+    → ((needed bytes ≡ need.More) × (needed (bytes ++ word ∷ []) ≡ need.Outside) → ⊥) → word < 256
+    → InTime BLOCK_GAP_MAX from to
     → (n : Need) → needed bytes ≡ n → IsTold n (length bytes) whole
     → (next : Step) × GoesOnAsking bytes from to word next
-asks grammar bytes from to word whole some low enough summed inside small near (need.Exactly n) told is =
-    asks_further grammar bytes from to word n some low told (omega (arith, enough, is)) summed small near
+asks grammar bytes from to word whole some low enough summed inside small near (need.Exactly n) told
+    is =
+    asks_further grammar bytes from to word n some low told (omega (arith, enough, is)) summed small
+    near
     (same n (length bytes + 1))
 asks grammar bytes from to word whole some low enough summed inside small near need.More told is =
     asks_second grammar bytes from to word is low told (λ out. inside (told, out)) small near
-asks grammar bytes from to word whole some low enough summed inside small near need.Foreign told is = absurd is
-asks grammar bytes from to word whole some low enough summed inside small near need.Outside told is = absurd is
+asks grammar bytes from to word whole some low enough summed inside small near need.Foreign told
+    is = absurd is
+asks grammar bytes from to word whole some low enough summed inside small near need.Outside told
+    is = absurd is
 
 -- a word inside an ask leads on
-goes_on_asking : Grammar → (bytes : List ℕ) (from : Option Event) (levels : Levels) (at word : ℕ) → IsAskFront bytes
+goes_on_asking : Grammar → (bytes : List ℕ) (from : Option Event) (levels : Levels) (at word : ℕ)
+    → IsAskFront bytes
     → NoneBroken (InAsk bytes) from levels (Word at Controller word)
     → LeadsOn (InAsk bytes) from levels (Word at Controller word)
 goes_on_asking grammar bytes from levels at word front none =
@@ -437,7 +493,8 @@ goes_on_asking grammar bytes from levels at word front none =
     let enough : length bytes + 1 ≤ length (bytes ++ front.rest) =
     omega (arith, more, length-append bytes front.rest) in
     asks grammar bytes from (Word at Controller word) word (length (bytes ++ front.rest)) front.some
-    (front_bytes bytes front) enough (none rule.Sum) (none rule.Profile) small near (needed bytes) refl
+    (front_bytes bytes front) enough (none rule.Sum) (none rule.Profile) small near (needed bytes)
+    refl
     (grammar.tells bytes front.rest front.command some front.spelled)
 
 -- a peripheral's word answers a command
@@ -457,7 +514,8 @@ when_asked command from levels at word none (inl low) = (
   ),
 )
 when_asked command from levels at word none (inr high) =
-    marked (same word (answer_word Peripheral answers.Ack)) (same word (answer_word Peripheral answers.Nak))
+    marked (same word (answer_word Peripheral answers.Ack))
+    (same word (answer_word Peripheral answers.Nak))
   where
     near : InTime ANSWER_GAP_MAX from (Word at Peripheral word)
     near = (
@@ -465,23 +523,28 @@ when_asked command from levels at word none (inr high) =
       not_after ANSWER_GAP_MAX from (Word at Peripheral word) (none rule.Late),
     )
 
-    marked : Decided (word ≡ answer_word Peripheral answers.Ack) → Decided (word ≡ answer_word Peripheral answers.Nak)
+    marked : Decided (word ≡ answer_word Peripheral answers.Ack)
+        → Decided (word ≡ answer_word Peripheral answers.Nak)
         → LeadsOn (Asked command) from levels (Word at Peripheral word)
     marked (inl ack) other = (step.Ack, (ack, near))
     marked (inr not_ack) (inl nak) = (step.Nak, (nak, near))
-    marked (inr not_ack) (inr not_nak) = absurd (none rule.Answer (inl (omega (arith, high), not_ack, not_nak)))
+    marked (inr not_ack) (inr not_nak) =
+        absurd (none rule.Answer (inl (omega (arith, high), not_ack, not_nak)))
 
 -- an unmarked word goes on with a reply
-reply_longer : (command : Command) (bytes : List ℕ) (from : Option Event) (levels : Levels) (at word : ℕ)
+reply_longer : (command : Command) (bytes : List ℕ) (from : Option Event) (levels : Levels)
+    (at word : ℕ)
     → NoneBroken (InReply command bytes) from levels (Word at Peripheral word) → word < 256
-    → InTime BLOCK_GAP_MAX from (Word at Peripheral word) → LeadsOn (InReply command bytes) from levels (Word at Peripheral word)
+    → InTime BLOCK_GAP_MAX from (Word at Peripheral word)
+    → LeadsOn (InReply command bytes) from levels (Word at Peripheral word)
 reply_longer command bytes from levels at word none low near =
     let short : length bytes < 35 =
     held (less (length bytes) 35) (λ long. none rule.Length (inl (low, omega (arith, long)))) in
     (step.ReplyByte word, (refl, low, short, near))
 
 -- a marked word ends it
-reply_whole : Grammar → (command : Command) (bytes : List ℕ) (from : Option Event) (levels : Levels) (at word : ℕ)
+reply_whole : Grammar → (command : Command) (bytes : List ℕ) (from : Option Event) (levels : Levels)
+    (at word : ℕ)
     → NoneBroken (InReply command bytes) from levels (Word at Peripheral word) → 256 ≤ word
     → InTime BLOCK_GAP_MAX from (Word at Peripheral word) → Read command bytes
     → LeadsOn (InReply command bytes) from levels (Word at Peripheral word)
@@ -498,9 +561,11 @@ reply_whole grammar command bytes from levels at word none high near (inr bad) =
     absurd (faulty bad.0 bad.1)
   where
     faulty : (fault : MsgFault) → IsReadFault command bytes fault → ⊥
-    faulty reading.Length told = none rule.Length (inr (high, (λ has. told.2 (form_of_has told.0 told.1 has))))
+    faulty reading.Length told =
+        none rule.Length (inr (high, (λ has. told.2 (form_of_has told.0 told.1 has))))
       where
-        form_of_has : (form : AnswerForm) → form_of command ≡ Some form → HasDataAnswer command (length bytes)
+        form_of_has : (form : AnswerForm) → form_of command ≡ Some form
+            → HasDataAnswer command (length bytes)
             → IsDataLength form (length bytes)
         form_of_has form is has =
             let other : form_of command ≡ Some has.0 = has.1 in
@@ -513,8 +578,10 @@ reply_whole grammar command bytes from levels at word none high near (inr bad) =
     faulty reading.Answer told = none rule.Answer (high, told)
 
 -- a word inside a reply leads on
-replies : Grammar → (command : Command) (bytes : List ℕ) (from : Option Event) (levels : Levels) (at word : ℕ)
-    → IsReplyFront command bytes → NoneBroken (InReply command bytes) from levels (Word at Peripheral word)
+replies : Grammar → (command : Command) (bytes : List ℕ) (from : Option Event) (levels : Levels)
+    (at word : ℕ)
+    → IsReplyFront command bytes → NoneBroken (InReply command bytes) from levels
+    (Word at Peripheral word)
     → Decided (word < 256)
     → LeadsOn (InReply command bytes) from levels (Word at Peripheral word)
 replies grammar command bytes from levels at word front none sized = by sized
@@ -525,34 +592,40 @@ replies grammar command bytes from levels at word front none sized = by sized
       not_after BLOCK_GAP_MAX from (Word at Peripheral word) (none rule.Spacing),
     )
 
-    by : Decided (word < 256) → LeadsOn (InReply command bytes) from levels (Word at Peripheral word)
+    by : Decided (word < 256)
+        → LeadsOn (InReply command bytes) from levels (Word at Peripheral word)
     by (inl low) = reply_longer command bytes from levels at word none low near
     by (inr high) =
         reply_whole grammar command bytes from levels at word none (omega (arith, high)) near
         (read grammar command bytes (content_of command bytes front))
 
 -- a controller's unmarked word answers a reply
-vmc_answers : (command : Command) (reply : Reply) (from : Option Event) (levels : Levels) (at word : ℕ)
+vmc_answers : (command : Command) (reply : Reply) (from : Option Event) (levels : Levels)
+    (at word : ℕ)
     → NoneBroken (Replied command reply) from levels (Word at Controller word) → word < 256
-    → Decided (word ≡ answer_word Controller answers.Ack) → Decided (word ≡ answer_word Controller answers.Nak)
+    → Decided (word ≡ answer_word Controller answers.Ack)
+    → Decided (word ≡ answer_word Controller answers.Nak)
     → Decided (word ≡ answer_word Controller answers.Ret)
     → LeadsOn (Replied command reply) from levels (Word at Controller word)
 vmc_answers command reply from levels at word none low ack nak ret = by ack nak ret
   where
     near : InTime ANSWER_GAP_MAX from (Word at Controller word)
     near = (
-      not_before WORD_GAP_MIN from (Word at Controller word) (λ early. none rule.Early (inr (low, early))),
+      not_before WORD_GAP_MIN from (Word at Controller word)
+          (λ early. none rule.Early (inr (low, early))),
       not_after ANSWER_GAP_MAX from (Word at Controller word) (λ late. none rule.Late (low, late)),
     )
 
-    no_answer : (word ≢ answer_word Controller answers.Ack) → (word ≢ answer_word Controller answers.Nak)
+    no_answer : (word ≢ answer_word Controller answers.Ack)
+        → (word ≢ answer_word Controller answers.Nak)
         → (word ≢ answer_word Controller answers.Ret)
         → (answer : Answer) → word ≢ answer_word Controller answer
     no_answer a n r answers.Ack = a
     no_answer a n r answers.Nak = n
     no_answer a n r answers.Ret = r
 
-    by : Decided (word ≡ answer_word Controller answers.Ack) → Decided (word ≡ answer_word Controller answers.Nak)
+    by : Decided (word ≡ answer_word Controller answers.Ack)
+        → Decided (word ≡ answer_word Controller answers.Nak)
         → Decided (word ≡ answer_word Controller answers.Ret)
         → LeadsOn (Replied command reply) from levels (Word at Controller word)
     by (inl is) n r = (step.VmcAck, (is, near))
@@ -561,24 +634,32 @@ vmc_answers command reply from levels at word none low ack nak ret = by ack nak 
     by (inr a) (inr n) (inr r) = absurd (none rule.Answer (low, no_answer a n r))
 
 -- an opening leads on after a reply too
-opening_leads : (command : Command) (reply : Reply) (from : Option Event) (levels : Levels) (at word : ℕ) (next : Step)
+opening_leads : (command : Command) (reply : Reply) (from : Option Event) (levels : Levels)
+    (at word : ℕ) (next : Step)
     → Opens (Replied command reply) from (Word at Controller word) word next
-    → Leads (record { position = Replied command reply; last = from; levels = levels }) (Word at Controller word) next
+    → Leads (record { position = Replied command reply; last = from; levels = levels })
+    (Word at Controller word) next
 opening_leads command reply from levels at word (step.AskByte byte) leads = leads
 opening_leads command reply from levels at word step.Foreign leads = leads
 opening_leads command reply from levels at word next leads = absurd leads
 
 -- an answer to a reply, or a block after it
-when_replied : Grammar → (command : Command) (reply : Reply) (from : Option Event) (levels : Levels) (at word : ℕ)
-    → NoneBroken (Replied command reply) from levels (Word at Controller word) → Decided (word < 256)
+when_replied : Grammar → (command : Command) (reply : Reply) (from : Option Event) (levels : Levels)
+    (at word : ℕ)
+    → NoneBroken (Replied command reply) from levels (Word at Controller word)
+    → Decided (word < 256)
     → LeadsOn (Replied command reply) from levels (Word at Controller word)
 when_replied grammar command reply from levels at word none (inl low) =
-    vmc_answers command reply from levels at word none low (same word (answer_word Controller answers.Ack))
-    (same word (answer_word Controller answers.Nak)) (same word (answer_word Controller answers.Ret))
+    vmc_answers command reply from levels at word none low
+    (same word (answer_word Controller answers.Ack))
+    (same word (answer_word Controller answers.Nak))
+    (same word (answer_word Controller answers.Ret))
 when_replied grammar command reply from levels at word none (inr large) =
     let high : 256 ≤ word = omega (arith, large) in
-    let on = opens grammar (Replied command reply) from (Word at Controller word) word high (none rule.Profile)
-    (not_before NEW_BLOCK_GAP_MIN from (Word at Controller word) (λ early. none rule.Early (inl (high, early)))) in
+    let on = opens grammar (Replied command reply) from (Word at Controller word) word high
+    (none rule.Profile)
+    (not_before NEW_BLOCK_GAP_MIN from (Word at Controller word)
+    (λ early. none rule.Early (inl (high, early)))) in
     (on.0, opening_leads command reply from levels at word on.0 on.1)
 
 -- the words of a reply are more than one
@@ -588,15 +669,23 @@ peripheral_long (byte ∷ []) = refl
 peripheral_long (byte ∷ next ∷ bytes) = omega (arith, peripheral_long (next ∷ bytes))
 
 -- a reply has at least two words
-words_long : (command : Command) (reply : Reply) → IsReply command reply → 2 ≤ length (reply_words reply)
+words_long : (command : Command) (reply : Reply) → IsReply command reply
+    → 2 ≤ length (reply_words reply)
 words_long command reply good =
     let bytes = reply_bytes reply in
-    omega (arith, good.content.at_least, peripheral_long (block_of bytes), length-append bytes ((sum bytes % 256) ∷ []))
+    omega (
+      arith,
+      good.content.at_least,
+      peripheral_long (block_of bytes),
+      length-append bytes ((sum bytes % 256) ∷ []),
+    )
 
 -- a word begins a repeat
-repeat_begins : (command : Command) (reply : Reply) (from : Option Event) (levels : Levels) (at word : ℕ)
+repeat_begins : (command : Command) (reply : Reply) (from : Option Event) (levels : Levels)
+    (at word : ℕ)
     → IsReply command reply
-    → InTime ANSWER_GAP_MAX from (Word at Peripheral word) → (rest : List ℕ) → word ∷ rest ≡ reply_words reply
+    → InTime ANSWER_GAP_MAX from (Word at Peripheral word) → (rest : List ℕ)
+    → word ∷ rest ≡ reply_words reply
     → LeadsOn (Returned command reply) from levels (Word at Peripheral word)
 repeat_begins command reply from levels at word good near [] is =
     absurd (omega (arith, words_long command reply good, ap length is))
@@ -616,7 +705,8 @@ repeat_begins command reply from levels at word good near (next ∷ rest) is = (
 )
 
 -- a word that begins a repeat
-when_returned : (command : Command) (reply : Reply) (from : Option Event) (levels : Levels) (at word : ℕ)
+when_returned : (command : Command) (reply : Reply) (from : Option Event) (levels : Levels)
+    (at word : ℕ)
     → IsReply command reply
     → NoneBroken (Returned command reply) from levels (Word at Peripheral word)
     → LeadsOn (Returned command reply) from levels (Word at Peripheral word)
@@ -633,9 +723,11 @@ not_empty [] word none = cc
 not_empty (w ∷ words) word none = cc
 
 -- a word goes on with a repeat, or ends it
-repeat_goes_on : (command : Command) (reply : Reply) (words : List ℕ) (from : Option Event) (levels : Levels)
+repeat_goes_on : (command : Command) (reply : Reply) (words : List ℕ) (from : Option Event)
+    (levels : Levels)
     (at word : ℕ)
-    → InTime BLOCK_GAP_MAX from (Word at Peripheral word) → (rest : List ℕ) → words ++ word ∷ rest ≡ reply_words reply
+    → InTime BLOCK_GAP_MAX from (Word at Peripheral word) → (rest : List ℕ)
+    → words ++ word ∷ rest ≡ reply_words reply
     → LeadsOn (InRepeat command reply words) from levels (Word at Peripheral word)
 repeat_goes_on command reply words from levels at word near [] is = (step.Repeat, (is, near))
 repeat_goes_on command reply words from levels at word near (next ∷ rest) is = (
@@ -653,7 +745,8 @@ repeat_goes_on command reply words from levels at word near (next ∷ rest) is =
 )
 
 -- a word inside a repeat
-in_repeat : (command : Command) (reply : Reply) (words : List ℕ) (from : Option Event) (levels : Levels) (at word : ℕ)
+in_repeat : (command : Command) (reply : Reply) (words : List ℕ) (from : Option Event)
+    (levels : Levels) (at word : ℕ)
     → NoneBroken (InRepeat command reply words) from levels (Word at Peripheral word)
     → LeadsOn (InRepeat command reply words) from levels (Word at Peripheral word)
 in_repeat command reply words from levels at word none =
@@ -667,10 +760,13 @@ in_repeat command reply words from levels at word none =
 in_foreign : Grammar → (from : Option Event) (levels : Levels) (at word : ℕ)
     → NoneBroken InForeign from levels (Word at Controller word) → Decided (word < 256)
     → LeadsOn InForeign from levels (Word at Controller word)
-in_foreign grammar from levels at word none (inl low) =
-    (step.Foreign, inr (low, not_before WORD_GAP_MIN from (Word at Controller word) (none rule.Early)))
+in_foreign grammar from levels at word none (inl low) = (
+  step.Foreign,
+  inr (low, not_before WORD_GAP_MIN from (Word at Controller word) (none rule.Early)),
+)
 in_foreign grammar from levels at word none (inr large) =
-    let on = opens grammar InForeign from (Word at Controller word) word (omega (arith, large)) (none rule.Profile)
+    let on = opens grammar InForeign from (Word at Controller word) word (omega (arith, large))
+    (none rule.Profile)
     (not_before WORD_GAP_MIN from (Word at Controller word) (none rule.Early)) in
     (on.0, inl on.1)
 
@@ -679,18 +775,23 @@ high_word : (word : ℕ) → (word < 256 → ⊥) → 256 ≤ word
 high_word word low = omega (arith, low)
 
 -- a word that breaks no rule leads on
-word_leads : Grammar → (position : Position) (from : Option Event) (levels : Levels) (at : ℕ) (line : Line) (word : ℕ)
+word_leads : Grammar → (position : Position) (from : Option Event) (levels : Levels) (at : ℕ)
+    (line : Line) (word : ℕ)
     → IsSound position → HasReply position → NoneBroken position from levels (Word at line word)
     → LeadsOn position from levels (Word at line word)
 word_leads grammar Quiet from levels at Controller word sound replied none =
-    opens grammar Quiet from (Word at Controller word) word (high_word word (none rule.Mode)) (none rule.Profile)
+    opens grammar Quiet from (Word at Controller word) word (high_word word (none rule.Mode))
+    (none rule.Profile)
     (not_before (rest_before_block from) from (Word at Controller word) (none rule.Early))
-word_leads grammar Quiet from levels at Peripheral word sound replied none = absurd (none rule.Speaker tt)
+word_leads grammar Quiet from levels at Peripheral word sound replied none =
+    absurd (none rule.Speaker tt)
 word_leads grammar (InAsk bytes) from levels at Controller word sound replied none =
     goes_on_asking grammar bytes from levels at word sound none
-word_leads grammar (InAsk bytes) from levels at Peripheral word sound replied none = absurd (none rule.Speaker tt)
+word_leads grammar (InAsk bytes) from levels at Peripheral word sound replied none =
+    absurd (none rule.Speaker tt)
 word_leads grammar (Asked command) from levels at Controller word sound replied none =
-    opens grammar (Asked command) from (Word at Controller word) word (high_word word (none rule.Mode))
+    opens grammar (Asked command) from (Word at Controller word) word
+    (high_word word (none rule.Mode))
     (none rule.Profile)
     (not_before NEW_BLOCK_GAP_MIN from (Word at Controller word) (none rule.Early))
 word_leads grammar (Asked command) from levels at Peripheral word sound replied none =
@@ -704,14 +805,17 @@ word_leads grammar (Replied command reply) from levels at Controller word sound 
 word_leads grammar (Replied command reply) from levels at Peripheral word sound replied none =
     absurd (none rule.Speaker tt)
 word_leads grammar (Returned command reply) from levels at Controller word sound replied none =
-    opens grammar (Returned command reply) from (Word at Controller word) word (high_word word (none rule.Mode))
+    opens grammar (Returned command reply) from (Word at Controller word) word
+    (high_word word (none rule.Mode))
     (none rule.Profile)
     (not_before NEW_BLOCK_GAP_MIN from (Word at Controller word) (none rule.Early))
 word_leads grammar (Returned command reply) from levels at Peripheral word sound replied none =
     when_returned command reply from levels at word replied none
-word_leads grammar (InRepeat command reply words) from levels at Controller word sound replied none =
+word_leads grammar (InRepeat command reply words) from levels at Controller word sound replied
+    none =
     absurd (none rule.Speaker (none rule.Spacing))
-word_leads grammar (InRepeat command reply words) from levels at Peripheral word sound replied none =
+word_leads grammar (InRepeat command reply words) from levels at Peripheral word sound replied
+    none =
     in_repeat command reply words from levels at word none
 word_leads grammar InForeign from levels at Controller word sound replied none =
     in_foreign grammar from levels at word none (less word 256)
@@ -724,13 +828,21 @@ leads_on : Grammar → (s : Situation) (row : Event) → IsSound s.position → 
 leads_on grammar s (Word at line word) sound replied none =
     word_leads grammar s.position s.last s.levels at line word sound replied none
 leads_on grammar s (Break at lasted) sound replied none =
-    let long : BREAK_LENGTH_MIN ≤ lasted = omega (arith, none rule.Break) in
-    (step.Break lasted, (refl, long, not_before (rest_before_break s.last) s.last (Break at lasted) (none rule.Early)))
+    let long : BREAK_LENGTH_MIN ≤ lasted = omega (arith, none rule.Break) in (
+      step.Break lasted,
+      (
+        refl,
+        long,
+        not_before (rest_before_break s.last) s.last (Break at lasted)
+            (none rule.Early),
+      ),
+    )
 
 -- a row leads on, or some rule is the first that it breaks
 pub decide : Grammar → (s : Situation) (row : Event) → IsSound s.position → HasReply s.position
     → ((next : Step) × Leads s row next) ⊎ ((broken : Rule) × IsFirstBroken s row broken)
-decide grammar s row sound replied = told (first_or_none (RowBreaks s row) (breaks grammar s row sound))
+decide grammar s row sound replied =
+    told (first_or_none (RowBreaks s row) (breaks grammar s row sound))
   where
     told : Found (RowBreaks s row) ⊎ ((r : Rule) → RowBreaks s row r → ⊥)
         → ((next : Step) × Leads s row next) ⊎ ((broken : Rule) × IsFirstBroken s row broken)

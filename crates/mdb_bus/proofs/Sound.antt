@@ -1,4 +1,5 @@
--- Where pieces in order leave the bus: a block there has begun well, and a last row that is a break is a long one.
+-- Where pieces in order leave the bus: a block there has begun well, and a last row that is a break
+-- is a long one.
 use Rattle.std.proofs.Common.{refl, sym, subst, ◌≡◌, ℕ, List, [], ◌∷◌, ◌++◌, inl, inr, Option, Some}
 use Rattle.mdb_words.specs.declared.event.Event.{Event}
 use Rattle.mdb_words.specs.declared.event.Event.TheVariants.{Word, Break}
@@ -40,7 +41,8 @@ rest_last (x ∷ []) first others = refl
 rest_last (x ∷ y ∷ front) first others = rest_last (y ∷ front) first others
 
 -- words aren't a break
-say_long : (line : Line) (words : List ℕ) (events : List Event) → Say line words events → LastIsLong (last_of events)
+say_long : (line : Line) (words : List ℕ) (events : List Event) → Say line words events
+    → LastIsLong (last_of events)
 say_long line words [] says = tt
 say_long line words (Word at on word ∷ []) says = tt
 say_long line [] (Break at length ∷ []) says = cc
@@ -55,36 +57,42 @@ foreign_long (Break at length) further = absurd further
 
 -- nor does a foreign act end in one
 a_foreign_long : (events : List Event) → IsForeign events → LastIsLong (last_of events)
-a_foreign_long events (inl opening) = say_long Controller (words_on Controller opening.0) events opening.2
+a_foreign_long events (inl opening) = say_long Controller (words_on Controller opening.0) events
+    opening.2
 a_foreign_long events (inr further) =
     let P : List Event → Type 0 = λ es. LastIsLong (last_of es) in
     subst P (sym further.1) (foreign_long further.0 further.2)
 
 -- the last row of a piece that is a break is long
 piece_long : (piece : Piece) → IsSaid piece → LastIsLong (last_of (piece_events piece))
-piece_long (Whole (acts.Ask command) events) said = say_long Controller (command_words command) events said.1
+piece_long (Whole (acts.Ask command) events) said = say_long Controller (command_words command)
+    events said.1
 piece_long (Whole (acts.Ack command) events) said =
     say_long Peripheral (answer_word Peripheral answers.Ack ∷ []) events said
 piece_long (Whole (acts.Nak command) events) said =
     say_long Peripheral (answer_word Peripheral answers.Nak ∷ []) events said
-piece_long (Whole (acts.Reply command reply) events) said = say_long Peripheral (reply_words reply) events said.1
+piece_long (Whole (acts.Reply command reply) events) said = say_long Peripheral (reply_words reply)
+    events said.1
 piece_long (Whole (acts.VmcAck command reply) events) said =
     say_long Controller (answer_word Controller answers.Ack ∷ []) events said
 piece_long (Whole (acts.VmcNak command reply) events) said =
     say_long Controller (answer_word Controller answers.Nak ∷ []) events said
 piece_long (Whole (acts.VmcRet command reply) events) said =
     say_long Controller (answer_word Controller answers.Ret ∷ []) events said
-piece_long (Whole (acts.Repeat command reply) events) said = say_long Peripheral (reply_words reply) events said
+piece_long (Whole (acts.Repeat command reply) events) said = say_long Peripheral (reply_words reply)
+    events said
 piece_long (Whole acts.Foreign events) said = a_foreign_long events said
 piece_long (Whole (acts.Break length) events) said =
     let P : List Event → Type 0 = λ es. LastIsLong (last_of es) in
     subst P (sym said.1) said.2
-piece_long (AskTail bytes events) said = say_long Controller (words_on Controller bytes) events said.1
+piece_long (AskTail bytes events) said = say_long Controller (words_on Controller bytes) events
+    said.1
 piece_long (ReplyTail command bytes events) said = say_long Peripheral bytes events said.1
 piece_long (RepeatTail command reply words events) said = say_long Peripheral words events said.1
 
 -- the last row of pieces that is a break is long
-pub last_is_long : (pieces : List Piece) → ArePieces pieces → LastIsLong (last_of (events_of pieces))
+pub last_is_long : (pieces : List Piece) → ArePieces pieces
+    → LastIsLong (last_of (events_of pieces))
 last_is_long [] order = tt
 last_is_long (piece ∷ pieces) order =
     let stands = order.1 in
@@ -92,8 +100,10 @@ last_is_long (piece ∷ pieces) order =
     let P : List Event → Type 0 = λ es. LastIsLong (last_of es) in
     let Q : List Event → Type 0 = λ es. LastIsLong (last_of (events_of pieces ++ es)) in
     let R : Option Event → Type 0 = λ last. LastIsLong last in
-    let here : LastIsLong (last_of (stands.first ∷ stands.others)) = subst P begins (piece_long piece order.0.said) in
-    subst Q (sym begins) (subst R (sym (rest_last (events_of pieces) stands.first stands.others)) here)
+    let here : LastIsLong (last_of (stands.first ∷ stands.others)) =
+    subst P begins (piece_long piece order.0.said) in
+    subst Q (sym begins) (subst R (sym (rest_last (events_of pieces) stands.first stands.others))
+    here)
 
 -- after a reply or a repeat, and where it was asked for again, there is a reply
 pub has_reply : (pieces : List Piece) → ArePieces pieces → HasReply (position_of pieces)
@@ -119,14 +129,19 @@ has_reply (RepeatTail command reply words events ∷ pieces) order =
     subst P order.1.comes.0 (has_reply pieces order.2)
 
 -- so the reply that an act names is one
-pub names_a_reply : (act : Act) (events : List Event) (pieces : List Piece) → ArePieces (Whole act events ∷ pieces) → NamesAReply act
+pub names_a_reply : (act : Act) (events : List Event) (pieces : List Piece)
+    → ArePieces (Whole act events ∷ pieces) → NamesAReply act
 names_a_reply (acts.Ask command) events pieces order = tt
 names_a_reply (acts.Ack command) events pieces order = tt
 names_a_reply (acts.Nak command) events pieces order = tt
 names_a_reply (acts.Reply command reply) events pieces order = order.0.said.0
-names_a_reply (acts.VmcAck command reply) events pieces order = subst HasReply order.1.comes.0 (has_reply pieces order.2)
-names_a_reply (acts.VmcNak command reply) events pieces order = subst HasReply order.1.comes.0 (has_reply pieces order.2)
-names_a_reply (acts.VmcRet command reply) events pieces order = subst HasReply order.1.comes.0 (has_reply pieces order.2)
-names_a_reply (acts.Repeat command reply) events pieces order = subst HasReply order.1.comes.0 (has_reply pieces order.2)
+names_a_reply (acts.VmcAck command reply) events pieces order =
+    subst HasReply order.1.comes.0 (has_reply pieces order.2)
+names_a_reply (acts.VmcNak command reply) events pieces order =
+    subst HasReply order.1.comes.0 (has_reply pieces order.2)
+names_a_reply (acts.VmcRet command reply) events pieces order =
+    subst HasReply order.1.comes.0 (has_reply pieces order.2)
+names_a_reply (acts.Repeat command reply) events pieces order =
+    subst HasReply order.1.comes.0 (has_reply pieces order.2)
 names_a_reply acts.Foreign events pieces order = tt
 names_a_reply (acts.Break length) events pieces order = tt

@@ -38,12 +38,14 @@ LastIsLong (Some (Word at line word)) = Unit {0}
 LastIsLong (Some (Break at length)) = BREAK_LENGTH_MIN ≤ length
 
 -- a row that comes in time isn't too early
-not_early : (least : ℕ) (from : Option Event) (row : Event) → IsBefore least from row → NotBefore least from row → ⊥
+not_early : (least : ℕ) (from : Option Event) (row : Event) → IsBefore least from row
+    → NotBefore least from row → ⊥
 not_early least None row early comes = early
 not_early least (Some from) row early comes = absurd (omega (arith, early, comes))
 
 -- nor too late
-not_late : (most : ℕ) (from : Option Event) (row : Event) → IsAfter most from row → NotAfter most from row → ⊥
+not_late : (most : ℕ) (from : Option Event) (row : Event) → IsAfter most from row
+    → NotAfter most from row → ⊥
 not_late most None row late comes = late
 not_late most (Some from) row late comes = absurd (omega (arith, late, comes))
 
@@ -56,7 +58,8 @@ starts (Break at length) = omega arith
 in_order : (least : ℕ) (from : Option Event) (row : Event) → 0 < least → OutOfOrder from row
     → NotBefore least from row → ⊥
 in_order least None row some out comes = out
-in_order least (Some from) row some out comes = absurd (omega (arith, starts from, out, comes, some))
+in_order least (Some from) row some out comes =
+    absurd (omega (arith, starts from, out, comes, some))
 
 -- a block rests
 rests : (from : Option Event) → 0 < rest_before_block from
@@ -89,8 +92,10 @@ front_open grammar bytes byte some front short =
     let P : List ℕ → Type 0 = λ block. Spells front.command block in
     let spelled : Spells front.command (bytes ++ (byte ∷ front.rest)) =
     subst P (append_assoc bytes (byte ∷ []) front.rest) front.spelled in
-    let told = grammar.tells bytes (byte ∷ front.rest) front.command (some_long bytes some) spelled in
-    let Q : Need → Type 0 = λ needs. IsTold needs (length bytes) (length (bytes ++ (byte ∷ front.rest))) in
+    let told = grammar.tells bytes (byte ∷ front.rest) front.command (some_long bytes some)
+    spelled in
+    let Q : Need
+    → Type 0 = λ needs. IsTold needs (length bytes) (length (bytes ++ (byte ∷ front.rest))) in
     let same : length bytes + 1 ≡ length (bytes ++ (byte ∷ front.rest)) = subst Q short told in
     let more : 0 < length front.rest = some_long front.rest front.open_end in
     absurd (omega (arith, same, more, length-append bytes (byte ∷ front.rest)))
@@ -110,7 +115,8 @@ opens_comes position from to word step.Foreign leads = leads.3
 opens_comes position from to word next leads = absurd leads
 
 -- and it isn't one that is left out
-opens_inside : Grammar → (position : Position) (from : Option Event) (to : Event) (word : ℕ) (next : Step)
+opens_inside : Grammar → (position : Position) (from : Option Event) (to : Event) (word : ℕ)
+    (next : Step)
     → Opens position from to word next → IsOutside word → ⊥
 opens_inside grammar position from to word (step.AskByte byte) leads outside =
     let same : outside.0 ≡ byte = omega (arith, leads.0, outside.1) in
@@ -130,14 +136,21 @@ Broken position from levels row broken =
     RowBreaks (record { position = position; last = from; levels = levels }) row broken
 
 -- where nothing is open, a word that breaks a rule opens no block
-when_quiet : Grammar → (from : Option Event) (levels : Levels) (at word : ℕ) (broken : Rule) (next : Step)
-    → Broken Quiet from levels (Word at Controller word) broken → Opens Quiet from (Word at Controller word) word next
+when_quiet : Grammar → (from : Option Event) (levels : Levels) (at word : ℕ) (broken : Rule)
+    (next : Step)
+    → Broken Quiet from levels (Word at Controller word) broken
+    → Opens Quiet from (Word at Controller word) word next
     → ⊥
 when_quiet grammar from levels at word rule.Order next breaks leads =
     in_order (rest_before_block from) from (Word at Controller word) (rests from) breaks
     (opens_comes Quiet from (Word at Controller word) word next leads)
 when_quiet grammar from levels at word rule.Mode next breaks leads =
-    absurd (omega (arith, breaks, opens_marked Quiet from (Word at Controller word) word next leads))
+    absurd (omega (
+      arith,
+      breaks,
+      opens_marked Quiet from (Word at Controller word) word next
+          leads,
+    ))
 when_quiet grammar from levels at word rule.Early next breaks leads =
     not_early (rest_before_block from) from (Word at Controller word) breaks
     (opens_comes Quiet from (Word at Controller word) word next leads)
@@ -146,7 +159,8 @@ when_quiet grammar from levels at word rule.Profile next breaks leads =
 when_quiet grammar from levels at word other next breaks leads = breaks
 
 -- nor does one after a command
-ask_when_asked : Grammar → (command : Command) (from : Option Event) (levels : Levels) (at word : ℕ) (broken : Rule)
+ask_when_asked : Grammar → (command : Command) (from : Option Event) (levels : Levels) (at word : ℕ)
+    (broken : Rule)
     (next : Step)
     → Broken (Asked command) from levels (Word at Controller word) broken
     → Opens (Asked command) from (Word at Controller word) word next → ⊥
@@ -154,7 +168,12 @@ ask_when_asked grammar command from levels at word rule.Order next breaks leads 
     in_order NEW_BLOCK_GAP_MIN from (Word at Controller word) (omega arith) breaks
     (opens_comes (Asked command) from (Word at Controller word) word next leads)
 ask_when_asked grammar command from levels at word rule.Mode next breaks leads =
-    absurd (omega (arith, breaks, opens_marked (Asked command) from (Word at Controller word) word next leads))
+    absurd (omega (
+      arith,
+      breaks,
+      opens_marked (Asked command) from (Word at Controller word) word
+          next leads,
+    ))
 ask_when_asked grammar command from levels at word rule.Early next breaks leads =
     not_early NEW_BLOCK_GAP_MIN from (Word at Controller word) breaks
     (opens_comes (Asked command) from (Word at Controller word) word next leads)
@@ -164,7 +183,8 @@ ask_when_asked grammar command from levels at word other next breaks leads = bre
 
 -- nor after RET
 ask_when_returned : Grammar
-    → (command : Command) (reply : Reply) (from : Option Event) (levels : Levels) (at word : ℕ) (broken : Rule)
+    → (command : Command) (reply : Reply) (from : Option Event) (levels : Levels) (at word : ℕ)
+    (broken : Rule)
     (next : Step)
     → Broken (Returned command reply) from levels (Word at Controller word) broken
     → Opens (Returned command reply) from (Word at Controller word) word next → ⊥
@@ -172,17 +192,24 @@ ask_when_returned grammar command reply from levels at word rule.Order next brea
     in_order NEW_BLOCK_GAP_MIN from (Word at Controller word) (omega arith) breaks
     (opens_comes (Returned command reply) from (Word at Controller word) word next leads)
 ask_when_returned grammar command reply from levels at word rule.Mode next breaks leads =
-    absurd (omega (arith, breaks, opens_marked (Returned command reply) from (Word at Controller word) word next leads))
+    absurd (omega (
+      arith,
+      breaks,
+      opens_marked (Returned command reply) from
+          (Word at Controller word) word next leads,
+    ))
 ask_when_returned grammar command reply from levels at word rule.Early next breaks leads =
     not_early NEW_BLOCK_GAP_MIN from (Word at Controller word) breaks
     (opens_comes (Returned command reply) from (Word at Controller word) word next leads)
 ask_when_returned grammar command reply from levels at word rule.Profile next breaks leads =
-    opens_inside grammar (Returned command reply) from (Word at Controller word) word next leads breaks
+    opens_inside grammar (Returned command reply) from (Word at Controller word) word next leads
+    breaks
 ask_when_returned grammar command reply from levels at word other next breaks leads = breaks
 
 -- nor after a reply
 ask_when_replied : Grammar
-    → (command : Command) (reply : Reply) (from : Option Event) (levels : Levels) (at word : ℕ) (broken : Rule)
+    → (command : Command) (reply : Reply) (from : Option Event) (levels : Levels) (at word : ℕ)
+    (broken : Rule)
     (next : Step)
     → Broken (Replied command reply) from levels (Word at Controller word) broken
     → Opens (Replied command reply) from (Word at Controller word) word next → ⊥
@@ -211,14 +238,17 @@ ask_when_replied grammar command reply from levels at word rule.Answer next brea
       opens_marked (Replied command reply) from (Word at Controller word) word next leads,
     ))
 ask_when_replied grammar command reply from levels at word rule.Profile next breaks leads =
-    opens_inside grammar (Replied command reply) from (Word at Controller word) word next leads breaks
+    opens_inside grammar (Replied command reply) from (Word at Controller word) word next leads
+    breaks
 ask_when_replied grammar command reply from levels at word other next breaks leads = breaks
 
 -- a controller's answer comes in its time
-vmc_answers : (command : Command) (reply : Reply) (from : Option Event) (levels : Levels) (at word : ℕ)
+vmc_answers : (command : Command) (reply : Reply) (from : Option Event) (levels : Levels)
+    (at word : ℕ)
     (answer : Answer) (broken : Rule)
     → Broken (Replied command reply) from levels (Word at Controller word) broken
-    → word < 256 → word ≡ answer_word Controller answer → InTime ANSWER_GAP_MAX from (Word at Controller word) → ⊥
+    → word < 256 → word ≡ answer_word Controller answer
+    → InTime ANSWER_GAP_MAX from (Word at Controller word) → ⊥
 vmc_answers command reply from levels at word answer rule.Order breaks low is near =
     in_order WORD_GAP_MIN from (Word at Controller word) (omega arith) breaks near.0
 vmc_answers command reply from levels at word answer rule.Early (inl breaks) low is near =
@@ -227,30 +257,37 @@ vmc_answers command reply from levels at word answer rule.Early (inr breaks) low
     not_early WORD_GAP_MIN from (Word at Controller word) breaks.1 near.0
 vmc_answers command reply from levels at word answer rule.Late breaks low is near =
     not_late ANSWER_GAP_MAX from (Word at Controller word) breaks.1 near.1
-vmc_answers command reply from levels at word answer rule.Answer breaks low is near = breaks.1 answer is
+vmc_answers command reply from levels at word answer rule.Answer breaks low is near =
+    breaks.1 answer is
 vmc_answers command reply from levels at word answer rule.Profile breaks low is near =
     absurd (omega (arith, breaks.1, low))
 vmc_answers command reply from levels at word answer other breaks low is near = breaks
 
 -- an answer to a reply, or a block after it
-when_replied : Grammar → (command : Command) (reply : Reply) (from : Option Event) (levels : Levels) (at word : ℕ)
+when_replied : Grammar → (command : Command) (reply : Reply) (from : Option Event) (levels : Levels)
+    (at word : ℕ)
     (broken : Rule) (next : Step)
     → Broken (Replied command reply) from levels (Word at Controller word) broken
     → AnswersReply command reply from (Word at Controller word) word next → ⊥
 when_replied grammar command reply from levels at word broken step.VmcAck breaks leads =
-    vmc_answers command reply from levels at word answers.Ack broken breaks (omega (arith, leads.0)) leads.0 leads.1
+    vmc_answers command reply from levels at word answers.Ack broken breaks (omega (arith, leads.0))
+    leads.0 leads.1
 when_replied grammar command reply from levels at word broken step.VmcNak breaks leads =
-    vmc_answers command reply from levels at word answers.Nak broken breaks (omega (arith, leads.0)) leads.0 leads.1
+    vmc_answers command reply from levels at word answers.Nak broken breaks (omega (arith, leads.0))
+    leads.0 leads.1
 when_replied grammar command reply from levels at word broken step.VmcRet breaks leads =
-    vmc_answers command reply from levels at word answers.Ret broken breaks (omega (arith, leads.0)) leads.0 leads.1
+    vmc_answers command reply from levels at word answers.Ret broken breaks (omega (arith, leads.0))
+    leads.0 leads.1
 when_replied grammar command reply from levels at word broken (step.AskByte byte) breaks leads =
-    ask_when_replied grammar command reply from levels at word broken (step.AskByte byte) breaks leads
+    ask_when_replied grammar command reply from levels at word broken (step.AskByte byte) breaks
+    leads
 when_replied grammar command reply from levels at word broken step.Foreign breaks leads =
     ask_when_replied grammar command reply from levels at word broken step.Foreign breaks leads
 when_replied grammar command reply from levels at word broken next breaks leads = leads
 
 -- a foreign word comes in its time
-foreign_goes_on : (line : Line) (from : Option Event) (levels : Levels) (at word : ℕ) (broken : Rule) (next : Step)
+foreign_goes_on : (line : Line) (from : Option Event) (levels : Levels) (at word : ℕ)
+    (broken : Rule) (next : Step)
     → Broken InForeign from levels (Word at line word) broken → IsForeignWord (Word at line word)
     → GoesOnForeign from (Word at line word) next → ⊥
 foreign_goes_on Controller from levels at word rule.Order step.Foreign breaks low comes =
@@ -268,7 +305,8 @@ foreign_goes_on Peripheral from levels at word other step.Foreign breaks low com
 foreign_goes_on line from levels at word broken next breaks low comes = comes
 
 -- a block after foreign traffic
-ask_in_foreign : Grammar → (from : Option Event) (levels : Levels) (at word : ℕ) (broken : Rule) (next : Step)
+ask_in_foreign : Grammar → (from : Option Event) (levels : Levels) (at word : ℕ) (broken : Rule)
+    (next : Step)
     → Broken InForeign from levels (Word at Controller word) broken
     → Opens InForeign from (Word at Controller word) word next → ⊥
 ask_in_foreign grammar from levels at word rule.Order next breaks leads =
@@ -282,7 +320,8 @@ ask_in_foreign grammar from levels at word rule.Profile next breaks leads =
 ask_in_foreign grammar from levels at word other next breaks leads = breaks
 
 -- foreign traffic, or a block after it
-in_foreign : Grammar → (from : Option Event) (levels : Levels) (at word : ℕ) (broken : Rule) (next : Step)
+in_foreign : Grammar → (from : Option Event) (levels : Levels) (at word : ℕ) (broken : Rule)
+    (next : Step)
     → Broken InForeign from levels (Word at Controller word) broken
     → WordLeads InForeign from levels (Word at Controller word) Controller word next → ⊥
 in_foreign grammar from levels at word broken next breaks (inl leads) =
@@ -291,9 +330,11 @@ in_foreign grammar from levels at word broken next breaks (inr leads) =
     foreign_goes_on Controller from levels at word broken next breaks leads.0 leads.1
 
 -- a further byte of an ask
-ask_goes_on : Grammar → (bytes : List ℕ) (from : Option Event) (levels : Levels) (at word byte : ℕ) (broken : Rule)
+ask_goes_on : Grammar → (bytes : List ℕ) (from : Option Event) (levels : Levels) (at word byte : ℕ)
+    (broken : Rule)
     → bytes ≢ [] → Broken (InAsk bytes) from levels (Word at Controller word) broken
-    → word ≡ byte → word < 256 → IsAskFront (bytes ++ byte ∷ []) → InTime BLOCK_GAP_MAX from (Word at Controller word) → ⊥
+    → word ≡ byte → word < 256 → IsAskFront (bytes ++ byte ∷ [])
+    → InTime BLOCK_GAP_MAX from (Word at Controller word) → ⊥
 ask_goes_on grammar bytes from levels at word byte rule.Order some breaks is low front near =
     in_order WORD_GAP_MIN from (Word at Controller word) (omega arith) breaks near.0
 ask_goes_on grammar bytes from levels at word byte rule.Mode some breaks is low front near =
@@ -318,10 +359,12 @@ last_is_sum bytes word command spelled =
     same.1 ∙ ap (λ bs. sum bs % 256) (sym same.0)
 
 -- the last word of an ask
-ask_ends : Grammar → (bytes : List ℕ) (from : Option Event) (levels : Levels) (at word : ℕ) (command : Command)
+ask_ends : Grammar → (bytes : List ℕ) (from : Option Event) (levels : Levels) (at word : ℕ)
+    (command : Command)
     (broken : Rule)
     → Broken (InAsk bytes) from levels (Word at Controller word) broken
-    → word < 256 → Spells command (bytes ++ word ∷ []) → InTime BLOCK_GAP_MAX from (Word at Controller word) → ⊥
+    → word < 256 → Spells command (bytes ++ word ∷ [])
+    → InTime BLOCK_GAP_MAX from (Word at Controller word) → ⊥
 ask_ends grammar bytes from levels at word command rule.Order breaks low spelled near =
     in_order WORD_GAP_MIN from (Word at Controller word) (omega arith) breaks near.0
 ask_ends grammar bytes from levels at word command rule.Mode breaks low spelled near =
@@ -347,12 +390,15 @@ foreign_opening (first ∷ second ∷ []) word some opening = absurd opening
 foreign_opening (first ∷ second ∷ third ∷ bytes) word some opening = absurd opening
 
 -- the second word of a foreign opening
-foreign_begins : (bytes : List ℕ) (from : Option Event) (levels : Levels) (at word : ℕ) (broken : Rule)
+foreign_begins : (bytes : List ℕ) (from : Option Event) (levels : Levels) (at word : ℕ)
+    (broken : Rule)
     → bytes ≢ [] → Broken (InAsk bytes) from levels (Word at Controller word) broken
-    → word < 256 → IsForeignOpening (bytes ++ word ∷ []) → InTime BLOCK_GAP_MAX from (Word at Controller word) → ⊥
+    → word < 256 → IsForeignOpening (bytes ++ word ∷ [])
+    → InTime BLOCK_GAP_MAX from (Word at Controller word) → ⊥
 foreign_begins bytes from levels at word rule.Order some breaks low opening near =
     in_order WORD_GAP_MIN from (Word at Controller word) (omega arith) breaks near.0
-foreign_begins bytes from levels at word rule.Mode some breaks low opening near = absurd (omega (arith, breaks, low))
+foreign_begins bytes from levels at word rule.Mode some breaks low opening near =
+    absurd (omega (arith, breaks, low))
 foreign_begins bytes from levels at word rule.Early some breaks low opening near =
     not_early WORD_GAP_MIN from (Word at Controller word) breaks near.0
 foreign_begins bytes from levels at word rule.Spacing some breaks low opening near =
@@ -368,11 +414,13 @@ foreign_begins bytes from levels at word rule.Profile some breaks low opening ne
 foreign_begins bytes from levels at word other some breaks low opening near = breaks
 
 -- a word inside an ask
-in_ask : Grammar → (bytes : List ℕ) (from : Option Event) (levels : Levels) (at word : ℕ) (broken : Rule) (next : Step)
+in_ask : Grammar → (bytes : List ℕ) (from : Option Event) (levels : Levels) (at word : ℕ)
+    (broken : Rule) (next : Step)
     → bytes ≢ [] → Broken (InAsk bytes) from levels (Word at Controller word) broken
     → GoesOnAsking bytes from (Word at Controller word) word next → ⊥
 in_ask grammar bytes from levels at word broken (step.AskByte byte) some breaks leads =
-    ask_goes_on grammar bytes from levels at word byte broken some breaks leads.0 leads.1 leads.2 leads.3
+    ask_goes_on grammar bytes from levels at word byte broken some breaks leads.0 leads.1 leads.2
+    leads.3
 in_ask grammar bytes from levels at word broken (step.Ask command) some breaks leads =
     ask_ends grammar bytes from levels at word command broken breaks leads.0 leads.1 leads.2
 in_ask grammar bytes from levels at word broken step.Foreign some breaks leads =
@@ -380,7 +428,8 @@ in_ask grammar bytes from levels at word broken step.Foreign some breaks leads =
 in_ask grammar bytes from levels at word broken next some breaks leads = leads
 
 -- a peripheral's ACK or NAK
-ack_comes : (command : Command) (from : Option Event) (levels : Levels) (at word : ℕ) (broken : Rule)
+ack_comes : (command : Command) (from : Option Event) (levels : Levels) (at word : ℕ)
+    (broken : Rule)
     → Broken (Asked command) from levels (Word at Peripheral word) broken
     → (word ≡ answer_word Peripheral answers.Ack) ⊎ (word ≡ answer_word Peripheral answers.Nak)
     → InTime ANSWER_GAP_MAX from (Word at Peripheral word) → ⊥
@@ -392,12 +441,15 @@ ack_comes command from levels at word rule.Late breaks is near =
     not_late ANSWER_GAP_MAX from (Word at Peripheral word) breaks near.1
 ack_comes command from levels at word rule.Answer (inl breaks) (inl is) near = breaks.1 is
 ack_comes command from levels at word rule.Answer (inl breaks) (inr is) near = breaks.2 is
-ack_comes command from levels at word rule.Answer (inr breaks) (inl is) near = absurd (omega (arith, breaks.0, is))
-ack_comes command from levels at word rule.Answer (inr breaks) (inr is) near = absurd (omega (arith, breaks.0, is))
+ack_comes command from levels at word rule.Answer (inr breaks) (inl is) near =
+    absurd (omega (arith, breaks.0, is))
+ack_comes command from levels at word rule.Answer (inr breaks) (inr is) near =
+    absurd (omega (arith, breaks.0, is))
 ack_comes command from levels at word other breaks is near = breaks
 
 -- the first word of a reply
-reply_begins : (command : Command) (from : Option Event) (levels : Levels) (at word : ℕ) (broken : Rule)
+reply_begins : (command : Command) (from : Option Event) (levels : Levels) (at word : ℕ)
+    (broken : Rule)
     → Broken (Asked command) from levels (Word at Peripheral word) broken
     → word < 256 → MayHaveData command → InTime ANSWER_GAP_MAX from (Word at Peripheral word) → ⊥
 reply_begins command from levels at word rule.Order breaks low may near =
@@ -406,12 +458,14 @@ reply_begins command from levels at word rule.Early breaks low may near =
     not_early WORD_GAP_MIN from (Word at Peripheral word) breaks near.0
 reply_begins command from levels at word rule.Late breaks low may near =
     not_late ANSWER_GAP_MAX from (Word at Peripheral word) breaks near.1
-reply_begins command from levels at word rule.Answer (inl breaks) low may near = absurd (omega (arith, breaks.0, low))
+reply_begins command from levels at word rule.Answer (inl breaks) low may near =
+    absurd (omega (arith, breaks.0, low))
 reply_begins command from levels at word rule.Answer (inr breaks) low may near = breaks.1 may
 reply_begins command from levels at word other breaks low may near = breaks
 
 -- a word that answers a command
-when_asked : (command : Command) (from : Option Event) (levels : Levels) (at word : ℕ) (broken : Rule) (next : Step)
+when_asked : (command : Command) (from : Option Event) (levels : Levels) (at word : ℕ)
+    (broken : Rule) (next : Step)
     → Broken (Asked command) from levels (Word at Peripheral word) broken
     → Answers command from (Word at Peripheral word) word next → ⊥
 when_asked command from levels at word broken step.Ack breaks leads =
@@ -423,7 +477,8 @@ when_asked command from levels at word broken (step.ReplyByte byte) breaks leads
 when_asked command from levels at word broken next breaks leads = leads
 
 -- a further word of a reply
-reply_goes_on : (command : Command) (bytes : List ℕ) (from : Option Event) (levels : Levels) (at word : ℕ)
+reply_goes_on : (command : Command) (bytes : List ℕ) (from : Option Event) (levels : Levels)
+    (at word : ℕ)
     (broken : Rule)
     → Broken (InReply command bytes) from levels (Word at Peripheral word) broken
     → word < 256 → length bytes < 35 → InTime BLOCK_GAP_MAX from (Word at Peripheral word) → ⊥
@@ -437,7 +492,8 @@ reply_goes_on command bytes from levels at word rule.Length (inl breaks) low sho
     absurd (omega (arith, breaks.1, short))
 reply_goes_on command bytes from levels at word rule.Length (inr breaks) low short near =
     absurd (omega (arith, breaks.0, low))
-reply_goes_on command bytes from levels at word rule.Sum breaks low short near = absurd (omega (arith, breaks.0, low))
+reply_goes_on command bytes from levels at word rule.Sum breaks low short near =
+    absurd (omega (arith, breaks.0, low))
 reply_goes_on command bytes from levels at word rule.Answer breaks low short near =
     absurd (omega (arith, breaks.0, low))
 reply_goes_on command bytes from levels at word rule.Message breaks low short near =
@@ -461,7 +517,8 @@ right_count grammar command bytes reply good same =
     subst P (sym same) (grammar.counted command reply good.answers)
 
 -- bytes are at most one reply
-pub same_reply : Grammar → (command : Command) (bytes : List ℕ) (one other : Reply) → IsReply command one
+pub same_reply : Grammar → (command : Command) (bytes : List ℕ) (one other : Reply)
+    → IsReply command one
     → bytes ≡ reply_bytes one
     → IsReply command other → bytes ≡ reply_bytes other → one ≡ other
 same_reply grammar command bytes one other first is second same =
@@ -475,48 +532,62 @@ not_left_out : Grammar → (command : Command) (bytes : List ℕ) (reply : Reply
 not_left_out grammar command bytes reply levels good same low (inl bad) =
     none_bad grammar command bytes reply reading.Profile good same bad
 not_left_out grammar command bytes reply levels good same low (inr high) =
-    let one : high.0 ≡ reply = same_reply grammar command bytes high.0 reply high.1 high.2 good same in
+    let one : high.0 ≡ reply = same_reply grammar command bytes high.0 reply high.1 high.2 good
+    same in
     let P : Reply → Type 0 = λ r. tells_high r ≡ true in
     high.4 (low (subst P one high.3))
 
 -- the marked word of a reply
-reply_ends : Grammar → (command : Command) (bytes : List ℕ) (from : Option Event) (levels : Levels) (at word : ℕ)
+reply_ends : Grammar → (command : Command) (bytes : List ℕ) (from : Option Event) (levels : Levels)
+    (at word : ℕ)
     (reply : Reply) (broken : Rule)
     → Broken (InReply command bytes) from levels (Word at Peripheral word) broken
     → word ≡ 256 + sum bytes % 256 → IsReply command reply → bytes ≡ reply_bytes reply
-    → (tells_high reply ≡ true → IsLow (level_for command levels)) → InTime BLOCK_GAP_MAX from (Word at Peripheral word) → ⊥
+    → (tells_high reply ≡ true → IsLow (level_for command levels))
+    → InTime BLOCK_GAP_MAX from (Word at Peripheral word) → ⊥
 reply_ends grammar command bytes from levels at word reply rule.Order breaks is good same low near =
     in_order WORD_GAP_MIN from (Word at Peripheral word) (omega arith) breaks near.0
 reply_ends grammar command bytes from levels at word reply rule.Early breaks is good same low near =
     not_early WORD_GAP_MIN from (Word at Peripheral word) breaks near.0
-reply_ends grammar command bytes from levels at word reply rule.Spacing breaks is good same low near =
+reply_ends grammar command bytes from levels at word reply rule.Spacing breaks is good same low
+    near =
     not_late BLOCK_GAP_MAX from (Word at Peripheral word) breaks near.1
-reply_ends grammar command bytes from levels at word reply rule.Length (inl breaks) is good same low near =
+reply_ends grammar command bytes from levels at word reply rule.Length (inl breaks) is good same low
+    near =
     absurd (omega (arith, breaks.0, is))
-reply_ends grammar command bytes from levels at word reply rule.Length (inr breaks) is good same low near =
+reply_ends grammar command bytes from levels at word reply rule.Length (inr breaks) is good same low
+    near =
     breaks.1 (right_count grammar command bytes reply good same)
-reply_ends grammar command bytes from levels at word reply rule.Sum breaks is good same low near = breaks.1 is
-reply_ends grammar command bytes from levels at word reply rule.Answer breaks is good same low near =
+reply_ends grammar command bytes from levels at word reply rule.Sum breaks is good same low near =
+    breaks.1 is
+reply_ends grammar command bytes from levels at word reply rule.Answer breaks is good same low
+    near =
     none_bad grammar command bytes reply reading.Answer good same breaks.1
-reply_ends grammar command bytes from levels at word reply rule.Message breaks is good same low near =
+reply_ends grammar command bytes from levels at word reply rule.Message breaks is good same low
+    near =
     none_bad grammar command bytes reply reading.Message good same breaks.1
-reply_ends grammar command bytes from levels at word reply rule.Profile breaks is good same low near =
+reply_ends grammar command bytes from levels at word reply rule.Profile breaks is good same low
+    near =
     not_left_out grammar command bytes reply levels good same low breaks.1
-reply_ends grammar command bytes from levels at word reply other breaks is good same low near = breaks
+reply_ends grammar command bytes from levels at word reply other breaks is good same low near =
+    breaks
 
 -- a word inside a reply
-in_reply : Grammar → (command : Command) (bytes : List ℕ) (from : Option Event) (levels : Levels) (at word : ℕ)
+in_reply : Grammar → (command : Command) (bytes : List ℕ) (from : Option Event) (levels : Levels)
+    (at word : ℕ)
     (broken : Rule) (next : Step)
     → Broken (InReply command bytes) from levels (Word at Peripheral word) broken
     → GoesOnReplying command bytes from levels (Word at Peripheral word) word next → ⊥
 in_reply grammar command bytes from levels at word broken (step.ReplyByte byte) breaks leads =
     reply_goes_on command bytes from levels at word broken breaks leads.1 leads.2 leads.3
 in_reply grammar command bytes from levels at word broken (step.Reply reply) breaks leads =
-    reply_ends grammar command bytes from levels at word reply broken breaks leads.0 leads.1 leads.2 leads.3 leads.4
+    reply_ends grammar command bytes from levels at word reply broken breaks leads.0 leads.1 leads.2
+    leads.3 leads.4
 in_reply grammar command bytes from levels at word broken next breaks leads = leads
 
 -- the first word of a repeat
-repeat_begins : (command : Command) (reply : Reply) (from : Option Event) (levels : Levels) (at word : ℕ)
+repeat_begins : (command : Command) (reply : Reply) (from : Option Event) (levels : Levels)
+    (at word : ℕ)
     (broken : Rule)
     → Broken (Returned command reply) from levels (Word at Peripheral word) broken
     → IsRepeatFront reply (word ∷ []) → InTime ANSWER_GAP_MAX from (Word at Peripheral word) → ⊥
@@ -526,11 +597,13 @@ repeat_begins command reply from levels at word rule.Early breaks front near =
     not_early WORD_GAP_MIN from (Word at Peripheral word) breaks near.0
 repeat_begins command reply from levels at word rule.Late breaks front near =
     not_late ANSWER_GAP_MAX from (Word at Peripheral word) breaks near.1
-repeat_begins command reply from levels at word rule.Same breaks front near = breaks (front.rest, front.same)
+repeat_begins command reply from levels at word rule.Same breaks front near =
+    breaks (front.rest, front.same)
 repeat_begins command reply from levels at word other breaks front near = breaks
 
 -- a word that begins a repeat
-when_returned : (command : Command) (reply : Reply) (from : Option Event) (levels : Levels) (at word : ℕ)
+when_returned : (command : Command) (reply : Reply) (from : Option Event) (levels : Levels)
+    (at word : ℕ)
     (broken : Rule) (next : Step)
     → Broken (Returned command reply) from levels (Word at Peripheral word) broken
     → BeginsRepeat reply from (Word at Peripheral word) word next → ⊥
@@ -539,10 +612,12 @@ when_returned command reply from levels at word broken (step.RepeatWord said) br
 when_returned command reply from levels at word broken next breaks leads = leads
 
 -- a further word of a repeat
-repeat_goes_on : (command : Command) (reply : Reply) (words : List ℕ) (from : Option Event) (levels : Levels)
+repeat_goes_on : (command : Command) (reply : Reply) (words : List ℕ) (from : Option Event)
+    (levels : Levels)
     (at word : ℕ) (broken : Rule)
     → Broken (InRepeat command reply words) from levels (Word at Peripheral word) broken
-    → IsNext (reply_words reply) words word → InTime BLOCK_GAP_MAX from (Word at Peripheral word) → ⊥
+    → IsNext (reply_words reply) words word → InTime BLOCK_GAP_MAX from (Word at Peripheral word)
+    → ⊥
 repeat_goes_on command reply words from levels at word rule.Order breaks next near =
     in_order WORD_GAP_MIN from (Word at Peripheral word) (omega arith) breaks near.0
 repeat_goes_on command reply words from levels at word rule.Early breaks next near =
@@ -553,7 +628,8 @@ repeat_goes_on command reply words from levels at word rule.Same breaks next nea
 repeat_goes_on command reply words from levels at word other breaks next near = breaks
 
 -- a word inside a repeat
-in_repeat : (command : Command) (reply : Reply) (words : List ℕ) (from : Option Event) (levels : Levels) (at word : ℕ)
+in_repeat : (command : Command) (reply : Reply) (words : List ℕ) (from : Option Event)
+    (levels : Levels) (at word : ℕ)
     (broken : Rule) (next : Step)
     → Broken (InRepeat command reply words) from levels (Word at Peripheral word) broken
     → GoesOnRepeating reply words from (Word at Peripheral word) word next → ⊥
@@ -565,7 +641,8 @@ in_repeat command reply words from levels at word broken step.Repeat breaks lead
 in_repeat command reply words from levels at word broken next breaks leads = leads
 
 -- a word that breaks a rule leads nowhere
-word_stops : Grammar → (position : Position) (from : Option Event) (levels : Levels) (at : ℕ) (line : Line) (word : ℕ)
+word_stops : Grammar → (position : Position) (from : Option Event) (levels : Levels) (at : ℕ)
+    (line : Line) (word : ℕ)
     (broken : Rule) (next : Step)
     → IsSound position → Broken position from levels (Word at line word) broken
     → WordLeads position from levels (Word at line word) line word next → ⊥
@@ -574,23 +651,32 @@ word_stops grammar Quiet from levels at Controller word broken next sound breaks
 word_stops grammar Quiet from levels at Peripheral word broken next sound breaks leads = leads
 word_stops grammar (InAsk bytes) from levels at Controller word broken next sound breaks leads =
     in_ask grammar bytes from levels at word broken next sound.some breaks leads
-word_stops grammar (InAsk bytes) from levels at Peripheral word broken next sound breaks leads = leads
+word_stops grammar (InAsk bytes) from levels at Peripheral word broken next sound breaks leads =
+    leads
 word_stops grammar (Asked command) from levels at Controller word broken next sound breaks leads =
     ask_when_asked grammar command from levels at word broken next breaks leads
 word_stops grammar (Asked command) from levels at Peripheral word broken next sound breaks leads =
     when_asked command from levels at word broken next breaks leads
-word_stops grammar (InReply command bytes) from levels at Controller word broken next sound breaks leads = leads
-word_stops grammar (InReply command bytes) from levels at Peripheral word broken next sound breaks leads =
+word_stops grammar (InReply command bytes) from levels at Controller word broken next sound breaks
+    leads = leads
+word_stops grammar (InReply command bytes) from levels at Peripheral word broken next sound breaks
+    leads =
     in_reply grammar command bytes from levels at word broken next breaks leads
-word_stops grammar (Replied command reply) from levels at Controller word broken next sound breaks leads =
+word_stops grammar (Replied command reply) from levels at Controller word broken next sound breaks
+    leads =
     when_replied grammar command reply from levels at word broken next breaks leads
-word_stops grammar (Replied command reply) from levels at Peripheral word broken next sound breaks leads = leads
-word_stops grammar (Returned command reply) from levels at Controller word broken next sound breaks leads =
+word_stops grammar (Replied command reply) from levels at Peripheral word broken next sound breaks
+    leads = leads
+word_stops grammar (Returned command reply) from levels at Controller word broken next sound breaks
+    leads =
     ask_when_returned grammar command reply from levels at word broken next breaks leads
-word_stops grammar (Returned command reply) from levels at Peripheral word broken next sound breaks leads =
+word_stops grammar (Returned command reply) from levels at Peripheral word broken next sound breaks
+    leads =
     when_returned command reply from levels at word broken next breaks leads
-word_stops grammar (InRepeat command reply words) from levels at Controller word broken next sound breaks leads = leads
-word_stops grammar (InRepeat command reply words) from levels at Peripheral word broken next sound breaks leads =
+word_stops grammar (InRepeat command reply words) from levels at Controller word broken next sound
+    breaks leads = leads
+word_stops grammar (InRepeat command reply words) from levels at Peripheral word broken next sound
+    breaks leads =
     in_repeat command reply words from levels at word broken next breaks leads
 word_stops grammar InForeign from levels at Controller word broken next sound breaks leads =
     in_foreign grammar from levels at word broken next breaks leads
@@ -598,32 +684,39 @@ word_stops grammar InForeign from levels at Peripheral word broken next sound br
     foreign_goes_on Peripheral from levels at word broken next breaks tt leads
 
 -- a break comes after the row before it
-break_in_order : (from : Option Event) (at lasted : ℕ) → LastIsLong from → OutOfOrder from (Break at lasted)
+break_in_order : (from : Option Event) (at lasted : ℕ) → LastIsLong from
+    → OutOfOrder from (Break at lasted)
     → NotBefore (rest_before_break from) from (Break at lasted) → ⊥
 break_in_order None at lasted long out comes = out
-break_in_order (Some (Word start line word)) at lasted long out comes = absurd (omega (arith, out, comes))
-break_in_order (Some (Break start length)) at lasted long out comes = absurd (omega (arith, out, comes, long))
+break_in_order (Some (Word start line word)) at lasted long out comes =
+    absurd (omega (arith, out, comes))
+break_in_order (Some (Break start length)) at lasted long out comes =
+    absurd (omega (arith, out, comes, long))
 
 -- a break that breaks a rule leads nowhere
-break_stops : (position : Position) (from : Option Event) (levels : Levels) (at length : ℕ) (broken : Rule)
+break_stops : (position : Position) (from : Option Event) (levels : Levels) (at length : ℕ)
+    (broken : Rule)
     → LastIsLong from → Broken position from levels (Break at length) broken
     → BREAK_LENGTH_MIN ≤ length → NotBefore (rest_before_break from) from (Break at length) → ⊥
 break_stops position from levels at length rule.Order long breaks enough comes =
     break_in_order from at length long breaks comes
 break_stops position from levels at length rule.Early long breaks enough comes =
     not_early (rest_before_break from) from (Break at length) breaks comes
-break_stops position from levels at length rule.Break long breaks enough comes = absurd (omega (arith, breaks, enough))
+break_stops position from levels at length rule.Break long breaks enough comes =
+    absurd (omega (arith, breaks, enough))
 break_stops Quiet from levels at length other long breaks enough comes = breaks
 break_stops (InAsk bytes) from levels at length other long breaks enough comes = breaks
 break_stops (Asked command) from levels at length other long breaks enough comes = breaks
 break_stops (InReply command bytes) from levels at length other long breaks enough comes = breaks
 break_stops (Replied command reply) from levels at length other long breaks enough comes = breaks
 break_stops (Returned command reply) from levels at length other long breaks enough comes = breaks
-break_stops (InRepeat command reply words) from levels at length other long breaks enough comes = breaks
+break_stops (InRepeat command reply words) from levels at length other long breaks enough comes =
+    breaks
 break_stops InForeign from levels at length other long breaks enough comes = breaks
 
 -- a row that breaks a rule leads nowhere
-pub stops : Grammar → (s : Situation) (row : Event) (broken : Rule) (next : Step) → IsSound s.position
+pub stops : Grammar → (s : Situation) (row : Event) (broken : Rule) (next : Step)
+    → IsSound s.position
     → LastIsLong s.last
     → RowBreaks s row broken → Leads s row next → ⊥
 stops grammar s (Word at line word) broken next sound long breaks leads =

@@ -41,16 +41,19 @@ use Rattle.mdb_bus.specs.inner.Steps.{Belongs, IsGoingOn, IsJudged, IsOpened, Is
 use Rattle.mdb_bus.proofs.Needs.{at_least_two, at_most_32, not_left, stays, narrows}
 
 -- a row isn't both too early and in time
-pub not_early : (least : ℕ) (from : Option Event) (to : Event) → NotBefore least from to → IsBefore least from to → ⊥
+pub not_early : (least : ℕ) (from : Option Event) (to : Event) → NotBefore least from to
+    → IsBefore least from to → ⊥
 not_early least None to enough early = early
 not_early least (Some before) to enough early = omega (arith, enough, early)
 
 -- it is one of them, and late or in time
-pub in_time : (least : ℕ) (from : Option Event) (to : Event) → (IsBefore least from to → ⊥) → NotBefore least from to
+pub in_time : (least : ℕ) (from : Option Event) (to : Event) → (IsBefore least from to → ⊥)
+    → NotBefore least from to
 in_time least None to early = tt
 in_time least (Some before) to early = omega (arith, early)
 
-pub not_late : (most : ℕ) (from : Option Event) (to : Event) → (IsAfter most from to → ⊥) → NotAfter most from to
+pub not_late : (most : ℕ) (from : Option Event) (to : Event) → (IsAfter most from to → ⊥)
+    → NotAfter most from to
 not_late most None to late = tt
 not_late most (Some before) to late = omega (arith, late)
 
@@ -60,11 +63,13 @@ are_bytes bytes low = All-from_get_or IsByte bytes 0 (λ i within. search (rules
 
 -- a law of mdb_msgs: bytes that are as long as they need to be are those of a command
 abbrev pub WhatItNeeds : Type 0
-WhatItNeeds = (content : List ℕ) → All IsByte content → needed content ≡ Exactly (length content + 1)
+WhatItNeeds = (content : List ℕ) → All IsByte content
+    → needed content ≡ Exactly (length content + 1)
     → (command : Command) × Spells command (block_of content)
 
 -- what is open is the front of an ask, and the front of an ask is open
-pub front_of : OpenIsAFront → (bytes : List ℕ) → 0 < length bytes → All IsByte bytes → IsOpen bytes → IsAskFront bytes
+pub front_of : OpenIsAFront → (bytes : List ℕ) → 0 < length bytes → All IsByte bytes → IsOpen bytes
+    → IsAskFront bytes
 front_of law bytes some low wanting =
     let found = law bytes low wanting in
     record {
@@ -90,11 +95,13 @@ pub begins : OpenIsAFront → (word one byte : ℕ) (told : Need) → one ≡ wo
 begins law word one byte told same again is wanting =
     let P : ℕ → Type 0 = λ b. IsAskFront (b ∷ []) in
     subst P (same ∙ sym again)
-    (front_of law (one ∷ []) (omega arith) (All-from_recursion IsByte (one ∷ []) (omega (arith, same), tt))
+    (front_of law (one ∷ []) (omega arith)
+    (All-from_recursion IsByte (one ∷ []) (omega (arith, same), tt))
     (short wanting))
   where
     short : (told ≡ More) ⊎ ((n : ℕ) × (told ≡ Exactly n)) → IsOpen (one ∷ [])
-    short (inl more) = let P : Need → Type 0 = λ need. IsShort need 1 in subst P (sym more ∙ is) refl
+    short (inl more) = let P : Need → Type 0 = λ need. IsShort need 1 in
+        subst P (sym more ∙ is) refl
     short (inr exact) =
         let P : Need → Type 0 = λ need. IsShort need 1 in
         let two : 2 ≤ exact.0 = at_least_two (one ∷ []) exact.0 (omega arith) (sym is ∙ exact.1) in
@@ -119,21 +126,25 @@ second_other bytes first byte word told other is low small tell out unsaid begun
     ap (λ b. needed (first ∷ b ∷ [])) (sym same) ∙ (sym tell ∙ out) in
     let Open : List ℕ → Type 0 = λ bs. IsOpen bs in
     let alone : IsOpen (first ∷ []) = subst Open is begun in
-    let none : (n : ℕ) → needed (first ∷ word ∷ []) ≡ Exactly n → ⊥ = λ n exact. unsaid n (sym two ∙ exact) in
+    let none : (n : ℕ) → needed (first ∷ word ∷ []) ≡ Exactly n
+    → ⊥ = λ n exact. unsaid n (sym two ∙ exact) in
     (left_by first word (needed (first ∷ [])) refl alone none, two)
 
 -- a second byte that this profile leaves out
 pub second_outside : (bytes : List ℕ) (first byte word : ℕ) (told : Need) → bytes ≡ first ∷ []
-    → byte ≡ word % 256 → word < 256 → told ≡ needed (first ∷ byte ∷ []) → told ≡ Outside → IsOpen bytes
+    → byte ≡ word % 256 → word < 256 → told ≡ needed (first ∷ byte ∷ []) → told ≡ Outside
+    → IsOpen bytes
     → (needed bytes ≡ More) × (needed (bytes ++ word ∷ []) ≡ Outside)
 second_outside bytes first byte word told is low small tell out begun =
     let P : List ℕ → Type 0 = λ bs. (needed bs ≡ More) × (needed (bs ++ word ∷ []) ≡ Outside) in
     let unsaid : (n : ℕ) → Outside ≡ Exactly n → ⊥ = λ n same. cc same in
-    subst P (sym is) (second_other bytes first byte word told Outside is low small tell out unsaid begun)
+    subst P (sym is) (second_other bytes first byte word told Outside is low small tell out unsaid
+    begun)
 
 -- a second byte that makes the block foreign
 pub second_foreign : (bytes : List ℕ) (first byte word : ℕ) (told : Need) → bytes ≡ first ∷ []
-    → byte ≡ word % 256 → word < 256 → told ≡ needed (first ∷ byte ∷ []) → told ≡ Foreign → IsOpen bytes
+    → byte ≡ word % 256 → word < 256 → told ≡ needed (first ∷ byte ∷ []) → told ≡ Foreign
+    → IsOpen bytes
     → IsForeignOpening (bytes ++ word ∷ [])
 second_foreign bytes first byte word told is low small tell out begun =
     let P : List ℕ → Type 0 = λ bs. IsForeignOpening (bs ++ word ∷ []) in
@@ -142,9 +153,11 @@ second_foreign bytes first byte word told is low small tell out begun =
     subst P (sym is) (both.0, both.1, small)
 
 -- a second byte with which a command is open still
-second_short : (first byte : ℕ) (alone told : Need) → needed (first ∷ []) ≡ alone → needed (first ∷ byte ∷ []) ≡ told
+second_short : (first byte : ℕ) (alone told : Need) → needed (first ∷ []) ≡ alone
+    → needed (first ∷ byte ∷ []) ≡ told
     → IsShort alone 1
-    → (needed (first ∷ []) ≡ Exactly 2 → ⊥) → (told ≡ More) ⊎ ((n : ℕ) × (told ≡ Exactly n)) → IsShort told 2
+    → (needed (first ∷ []) ≡ Exactly 2 → ⊥) → (told ≡ More) ⊎ ((n : ℕ) × (told ≡ Exactly n))
+    → IsShort told 2
 second_short first byte alone told is tell short other (inl more) =
     absurd (not_left (first ∷ byte ∷ []) (omega arith) (tell ∙ more))
 second_short first byte More told is tell short other (inr exact) =
@@ -163,11 +176,13 @@ second_short first byte Outside told is tell short other (inr exact) = absurd sh
 
 pub second_front : OpenIsAFront → (bytes : List ℕ) (first one byte word : ℕ) (alone told : Need)
     → bytes ≡ first ∷ [] → first < 256
-    → alone ≡ needed (first ∷ []) → (alone ≡ Exactly 2 → ⊥) → one ≡ word % 256 → byte ≡ word % 256 → word < 256
+    → alone ≡ needed (first ∷ []) → (alone ≡ Exactly 2 → ⊥) → one ≡ word % 256 → byte ≡ word % 256
+    → word < 256
     → told ≡ needed (first ∷ one ∷ [])
     → (told ≡ More) ⊎ ((n : ℕ) × (told ≡ Exactly n)) → IsOpen bytes
     → (word ≡ byte) × IsAskFront (bytes ++ byte ∷ [])
-second_front opens bytes first one byte word alone told is low lone other same again small tell wanting begun =
+second_front opens bytes first one byte word alone told is low lone other same again small tell
+    wanting begun =
     let P : List ℕ → Type 0 = λ bs. IsOpen bs → IsAskFront (bs ++ byte ∷ []) in
     let fits : one ≡ byte = omega (arith, same, again) in
     let byte_low : byte < 256 = omega (arith, again) in
@@ -181,7 +196,8 @@ second_front opens bytes first one byte word alone told is low lone other same a
     (omega (arith, again), subst P (sym is) go begun)
 
 -- a further byte with which a command is open still
-pub further_front : OpenIsAFront → (bytes : List ℕ) (byte n : ℕ) → 2 ≤ length bytes → All IsByte bytes → byte < 256
+pub further_front : OpenIsAFront → (bytes : List ℕ) (byte n : ℕ) → 2 ≤ length bytes
+    → All IsByte bytes → byte < 256
     → needed bytes ≡ Exactly n
     → length bytes + 1 < n → IsAskFront (bytes ++ byte ∷ [])
 further_front opens bytes byte n two low byte_low told short =
@@ -193,8 +209,10 @@ further_front opens bytes byte n two low byte_low told short =
     (subst P (sym still) (omega arith))
 
 -- where no further byte leaves a command open, the next one is its last
-ended : (bytes : List ℕ) (told : Need) → 2 ≤ length bytes → needed bytes ≡ told → IsShort told (length bytes)
-    → ((n : ℕ) → told ≡ Exactly n → n ≤ length bytes + 1) → needed bytes ≡ Exactly (length bytes + 1)
+ended : (bytes : List ℕ) (told : Need) → 2 ≤ length bytes → needed bytes ≡ told
+    → IsShort told (length bytes)
+    → ((n : ℕ) → told ≡ Exactly n → n ≤ length bytes + 1)
+    → needed bytes ≡ Exactly (length bytes + 1)
 ended bytes More two is short most = absurd (not_left bytes two is)
 ended bytes (Exactly n) two is short most =
     let e : n ≡ length bytes + 1 = omega (arith, most n refl, short) in
@@ -209,7 +227,8 @@ further_end bytes told two is most begun =
     ended bytes (needed bytes) two refl begun (λ n exact. most n (is ∙ exact))
 
 -- bytes that need their sum alone are with it the block of a command
-pub ask_whole : WhatItNeeds → (bytes : List ℕ) (word : ℕ) → All IsByte bytes → needed bytes ≡ Exactly (length bytes + 1)
+pub ask_whole : WhatItNeeds → (bytes : List ℕ) (word : ℕ) → All IsByte bytes
+    → needed bytes ≡ Exactly (length bytes + 1)
     → word ≡ sum bytes % 256 → (command : Command) × Spells command (bytes ++ word ∷ [])
 ask_whole law bytes word low told total =
     let found = law bytes low told in
@@ -219,13 +238,18 @@ ask_whole law bytes word low told total =
 -- a controller's word inside its block breaks a rule
 abbrev AskBreaks : List ℕ → Option Event → ℕ → ℕ → Levels → Rule → Type 0
 AskBreaks bytes from at word levels broken =
-    RowBreaks (record { position = InAsk bytes; last = from; levels = levels }) (Word at Controller word) broken
+    RowBreaks (record { position = InAsk bytes; last = from; levels = levels })
+    (Word at Controller word) broken
 
 -- an unmarked word inside a block of the controller, in its time
-pub going_on : (bytes : List ℕ) (from : Option Event) (at word : ℕ) (levels : Levels) (result : Result Judged Rule)
-    → (OutOfOrder from (Word at Controller word) → ⊥) → (IsBefore WORD_GAP_MIN from (Word at Controller word) → ⊥)
-    → (IsAfter BLOCK_GAP_MAX from (Word at Controller word) → ⊥) → word < 256 → IsGoingOn bytes word result
-    → IsJudged (record { position = InAsk bytes; last = from; levels = levels }) (Word at Controller word) result
+pub going_on : (bytes : List ℕ) (from : Option Event) (at word : ℕ) (levels : Levels)
+    (result : Result Judged Rule)
+    → (OutOfOrder from (Word at Controller word) → ⊥)
+    → (IsBefore WORD_GAP_MIN from (Word at Controller word) → ⊥)
+    → (IsAfter BLOCK_GAP_MAX from (Word at Controller word) → ⊥) → word < 256
+    → IsGoingOn bytes word result
+    → IsJudged (record { position = InAsk bytes; last = from; levels = levels })
+    (Word at Controller word) result
 going_on bytes from at word levels (Ok judged.AskByte) order early late small h =
     let soon = in_time WORD_GAP_MIN from (Word at Controller word) early in
     let near = not_late BLOCK_GAP_MAX from (Word at Controller word) late in
@@ -239,17 +263,21 @@ going_on bytes from at word levels (Ok judged.Foreign) order early late small h 
     let near = not_late BLOCK_GAP_MAX from (Word at Controller word) late in
     (small, h, (soon, near))
 going_on bytes from at word levels (Ok other) order early late small h = absurd h
-going_on bytes from at word levels (Err rule.Sum) order early late small h = record { breaks = h; first = first }
+going_on bytes from at word levels (Err rule.Sum) order early late small h =
+    record { breaks = h; first = first }
   where
-    first : (other : Rule) → AskBreaks bytes from at word levels other → place_of rule.Sum ≤ place_of other
+    first : (other : Rule) → AskBreaks bytes from at word levels other
+        → place_of rule.Sum ≤ place_of other
     first rule.Order b = absurd (order b)
     first rule.Mode b = absurd (omega (arith, b))
     first rule.Early b = absurd (early b)
     first rule.Spacing b = absurd (late b)
     first other b = search rules
-going_on bytes from at word levels (Err rule.Profile) order early late small h = record { breaks = h; first = first }
+going_on bytes from at word levels (Err rule.Profile) order early late small h =
+    record { breaks = h; first = first }
   where
-    first : (other : Rule) → AskBreaks bytes from at word levels other → place_of rule.Profile ≤ place_of other
+    first : (other : Rule) → AskBreaks bytes from at word levels other
+        → place_of rule.Profile ≤ place_of other
     first rule.Order b = absurd (order b)
     first rule.Mode b = absurd (omega (arith, b))
     first rule.Early b = absurd (early b)
@@ -259,7 +287,8 @@ going_on bytes from at word levels (Err rule.Profile) order early late small h =
 going_on bytes from at word levels (Err other) order early late small h = absurd h
 
 -- the words of a peripheral that end in one
-pub peripheral_push : (bytes : List ℕ) (byte : ℕ) → peripheral_words (bytes ++ byte ∷ []) ≡ bytes ++ (256 + byte) ∷ []
+pub peripheral_push : (bytes : List ℕ) (byte : ℕ) → peripheral_words (bytes ++ byte ∷ [])
+    ≡ bytes ++ (256 + byte) ∷ []
 peripheral_push [] byte = refl
 peripheral_push (x ∷ []) byte = refl
 peripheral_push (x ∷ y ∷ ys) byte = ap (λ ws. x ∷ ws) (peripheral_push (y ∷ ys) byte)
@@ -267,11 +296,13 @@ peripheral_push (x ∷ y ∷ ys) byte = ap (λ ws. x ∷ ws) (peripheral_push (y
 -- the last word of a block of a peripheral
 pub reply_sum : (bytes : List ℕ)
     → slice_index (peripheral_words (block_of bytes)) (length bytes) ≡ 256 + sum bytes % 256
-reply_sum bytes = ap (λ words. slice_index words (length bytes)) (peripheral_push bytes (sum bytes % 256))
+reply_sum bytes = ap (λ words. slice_index words (length bytes))
+    (peripheral_push bytes (sum bytes % 256))
     ∙ get_or-append_seam bytes (256 + sum bytes % 256) [] 0
 
 -- a reply with the bytes of a block is one with the block's content
-pub is_reply : (command : Command) (bytes : List ℕ) (reply : Reply) → IsContent bytes → IsReplyTo command reply
+pub is_reply : (command : Command) (bytes : List ℕ) (reply : Reply) → IsContent bytes
+    → IsReplyTo command reply
     → bytes ≡ reply_bytes reply → IsReply command reply
 is_reply command bytes reply is answers same =
     let P : List ℕ → Type 0 = λ bs. IsContent bs in
@@ -290,9 +321,11 @@ length_read command bytes has bad =
 pub no_answer : (command : Command) (from : Option Event) (at word byte : ℕ) (levels : Levels)
     → (OutOfOrder from (Word at Peripheral word) → ⊥)
     → (IsBefore WORD_GAP_MIN from (Word at Peripheral word) → ⊥)
-    → (IsAfter ANSWER_GAP_MAX from (Word at Peripheral word) → ⊥) → 256 ≤ word → word < 512 → byte ≡ word % 256
+    → (IsAfter ANSWER_GAP_MAX from (Word at Peripheral word) → ⊥) → 256 ≤ word → word < 512
+    → byte ≡ word % 256
     → ((answer : Answer) → answer_byte answer ≢ byte)
-    → IsFirstBroken (record { position = Asked command; last = from; levels = levels }) (Word at Peripheral word)
+    → IsFirstBroken (record { position = Asked command; last = from; levels = levels })
+    (Word at Peripheral word)
     rule.Answer
 no_answer command from at word byte levels order early late marked small low none = record {
   breaks = inl (
@@ -304,7 +337,8 @@ no_answer command from at word byte levels order early late marked small low non
 }
   where
     first : (other : Rule)
-        → RowBreaks (record { position = Asked command; last = from; levels = levels }) (Word at Peripheral word) other
+        → RowBreaks (record { position = Asked command; last = from; levels = levels })
+        (Word at Peripheral word) other
         → place_of rule.Answer ≤ place_of other
     first rule.Order b = absurd (order b)
     first rule.Early b = absurd (early b)
@@ -320,19 +354,22 @@ unread_by command bytes levels reading.Profile bad = inl bad
 unread_by command bytes levels reading.Answer bad = bad
 
 pub unread : (command : Command) (bytes : List ℕ) (levels : Levels) (fault : MsgFault) (told : Rule)
-    → IsReadFault command bytes fault → told ≡ rule_of fault → IsRead command bytes levels (Err told)
+    → IsReadFault command bytes fault → told ≡ rule_of fault
+    → IsRead command bytes levels (Err told)
 unread command bytes levels fault told bad is =
     let P : Rule → Type 0 = λ r. IsRead command bytes levels (Err r) in
     subst P (sym is) (unread_by command bytes levels fault bad)
 
 -- a marked word ends a reply of a right number of bytes
-length_right : (command : Command) (bytes : List ℕ) (at word : ℕ) → 256 ≤ word → HasDataAnswer command (length bytes)
+length_right : (command : Command) (bytes : List ℕ) (at word : ℕ) → 256 ≤ word
+    → HasDataAnswer command (length bytes)
     → WrongLength (InReply command bytes) (Word at Peripheral word) → ⊥
 length_right command bytes at word marked count (inl wrong) = omega (arith, wrong.0)
 length_right command bytes at word marked count (inr wrong) = wrong.1 count
 
 -- the number of bytes of a reply is right
-count_right : (command : Command) (bytes : List ℕ) (reply : Reply) → IsReply command reply → bytes ≡ reply_bytes reply
+count_right : (command : Command) (bytes : List ℕ) (reply : Reply) → IsReply command reply
+    → bytes ≡ reply_bytes reply
     → HasDataAnswer command (length bytes)
 count_right command bytes reply is same =
     let P : List ℕ → Type 0 = λ bs. HasDataAnswer command (length bs) in
@@ -341,65 +378,80 @@ count_right command bytes reply is same =
 -- a peripheral's word inside a reply breaks a rule
 abbrev Breaks : Command → List ℕ → Option Event → ℕ → ℕ → Levels → Rule → Type 0
 Breaks command bytes from at word levels broken =
-    RowBreaks (record { position = InReply command bytes; last = from; levels = levels }) (Word at Peripheral word)
+    RowBreaks (record { position = InReply command bytes; last = from; levels = levels })
+    (Word at Peripheral word)
     broken
 
 -- the reply that a marked word has ended in its time, read
 reply_read : BytesHaveOneFault → ReplyHasNoFault
     → (command : Command) (bytes : List ℕ) (from : Option Event) (at word : ℕ) (levels : Levels)
     (result : Result Reply Rule)
-    → (OutOfOrder from (Word at Peripheral word) → ⊥) → (IsBefore WORD_GAP_MIN from (Word at Peripheral word) → ⊥)
+    → (OutOfOrder from (Word at Peripheral word) → ⊥)
+    → (IsBefore WORD_GAP_MIN from (Word at Peripheral word) → ⊥)
     → (IsAfter BLOCK_GAP_MAX from (Word at Peripheral word) → ⊥)
     → 256 ≤ word → HasDataAnswer command (length bytes) → word ≡ 256 + sum bytes % 256
     → IsRead command bytes levels result
-    → IsSettled (record { position = InReply command bytes; last = from; levels = levels }) (Word at Peripheral word)
+    → IsSettled (record { position = InReply command bytes; last = from; levels = levels })
+    (Word at Peripheral word)
     result
-reply_read one none command bytes from at word levels (Ok reply) order early late marked has total h =
+reply_read one none command bytes from at word levels (Ok reply) order early late marked has total
+    h =
     let soon = in_time WORD_GAP_MIN from (Word at Peripheral word) early in
     let near = not_late BLOCK_GAP_MAX from (Word at Peripheral word) late in
     (total, h.0, h.1, h.2, (soon, near))
-reply_read one none command bytes from at word levels (Err rule.Length) order early late marked has total h =
+reply_read one none command bytes from at word levels (Err rule.Length) order early late marked has
+    total h =
     absurd (length_read command bytes has h)
-reply_read one none command bytes from at word levels (Err rule.Answer) order early late marked has total h =
+reply_read one none command bytes from at word levels (Err rule.Answer) order early late marked has
+    total h =
     record { breaks = (marked, h); first = first }
   where
-    first : (other : Rule) → Breaks command bytes from at word levels other → place_of rule.Answer ≤ place_of other
+    first : (other : Rule) → Breaks command bytes from at word levels other
+        → place_of rule.Answer ≤ place_of other
     first rule.Order b = absurd (order b)
     first rule.Early b = absurd (early b)
     first rule.Spacing b = absurd (late b)
     first rule.Length b = absurd (length_right command bytes at word marked has b)
     first rule.Sum b = absurd (b.1 total)
     first other b = search rules
-reply_read one none command bytes from at word levels (Err rule.Message) order early late marked has total h =
+reply_read one none command bytes from at word levels (Err rule.Message) order early late marked has
+    total h =
     record { breaks = (marked, h); first = first }
   where
-    first : (other : Rule) → Breaks command bytes from at word levels other → place_of rule.Message ≤ place_of other
+    first : (other : Rule) → Breaks command bytes from at word levels other
+        → place_of rule.Message ≤ place_of other
     first rule.Order b = absurd (order b)
     first rule.Early b = absurd (early b)
     first rule.Spacing b = absurd (late b)
     first rule.Length b = absurd (length_right command bytes at word marked has b)
     first rule.Sum b = absurd (b.1 total)
     first rule.Answer b =
-        let clash : reading.Answer ≡ reading.Message = one command bytes reading.Answer reading.Message b.1 h in
+        let clash : reading.Answer ≡ reading.Message = one command bytes reading.Answer
+        reading.Message b.1 h in
         absurd (cc)
     first other b = search rules
-reply_read one none command bytes from at word levels (Err rule.Profile) order early late marked has total (inl h) =
+reply_read one none command bytes from at word levels (Err rule.Profile) order early late marked has
+    total (inl h) =
     record { breaks = (marked, inl h); first = first }
   where
-    first : (other : Rule) → Breaks command bytes from at word levels other → place_of rule.Profile ≤ place_of other
+    first : (other : Rule) → Breaks command bytes from at word levels other
+        → place_of rule.Profile ≤ place_of other
     first rule.Order b = absurd (order b)
     first rule.Early b = absurd (early b)
     first rule.Spacing b = absurd (late b)
     first rule.Length b = absurd (length_right command bytes at word marked has b)
     first rule.Sum b = absurd (b.1 total)
     first rule.Answer b =
-        let clash : reading.Answer ≡ reading.Profile = one command bytes reading.Answer reading.Profile b.1 h in
+        let clash : reading.Answer ≡ reading.Profile = one command bytes reading.Answer
+        reading.Profile b.1 h in
         absurd (cc)
     first rule.Message b =
-        let clash : reading.Message ≡ reading.Profile = one command bytes reading.Message reading.Profile b.1 h in
+        let clash : reading.Message ≡ reading.Profile = one command bytes reading.Message
+        reading.Profile b.1 h in
         absurd (cc)
     first other b = search rules
-reply_read one none command bytes from at word levels (Err rule.Profile) order early late marked has total (inr h) =
+reply_read one none command bytes from at word levels (Err rule.Profile) order early late marked has
+    total (inr h) =
     record { breaks = (marked, inr h); first = first }
   where
     faultless : (fault : MsgFault) → IsReadFault command bytes fault → ⊥
@@ -407,7 +459,8 @@ reply_read one none command bytes from at word levels (Err rule.Profile) order e
         let P : List ℕ → Type 0 = λ bs. IsReadFault command bs fault in
         none command h.0 fault h.1.answers (subst P h.2 bad)
 
-    first : (other : Rule) → Breaks command bytes from at word levels other → place_of rule.Profile ≤ place_of other
+    first : (other : Rule) → Breaks command bytes from at word levels other
+        → place_of rule.Profile ≤ place_of other
     first rule.Order b = absurd (order b)
     first rule.Early b = absurd (early b)
     first rule.Spacing b = absurd (late b)
@@ -416,24 +469,30 @@ reply_read one none command bytes from at word levels (Err rule.Profile) order e
     first rule.Answer b = absurd (faultless reading.Answer b.1)
     first rule.Message b = absurd (faultless reading.Message b.1)
     first other b = search rules
-reply_read one none command bytes from at word levels (Err other) order early late marked has total h = absurd h
+reply_read one none command bytes from at word levels (Err other) order early late marked has total
+    h = absurd h
 
 -- the marked word of a reply, in its time
 pub reply_ended : BytesHaveOneFault → ReplyHasNoFault
     → (command : Command) (bytes : List ℕ) (from : Option Event) (at word : ℕ) (levels : Levels)
     (result : Result Judged Rule)
-    → (OutOfOrder from (Word at Peripheral word) → ⊥) → (IsBefore WORD_GAP_MIN from (Word at Peripheral word) → ⊥)
+    → (OutOfOrder from (Word at Peripheral word) → ⊥)
+    → (IsBefore WORD_GAP_MIN from (Word at Peripheral word) → ⊥)
     → (IsAfter BLOCK_GAP_MAX from (Word at Peripheral word) → ⊥)
     → 256 ≤ word → IsReplyEnd command bytes word result
-    → IsJudged (record { position = InReply command bytes; last = from; levels = levels }) (Word at Peripheral word)
+    → IsJudged (record { position = InReply command bytes; last = from; levels = levels })
+    (Word at Peripheral word)
     result
 reply_ended one none command bytes from at word levels (Ok judged.Reply) order early late marked h =
-    λ result is. reply_read one none command bytes from at word levels result order early late marked h.0 h.1 is
-reply_ended one none command bytes from at word levels (Ok other) order early late marked h = absurd h
+    λ result is. reply_read one none command bytes from at word levels result order early late
+    marked h.0 h.1 is
+reply_ended one none command bytes from at word levels (Ok other) order early late marked h =
+    absurd h
 reply_ended one none command bytes from at word levels (Err rule.Length) order early late marked h =
     record { breaks = inr (marked, h); first = first }
   where
-    first : (other : Rule) → Breaks command bytes from at word levels other → place_of rule.Length ≤ place_of other
+    first : (other : Rule) → Breaks command bytes from at word levels other
+        → place_of rule.Length ≤ place_of other
     first rule.Order b = absurd (order b)
     first rule.Early b = absurd (early b)
     first rule.Spacing b = absurd (late b)
@@ -441,13 +500,15 @@ reply_ended one none command bytes from at word levels (Err rule.Length) order e
 reply_ended one none command bytes from at word levels (Err rule.Sum) order early late marked h =
     record { breaks = (marked, h.1); first = first }
   where
-    first : (other : Rule) → Breaks command bytes from at word levels other → place_of rule.Sum ≤ place_of other
+    first : (other : Rule) → Breaks command bytes from at word levels other
+        → place_of rule.Sum ≤ place_of other
     first rule.Order b = absurd (order b)
     first rule.Early b = absurd (early b)
     first rule.Spacing b = absurd (late b)
     first rule.Length b = absurd (length_right command bytes at word marked h.0 b)
     first other b = search rules
-reply_ended one none command bytes from at word levels (Err other) order early late marked h = absurd h
+reply_ended one none command bytes from at word levels (Err other) order early late marked h =
+    absurd h
 
 -- the word at an index splits words
 pub split_at : (words : List ℕ) (n word : ℕ) → slice_get words n ≡ Some word
@@ -465,7 +526,8 @@ empty [] none = refl
 empty (w ∷ words) none = absurd (omega (arith, none))
 
 -- a word of a reply in its place, with more to come
-pub repeats : (reply : Reply) (n word count : ℕ) → length (reply_words reply) ≡ count + 1 → n < count
+pub repeats : (reply : Reply) (n word count : ℕ) → length (reply_words reply) ≡ count + 1
+    → n < count
     → slice_get (reply_words reply) n ≡ Some word
     → IsRepeatFront reply (take n (reply_words reply) ++ word ∷ [])
 repeats reply n word count long more is =
@@ -474,7 +536,8 @@ repeats reply n word count long more is =
       some = not_empty (take n (reply_words reply)) word;
       rest = rest;
       open_end = λ none. omega (arith, length-drop (suc n) (reply_words reply), ap length none);
-      same = append_assoc (take n (reply_words reply)) (word ∷ []) rest ∙ split_at (reply_words reply) n word is;
+      same = append_assoc (take n (reply_words reply)) (word ∷ []) rest
+          ∙ split_at (reply_words reply) n word is;
     }
 
 -- and the last one
@@ -482,70 +545,91 @@ pub repeated : (words : List ℕ) (n word count : ℕ) → length words ≡ coun
     → slice_get words n ≡ Some word → take n words ++ word ∷ [] ≡ words
 repeated words n word count long most is =
     let within : n < length words = slice_get_within words n word is in
-    let none : drop (suc n) words ≡ [] = empty (drop (suc n) words) (omega (arith, length-drop (suc n) words)) in
+    let none : drop (suc n) words ≡ [] =
+    empty (drop (suc n) words) (omega (arith, length-drop (suc n) words)) in
     ap (λ rest. take n words ++ word ∷ rest) (sym none) ∙ split_at words n word is
 
 -- the words of a reply are one more than its bytes
 pub words_count : (bytes : List ℕ) → length (peripheral_words (block_of bytes)) ≡ length bytes + 1
 words_count bytes =
-    ap length (peripheral_push bytes (sum bytes % 256)) ∙ length-append bytes ((256 + sum bytes % 256) ∷ [])
+    ap length (peripheral_push bytes (sum bytes % 256))
+    ∙ length-append bytes ((256 + sum bytes % 256) ∷ [])
 
 -- the word at an index of a sealed reply
-pub word_there : (bytes content block : List ℕ) (i word : ℕ) → content ≡ bytes → block ≡ block_of content
+pub word_there : (bytes content block : List ℕ) (i word : ℕ) → content ≡ bytes
+    → block ≡ block_of content
     → i < length block → word ≡ slice_index (peripheral_words block) i
     → Some word ≡ slice_get (peripheral_words (block_of bytes)) i
 word_there bytes content block i word same sealed within is =
     let whole : block ≡ block_of bytes = sealed ∙ ap block_of same in
     let words : List ℕ = peripheral_words (block_of bytes) in
     let count : length words ≡ length bytes + 1 = words_count bytes in
-    let long : length block ≡ length bytes + 1 = ap length whole ∙ length-append bytes ((sum bytes % 256) ∷ []) in
-    let here : word ≡ slice_index words i = is ∙ ap (λ b. slice_index (peripheral_words b) i) whole in
+    let long : length block ≡ length bytes + 1 = ap length whole
+    ∙ length-append bytes ((sum bytes % 256) ∷ []) in
+    let here : word ≡ slice_index words i = is
+    ∙ ap (λ b. slice_index (peripheral_words b) i) whole in
     ap Some here ∙ sym (slice_get-get_or words i 0 (omega arith))
 
-pub word_after : (bytes content block : List ℕ) (i : ℕ) → content ≡ bytes → block ≡ block_of content → length block ≤ i
+pub word_after : (bytes content block : List ℕ) (i : ℕ) → content ≡ bytes → block ≡ block_of content
+    → length block ≤ i
     → None ≡ slice_get (peripheral_words (block_of bytes)) i
 word_after bytes content block i same sealed past =
     let whole : block ≡ block_of bytes = sealed ∙ ap block_of same in
     let count : length (peripheral_words (block_of bytes)) ≡ length bytes + 1 = words_count bytes in
-    let long : length block ≡ length bytes + 1 = ap length whole ∙ length-append bytes ((sum bytes % 256) ∷ []) in
+    let long : length block ≡ length bytes + 1 = ap length whole
+    ∙ length-append bytes ((sum bytes % 256) ∷ []) in
     sym (slice_get_past (peripheral_words (block_of bytes)) i (omega arith))
 
 -- what is made of a row at a place that is another's
-pub judged_at : (place : Place) (other : Phase) (from : Option Event) (levels : Levels) (row : Event)
+pub judged_at : (place : Place) (other : Phase) (from : Option Event) (levels : Levels)
+    (row : Event)
     (result : Result Judged Rule) → place.phase ≡ other
-    → IsJudged (record { position = position_in other place.bytes place.command place.answer.reply; last = from; levels = levels }) row result
+    → IsJudged (record {
+      position = position_in other place.bytes place.command place.answer.reply;
+      last = from;
+      levels = levels;
+    }) row result
     → IsJudged (record { position = position_at place; last = from; levels = levels }) row result
 judged_at place other from levels row result is judged =
     let P : Phase → Type 0 =
-    λ p. IsJudged (record { position = position_in p place.bytes place.command place.answer.reply; last = from; levels = levels }) row result in
+    λ p. IsJudged (record {
+      position = position_in p place.bytes place.command place.answer.reply;
+      last = from;
+      levels = levels;
+    }) row result in
     subst P (sym is) judged
 
 -- what is made of a row that is another
-pub judged_row : (situation : Situation) (row other : Event) (result : Result Judged Rule) → row ≡ other
+pub judged_row : (situation : Situation) (row other : Event) (result : Result Judged Rule)
+    → row ≡ other
     → IsJudged situation other result → IsJudged situation row result
 judged_row situation row other result is judged =
     let P : Event → Type 0 = λ r. IsJudged situation r result in
     subst P (sym is) judged
 
 -- what was judged belongs to a phase, or is of a row, that is another
-pub belongs_at : (here other : Phase) (bytes : List ℕ) (row : Event) (result : Result Judged Rule) → here ≡ other
+pub belongs_at : (here other : Phase) (bytes : List ℕ) (row : Event) (result : Result Judged Rule)
+    → here ≡ other
     → IfOk result (Belongs other bytes row) → IfOk result (Belongs here bytes row)
 belongs_at here other bytes row result is belongs =
     let P : Phase → Type 0 = λ p. IfOk result (Belongs p bytes row) in
     subst P (sym is) belongs
 
-pub belongs_row : (here : Phase) (bytes : List ℕ) (row other : Event) (result : Result Judged Rule) → row ≡ other
+pub belongs_row : (here : Phase) (bytes : List ℕ) (row other : Event) (result : Result Judged Rule)
+    → row ≡ other
     → IfOk result (Belongs here bytes other) → IfOk result (Belongs here bytes row)
 belongs_row here bytes row other result is belongs =
     let P : Event → Type 0 = λ r. IfOk result (Belongs here bytes r) in
     subst P (sym is) belongs
 
 -- a phase that is another's is not inside a block of the controller
-pub not_asking : (here other : Phase) → here ≡ other → (other ≡ phase.InAsk → ⊥) → here ≡ phase.InAsk → ⊥
+pub not_asking : (here other : Phase) → here ≡ other → (other ≡ phase.InAsk → ⊥)
+    → here ≡ phase.InAsk → ⊥
 not_asking here other is apart asking = apart (sym is ∙ asking)
 
 -- where no block of the controller is open, one may begin with a byte that leaves a command open
-may_begin : (here : Phase) (bytes : List ℕ) (byte : ℕ) → (here ≡ phase.InAsk → ⊥) → IsOpen (byte ∷ []) → MayAsk here bytes byte
+may_begin : (here : Phase) (bytes : List ℕ) (byte : ℕ) → (here ≡ phase.InAsk → ⊥)
+    → IsOpen (byte ∷ []) → MayAsk here bytes byte
 may_begin phase.Quiet bytes byte other begun = begun
 may_begin phase.InAsk bytes byte other begun = absurd (other refl)
 may_begin phase.Asked bytes byte other begun = begun
@@ -556,9 +640,11 @@ may_begin (phase.InRepeat said) bytes byte other begun = begun
 may_begin phase.InForeign bytes byte other begun = begun
 
 -- what was judged of a word that may begin a block
-pub opened_belongs : FrontIsOpen → (least : ℕ) (from : Option Event) (at word : ℕ) (result : Result Judged Rule)
+pub opened_belongs : FrontIsOpen → (least : ℕ) (from : Option Event) (at word : ℕ)
+    (result : Result Judged Rule)
     → IsOpened least from (Word at Controller word) word result
-    → (here : Phase) (bytes : List ℕ) → (here ≡ phase.InAsk → ⊥) → IfOk result (Belongs here bytes (Word at Controller word))
+    → (here : Phase) (bytes : List ℕ) → (here ≡ phase.InAsk → ⊥)
+    → IfOk result (Belongs here bytes (Word at Controller word))
 opened_belongs law least from at word (Ok judged.AskByte) opened here bytes other =
     (tt, may_begin here bytes (word % 256) other (open_front law (word % 256 ∷ []) opened.1))
 opened_belongs law least from at word (Ok judged.Foreign) opened here bytes other = tt
@@ -566,14 +652,16 @@ opened_belongs law least from at word (Ok found) opened here bytes other = absur
 opened_belongs law least from at word (Err broken) opened here bytes other = tt
 
 -- bytes with which a command is open are few
-few_open : (bytes : List ℕ) (need : Need) → 0 < length bytes → needed bytes ≡ need → IsShort need (length bytes) → length bytes ≤ 32
+few_open : (bytes : List ℕ) (need : Need) → 0 < length bytes → needed bytes ≡ need
+    → IsShort need (length bytes) → length bytes ≤ 32
 few_open bytes (Exactly n) some is short = omega (arith, short, at_most_32 bytes n some is)
 few_open bytes More some is short = omega (arith, short)
 few_open bytes Foreign some is short = absurd short
 few_open bytes Outside some is short = absurd short
 
 -- the block of a command is its bytes so far and their sum
-pub sealed : (bytes : List ℕ) (word : ℕ) (command : Command) → Spells command (bytes ++ word ∷ []) → Spells command (block_of bytes)
+pub sealed : (bytes : List ℕ) (word : ℕ) (command : Command) → Spells command (bytes ++ word ∷ [])
+    → Spells command (block_of bytes)
 sealed bytes word command spelled =
     let content = command_bytes command in
     record {
@@ -582,15 +670,18 @@ sealed bytes word command spelled =
     }
 
 -- what was judged of a word inside a block of the controller
-pub asking_belongs : FrontIsOpen → (bytes : List ℕ) (at word : ℕ) (result : Result Judged Rule) → IsGoingOn bytes word result
+pub asking_belongs : FrontIsOpen → (bytes : List ℕ) (at word : ℕ) (result : Result Judged Rule)
+    → IsGoingOn bytes word result
     → IfOk result (Belongs phase.InAsk bytes (Word at Controller word))
 asking_belongs law bytes at word (Ok judged.AskByte) going =
     let longer : List ℕ = bytes ++ word % 256 ∷ [] in
     let begun : IsOpen longer = open_front law longer going.1 in
     let long : length longer ≡ length bytes + 1 = length-append bytes (word % 256 ∷ []) in
-    let few : length longer ≤ 32 = few_open longer (needed longer) (omega (arith, long)) refl begun in
+    let few : length longer ≤ 32 = few_open longer (needed longer) (omega (arith, long)) refl
+    begun in
     (tt, (omega (arith, long, few), begun))
-asking_belongs law bytes at word (Ok judged.Ask) going = (refl, going.0, sealed bytes word going.0 going.1)
+asking_belongs law bytes at word (Ok judged.Ask) going =
+    (refl, going.0, sealed bytes word going.0 going.1)
 asking_belongs law bytes at word (Ok judged.Foreign) going = tt
 asking_belongs law bytes at word (Ok found) going = absurd going
 asking_belongs law bytes at word (Err broken) going = tt

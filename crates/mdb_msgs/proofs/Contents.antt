@@ -28,15 +28,19 @@ changer_at content =
     else if slice_index content 0 == 0x09 then changer.Setup
     else if slice_index content 0 == 0x0A then changer.TubeStatus
     else if slice_index content 0 == 0x0B then changer.Poll
-    else if slice_index content 0 == 0x0C then changer.CoinType (number_at content 1) (number_at content 3)
+    else if slice_index content 0 == 0x0C then changer.CoinType (number_at content 1)
+    (number_at content 3)
     else if slice_index content 0 == 0x0D then changer.Dispense (slice_index content 1)
     else if slice_index content 1 == 0x00 then changer.Identification
     else changer.Features (drop 2 content)
 
-changer_spelled : (content : List ℕ) → All IsByte content → changer_need (slice_index content 0) (slice_get content 1) ≡ Exactly (length content + 1) → HasChangerFields (changer_at content) × (content ≡ changer_bytes (changer_at content))
+changer_spelled : (content : List ℕ) → All IsByte content
+    → changer_need (slice_index content 0) (slice_get content 1) ≡ Exactly (length content + 1)
+    → HasChangerFields (changer_at content) × (content ≡ changer_bytes (changer_at content))
 changer_spelled [] bytes told = grind (arith, common_steps)
 changer_spelled (a ∷ []) bytes told = grind (arith, common_steps)
-changer_spelled (a ∷ b ∷ []) bytes told = let second : b < 256 = bytes 1 0 (omega arith) in grind (arith, common_steps)
+changer_spelled (a ∷ b ∷ []) bytes told = let second : b < 256 = bytes 1 0 (omega arith) in
+    grind (arith, common_steps)
 changer_spelled (a ∷ b ∷ c ∷ []) bytes told = grind (arith, common_steps)
 changer_spelled (a ∷ b ∷ c ∷ d ∷ []) bytes told = grind (arith, common_steps)
 changer_spelled (a ∷ b ∷ c ∷ d ∷ e ∷ []) bytes told =
@@ -45,7 +49,9 @@ changer_spelled (a ∷ b ∷ c ∷ d ∷ e ∷ []) bytes told =
     let fourth : d < 256 = bytes 3 0 (omega arith) in
     let fifth : e < 256 = bytes 4 0 (omega arith) in
     grind (arith, common_steps)
-changer_spelled (a ∷ b ∷ c ∷ d ∷ e ∷ f ∷ []) bytes told = let features : All IsByte (c ∷ d ∷ e ∷ f ∷ []) = All-drop IsByte 2 (a ∷ b ∷ c ∷ d ∷ e ∷ f ∷ []) bytes in grind (arith, common_steps)
+changer_spelled (a ∷ b ∷ c ∷ d ∷ e ∷ f ∷ []) bytes told =
+    let features : All IsByte (c ∷ d ∷ e ∷ f ∷ []) = All-drop IsByte 2 (a ∷ b ∷ c ∷ d ∷ e ∷ f ∷ [])
+    bytes in grind (arith, common_steps)
 changer_spelled (a ∷ b ∷ c ∷ d ∷ e ∷ f ∷ g ∷ rest) bytes told = grind (arith, common_steps)
 
 abbrev pub bill_at : List ℕ → BillCommand
@@ -54,18 +60,23 @@ bill_at content =
     else if slice_index content 0 == 0x31 then bill.Setup
     else if slice_index content 0 == 0x32 then bill.Security (drop 1 content)
     else if slice_index content 0 == 0x33 then bill.Poll
-    else if slice_index content 0 == 0x34 then bill.BillType (number_at content 1) (number_at content 3)
+    else if slice_index content 0 == 0x34 then bill.BillType (number_at content 1)
+    (number_at content 3)
     else if slice_index content 0 == 0x35 then bill.Escrow (slice_index content 1)
     else if slice_index content 0 == 0x36 then bill.Stacker
     else if slice_index content 1 == 0x00 then bill.Identification
     else if slice_index content 1 == 0x01 then bill.Features (drop 2 content)
     else bill.IdentificationWithOptions
 
-bill_spelled : (content : List ℕ) → All IsByte content → bill_need (slice_index content 0) (slice_get content 1) ≡ Exactly (length content + 1) → HasBillFields (bill_at content) × (content ≡ bill_bytes (bill_at content))
+bill_spelled : (content : List ℕ) → All IsByte content
+    → bill_need (slice_index content 0) (slice_get content 1) ≡ Exactly (length content + 1)
+    → HasBillFields (bill_at content) × (content ≡ bill_bytes (bill_at content))
 bill_spelled [] bytes told = grind (arith, common_steps)
 bill_spelled (a ∷ []) bytes told = grind (arith, common_steps)
-bill_spelled (a ∷ b ∷ []) bytes told = let second : b < 256 = bytes 1 0 (omega arith) in grind (arith, common_steps)
-bill_spelled (a ∷ b ∷ c ∷ []) bytes told = let levels : All IsByte (b ∷ c ∷ []) = All-drop IsByte 1 (a ∷ b ∷ c ∷ []) bytes in grind (arith, common_steps)
+bill_spelled (a ∷ b ∷ []) bytes told = let second : b < 256 = bytes 1 0 (omega arith) in
+    grind (arith, common_steps)
+bill_spelled (a ∷ b ∷ c ∷ []) bytes told = let levels : All IsByte (b ∷ c ∷ []) =
+    All-drop IsByte 1 (a ∷ b ∷ c ∷ []) bytes in grind (arith, common_steps)
 bill_spelled (a ∷ b ∷ c ∷ d ∷ []) bytes told = grind (arith, common_steps)
 bill_spelled (a ∷ b ∷ c ∷ d ∷ e ∷ []) bytes told =
     let second : b < 256 = bytes 1 0 (omega arith) in
@@ -73,17 +84,22 @@ bill_spelled (a ∷ b ∷ c ∷ d ∷ e ∷ []) bytes told =
     let fourth : d < 256 = bytes 3 0 (omega arith) in
     let fifth : e < 256 = bytes 4 0 (omega arith) in
     grind (arith, common_steps)
-bill_spelled (a ∷ b ∷ c ∷ d ∷ e ∷ f ∷ []) bytes told = let features : All IsByte (c ∷ d ∷ e ∷ f ∷ []) = All-drop IsByte 2 (a ∷ b ∷ c ∷ d ∷ e ∷ f ∷ []) bytes in grind (arith, common_steps)
+bill_spelled (a ∷ b ∷ c ∷ d ∷ e ∷ f ∷ []) bytes told =
+    let features : All IsByte (c ∷ d ∷ e ∷ f ∷ []) = All-drop IsByte 2 (a ∷ b ∷ c ∷ d ∷ e ∷ f ∷ [])
+    bytes in grind (arith, common_steps)
 bill_spelled (a ∷ b ∷ c ∷ d ∷ e ∷ f ∷ g ∷ rest) bytes told = grind (arith, common_steps)
 
 -- by the lower three bits of the first byte, and the bytes after it
 abbrev pub reader_at : ℕ → List ℕ → ReaderCommand
 reader_at command fields =
     if command == 0 then reader.Reset
-    else if command == 1 then (if slice_index fields 0 == 0x00 then reader.SetupConfig (slice_index fields 1) (slice_index fields 2) (slice_index fields 3) (slice_index fields 4) else reader.SetupPrices (number_at fields 1) (number_at fields 3))
+    else if command == 1 then (if slice_index fields 0 == 0x00 then reader.SetupConfig
+    (slice_index fields 1) (slice_index fields 2) (slice_index fields 3) (slice_index fields 4)
+    else reader.SetupPrices (number_at fields 1) (number_at fields 3))
     else if command == 2 then reader.Poll
     else if command == 3 then
-    (if slice_index fields 0 == 0x00 then reader.VendRequest (number_at fields 1) (number_at fields 3)
+    (if slice_index fields 0 == 0x00 then reader.VendRequest (number_at fields 1)
+    (number_at fields 3)
     else if slice_index fields 0 == 0x01 then reader.VendCancel
     else if slice_index fields 0 == 0x02 then reader.VendSuccess (number_at fields 1)
     else if slice_index fields 0 == 0x03 then reader.VendFailure
@@ -95,7 +111,10 @@ reader_at command fields =
     else reader.Cancel)
     else reader.RequestId (drop 1 fields)
 
-reader_spelled : (address command : ℕ) (fields : List ℕ) → All IsByte fields → reader_need command (slice_get fields 0) ≡ Exactly (length fields + 2) → HasReaderFields (reader_at command fields) × ((address + command) ∷ fields ≡ reader_bytes address (reader_at command fields))
+reader_spelled : (address command : ℕ) (fields : List ℕ) → All IsByte fields
+    → reader_need command (slice_get fields 0) ≡ Exactly (length fields + 2)
+    → HasReaderFields (reader_at command fields)
+    × ((address + command) ∷ fields ≡ reader_bytes address (reader_at command fields))
 reader_spelled address command [] bytes told = grind (arith, common_steps)
 reader_spelled address command (a ∷ []) bytes told = grind (arith, common_steps)
 reader_spelled address command (a ∷ b ∷ []) bytes told = grind (arith, common_steps)
@@ -110,27 +129,54 @@ reader_spelled address command (a ∷ b ∷ c ∷ d ∷ e ∷ []) bytes told =
     let fourth : d < 256 = bytes 3 0 (omega arith) in
     let fifth : e < 256 = bytes 4 0 (omega arith) in
     grind (arith, common_steps)
-reader_spelled address command (a ∷ b ∷ c ∷ d ∷ e ∷ f ∷ rest) bytes told = let identity : All IsByte (b ∷ c ∷ d ∷ e ∷ f ∷ rest) = All-drop IsByte 1 (a ∷ b ∷ c ∷ d ∷ e ∷ f ∷ rest) bytes in grind (arith, common_steps)
+reader_spelled address command (a ∷ b ∷ c ∷ d ∷ e ∷ f ∷ rest) bytes told =
+    let identity : All IsByte (b ∷ c ∷ d ∷ e ∷ f ∷ rest) =
+    All-drop IsByte 1 (a ∷ b ∷ c ∷ d ∷ e ∷ f ∷ rest) bytes in grind (arith, common_steps)
 
 -- the command to a reader
-to_reader : (unit : ReaderUnit) (first : ℕ) (rest : List ℕ) → first ≡ reader_address unit + first % 8 → All IsByte (first ∷ rest) → reader_need (first % 8) (slice_get (first ∷ rest) 1) ≡ Exactly (length (first ∷ rest) + 1) → (command : Command) × Spells command (block_of (first ∷ rest))
+to_reader : (unit : ReaderUnit) (first : ℕ) (rest : List ℕ)
+    → first ≡ reader_address unit + first % 8 → All IsByte (first ∷ rest)
+    → reader_need (first % 8) (slice_get (first ∷ rest) 1) ≡ Exactly (length (first ∷ rest) + 1)
+    → (command : Command) × Spells command (block_of (first ∷ rest))
 to_reader unit first rest address bytes told =
-    let found = reader_spelled (reader_address unit) (first % 8) rest (All-drop IsByte 1 (first ∷ rest) bytes) (told ∙ ap Exactly (omega arith)) in
-    (Reader unit (reader_at (first % 8) rest), record { fields = found.0; bytes = ap (λ byte. block_of (byte ∷ rest)) address ∙ ap block_of found.1 })
+    let found = reader_spelled (reader_address unit) (first % 8) rest
+    (All-drop IsByte 1 (first ∷ rest) bytes) (told ∙ ap Exactly (omega arith)) in (
+      Reader unit (reader_at (first % 8) rest),
+      record {
+        fields = found.0;
+        bytes = ap (λ byte. block_of (byte ∷ rest)) address
+            ∙ ap block_of found.1;
+      },
+    )
 
 -- for which device they are
-by_device : (first : ℕ) (rest : List ℕ) (changer reader bill second : Bool) → is_for 0x08 first ≡ changer → is_for 0x10 first ≡ reader → is_for 0x30 first ≡ bill → is_for 0x60 first ≡ second → All IsByte (first ∷ rest) → (if changer then changer_need first (slice_get (first ∷ rest) 1) else if reader then reader_need (first % 8) (slice_get (first ∷ rest) 1) else if bill then bill_need first (slice_get (first ∷ rest) 1) else if second then reader_need (first % 8) (slice_get (first ∷ rest) 1) else Foreign) ≡ Exactly (length (first ∷ rest) + 1) → (command : Command) × Spells command (block_of (first ∷ rest))
-by_device first rest true reader bill second for_changer for_reader for_bill for_second bytes told = let found = changer_spelled (first ∷ rest) bytes told in (Changer (changer_at (first ∷ rest)), record { fields = found.0; bytes = ap block_of found.1 })
+by_device : (first : ℕ) (rest : List ℕ) (changer reader bill second : Bool)
+    → is_for 0x08 first ≡ changer → is_for 0x10 first ≡ reader → is_for 0x30 first ≡ bill
+    → is_for 0x60 first ≡ second → All IsByte (first ∷ rest)
+    → (if changer then changer_need first (slice_get (first ∷ rest) 1) else if reader then
+    reader_need (first % 8) (slice_get (first ∷ rest) 1) else if bill then bill_need first
+    (slice_get (first ∷ rest) 1) else if second then reader_need (first % 8)
+    (slice_get (first ∷ rest) 1) else Foreign) ≡ Exactly (length (first ∷ rest) + 1)
+    → (command : Command) × Spells command (block_of (first ∷ rest))
+by_device first rest true reader bill second for_changer for_reader for_bill for_second bytes told =
+    let found = changer_spelled (first ∷ rest) bytes told in
+    (Changer (changer_at (first ∷ rest)), record { fields = found.0; bytes = ap block_of found.1 })
 by_device first rest false true bill second for_changer for_reader for_bill for_second bytes told =
     let address : first ≡ 0x10 + first % 8 = grind (arith, nat_tests) in
     to_reader First first rest address bytes told
-by_device first rest false false true second for_changer for_reader for_bill for_second bytes told = let found = bill_spelled (first ∷ rest) bytes told in (Bill (bill_at (first ∷ rest)), record { fields = found.0; bytes = ap block_of found.1 })
+by_device first rest false false true second for_changer for_reader for_bill for_second bytes told =
+    let found = bill_spelled (first ∷ rest) bytes told in
+    (Bill (bill_at (first ∷ rest)), record { fields = found.0; bytes = ap block_of found.1 })
 by_device first rest false false false true for_changer for_reader for_bill for_second bytes told =
     let address : first ≡ 0x60 + first % 8 = grind (arith, nat_tests) in
     to_reader Second first rest address bytes told
-by_device first rest false false false false for_changer for_reader for_bill for_second bytes told = cc
+by_device first rest false false false false for_changer for_reader for_bill for_second bytes told =
+    cc
 
-pub spelled : (content : List ℕ) → All IsByte content → needed content ≡ Exactly (length content + 1) → (command : Command) × Spells command (block_of content)
+pub spelled : (content : List ℕ) → All IsByte content
+    → needed content ≡ Exactly (length content + 1)
+    → (command : Command) × Spells command (block_of content)
 spelled [] bytes told = cc
 spelled (first ∷ rest) bytes told =
-    by_device first rest (is_for 0x08 first) (is_for 0x10 first) (is_for 0x30 first) (is_for 0x60 first) refl refl refl refl bytes told
+    by_device first rest (is_for 0x08 first) (is_for 0x10 first) (is_for 0x30 first)
+    (is_for 0x60 first) refl refl refl refl bytes told

@@ -47,12 +47,18 @@ unfolding agree_below
 agree_at f g zero h b lt = absurd (omega arith)
 agree_at f g (suc n) h b lt =
     let both = both_of (code (f n)) (code (g n)) (agree_below f g n) h in
-    elim (cases_eq b n) [ inl same ↦ rw same (same_code (f n) (g n) both.0) | inr other ↦ agree_at f g n both.1 b (omega arith) ]
+    elim (cases_eq b n) [
+      | inl same ↦ rw same (same_code (f n) (g n) both.0)
+      | inr other ↦
+          agree_at f g n both.1 b (omega arith)
+    ]
 
 pub first_at : (i c : ℕ) → i ≡ c → c < 256 → get_or FIRST i More ≡ need c None
 unfolding agree_below code
-first_at i c is byte = rw is (agree_at (λ k. get_or FIRST k More) (λ k. need k None) 256 refl c byte)
+first_at i c is byte =
+    rw is (agree_at (λ k. get_or FIRST k More) (λ k. need k None) 256 refl c byte)
 
 -- what the first byte tells of its own, the second leaves so
-pub stays : (first : ℕ) (second : Option ℕ) (told : Need) → told ≡ need first None → told ≢ More → need first second ≡ told
+pub stays : (first : ℕ) (second : Option ℕ) (told : Need) → told ≡ need first None → told ≢ More
+    → need first second ≡ told
 stays first second told is other = grind (arith, common_steps)

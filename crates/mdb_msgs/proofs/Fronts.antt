@@ -24,87 +24,131 @@ abbrev count_of : Need → ℕ
 count_of (Exactly n) = n
 count_of _ = 0
 
--- a length that the first byte tells, no second byte changes; where the subcommand decides, the subcommand 00 tells one
+-- a length that the first byte tells, no second byte changes; where the subcommand decides, the
+-- subcommand 00 tells one
 record Widens (told : Option ℕ → Need) : Type 0 where
   by_first : (second n : ℕ) → told None ≡ Exactly n → told (Some second) ≡ Exactly n
-  by_second : told None ≡ More → (told (Some 0) ≡ Exactly (count_of (told (Some 0)))) × (2 < count_of (told (Some 0)))
+  by_second : told None ≡ More → (told (Some 0) ≡ Exactly (count_of (told (Some 0))))
+      × (2 < count_of (told (Some 0)))
 
-changer_first : (first second n : ℕ) → changer_need first None ≡ Exactly n → changer_need first (Some second) ≡ Exactly n
+changer_first : (first second n : ℕ) → changer_need first None ≡ Exactly n
+    → changer_need first (Some second) ≡ Exactly n
 changer_first first second n told = grind (arith, common_steps)
 
-changer_second : (first : ℕ) → changer_need first None ≡ More → (changer_need first (Some 0) ≡ Exactly (count_of (changer_need first (Some 0)))) × (2 < count_of (changer_need first (Some 0)))
+changer_second : (first : ℕ) → changer_need first None ≡ More
+    → (changer_need first (Some 0) ≡ Exactly (count_of (changer_need first (Some 0))))
+    × (2 < count_of (changer_need first (Some 0)))
 changer_second first left = grind (arith, common_steps)
 
-bill_first : (first second n : ℕ) → bill_need first None ≡ Exactly n → bill_need first (Some second) ≡ Exactly n
+bill_first : (first second n : ℕ) → bill_need first None ≡ Exactly n
+    → bill_need first (Some second) ≡ Exactly n
 bill_first first second n told = grind (arith, common_steps)
 
-bill_second : (first : ℕ) → bill_need first None ≡ More → (bill_need first (Some 0) ≡ Exactly (count_of (bill_need first (Some 0)))) × (2 < count_of (bill_need first (Some 0)))
+bill_second : (first : ℕ) → bill_need first None ≡ More
+    → (bill_need first (Some 0) ≡ Exactly (count_of (bill_need first (Some 0))))
+    × (2 < count_of (bill_need first (Some 0)))
 bill_second first left = grind (arith, common_steps)
 
-reader_first : (command second n : ℕ) → reader_need command None ≡ Exactly n → reader_need command (Some second) ≡ Exactly n
+reader_first : (command second n : ℕ) → reader_need command None ≡ Exactly n
+    → reader_need command (Some second) ≡ Exactly n
 reader_first command second n told = grind (arith, common_steps)
 
-reader_second : (command : ℕ) → reader_need command None ≡ More → (reader_need command (Some 0) ≡ Exactly (count_of (reader_need command (Some 0)))) × (2 < count_of (reader_need command (Some 0)))
+reader_second : (command : ℕ) → reader_need command None ≡ More
+    → (reader_need command (Some 0) ≡ Exactly (count_of (reader_need command (Some 0))))
+    × (2 < count_of (reader_need command (Some 0)))
 reader_second command left = grind (arith, common_steps)
 
-by_device : (first : ℕ) (changer one bill other : Bool) → Widens (λ second. if changer then changer_need first second else if one then reader_need (first % 8) second else if bill then bill_need first second else if other then reader_need (first % 8) second else Foreign)
-by_device first true one bill other = record { by_first = changer_first first; by_second = changer_second first }
-by_device first false true bill other = record { by_first = reader_first (first % 8); by_second = reader_second (first % 8) }
-by_device first false false true other = record { by_first = bill_first first; by_second = bill_second first }
-by_device first false false false true = record { by_first = reader_first (first % 8); by_second = reader_second (first % 8) }
-by_device first false false false false = record { by_first = λ second n told. cc told; by_second = λ left. cc left }
+by_device : (first : ℕ) (changer one bill other : Bool)
+    → Widens (λ second. if changer then changer_need first second else if one then reader_need
+    (first % 8) second else if bill then bill_need first second else if other then reader_need
+    (first % 8) second else Foreign)
+by_device first true one bill other = record {
+  by_first = changer_first first;
+  by_second = changer_second first;
+}
+by_device first false true bill other = record {
+  by_first = reader_first (first % 8);
+  by_second = reader_second (first % 8);
+}
+by_device first false false true other = record {
+  by_first = bill_first first;
+  by_second = bill_second first;
+}
+by_device first false false false true = record {
+  by_first = reader_first (first % 8);
+  by_second = reader_second (first % 8);
+}
+by_device first false false false false = record {
+  by_first = λ second n told. cc told;
+  by_second = λ left. cc left;
+}
 
 widens : (first : ℕ) → Widens (need first)
-widens first = by_device first (is_for 0x08 first) (is_for 0x10 first) (is_for 0x30 first) (is_for 0x60 first)
+widens first = by_device first (is_for 0x08 first) (is_for 0x10 first) (is_for 0x30 first)
+    (is_for 0x60 first)
 
 -- nor do bytes after
-told_after : (bytes more : List ℕ) (n : ℕ) → needed bytes ≡ Exactly n → needed (bytes ++ more) ≡ Exactly n
+told_after : (bytes more : List ℕ) (n : ℕ) → needed bytes ≡ Exactly n
+    → needed (bytes ++ more) ≡ Exactly n
 told_after [] more n told = cc told
 told_after (first ∷ []) [] n told = told
 told_after (first ∷ []) (second ∷ more) n told = (widens first).by_first second n told
 told_after (first ∷ second ∷ bytes) more n told = told
 
 -- where the length is known, zeros make a command
-by_zeros : (bytes : List ℕ) (n : ℕ) → All IsByte bytes → needed bytes ≡ Exactly n → length bytes < n → Goes bytes
+by_zeros : (bytes : List ℕ) (n : ℕ) → All IsByte bytes → needed bytes ≡ Exactly n → length bytes < n
+    → Goes bytes
 by_zeros bytes n low told short =
     let zeros : List ℕ = replicate (n - 1 - length bytes) 0 in
     let content : List ℕ = bytes ++ zeros in
     let count : length zeros ≡ n - 1 - length bytes = length-replicate (n - 1 - length bytes) 0 in
     let long : n ≡ length content + 1 = omega (arith, length-append bytes zeros) in
-    let all_low : All IsByte content = All-append IsByte bytes zeros low (All-replicate IsByte (n - 1 - length bytes) 0 (omega arith)) in
+    let all_low : All IsByte content = All-append IsByte bytes zeros low
+    (All-replicate IsByte (n - 1 - length bytes) 0 (omega arith)) in
     let found = spelled content all_low (told_after bytes zeros n told ∙ ap Exactly long) in
     let last : List ℕ = (sum content % 256) ∷ [] in
     let joined : block_of content ≡ bytes ++ (zeros ++ last) = append_assoc bytes zeros last in
     record {
       command = found.0;
       rest = zeros ++ last;
-      more = λ none. let e : length (zeros ++ last) ≡ 0 = ap length none in omega (arith, length-append zeros last);
+      more = λ none. let e : length (zeros ++ last) ≡ 0 = ap length none in
+          omega (arith, length-append zeros last);
       spells = subst (Spells found.0) joined found.1;
     }
 
 -- more is left open by one byte at most
-by_subcommand : (bytes : List ℕ) → All IsByte bytes → needed bytes ≡ More → length bytes ≡ 1 → Goes bytes
+by_subcommand : (bytes : List ℕ) → All IsByte bytes → needed bytes ≡ More → length bytes ≡ 1
+    → Goes bytes
 by_subcommand [] low left one = absurd (omega arith)
 by_subcommand (first ∷ []) low left one =
     let next = (widens first).by_second left in
     let zero_low : All IsByte (0 ∷ []) = All-replicate IsByte 1 0 (omega arith) in
-    let goes = by_zeros (first ∷ 0 ∷ []) (count_of (need first (Some 0))) (All-append IsByte (first ∷ []) (0 ∷ []) low zero_low) next.0 next.1 in
-    record { command = goes.command; rest = 0 ∷ goes.rest; more = λ none. cc none; spells = goes.spells }
+    let goes = by_zeros (first ∷ 0 ∷ []) (count_of (need first (Some 0)))
+    (All-append IsByte (first ∷ []) (0 ∷ []) low zero_low) next.0 next.1 in
+    record {
+      command = goes.command;
+      rest = 0 ∷ goes.rest;
+      more = λ none. cc none;
+      spells = goes.spells;
+    }
 by_subcommand (first ∷ second ∷ bytes) low left one = absurd (omega arith)
 
-by_need : (bytes : List ℕ) → All IsByte bytes → (told : Need) → needed bytes ≡ told → IsShort told (length bytes) → Goes bytes
+by_need : (bytes : List ℕ) → All IsByte bytes → (told : Need) → needed bytes ≡ told
+    → IsShort told (length bytes) → Goes bytes
 by_need bytes low (Exactly n) told short = by_zeros bytes n low told short
 by_need bytes low More told short = by_subcommand bytes low told short
 by_need bytes low Foreign told short = absurd short
 by_need bytes low Outside told short = absurd short
 
 -- open bytes are the front of a command's block
-pub open_is_a_front : (bytes : List ℕ) → All IsByte bytes → IsOpen bytes → (command : Command) × (rest : List ℕ) × (rest ≢ []) × Spells command (bytes ++ rest)
+pub open_is_a_front : (bytes : List ℕ) → All IsByte bytes → IsOpen bytes
+    → (command : Command) × (rest : List ℕ) × (rest ≢ []) × Spells command (bytes ++ rest)
 open_is_a_front bytes low open_bytes =
     let goes = by_need bytes low (needed bytes) refl open_bytes in
     (goes.command, goes.rest, goes.more, goes.spells)
 
-short_of : (told : Need) (count whole : ℕ) → count < whole → IsTold told count whole → IsShort told count
+short_of : (told : Need) (count whole : ℕ) → count < whole → IsTold told count whole
+    → IsShort told count
 short_of (Exactly n) count whole less told = omega (arith, told)
 short_of More count whole less told = told
 short_of Foreign count whole less told = told
@@ -115,8 +159,10 @@ some_long [] more = absurd (more refl)
 some_long (byte ∷ rest) more = omega arith
 
 -- and the front of a command's block is open
-pub front_is_open : (front rest : List ℕ) (command : Command) → 0 < length front → rest ≢ [] → Spells command (front ++ rest) → IsOpen front
+pub front_is_open : (front rest : List ℕ) (command : Command) → 0 < length front → rest ≢ []
+    → Spells command (front ++ rest) → IsOpen front
 front_is_open front rest command some more spells =
     let long = some_long rest more in
     let all = length-append front rest in
-    short_of (needed front) (length front) (length (front ++ rest)) (omega arith) (first_bytes front rest command some spells)
+    short_of (needed front) (length front) (length (front ++ rest)) (omega arith)
+    (first_bytes front rest command some spells)

@@ -22,7 +22,8 @@ use Rattle.mdb_msgs.proofs.Prefixes.{whole}
 command_at : List ℕ → Command
 command_at content =
     if is_for 0x08 (slice_index content 0) then Changer (changer_at content)
-    else if is_for 0x10 (slice_index content 0) then Reader First (reader_at (slice_index content 0 % 8) (drop 1 content))
+    else if is_for 0x10 (slice_index content 0) then Reader First
+    (reader_at (slice_index content 0 % 8) (drop 1 content))
     else if is_for 0x30 (slice_index content 0) then Bill (bill_at content)
     else Reader Second (reader_at (slice_index content 0 % 8) (drop 1 content))
 
@@ -39,28 +40,40 @@ with_numbers made m n = ap (λ k. made k (number n)) (whole_number m) ∙ ap (ma
 
 command_found : (command : Command) → command_at (command_bytes command) ≡ command
 unfolding command_at number
-command_found (Changer (changer.CoinType enable manual)) = with_numbers (λ m n. Changer (changer.CoinType m n)) enable manual
+command_found (Changer (changer.CoinType enable manual)) =
+    with_numbers (λ m n. Changer (changer.CoinType m n)) enable manual
 command_found (Changer command) = refl
-command_found (Bill (bill.BillType enable escrow)) = with_numbers (λ m n. Bill (bill.BillType m n)) enable escrow
+command_found (Bill (bill.BillType enable escrow)) = with_numbers (λ m n. Bill (bill.BillType m n))
+    enable escrow
 command_found (Bill command) = refl
-command_found (Reader First (reader.SetupPrices maximum minimum)) = with_numbers (λ m n. Reader First (reader.SetupPrices m n)) maximum minimum
-command_found (Reader First (reader.VendRequest price item)) = with_numbers (λ m n. Reader First (reader.VendRequest m n)) price item
-command_found (Reader First (reader.VendSuccess item)) = ap (λ n. Reader First (reader.VendSuccess n)) (whole_number item)
-command_found (Reader First (reader.CashSale price item)) = with_numbers (λ m n. Reader First (reader.CashSale m n)) price item
+command_found (Reader First (reader.SetupPrices maximum minimum)) =
+    with_numbers (λ m n. Reader First (reader.SetupPrices m n)) maximum minimum
+command_found (Reader First (reader.VendRequest price item)) =
+    with_numbers (λ m n. Reader First (reader.VendRequest m n)) price item
+command_found (Reader First (reader.VendSuccess item)) =
+    ap (λ n. Reader First (reader.VendSuccess n)) (whole_number item)
+command_found (Reader First (reader.CashSale price item)) =
+    with_numbers (λ m n. Reader First (reader.CashSale m n)) price item
 command_found (Reader First command) = refl
-command_found (Reader Second (reader.SetupPrices maximum minimum)) = with_numbers (λ m n. Reader Second (reader.SetupPrices m n)) maximum minimum
-command_found (Reader Second (reader.VendRequest price item)) = with_numbers (λ m n. Reader Second (reader.VendRequest m n)) price item
-command_found (Reader Second (reader.VendSuccess item)) = ap (λ n. Reader Second (reader.VendSuccess n)) (whole_number item)
-command_found (Reader Second (reader.CashSale price item)) = with_numbers (λ m n. Reader Second (reader.CashSale m n)) price item
+command_found (Reader Second (reader.SetupPrices maximum minimum)) =
+    with_numbers (λ m n. Reader Second (reader.SetupPrices m n)) maximum minimum
+command_found (Reader Second (reader.VendRequest price item)) =
+    with_numbers (λ m n. Reader Second (reader.VendRequest m n)) price item
+command_found (Reader Second (reader.VendSuccess item)) =
+    ap (λ n. Reader Second (reader.VendSuccess n)) (whole_number item)
+command_found (Reader Second (reader.CashSale price item)) =
+    with_numbers (λ m n. Reader Second (reader.CashSale m n)) price item
 command_found (Reader Second command) = refl
 
-pub one_command : (block : List ℕ) (one other : Command) → Spells one block → Spells other block → one ≡ other
+pub one_command : (block : List ℕ) (one other : Command) → Spells one block → Spells other block
+    → one ≡ other
 one_command block one other h k =
     let same : command_bytes one ≡ command_bytes other = one_content _ _ (sym h.bytes ∙ k.bytes) in
     sym (command_found one) ∙ ap command_at same ∙ command_found other
 
 -- a need refuses a block for one reason
-one_refusal : (need : Need) (count : ℕ) (a b : MsgFault) → IsRefused need count a → IsRefused need count b → a ≡ b
+one_refusal : (need : Need) (count : ℕ) (a b : MsgFault) → IsRefused need count a
+    → IsRefused need count b → a ≡ b
 one_refusal (Exactly n) count Length Length h k = refl
 one_refusal (Exactly n) count Length b h k = absurd k
 one_refusal (Exactly n) count a b h k = absurd h
@@ -77,21 +90,31 @@ not_refused : (count : ℕ) (fault : MsgFault) → IsRefused (Exactly count) cou
 not_refused count Length h = h refl
 not_refused count _ h = h
 
-command_has_no_fault : (block : List ℕ) (command : Command) (fault : MsgFault) → Spells command block → IsCommandFault block fault → ⊥
+command_has_no_fault : (block : List ℕ) (command : Command) (fault : MsgFault)
+    → Spells command block → IsCommandFault block fault → ⊥
 command_has_no_fault block command fault h refused =
     let P : Need → Type 0 = λ need. IsRefused need (length block) fault in
     not_refused (length block) fault (subst P (whole block command h) refused)
 
 -- what reading a block found is the only thing that it spells
-pub only_command : (block content : List ℕ) (result : Result Command MsgFault) → block ≡ block_of content → IfOk result (λ found. Spells found (block_of content)) → IfErr result (IsCommandFault (block_of content)) → (other : Command) → Spells other block → result ≡ Ok other
-only_command block content (Ok found) e is fault other h = ap Ok (one_command (block_of content) found other is (subst (Spells other) e h))
-only_command block content (Err a) e is fault other h = absurd (command_has_no_fault (block_of content) other a (subst (Spells other) e h) fault)
+pub only_command : (block content : List ℕ) (result : Result Command MsgFault)
+    → block ≡ block_of content → IfOk result (λ found. Spells found (block_of content))
+    → IfErr result (IsCommandFault (block_of content)) → (other : Command) → Spells other block
+    → result ≡ Ok other
+only_command block content (Ok found) e is fault other h =
+    ap Ok (one_command (block_of content) found other is (subst (Spells other) e h))
+only_command block content (Err a) e is fault other h =
+    absurd (command_has_no_fault (block_of content) other a (subst (Spells other) e h) fault)
 
 -- and its fault is the only one
-pub only_command_fault : (block content : List ℕ) (result : Result Command MsgFault) → block ≡ block_of content → IfOk result (λ found. Spells found (block_of content)) → IfErr result (IsCommandFault (block_of content)) → (fault : MsgFault) → IsCommandFault block fault → result ≡ Err fault
+pub only_command_fault : (block content : List ℕ) (result : Result Command MsgFault)
+    → block ≡ block_of content → IfOk result (λ found. Spells found (block_of content))
+    → IfErr result (IsCommandFault (block_of content)) → (fault : MsgFault)
+    → IsCommandFault block fault → result ≡ Err fault
 only_command_fault block content (Ok found) e is fault b h =
     let P : List ℕ → Type 0 = λ x. IsCommandFault x b in
     absurd (command_has_no_fault (block_of content) found b is (subst P e h))
 only_command_fault block content (Err a) e is fault b h =
     let P : List ℕ → Type 0 = λ x. IsCommandFault x b in
-    ap Err (one_refusal (needed (block_of content)) (length (block_of content)) a b fault (subst P e h))
+    ap Err (one_refusal (needed (block_of content)) (length (block_of content)) a b fault
+    (subst P e h))

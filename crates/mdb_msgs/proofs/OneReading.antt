@@ -17,28 +17,37 @@ use Rattle.mdb_msgs.specs.Lists.{StopsAt}
 abbrev pub Ends : (List ℕ → MsgFault → Type 0) → List ℕ → Type 0
 Ends No rest = (rest ≡ []) ⊎ ((fault : MsgFault) × No rest fault)
 
--- two messages at the front of the same bytes are one, also where one is spelled by f and the other by g
+-- two messages at the front of the same bytes are one, also where one is spelled by f and the other
+-- by g
 abbrev pub OneFront : {M : Type 0} → (M → List ℕ) → (M → List ℕ) → (M → Type 0) → Type 0
-OneFront {M} f g Is = (a b : M) (x y : List ℕ) → Is a → Is b → f a ++ x ≡ g b ++ y → (a ≡ b) × (x ≡ y)
+OneFront {M} f g Is = (a b : M) (x y : List ℕ) → Is a → Is b → f a ++ x ≡ g b ++ y
+    → (a ≡ b) × (x ≡ y)
 
 -- where a message stands, messages don't end
 abbrev pub NoEnd : {M : Type 0} → (M → List ℕ) → (M → Type 0) → (List ℕ → Type 0) → Type 0
 NoEnd {M} f Is End = (a : M) (x : List ℕ) → Is a → End (f a ++ x) → ⊥
 
 -- so two lists of messages of the same bytes that both end are one
-pub one_list : {M : Type 0} (f g : M → List ℕ) (Is : M → Type 0) (End : List ℕ → Type 0) → OneFront f g Is → NoEnd f Is End → NoEnd g Is End → (xs ys : List M) (p q : List ℕ) → AllByRecursion Is xs → AllByRecursion Is ys → flat_map f xs ++ p ≡ flat_map g ys ++ q → End p → End q → (xs ≡ ys) × (p ≡ q)
+pub one_list : {M : Type 0} (f g : M → List ℕ) (Is : M → Type 0) (End : List ℕ → Type 0)
+    → OneFront f g Is → NoEnd f Is End → NoEnd g Is End → (xs ys : List M) (p q : List ℕ)
+    → AllByRecursion Is xs → AllByRecursion Is ys → flat_map f xs ++ p ≡ flat_map g ys ++ q → End p
+    → End q → (xs ≡ ys) × (p ≡ q)
 one_list f g Is End one on_f on_g [] [] p q hs ks e hp hq = (refl, e)
 one_list f g Is End one on_f on_g [] (y ∷ ys) p q hs ks e hp hq =
-    absurd (on_g y (flat_map g ys ++ q) ks.0 (subst End (e ∙ append_assoc (g y) (flat_map g ys) q) hp))
+    absurd (on_g y (flat_map g ys ++ q) ks.0 (subst End (e ∙ append_assoc (g y) (flat_map g ys) q)
+    hp))
 one_list f g Is End one on_f on_g (x ∷ xs) [] p q hs ks e hp hq =
-    absurd (on_f x (flat_map f xs ++ p) hs.0 (subst End (sym e ∙ append_assoc (f x) (flat_map f xs) p) hq))
+    absurd (on_f x (flat_map f xs ++ p) hs.0
+    (subst End (sym e ∙ append_assoc (f x) (flat_map f xs) p) hq))
 one_list f g Is End one on_f on_g (x ∷ xs) (y ∷ ys) p q hs ks e hp hq =
-    let front = one x y (flat_map f xs ++ p) (flat_map g ys ++ q) hs.0 ks.0 (sym (append_assoc (f x) (flat_map f xs) p) ∙ e ∙ append_assoc (g y) (flat_map g ys) q) in
+    let front = one x y (flat_map f xs ++ p) (flat_map g ys ++ q) hs.0 ks.0
+    (sym (append_assoc (f x) (flat_map f xs) p) ∙ e ∙ append_assoc (g y) (flat_map g ys) q) in
     let back = one_list f g Is End one on_f on_g xs ys p q hs.1 ks.1 front.1 hp hq in
     (cc, back.1)
 
 -- a function that finds the message at the front shows that there is one at most
-pub one_front : {M : Type 0} (f : M → List ℕ) (Is : M → Type 0) (find : List ℕ → M) → ((a : M) (x : List ℕ) → Is a → find (f a ++ x) ≡ a) → OneFront f f Is
+pub one_front : {M : Type 0} (f : M → List ℕ) (Is : M → Type 0) (find : List ℕ → M)
+    → ((a : M) (x : List ℕ) → Is a → find (f a ++ x) ≡ a) → OneFront f f Is
 one_front f Is find found a b x y ha hb e =
     let same : a ≡ b = sym (found a x ha) ∙ ap find e ∙ found b y hb in
     (same, append_cancel_left (f a) x y (e ∙ ap (λ m. f m ++ y) (sym same)))
@@ -58,7 +67,8 @@ changer_find [] = changer.Reset
 changer_find (b ∷ []) = changer_front b 0
 changer_find (b ∷ c ∷ x) = changer_front b c
 
-changer_found : (m : ChangerMsg) (x : List ℕ) → IsChangerMsg m → changer_find (changer_msg_bytes m ++ x) ≡ m
+changer_found : (m : ChangerMsg) (x : List ℕ) → IsChangerMsg m
+    → changer_find (changer_msg_bytes m ++ x) ≡ m
 unfolding changer_find changer_front
 changer_found (changer.ManualDispense count coin in_tube) x h = grind (arith, nat_tests)
 changer_found (changer.CashBox coin in_tube) x h = grind (arith, nat_tests)
@@ -75,7 +85,10 @@ pub one_changer : OneFront changer_msg_bytes changer_msg_bytes IsChangerMsg
 one_changer = one_front changer_msg_bytes IsChangerMsg changer_find changer_found
 
 -- what a message of the changer begins with
-changer_class : (first : ℕ) (further : List ℕ) (fault : MsgFault) → ((first < 27) ⊎ ((32 ≤ first) × (first < 64))) ⊎ (((first < 96) ⊎ (112 ≤ first)) × (27 < first) × (32 ≤ first) × (0 < length further)) → NoChangerMsg (first ∷ further) fault → ⊥
+changer_class : (first : ℕ) (further : List ℕ) (fault : MsgFault)
+    → ((first < 27) ⊎ ((32 ≤ first) × (first < 64)))
+    ⊎ (((first < 96) ⊎ (112 ≤ first)) × (27 < first) × (32 ≤ first) × (0 < length further))
+    → NoChangerMsg (first ∷ further) fault → ⊥
 changer_class first [] faults.Message h none = omega (arith, h, none)
 changer_class first (b ∷ further) faults.Message h (inl none) = omega (arith, h, none)
 changer_class first (b ∷ further) faults.Message h (inr none) = cc (none.1)
@@ -89,13 +102,23 @@ changer_goes_on m x h (inl e) = not_empty m e
     not_empty : (m : ChangerMsg) → changer_msg_bytes m ++ x ≡ [] → ⊥
     not_empty changer.Reset e = cc
     not_empty _ e = cc
-changer_goes_on (changer.ManualDispense count coin in_tube) x h (inr none) = changer_class (128 + 16 * count + coin) (in_tube ∷ x) none.0 (inr (inr (omega arith), omega arith, omega arith, omega arith)) none.1
-changer_goes_on (changer.CashBox coin in_tube) x h (inr none) = changer_class (64 + coin) (in_tube ∷ x) none.0 (inr (inl (omega arith), omega arith, omega arith, omega arith)) none.1
-changer_goes_on (changer.Tube coin in_tube) x h (inr none) = changer_class (80 + coin) (in_tube ∷ x) none.0 (inr (inl (omega arith), omega arith, omega arith, omega arith)) none.1
-changer_goes_on (changer.Rejected coin second) x h (inr none) = changer_class (112 + coin) (second ∷ x) none.0 (inr (inr (omega arith), omega arith, omega arith, omega arith)) none.1
-changer_goes_on (changer.Slugs count) x h (inr none) = changer_class (32 + count) x none.0 (inl (inr (omega arith, omega arith))) none.1
-changer_goes_on changer.Reset x h (inr none) = changer_class 11 x none.0 (inl (inl (omega arith))) none.1
-changer_goes_on (changer.Status byte) x h (inr none) = changer_class byte x none.0 (inl (inl h.0)) none.1
+changer_goes_on (changer.ManualDispense count coin in_tube) x h (inr none) =
+    changer_class (128 + 16 * count + coin) (in_tube ∷ x) none.0
+    (inr (inr (omega arith), omega arith, omega arith, omega arith)) none.1
+changer_goes_on (changer.CashBox coin in_tube) x h (inr none) =
+    changer_class (64 + coin) (in_tube ∷ x) none.0
+    (inr (inl (omega arith), omega arith, omega arith, omega arith)) none.1
+changer_goes_on (changer.Tube coin in_tube) x h (inr none) = changer_class (80 + coin) (in_tube ∷ x)
+    none.0 (inr (inl (omega arith), omega arith, omega arith, omega arith)) none.1
+changer_goes_on (changer.Rejected coin second) x h (inr none) =
+    changer_class (112 + coin) (second ∷ x) none.0
+    (inr (inr (omega arith), omega arith, omega arith, omega arith)) none.1
+changer_goes_on (changer.Slugs count) x h (inr none) = changer_class (32 + count) x none.0
+    (inl (inr (omega arith, omega arith))) none.1
+changer_goes_on changer.Reset x h (inr none) = changer_class 11 x none.0 (inl (inl (omega arith)))
+    none.1
+changer_goes_on (changer.Status byte) x h (inr none) = changer_class byte x none.0 (inl (inl h.0))
+    none.1
 
 -- the validator's message that is this byte, if one is
 bill_find : List ℕ → BillMsg
@@ -122,7 +145,10 @@ pub one_bill : OneFront bill_msg_bytes bill_msg_bytes IsBillMsg
 one_bill = one_front bill_msg_bytes IsBillMsg bill_find bill_found
 
 -- what a message of the validator begins with
-bill_class : (first : ℕ) (further : List ℕ) (fault : MsgFault) → ((first < 27) ⊎ ((32 ≤ first) × (first < 96))) ⊎ (((128 ≤ first) × (first < 176)) ⊎ ((192 ≤ first) × (first < 208))) → NoBillMsg (first ∷ further) fault → ⊥
+bill_class : (first : ℕ) (further : List ℕ) (fault : MsgFault)
+    → ((first < 27) ⊎ ((32 ≤ first) × (first < 96)))
+    ⊎ (((128 ≤ first) × (first < 176)) ⊎ ((192 ≤ first) × (first < 208)))
+    → NoBillMsg (first ∷ further) fault → ⊥
 bill_class first further faults.Message h none = omega (arith, h, none)
 bill_class first further faults.Profile h none = omega (arith, h, none)
 bill_class first further faults.Length h none = none
@@ -134,23 +160,38 @@ bill_goes_on m x h (inl e) = not_empty m e
     not_empty : (m : BillMsg) → bill_msg_bytes m ++ x ≡ [] → ⊥
     not_empty bill.Reset e = cc
     not_empty _ e = cc
-bill_goes_on (bill.Stacked b) x h (inr none) = bill_class (128 + b) x none.0 (inr (inl (omega arith, omega arith))) none.1
-bill_goes_on (bill.Escrow b) x h (inr none) = bill_class (144 + b) x none.0 (inr (inl (omega arith, omega arith))) none.1
-bill_goes_on (bill.Returned b) x h (inr none) = bill_class (160 + b) x none.0 (inr (inl (omega arith, omega arith))) none.1
-bill_goes_on (bill.Rejected b) x h (inr none) = bill_class (192 + b) x none.0 (inr (inr (omega arith, omega arith))) none.1
-bill_goes_on (bill.Attempts count) x h (inr none) = bill_class (64 + count) x none.0 (inl (inr (omega arith, omega arith))) none.1
+bill_goes_on (bill.Stacked b) x h (inr none) =
+    bill_class (128 + b) x none.0 (inr (inl (omega arith, omega arith))) none.1
+bill_goes_on (bill.Escrow b) x h (inr none) =
+    bill_class (144 + b) x none.0 (inr (inl (omega arith, omega arith))) none.1
+bill_goes_on (bill.Returned b) x h (inr none) =
+    bill_class (160 + b) x none.0 (inr (inl (omega arith, omega arith))) none.1
+bill_goes_on (bill.Rejected b) x h (inr none) =
+    bill_class (192 + b) x none.0 (inr (inr (omega arith, omega arith))) none.1
+bill_goes_on (bill.Attempts count) x h (inr none) = bill_class (64 + count) x none.0
+    (inl (inr (omega arith, omega arith))) none.1
 bill_goes_on bill.Reset x h (inr none) = bill_class 6 x none.0 (inl (inl (omega arith))) none.1
-bill_goes_on (bill.Status byte) x h (inr none) = bill_class byte x none.0 (inl (elim h.1 [ inl low ↦ inl low | inr high ↦ inr (high.0, omega (arith, high.1)) ])) none.1
+bill_goes_on (bill.Status byte) x h (inr none) =
+    bill_class byte x none.0
+    (inl (elim h.1 [ inl low ↦ inl low | inr high ↦ inr (high.0, omega (arith, high.1)) ])) none.1
 
 -- two lists of messages with the same bytes are one, and so is where reading stops
-pub one_changer_list : (xs ys : List ChangerMsg) (p q : List ℕ) → AllByRecursion IsChangerMsg xs → AllByRecursion IsChangerMsg ys → flat_map changer_msg_bytes xs ++ p ≡ flat_map changer_msg_bytes ys ++ q → Ends NoChangerMsg p → Ends NoChangerMsg q → (xs ≡ ys) × (p ≡ q)
-one_changer_list = one_list changer_msg_bytes changer_msg_bytes IsChangerMsg (Ends NoChangerMsg) one_changer changer_goes_on changer_goes_on
+pub one_changer_list : (xs ys : List ChangerMsg) (p q : List ℕ) → AllByRecursion IsChangerMsg xs
+    → AllByRecursion IsChangerMsg ys → flat_map changer_msg_bytes xs ++ p
+    ≡ flat_map changer_msg_bytes ys ++ q → Ends NoChangerMsg p → Ends NoChangerMsg q
+    → (xs ≡ ys) × (p ≡ q)
+one_changer_list = one_list changer_msg_bytes changer_msg_bytes IsChangerMsg (Ends NoChangerMsg)
+    one_changer changer_goes_on changer_goes_on
 
-pub one_bill_list : (xs ys : List BillMsg) (p q : List ℕ) → AllByRecursion IsBillMsg xs → AllByRecursion IsBillMsg ys → flat_map bill_msg_bytes xs ++ p ≡ flat_map bill_msg_bytes ys ++ q → Ends NoBillMsg p → Ends NoBillMsg q → (xs ≡ ys) × (p ≡ q)
-one_bill_list = one_list bill_msg_bytes bill_msg_bytes IsBillMsg (Ends NoBillMsg) one_bill bill_goes_on bill_goes_on
+pub one_bill_list : (xs ys : List BillMsg) (p q : List ℕ) → AllByRecursion IsBillMsg xs
+    → AllByRecursion IsBillMsg ys → flat_map bill_msg_bytes xs ++ p ≡ flat_map bill_msg_bytes
+    ys ++ q → Ends NoBillMsg p → Ends NoBillMsg q → (xs ≡ ys) × (p ≡ q)
+one_bill_list = one_list bill_msg_bytes bill_msg_bytes IsBillMsg (Ends NoBillMsg) one_bill
+    bill_goes_on bill_goes_on
 
 -- where only Message and Profile may hold, and not both, one fault does
-pub same_fault : (No : MsgFault → Type 0) → (No faults.Length → ⊥) → (No faults.Answer → ⊥) → (No faults.Message → No faults.Profile → ⊥) → (a b : MsgFault) → No a → No b → a ≡ b
+pub same_fault : (No : MsgFault → Type 0) → (No faults.Length → ⊥) → (No faults.Answer → ⊥)
+    → (No faults.Message → No faults.Profile → ⊥) → (a b : MsgFault) → No a → No b → a ≡ b
 same_fault No l n both faults.Message faults.Message h k = refl
 same_fault No l n both faults.Message faults.Profile h k = absurd (both h k)
 same_fault No l n both faults.Profile faults.Message h k = absurd (both k h)
@@ -173,14 +214,18 @@ bill_none faults.Profile h = h
 bill_none faults.Length h = h
 bill_none faults.Answer h = h
 
-pub changer_no_stop : (xs : List ChangerMsg) (fault : MsgFault) → AllByRecursion IsChangerMsg xs → StopsAt changer_msg_bytes IsChangerMsg NoChangerMsg (flat_map changer_msg_bytes xs) fault → ⊥
+pub changer_no_stop : (xs : List ChangerMsg) (fault : MsgFault) → AllByRecursion IsChangerMsg xs
+    → StopsAt changer_msg_bytes IsChangerMsg NoChangerMsg (flat_map changer_msg_bytes xs) fault → ⊥
 changer_no_stop xs fault h stop =
-    let one = one_changer_list xs stop.0 [] stop.1 h stop.2 (append-nil (flat_map changer_msg_bytes xs) ∙ stop.3) (inl refl) (inr (fault, stop.4)) in
+    let one = one_changer_list xs stop.0 [] stop.1 h stop.2
+    (append-nil (flat_map changer_msg_bytes xs) ∙ stop.3) (inl refl) (inr (fault, stop.4)) in
     changer_none fault (subst (λ x. NoChangerMsg x fault) (sym one.1) stop.4)
 
-pub bill_no_stop : (xs : List BillMsg) (fault : MsgFault) → AllByRecursion IsBillMsg xs → StopsAt bill_msg_bytes IsBillMsg NoBillMsg (flat_map bill_msg_bytes xs) fault → ⊥
+pub bill_no_stop : (xs : List BillMsg) (fault : MsgFault) → AllByRecursion IsBillMsg xs
+    → StopsAt bill_msg_bytes IsBillMsg NoBillMsg (flat_map bill_msg_bytes xs) fault → ⊥
 bill_no_stop xs fault h stop =
-    let one = one_bill_list xs stop.0 [] stop.1 h stop.2 (append-nil (flat_map bill_msg_bytes xs) ∙ stop.3) (inl refl) (inr (fault, stop.4)) in
+    let one = one_bill_list xs stop.0 [] stop.1 h stop.2 (append-nil (flat_map bill_msg_bytes xs)
+    ∙ stop.3) (inl refl) (inr (fault, stop.4)) in
     bill_none fault (subst (λ x. NoBillMsg x fault) (sym one.1) stop.4)
 
 changer_no_length : (rest : List ℕ) → NoChangerMsg rest faults.Length → ⊥
@@ -191,7 +236,8 @@ changer_no_answer : (rest : List ℕ) → NoChangerMsg rest faults.Answer → �
 changer_no_answer [] h = h
 changer_no_answer (first ∷ further) h = h
 
-changer_not_both : (rest : List ℕ) → NoChangerMsg rest faults.Message → NoChangerMsg rest faults.Profile → ⊥
+changer_not_both : (rest : List ℕ) → NoChangerMsg rest faults.Message
+    → NoChangerMsg rest faults.Profile → ⊥
 changer_not_both [] h k = h
 changer_not_both (first ∷ further) (inl none) k = omega (arith, none.0, k)
 changer_not_both (first ∷ further) (inr none) k = omega (arith, none.0, k)
@@ -208,12 +254,19 @@ bill_not_both : (rest : List ℕ) → NoBillMsg rest faults.Message → NoBillMs
 bill_not_both [] h k = h
 bill_not_both (first ∷ further) h k = omega (arith, h, k)
 
-pub one_changer_stop : (bytes : List ℕ) (a b : MsgFault) → StopsAt changer_msg_bytes IsChangerMsg NoChangerMsg bytes a → StopsAt changer_msg_bytes IsChangerMsg NoChangerMsg bytes b → a ≡ b
+pub one_changer_stop : (bytes : List ℕ) (a b : MsgFault)
+    → StopsAt changer_msg_bytes IsChangerMsg NoChangerMsg bytes a
+    → StopsAt changer_msg_bytes IsChangerMsg NoChangerMsg bytes b → a ≡ b
 one_changer_stop bytes a b h k =
-    let one = one_changer_list h.0 k.0 h.1 k.1 h.2 k.2 (sym h.3 ∙ k.3) (inr (a, h.4)) (inr (b, k.4)) in
-    same_fault (NoChangerMsg k.1) (changer_no_length k.1) (changer_no_answer k.1) (changer_not_both k.1) a b (subst (λ x. NoChangerMsg x a) one.1 h.4) k.4
+    let one = one_changer_list h.0 k.0 h.1 k.1 h.2 k.2 (sym h.3 ∙ k.3) (inr (a, h.4))
+    (inr (b, k.4)) in
+    same_fault (NoChangerMsg k.1) (changer_no_length k.1) (changer_no_answer k.1)
+    (changer_not_both k.1) a b (subst (λ x. NoChangerMsg x a) one.1 h.4) k.4
 
-pub one_bill_stop : (bytes : List ℕ) (a b : MsgFault) → StopsAt bill_msg_bytes IsBillMsg NoBillMsg bytes a → StopsAt bill_msg_bytes IsBillMsg NoBillMsg bytes b → a ≡ b
+pub one_bill_stop : (bytes : List ℕ) (a b : MsgFault)
+    → StopsAt bill_msg_bytes IsBillMsg NoBillMsg bytes a
+    → StopsAt bill_msg_bytes IsBillMsg NoBillMsg bytes b → a ≡ b
 one_bill_stop bytes a b h k =
     let one = one_bill_list h.0 k.0 h.1 k.1 h.2 k.2 (sym h.3 ∙ k.3) (inr (a, h.4)) (inr (b, k.4)) in
-    same_fault (NoBillMsg k.1) (bill_no_length k.1) (bill_no_answer k.1) (bill_not_both k.1) a b (subst (λ x. NoBillMsg x a) one.1 h.4) k.4
+    same_fault (NoBillMsg k.1) (bill_no_length k.1) (bill_no_answer k.1) (bill_not_both k.1) a b
+    (subst (λ x. NoBillMsg x a) one.1 h.4) k.4

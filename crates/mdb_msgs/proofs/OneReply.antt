@@ -25,7 +25,14 @@ same_number a b e d = omega arith
 
 made_changer : ℕ → ℕ → ℕ → ℕ → ℕ → List ℕ → ChangerSetup
 made_changer level code scaling decimals routing credits =
-    record { level = level; code = code; scaling = scaling; decimals = decimals; routing = routing; credits = record { items = credits } }
+    record {
+      level = level;
+      code = code;
+      scaling = scaling;
+      decimals = decimals;
+      routing = routing;
+      credits = record { items = credits };
+    }
 
 same_changer_setup : (a b : ChangerSetup) → changer_setup_bytes a ≡ changer_setup_bytes b → a ≡ b
 unfolding made_changer
@@ -36,7 +43,8 @@ same_changer_setup a b e =
     let decimals : a.decimals ≡ b.decimals = cc in
     let routing : a.routing ≡ b.routing = same_number a.routing b.routing (cc) (cc) in
     let credits : a.credits.items ≡ b.credits.items = cc in
-    let all : made_changer a.level a.code a.scaling a.decimals a.routing a.credits.items ≡ made_changer b.level b.code b.scaling b.decimals b.routing b.credits.items = cc in
+    let all : made_changer a.level a.code a.scaling a.decimals a.routing a.credits.items
+    ≡ made_changer b.level b.code b.scaling b.decimals b.routing b.credits.items = cc in
     all
 
 made_tubes : ℕ → List ℕ → TubeStatus
@@ -58,7 +66,16 @@ same_escrow false false e = refl
 
 made_bill : ℕ → ℕ → ℕ → ℕ → ℕ → ℕ → Bool → List ℕ → BillSetup
 made_bill level code scaling decimals capacity security escrow credits =
-    record { level = level; code = code; scaling = scaling; decimals = decimals; capacity = capacity; security = security; escrow = escrow; credits = record { items = credits } }
+    record {
+      level = level;
+      code = code;
+      scaling = scaling;
+      decimals = decimals;
+      capacity = capacity;
+      security = security;
+      escrow = escrow;
+      credits = record { items = credits };
+    }
 
 same_bill_setup : (a b : BillSetup) → bill_setup_bytes a ≡ bill_setup_bytes b → a ≡ b
 unfolding made_bill
@@ -71,22 +88,27 @@ same_bill_setup a b e =
     let security : a.security ≡ b.security = same_number a.security b.security (cc) (cc) in
     let escrow : a.escrow ≡ b.escrow = same_escrow a.escrow b.escrow (cc) in
     let credits : a.credits.items ≡ b.credits.items = cc in
-    let all : made_bill a.level a.code a.scaling a.decimals a.capacity a.security a.escrow a.credits.items ≡ made_bill b.level b.code b.scaling b.decimals b.capacity b.security b.escrow b.credits.items = cc in
+    let all : made_bill a.level a.code a.scaling a.decimals a.capacity a.security a.escrow
+    a.credits.items ≡ made_bill b.level b.code b.scaling b.decimals b.capacity b.security
+    b.escrow b.credits.items = cc in
     all
 
 made_stacker : Bool → ℕ → Stacker
 made_stacker full count = record { full = full; count = count }
 
-same_full : (a b : Bool) (m n : ℕ) → m < 32768 → n < 32768 → (if a then 32768 else 0) + m ≡ (if b then 32768 else 0) + n → (a ≡ b) × (m ≡ n)
+same_full : (a b : Bool) (m n : ℕ) → m < 32768 → n < 32768
+    → (if a then 32768 else 0) + m ≡ (if b then 32768 else 0) + n → (a ≡ b) × (m ≡ n)
 same_full true true m n l k e = (refl, omega arith)
 same_full true false m n l k e = absurd (omega arith)
 same_full false true m n l k e = absurd (omega arith)
 same_full false false m n l k e = (refl, omega arith)
 
-same_stacker : (a b : Stacker) → IsStacker a → IsStacker b → stacker_bytes a ≡ stacker_bytes b → a ≡ b
+same_stacker : (a b : Stacker) → IsStacker a → IsStacker b → stacker_bytes a ≡ stacker_bytes b
+    → a ≡ b
 unfolding made_stacker
 same_stacker a b ha hb e =
-    let number : (if a.full then 32768 else 0) + a.count ≡ (if b.full then 32768 else 0) + b.count = same_number _ _ (cc) (cc) in
+    let number : (if a.full then 32768 else 0) + a.count ≡ (if b.full then 32768 else 0) + b.count =
+    same_number _ _ (cc) (cc) in
     let parts = same_full a.full b.full a.count b.count ha hb number in
     let full : a.full ≡ b.full = parts.0 in
     let count : a.count ≡ b.count = parts.1 in
@@ -94,27 +116,40 @@ same_stacker a b ha hb e =
     all
 
 -- of one form, two replies with the same bytes are one
-same_reply : (a b : Reply) → form_of_reply a ≡ form_of_reply b → HasFields a → HasFields b → reply_bytes a ≡ reply_bytes b → a ≡ b
-same_reply (reply.ChangerSetup a) (reply.ChangerSetup b) f ha hb e = ap reply.ChangerSetup (same_changer_setup a b e)
-same_reply (reply.TubeStatus a) (reply.TubeStatus b) f ha hb e = ap reply.TubeStatus (same_tube_status a b e)
+same_reply : (a b : Reply) → form_of_reply a ≡ form_of_reply b → HasFields a → HasFields b
+    → reply_bytes a ≡ reply_bytes b → a ≡ b
+same_reply (reply.ChangerSetup a) (reply.ChangerSetup b) f ha hb e =
+    ap reply.ChangerSetup (same_changer_setup a b e)
+same_reply (reply.TubeStatus a) (reply.TubeStatus b) f ha hb e =
+    ap reply.TubeStatus (same_tube_status a b e)
 same_reply (reply.ChangerPoll a) (reply.ChangerPoll b) f ha hb e =
-    ap (λ x. reply.ChangerPoll (record { items = x })) (one_changer_list a.items b.items [] [] ha hb (ap (λ x. x ++ []) e) (inl refl) (inl refl)).0
-same_reply (reply.ChangerIdentification a) (reply.ChangerIdentification b) f ha hb e = ap reply.ChangerIdentification e
-same_reply (reply.BillSetup a) (reply.BillSetup b) f ha hb e = ap reply.BillSetup (same_bill_setup a b e)
+    ap (λ x. reply.ChangerPoll (record { items = x }))
+    (one_changer_list a.items b.items [] [] ha hb (ap (λ x. x ++ []) e) (inl refl) (inl refl)).0
+same_reply (reply.ChangerIdentification a) (reply.ChangerIdentification b) f ha hb e =
+    ap reply.ChangerIdentification e
+same_reply (reply.BillSetup a) (reply.BillSetup b) f ha hb e =
+    ap reply.BillSetup (same_bill_setup a b e)
 same_reply (reply.BillPoll a) (reply.BillPoll b) f ha hb e =
-    ap (λ x. reply.BillPoll (record { items = x })) (one_bill_list a.items b.items [] [] ha hb (ap (λ x. x ++ []) e) (inl refl) (inl refl)).0
-same_reply (reply.Stacker a) (reply.Stacker b) f ha hb e = ap reply.Stacker (same_stacker a b ha hb e)
-same_reply (reply.BillIdentification a) (reply.BillIdentification b) f ha hb e = ap reply.BillIdentification e
-same_reply (reply.BillIdentificationWithOptions a) (reply.BillIdentificationWithOptions b) f ha hb e = ap reply.BillIdentificationWithOptions e
-same_reply (reply.Reader a) (reply.Reader b) f ha hb e = ap reply.Reader (one_reader_list a b ha hb e)
+    ap (λ x. reply.BillPoll (record { items = x }))
+    (one_bill_list a.items b.items [] [] ha hb (ap (λ x. x ++ []) e) (inl refl) (inl refl)).0
+same_reply (reply.Stacker a) (reply.Stacker b) f ha hb e =
+    ap reply.Stacker (same_stacker a b ha hb e)
+same_reply (reply.BillIdentification a) (reply.BillIdentification b) f ha hb e =
+    ap reply.BillIdentification e
+same_reply (reply.BillIdentificationWithOptions a) (reply.BillIdentificationWithOptions b) f ha hb
+    e = ap reply.BillIdentificationWithOptions e
+same_reply (reply.Reader a) (reply.Reader b) f ha hb e =
+    ap reply.Reader (one_reader_list a b ha hb e)
 same_reply a b f ha hb e = absurd (cc)
 
 some_inj : {A : Type 0} {a b : A} → Some a ≡ Some b → a ≡ b
 some_inj e = cc
 
 -- for a command, two replies with the same bytes are one
-pub one_answer : (command : Command) (a b : Reply) → IsAnswerTo command a → IsAnswerTo command b → reply_bytes a ≡ reply_bytes b → a ≡ b
-one_answer command a b ha hb e = same_reply a b (some_inj (sym ha.form ∙ hb.form)) ha.fields hb.fields e
+pub one_answer : (command : Command) (a b : Reply) → IsAnswerTo command a → IsAnswerTo command b
+    → reply_bytes a ≡ reply_bytes b → a ≡ b
+one_answer command a b ha hb e = same_reply a b (some_inj (sym ha.form ∙ hb.form)) ha.fields
+    hb.fields e
 
 -- a block has one content
 pub one_content : (a b : List ℕ) → block_of a ≡ block_of b → a ≡ b
@@ -124,31 +159,38 @@ one_content a b e =
     let long : length (block_of a) ≡ length (block_of b) = ap length e in
     (same_fronts a b ((sum a % 256) ∷ []) ((sum b % 256) ∷ []) (omega arith) e).0
 
-escrow_byte : (b : Bool) → ◌≢◌ {A = ℕ} (if b then 255 else 0) 0 → ◌≢◌ {A = ℕ} (if b then 255 else 0) 255 → ⊥
+escrow_byte : (b : Bool) → ◌≢◌ {A = ℕ} (if b then 255 else 0) 0
+    → ◌≢◌ {A = ℕ} (if b then 255 else 0) 255 → ⊥
 escrow_byte true h k = k refl
 escrow_byte false h k = h refl
 
 -- a reply's bytes are a reply of its form
-reply_is_one : (a : Reply) (fault : MsgFault) → HasFields a → NoReply (form_of_reply a) (reply_bytes a) fault → ⊥
+reply_is_one : (a : Reply) (fault : MsgFault) → HasFields a
+    → NoReply (form_of_reply a) (reply_bytes a) fault → ⊥
 reply_is_one (reply.ChangerPoll a) fault h none = changer_no_stop a.items fault h none
 reply_is_one (reply.BillPoll a) fault h none = bill_no_stop a.items fault h none
 reply_is_one (reply.Reader a) fault h none = reader_no_stop a fault h none
 reply_is_one (reply.BillSetup a) fault h none = escrow_byte a.escrow none.1 none.2
 reply_is_one a fault h none = none
 
-answer_is_one : (command : Command) (a : Reply) (fault : MsgFault) → IsAnswerTo command a → IsNoReplyTo command (reply_bytes a) fault → ⊥
+answer_is_one : (command : Command) (a : Reply) (fault : MsgFault) → IsAnswerTo command a
+    → IsNoReplyTo command (reply_bytes a) fault → ⊥
 answer_is_one command a fault h none =
     let same : none.0 ≡ form_of_reply a = some_inj (sym none.1 ∙ h.form) in
     reply_is_one a fault h.fields (subst (λ f. NoReply f (reply_bytes a) fault) same none.3)
 
 -- what may answer a command can be read
-pub reply_has_no_fault : (command : Command) (a : Reply) (fault : MsgFault) → IsReplyTo command a → IsReadFault command (reply_bytes a) fault → ⊥
+pub reply_has_no_fault : (command : Command) (a : Reply) (fault : MsgFault) → IsReplyTo command a
+    → IsReadFault command (reply_bytes a) fault → ⊥
 reply_has_no_fault command a faults.Length h none =
     let same : none.0 ≡ form_of_reply a = some_inj (sym none.1 ∙ h.answer.form) in
     none.2 (subst (λ f. IsDataLength f (length (reply_bytes a))) (sym same) h.answer.count)
-reply_has_no_fault command a faults.Message h none = answer_is_one command a faults.Message h.answer none
-reply_has_no_fault command a faults.Profile h none = answer_is_one command a faults.Profile h.answer none
-reply_has_no_fault command a faults.Answer h (inl none) = let form = h.answer.form in cc (none, form)
+reply_has_no_fault command a faults.Message h none = answer_is_one command a faults.Message h.answer
+    none
+reply_has_no_fault command a faults.Profile h none = answer_is_one command a faults.Profile h.answer
+    none
+reply_has_no_fault command a faults.Answer h (inl none) = let form = h.answer.form in
+    cc (none, form)
 reply_has_no_fault command a faults.Answer h (inr kept) =
     let same : a ≡ kept.0 = one_answer command a kept.0 h.answer kept.1 kept.2 in
     let told : has_kept a ≡ true = ap has_kept same ∙ kept.3 in
@@ -156,143 +198,208 @@ reply_has_no_fault command a faults.Answer h (inr kept) =
     cc (told, none)
 
 -- of one form, bytes have one fault
-one_form_fault : (f : AnswerForm) (bytes : List ℕ) (a b : MsgFault) → NoReply f bytes a → NoReply f bytes b → a ≡ b
+one_form_fault : (f : AnswerForm) (bytes : List ℕ) (a b : MsgFault) → NoReply f bytes a
+    → NoReply f bytes b → a ≡ b
 one_form_fault form.ChangerPoll bytes a b h k = one_changer_stop bytes a b h k
 one_form_fault form.BillPoll bytes a b h k = one_bill_stop bytes a b h k
 one_form_fault form.Reader bytes a b h k = one_reader_stop bytes a b h k
 one_form_fault form.BillSetup bytes a b h k = h.0 ∙ sym k.0
 one_form_fault _ bytes a b h k = absurd h
 
-one_no_reply : (command : Command) (bytes : List ℕ) (a b : MsgFault) → IsNoReplyTo command bytes a → IsNoReplyTo command bytes b → a ≡ b
+one_no_reply : (command : Command) (bytes : List ℕ) (a b : MsgFault) → IsNoReplyTo command bytes a
+    → IsNoReplyTo command bytes b → a ≡ b
 one_no_reply command bytes a b h k =
     let same : h.0 ≡ k.0 = some_inj (sym h.1 ∙ k.1) in
     one_form_fault k.0 bytes a b (subst (λ f. NoReply f bytes a) same h.3) k.3
 
-length_alone : (command : Command) (bytes : List ℕ) (fault : MsgFault) → IsReadFault command bytes faults.Length → IsNoReplyTo command bytes fault → ⊥
+length_alone : (command : Command) (bytes : List ℕ) (fault : MsgFault)
+    → IsReadFault command bytes faults.Length → IsNoReplyTo command bytes fault → ⊥
 length_alone command bytes fault h k =
     let same : k.0 ≡ h.0 = some_inj (sym k.1 ∙ h.1) in
     h.2 (subst (λ f. IsDataLength f (length bytes)) same k.2)
 
-length_or_answer : (command : Command) (bytes : List ℕ) → IsReadFault command bytes faults.Length → IsReadFault command bytes faults.Answer → ⊥
+length_or_answer : (command : Command) (bytes : List ℕ) → IsReadFault command bytes faults.Length
+    → IsReadFault command bytes faults.Answer → ⊥
 length_or_answer command bytes h (inl none) = let form = h.1 in cc (none, form)
 length_or_answer command bytes h (inr kept) =
     let same : form_of_reply kept.0 ≡ h.0 = some_inj (sym kept.1.form ∙ h.1) in
-    h.2 (subst (λ f. IsDataLength f (length bytes)) same (subst (λ x. IsDataLength (form_of_reply kept.0) (length x)) (sym kept.2) kept.1.count))
+    h.2 (subst (λ f. IsDataLength f (length bytes)) same
+    (subst (λ x. IsDataLength (form_of_reply kept.0) (length x)) (sym kept.2) kept.1.count))
 
-message_or_answer : (command : Command) (bytes : List ℕ) (fault : MsgFault) → IsNoReplyTo command bytes fault → IsReadFault command bytes faults.Answer → ⊥
+message_or_answer : (command : Command) (bytes : List ℕ) (fault : MsgFault)
+    → IsNoReplyTo command bytes fault → IsReadFault command bytes faults.Answer → ⊥
 message_or_answer command bytes fault h (inl none) = let form = h.1 in cc (none, form)
 message_or_answer command bytes fault h (inr kept) =
     answer_is_one command kept.0 fault kept.1 (subst (λ x. IsNoReplyTo command x fault) kept.2 h)
 
 -- bytes have one fault
-pub one_read_fault : (command : Command) (bytes : List ℕ) (a b : MsgFault) → IsReadFault command bytes a → IsReadFault command bytes b → a ≡ b
+pub one_read_fault : (command : Command) (bytes : List ℕ) (a b : MsgFault)
+    → IsReadFault command bytes a → IsReadFault command bytes b → a ≡ b
 one_read_fault command bytes faults.Length faults.Length h k = refl
-one_read_fault command bytes faults.Length faults.Message h k = absurd (length_alone command bytes faults.Message h k)
-one_read_fault command bytes faults.Length faults.Profile h k = absurd (length_alone command bytes faults.Profile h k)
-one_read_fault command bytes faults.Length faults.Answer h k = absurd (length_or_answer command bytes h k)
-one_read_fault command bytes faults.Message faults.Length h k = absurd (length_alone command bytes faults.Message k h)
+one_read_fault command bytes faults.Length faults.Message h k =
+    absurd (length_alone command bytes faults.Message h k)
+one_read_fault command bytes faults.Length faults.Profile h k =
+    absurd (length_alone command bytes faults.Profile h k)
+one_read_fault command bytes faults.Length faults.Answer h k =
+    absurd (length_or_answer command bytes h k)
+one_read_fault command bytes faults.Message faults.Length h k =
+    absurd (length_alone command bytes faults.Message k h)
 one_read_fault command bytes faults.Message faults.Message h k = refl
-one_read_fault command bytes faults.Message faults.Profile h k = one_no_reply command bytes faults.Message faults.Profile h k
-one_read_fault command bytes faults.Message faults.Answer h k = absurd (message_or_answer command bytes faults.Message h k)
-one_read_fault command bytes faults.Profile faults.Length h k = absurd (length_alone command bytes faults.Profile k h)
-one_read_fault command bytes faults.Profile faults.Message h k = one_no_reply command bytes faults.Profile faults.Message h k
+one_read_fault command bytes faults.Message faults.Profile h k =
+    one_no_reply command bytes faults.Message faults.Profile h k
+one_read_fault command bytes faults.Message faults.Answer h k =
+    absurd (message_or_answer command bytes faults.Message h k)
+one_read_fault command bytes faults.Profile faults.Length h k =
+    absurd (length_alone command bytes faults.Profile k h)
+one_read_fault command bytes faults.Profile faults.Message h k =
+    one_no_reply command bytes faults.Profile faults.Message h k
 one_read_fault command bytes faults.Profile faults.Profile h k = refl
-one_read_fault command bytes faults.Profile faults.Answer h k = absurd (message_or_answer command bytes faults.Profile h k)
-one_read_fault command bytes faults.Answer faults.Length h k = absurd (length_or_answer command bytes k h)
-one_read_fault command bytes faults.Answer faults.Message h k = absurd (message_or_answer command bytes faults.Message k h)
-one_read_fault command bytes faults.Answer faults.Profile h k = absurd (message_or_answer command bytes faults.Profile k h)
+one_read_fault command bytes faults.Profile faults.Answer h k =
+    absurd (message_or_answer command bytes faults.Profile h k)
+one_read_fault command bytes faults.Answer faults.Length h k =
+    absurd (length_or_answer command bytes k h)
+one_read_fault command bytes faults.Answer faults.Message h k =
+    absurd (message_or_answer command bytes faults.Message k h)
+one_read_fault command bytes faults.Answer faults.Profile h k =
+    absurd (message_or_answer command bytes faults.Profile k h)
 one_read_fault command bytes faults.Answer faults.Answer h k = refl
 
 -- for a command, a block has one reply
-pub one_reply : (command : Command) (block : List ℕ) (a b : Reply) → SpellsReply command a block → SpellsReply command b block → a ≡ b
-one_reply command block a b h k = one_answer command a b h.answers.answer k.answers.answer (one_content _ _ (sym h.bytes ∙ k.bytes))
+pub one_reply : (command : Command) (block : List ℕ) (a b : Reply) → SpellsReply command a block
+    → SpellsReply command b block → a ≡ b
+one_reply command block a b h k = one_answer command a b h.answers.answer k.answers.answer
+    (one_content _ _ (sym h.bytes ∙ k.bytes))
 
 -- the bytes of a reply that a block spells are its content
-pub spelled_content : (command : Command) (a : Reply) (block : List ℕ) → SpellsReply command a block → IsBlock block → IsContent (reply_bytes a)
+pub spelled_content : (command : Command) (a : Reply) (block : List ℕ) → SpellsReply command a block
+    → IsBlock block → IsContent (reply_bytes a)
 spelled_content command a block h is =
     subst IsContent (one_content is.content (reply_bytes a) (sym is.summed ∙ h.bytes)) is.is_content
 
 -- what reading a block found, it spells
-pub found_reply : (command : Command) (block content : List ℕ) (result : Result Reply MsgFault) → block ≡ block_of content → IfOk result (IsReplyTo command) → IfOk result (λ found. content ≡ reply_bytes found) → IfOk result (λ found. SpellsReply command found block)
-found_reply command block content (Ok found) e is spelled = record { answers = is; bytes = e ∙ ap block_of spelled }
+pub found_reply : (command : Command) (block content : List ℕ) (result : Result Reply MsgFault)
+    → block ≡ block_of content → IfOk result (IsReplyTo command)
+    → IfOk result (λ found. content ≡ reply_bytes found)
+    → IfOk result (λ found. SpellsReply command found block)
+found_reply command block content (Ok found) e is spelled = record {
+  answers = is;
+  bytes = e
+      ∙ ap block_of spelled;
+}
 found_reply command block content (Err a) e is spelled = spelled
 
 -- and that is the only thing that it spells
-pub only_reply : (command : Command) (block content : List ℕ) (result : Result Reply MsgFault) → block ≡ block_of content → IfOk result (λ found. SpellsReply command found block) → IfErr result (IsReadFault command content) → (other : Reply) → SpellsReply command other block → result ≡ Ok other
-only_reply command block content (Ok found) e is fault other h = ap Ok (one_reply command block found other is h)
+pub only_reply : (command : Command) (block content : List ℕ) (result : Result Reply MsgFault)
+    → block ≡ block_of content → IfOk result (λ found. SpellsReply command found block)
+    → IfErr result (IsReadFault command content) → (other : Reply) → SpellsReply command other block
+    → result ≡ Ok other
+only_reply command block content (Ok found) e is fault other h =
+    ap Ok (one_reply command block found other is h)
 only_reply command block content (Err a) e is fault other h =
     let P : List ℕ → Type 0 = λ x. IsReadFault command x a in
-    absurd (reply_has_no_fault command other a h.answers (subst P (one_content content (reply_bytes other) (sym e ∙ h.bytes)) fault))
+    absurd (reply_has_no_fault command other a h.answers
+    (subst P (one_content content (reply_bytes other) (sym e ∙ h.bytes)) fault))
 
 -- bytes are read as the only reply that they are
-pub only_content : (command : Command) (content : List ℕ) (result : Result Reply MsgFault) → IfOk result (IsReplyTo command) → IfOk result (λ found. content ≡ reply_bytes found) → IfErr result (IsReadFault command content) → (other : Reply) → IsReplyTo command other → content ≡ reply_bytes other → result ≡ Ok other
-only_content command content (Ok found) is spelled fault other to same = ap Ok (one_answer command found other is.answer to.answer (sym spelled ∙ same))
+pub only_content : (command : Command) (content : List ℕ) (result : Result Reply MsgFault)
+    → IfOk result (IsReplyTo command) → IfOk result (λ found. content ≡ reply_bytes found)
+    → IfErr result (IsReadFault command content) → (other : Reply) → IsReplyTo command other
+    → content ≡ reply_bytes other → result ≡ Ok other
+only_content command content (Ok found) is spelled fault other to same =
+    ap Ok (one_answer command found other is.answer to.answer (sym spelled ∙ same))
 only_content command content (Err a) is spelled fault other to same =
     let P : List ℕ → Type 0 = λ x. IsReadFault command x a in
     absurd (reply_has_no_fault command other a to (subst P same fault))
 
 -- the fault in reading a block is that of its content, which is one
-pub read_fault : (command : Command) (block content : List ℕ) (result : Result Reply MsgFault) → block ≡ block_of content → IfErr result (IsReadFault command content) → IfErr result (λ fault. (other : List ℕ) → block ≡ block_of other → IsReadFault command other fault)
+pub read_fault : (command : Command) (block content : List ℕ) (result : Result Reply MsgFault)
+    → block ≡ block_of content → IfErr result (IsReadFault command content)
+    → IfErr result (λ fault. (other : List ℕ) → block ≡ block_of other
+    → IsReadFault command other fault)
 read_fault command block content (Ok found) e fault = fault
 read_fault command block content (Err a) e fault = λ other d.
     let P : List ℕ → Type 0 = λ x. IsReadFault command x a in
     subst P (one_content content other (sym e ∙ d)) fault
 
 -- and the only one
-pub only_read_fault : (command : Command) (block content : List ℕ) (result : Result Reply MsgFault) → block ≡ block_of content → IfOk result (λ found. SpellsReply command found block) → IfErr result (IsReadFault command content) → (other : List ℕ) (b : MsgFault) → block ≡ block_of other → IsReadFault command other b → result ≡ Err b
+pub only_read_fault : (command : Command) (block content : List ℕ) (result : Result Reply MsgFault)
+    → block ≡ block_of content → IfOk result (λ found. SpellsReply command found block)
+    → IfErr result (IsReadFault command content) → (other : List ℕ) (b : MsgFault)
+    → block ≡ block_of other → IsReadFault command other b → result ≡ Err b
 only_read_fault command block content (Ok found) e is fault other b d h =
     let P : List ℕ → Type 0 = λ x. IsReadFault command x b in
-    absurd (reply_has_no_fault command found b is.answers (subst P (one_content other (reply_bytes found) (sym d ∙ is.bytes)) h))
+    absurd (reply_has_no_fault command found b is.answers
+    (subst P (one_content other (reply_bytes found) (sym d ∙ is.bytes)) h))
 only_read_fault command block content (Err a) e is fault other b d h =
     let P : List ℕ → Type 0 = λ x. IsReadFault command x b in
-    ap Err (one_read_fault command content a b fault (subst P (one_content other content (sym d ∙ e)) h))
+    ap Err (one_read_fault command content a b fault
+    (subst P (one_content other content (sym d ∙ e)) h))
 
 -- a reply of another form, or with a field outside its range, is no answer
-no_answer_message : (command : Command) (a : Reply) → IsAnswerTo command a → IsWriteFault command a faults.Message → ⊥
+no_answer_message : (command : Command) (a : Reply) → IsAnswerTo command a
+    → IsWriteFault command a faults.Message → ⊥
 no_answer_message command a h (f, e, count, inl other) = other (some_inj (sym h.form ∙ e))
 no_answer_message command a h (f, e, count, inr none) = none h.fields
 
-no_answer_length : (command : Command) (a : Reply) → IsAnswerTo command a → IsWriteFault command a faults.Length → ⊥
+no_answer_length : (command : Command) (a : Reply) → IsAnswerTo command a
+    → IsWriteFault command a faults.Length → ⊥
 no_answer_length command a h (f, e, none) =
     let same : form_of_reply a ≡ f = some_inj (sym h.form ∙ e) in
     none (subst (λ g. IsDataLength g (length (reply_bytes a))) same h.count)
 
-write_length_or_message : (command : Command) (a : Reply) → IsWriteFault command a faults.Length → IsWriteFault command a faults.Message → ⊥
+write_length_or_message : (command : Command) (a : Reply) → IsWriteFault command a faults.Length
+    → IsWriteFault command a faults.Message → ⊥
 write_length_or_message command a (f, e, none) (g, d, count, _) =
     let same : g ≡ f = some_inj (sym d ∙ e) in
     none (subst (λ x. IsDataLength x (length (reply_bytes a))) same count)
 
-write_length_or_answer : (command : Command) (a : Reply) → IsWriteFault command a faults.Length → IsWriteFault command a faults.Answer → ⊥
+write_length_or_answer : (command : Command) (a : Reply) → IsWriteFault command a faults.Length
+    → IsWriteFault command a faults.Answer → ⊥
 write_length_or_answer command a h (inl none) = let form = h.1 in cc (none, form)
 write_length_or_answer command a h (inr kept) = no_answer_length command a kept.0 h
 
-write_message_or_answer : (command : Command) (a : Reply) → IsWriteFault command a faults.Message → IsWriteFault command a faults.Answer → ⊥
+write_message_or_answer : (command : Command) (a : Reply) → IsWriteFault command a faults.Message
+    → IsWriteFault command a faults.Answer → ⊥
 write_message_or_answer command a h (inl none) = let form = h.1 in cc (none, form)
 write_message_or_answer command a h (inr kept) = no_answer_message command a kept.0 h
 
 -- a reply has one fault in writing
-pub one_write_fault : (command : Command) (reply : Reply) (a b : MsgFault) → IsWriteFault command reply a → IsWriteFault command reply b → a ≡ b
+pub one_write_fault : (command : Command) (reply : Reply) (a b : MsgFault)
+    → IsWriteFault command reply a → IsWriteFault command reply b → a ≡ b
 one_write_fault command r faults.Length faults.Length h k = refl
-one_write_fault command r faults.Length faults.Message h k = absurd (write_length_or_message command r h k)
-one_write_fault command r faults.Length faults.Answer h k = absurd (write_length_or_answer command r h k)
-one_write_fault command r faults.Message faults.Length h k = absurd (write_length_or_message command r k h)
+one_write_fault command r faults.Length faults.Message h k =
+    absurd (write_length_or_message command r h k)
+one_write_fault command r faults.Length faults.Answer h k =
+    absurd (write_length_or_answer command r h k)
+one_write_fault command r faults.Message faults.Length h k =
+    absurd (write_length_or_message command r k h)
 one_write_fault command r faults.Message faults.Message h k = refl
-one_write_fault command r faults.Message faults.Answer h k = absurd (write_message_or_answer command r h k)
-one_write_fault command r faults.Answer faults.Length h k = absurd (write_length_or_answer command r k h)
-one_write_fault command r faults.Answer faults.Message h k = absurd (write_message_or_answer command r k h)
+one_write_fault command r faults.Message faults.Answer h k =
+    absurd (write_message_or_answer command r h k)
+one_write_fault command r faults.Answer faults.Length h k =
+    absurd (write_length_or_answer command r k h)
+one_write_fault command r faults.Answer faults.Message h k =
+    absurd (write_message_or_answer command r k h)
 one_write_fault command r faults.Answer faults.Answer h k = refl
 one_write_fault command r faults.Profile b h k = absurd h
 one_write_fault command r a faults.Profile h k = absurd k
 
 -- what may answer the command has none
-pub written_has_no_fault : (command : Command) (reply : Reply) (fault : MsgFault) → IsReplyTo command reply → IsWriteFault command reply fault → ⊥
+pub written_has_no_fault : (command : Command) (reply : Reply) (fault : MsgFault)
+    → IsReplyTo command reply → IsWriteFault command reply fault → ⊥
 written_has_no_fault command r faults.Length h none = no_answer_length command r h.answer none
 written_has_no_fault command r faults.Message h none = no_answer_message command r h.answer none
 written_has_no_fault command r faults.Profile h none = none
-written_has_no_fault command r faults.Answer h (inl none) = let form = h.answer.form in cc (none, form)
-written_has_no_fault command r faults.Answer h (inr kept) = let none = h.kept kept.2 in let told = kept.1 in cc (none, told)
+written_has_no_fault command r faults.Answer h (inl none) = let form = h.answer.form in
+    cc (none, form)
+written_has_no_fault command r faults.Answer h (inr kept) = let none = h.kept kept.2 in
+    let told = kept.1 in cc (none, told)
 
 -- the fault in writing is the only one
-pub only_write_fault : {A : Type 0} (command : Command) (reply : Reply) (result : Result A MsgFault) → IfOk result (λ _. IsReplyTo command reply) → IfErr result (IsWriteFault command reply) → (b : MsgFault) → IsWriteFault command reply b → result ≡ Err b
-only_write_fault command reply (Ok found) is fault b h = absurd (written_has_no_fault command reply b is h)
-only_write_fault command reply (Err a) is fault b h = ap Err (one_write_fault command reply a b fault h)
+pub only_write_fault : {A : Type 0} (command : Command) (reply : Reply) (result : Result A MsgFault)
+    → IfOk result (λ _. IsReplyTo command reply) → IfErr result (IsWriteFault command reply)
+    → (b : MsgFault) → IsWriteFault command reply b → result ≡ Err b
+only_write_fault command reply (Ok found) is fault b h =
+    absurd (written_has_no_fault command reply b is h)
+only_write_fault command reply (Err a) is fault b h =
+    ap Err (one_write_fault command reply a b fault h)

@@ -11,7 +11,8 @@ use Rattle.mdb_msgs.specs.Commands.{Spells}
 use Rattle.mdb_msgs.specs.Needs.{IsTold, TellsLength, need, needed}
 
 -- the first two bytes of a command's block tell its length
-pub whole : (block : List ℕ) (command : Command) → Spells command block → needed block ≡ Exactly (length block)
+pub whole : (block : List ℕ) (command : Command) → Spells command block
+    → needed block ≡ Exactly (length block)
 whole block (Changer command) spelled = grind (arith, common_steps)
 whole block (Bill (bill.Security levels)) spelled = grind (arith, common_steps)
 whole block (Bill (bill.BillType enable escrow)) spelled = grind (arith, common_steps)
@@ -23,15 +24,25 @@ whole block (Reader First command) spelled = search rules
 whole block (Reader Second command) spelled = search rules
 
 -- what two bytes tell, the first tells or leaves to the second
-first_byte : (first second n : ℕ) → need first (Some second) ≡ Exactly n → IsTold (need first None) 1 n
+first_byte : (first second n : ℕ) → need first (Some second) ≡ Exactly n
+    → IsTold (need first None) 1 n
 first_byte first second n told = grind (arith, common_steps)
 
 -- no block has one byte
 none_alone : (first : ℕ) → need first None ≡ Exactly 1 → ⊥
 none_alone first told = grind (arith, common_steps)
 
-pub first_bytes : (prefix rest : List ℕ) (command : Command) → 0 < length prefix → Spells command (prefix ++ rest) → TellsLength prefix (length (prefix ++ rest))
+pub first_bytes : (prefix rest : List ℕ) (command : Command) → 0 < length prefix
+    → Spells command (prefix ++ rest) → TellsLength prefix (length (prefix ++ rest))
 first_bytes [] rest command some spelled = absurd (omega arith)
-first_bytes (first ∷ []) [] command some spelled = absurd (none_alone first (whole (first ∷ []) command spelled))
-first_bytes (first ∷ []) (second ∷ rest) command some spelled = first_byte first second (length (first ∷ second ∷ rest)) (whole (first ∷ second ∷ rest) command spelled)
-first_bytes (first ∷ second ∷ bytes) rest command some spelled = let e : needed (first ∷ second ∷ (bytes ++ rest)) ≡ Exactly (length (first ∷ second ∷ (bytes ++ rest))) = whole (first ∷ second ∷ (bytes ++ rest)) command spelled in subst (λ (n : _). IsTold n (length (first ∷ second ∷ bytes)) (length (first ∷ second ∷ (bytes ++ rest)))) (sym e) refl
+first_bytes (first ∷ []) [] command some spelled =
+    absurd (none_alone first (whole (first ∷ []) command spelled))
+first_bytes (first ∷ []) (second ∷ rest) command some spelled =
+    first_byte first second (length (first ∷ second ∷ rest))
+    (whole (first ∷ second ∷ rest) command spelled)
+first_bytes (first ∷ second ∷ bytes) rest command some spelled =
+    let e : needed (first ∷ second ∷ (bytes ++ rest))
+    ≡ Exactly (length (first ∷ second ∷ (bytes ++ rest))) = whole (first ∷ second ∷ (bytes ++ rest))
+    command spelled in
+    subst (λ (n : _). IsTold n (length (first ∷ second ∷ bytes))
+    (length (first ∷ second ∷ (bytes ++ rest)))) (sym e) refl

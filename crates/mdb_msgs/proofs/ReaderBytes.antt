@@ -15,7 +15,8 @@ whole n = omega arith
 pub front_found : (m : ReaderMsg) (x : List ℕ) → front_message (head_bytes m ++ x) ≡ m
 unfolding front_message number_at
 front_found JustReset x = refl
-front_found (Config level code scale decimals response options) x = ap (λ n. Config level n scale decimals response options) (whole code)
+front_found (Config level code scale decimals response options) x =
+    ap (λ n. Config level n scale decimals response options) (whole code)
 front_found (Display time) x = refl
 front_found (BeginSession funds) x = ap BeginSession (whole funds)
 front_found CancelRequest x = refl
@@ -46,20 +47,24 @@ take_front [] x = refl
 take_front (b ∷ s) x = ap (λ t. b ∷ t) (take_front s x)
 
 -- and its text is
-text_found : (m : ReaderMsg) (text further : List ℕ) → IsTextOf m text further → front_text m (text ++ further) ≡ text
-text_found PeripheralId text further h = ap (λ n. take n (text ++ further)) (sym h) ∙ take_front text further
+text_found : (m : ReaderMsg) (text further : List ℕ) → IsTextOf m text further
+    → front_text m (text ++ further) ≡ text
+text_found PeripheralId text further h = ap (λ n. take n (text ++ further)) (sym h)
+    ∙ take_front text further
 text_found (Display time) text further h = ap (λ x. text ++ x) h.1 ∙ append-nil text
 text_found _ text further h = sym h
 
 with_text : ℕ → List ℕ → ReaderMsg → List ℕ → ReaderMessages
 with_text fuel bytes message text =
-    before_messages message text (messages_in fuel (drop (length (head_bytes message ++ text)) bytes))
+    before_messages message text
+    (messages_in fuel (drop (length (head_bytes message ++ text)) bytes))
 
 with_front : ℕ → List ℕ → ReaderMsg → ReaderMessages
 with_front fuel bytes message =
     with_text fuel bytes message (front_text message (drop (length (head_bytes message)) bytes))
 
-steps : (fuel : ℕ) (bytes : List ℕ) → 0 < length bytes → messages_in (suc fuel) bytes ≡ with_front fuel bytes (front_message bytes)
+steps : (fuel : ℕ) (bytes : List ℕ) → 0 < length bytes
+    → messages_in (suc fuel) bytes ≡ with_front fuel bytes (front_message bytes)
 unfolding messages_in with_front with_text
 steps fuel [] h = absurd (omega arith)
 steps fuel (first ∷ further) h = refl
@@ -79,16 +84,23 @@ head_counts (Malfunction code) = omega arith
 head_counts OutOfSequence = omega arith
 
 -- a message in front of other bytes is read before them
-reads_front : (fuel : ℕ) (m : ReaderMsg) (text further : List ℕ) → IsTextOf m text further → messages_in (suc fuel) (head_bytes m ++ (text ++ further)) ≡ before_messages m text (messages_in fuel further)
+reads_front : (fuel : ℕ) (m : ReaderMsg) (text further : List ℕ) → IsTextOf m text further
+    → messages_in (suc fuel) (head_bytes m ++ (text ++ further)) ≡ before_messages m text
+    (messages_in fuel further)
 unfolding with_front with_text
 reads_front fuel m text further h =
     let head = head_bytes m in
     let bytes = head ++ (text ++ further) in
-    let long : 0 < length bytes = omega (arith, head_counts m, length-append head (text ++ further)) in
-    let found : with_front fuel bytes (front_message bytes) ≡ with_front fuel bytes m = ap (with_front fuel bytes) (front_found m (text ++ further)) in
-    let told : front_text m (drop (length head) bytes) ≡ text = ap (front_text m) (drop_front head (text ++ further)) ∙ text_found m text further h in
-    let left : drop (length (head ++ text)) bytes ≡ further = ap (drop (length (head ++ text))) (sym (append_assoc head text further)) ∙ drop_front (head ++ text) further in
-    steps fuel bytes long ∙ found ∙ ap (with_text fuel bytes m) told ∙ ap (λ x. before_messages m text (messages_in fuel x)) left
+    let long : 0 < length bytes =
+    omega (arith, head_counts m, length-append head (text ++ further)) in
+    let found : with_front fuel bytes (front_message bytes) ≡ with_front fuel bytes m =
+    ap (with_front fuel bytes) (front_found m (text ++ further)) in
+    let told : front_text m (drop (length head) bytes) ≡ text =
+    ap (front_text m) (drop_front head (text ++ further)) ∙ text_found m text further h in
+    let left : drop (length (head ++ text)) bytes ≡ further = ap (drop (length (head ++ text)))
+    (sym (append_assoc head text further)) ∙ drop_front (head ++ text) further in
+    steps fuel bytes long ∙ found ∙ ap (with_text fuel bytes m) told
+    ∙ ap (λ x. before_messages m text (messages_in fuel x)) left
 
 -- messages, with blanks for texts that none of them has
 abbrev pub tidy : List ℕ → List ℕ → List ReaderMsg → ReaderMessages
@@ -99,7 +111,8 @@ tidy id text messages =
       text = if list_any is_display messages then text else [];
     }
 
-tidy_more : (id text : List ℕ) (m : ReaderMsg) (ms : List ReaderMsg) → before_messages m (text_of id text m) (tidy id text ms) ≡ tidy id text (m ∷ ms)
+tidy_more : (id text : List ℕ) (m : ReaderMsg) (ms : List ReaderMsg)
+    → before_messages m (text_of id text m) (tidy id text ms) ≡ tidy id text (m ∷ ms)
 tidy_more id text PeripheralId ms = refl
 tidy_more id text (Display time) ms = refl
 tidy_more id text _ ms = refl
@@ -108,13 +121,17 @@ rest_last : (m : ReaderMsg) (ms : List ReaderMsg) → IsDisplayLast (m ∷ ms) �
 rest_last m [] h = tt
 rest_last m (n ∷ ms) h = h.1
 
-has_its_text : (id text : List ℕ) (m : ReaderMsg) (ms : List ReaderMsg) → length id ≡ 29 → length text ≤ 32 → IsDisplayLast (m ∷ ms) → IsTextOf m (text_of id text m) (flat_map (reader_msg_bytes id text) ms)
+has_its_text : (id text : List ℕ) (m : ReaderMsg) (ms : List ReaderMsg) → length id ≡ 29
+    → length text ≤ 32 → IsDisplayLast (m ∷ ms)
+    → IsTextOf m (text_of id text m) (flat_map (reader_msg_bytes id text) ms)
 has_its_text id text PeripheralId ms l k h = l
 has_its_text id text (Display time) [] l k h = (k, refl)
 has_its_text id text (Display time) (n ∷ ms) l k h = let no = h.0 in absurd (cc)
 has_its_text id text _ ms l k h = refl
 
-reads_all : (fuel : ℕ) (id text : List ℕ) (ms : List ReaderMsg) → length id ≡ 29 → length text ≤ 32 → IsDisplayLast ms → length (flat_map (reader_msg_bytes id text) ms) ≤ fuel → messages_in fuel (flat_map (reader_msg_bytes id text) ms) ≡ tidy id text ms
+reads_all : (fuel : ℕ) (id text : List ℕ) (ms : List ReaderMsg) → length id ≡ 29 → length text ≤ 32
+    → IsDisplayLast ms → length (flat_map (reader_msg_bytes id text) ms) ≤ fuel
+    → messages_in fuel (flat_map (reader_msg_bytes id text) ms) ≡ tidy id text ms
 unfolding messages_in
 reads_all zero id text [] l k h few = refl
 reads_all (suc fuel) id text [] l k h few = refl
@@ -136,9 +153,11 @@ reads_all (suc fuel) id text (m ∷ ms) l k h few =
     ∙ ap (before_messages m own) (reads_all fuel id text ms l k (rest_last m ms h) less)
     ∙ tidy_more id text m ms
 
-reads_tidy : (id text : List ℕ) (ms : List ReaderMsg) → length id ≡ 29 → length text ≤ 32 → IsDisplayLast ms → messages_of (flat_map (reader_msg_bytes id text) ms) ≡ tidy id text ms
+reads_tidy : (id text : List ℕ) (ms : List ReaderMsg) → length id ≡ 29 → length text ≤ 32
+    → IsDisplayLast ms → messages_of (flat_map (reader_msg_bytes id text) ms) ≡ tidy id text ms
 unfolding messages_of
-reads_tidy id text ms l k h = reads_all (length (flat_map (reader_msg_bytes id text) ms)) id text ms l k h (omega arith)
+reads_tidy id text ms l k h = reads_all (length (flat_map (reader_msg_bytes id text) ms)) id text ms
+    l k h (omega arith)
 
 chosen : {A : Type 0} (b : Bool) (x y : A) → (b ≡ false → x ≡ y) → (if b then x else y) ≡ x
 chosen true x y h = refl
@@ -148,12 +167,18 @@ is_tidy : (list : ReaderMessages) → IsReaderList list → tidy list.id list.te
 is_tidy list h =
     let id = chosen (list_any is_id list.messages) list.id (replicate 29 0) h.no_id in
     let text = chosen (list_any is_display list.messages) list.text [] h.no_text in
-    ap (λ x. record list { id = x; text = if list_any is_display list.messages then list.text else [] }) id
+    ap (λ x. record list {
+      id = x;
+      text = if list_any is_display list.messages then list.text else
+          [];
+    }) id
     ∙ ap (λ x. record list { text = x }) text
 
 -- the bytes of an answer are read as the answer
-pub reads_list : (list : ReaderMessages) → IsReaderList list → messages_of (reader_list_bytes list) ≡ list
-reads_list list h = reads_tidy list.id list.text list.messages h.id_length h.text_length h.last ∙ is_tidy list h
+pub reads_list : (list : ReaderMessages) → IsReaderList list → messages_of (reader_list_bytes list)
+    ≡ list
+reads_list list h = reads_tidy list.id list.text list.messages h.id_length h.text_length h.last
+    ∙ is_tidy list h
 
 -- no bytes are no messages
 pub nothing_read : (bytes : List ℕ) → length bytes ≡ 0 → messages_of bytes ≡ no_messages
@@ -161,10 +186,15 @@ unfolding messages_of messages_in
 nothing_read [] e = refl
 nothing_read (byte ∷ bytes) e = absurd (omega arith)
 
-pub are_messages : (list : ReaderMessages) (bytes : List ℕ) → IsReaderList list → bytes ≡ reader_list_bytes list → AreMessages bytes
+pub are_messages : (list : ReaderMessages) (bytes : List ℕ) → IsReaderList list
+    → bytes ≡ reader_list_bytes list → AreMessages bytes
 are_messages list bytes h e =
     let same : messages_of bytes ≡ list = ap messages_of e ∙ reads_list list h in
-    record { is_list = subst IsReaderList (sym same) h; spelled = ap reader_list_bytes same ∙ sym e }
+    record {
+      is_list = subst IsReaderList (sym same) h;
+      spelled = ap reader_list_bytes same
+          ∙ sym e;
+    }
 
 pub stand_as_messages : (bytes : List ℕ) → AreMessages bytes → StandAsMessages bytes
 stand_as_messages bytes h = record {
@@ -176,20 +206,32 @@ stand_as_messages bytes h = record {
 }
 
 -- a message with a text and what is after it are told by their bytes
-same_text : (m : ReaderMsg) (text words x y : List ℕ) → IsTextOf m text x → IsTextOf m words y → text ++ x ≡ words ++ y → (text ≡ words) × (x ≡ y)
+same_text : (m : ReaderMsg) (text words x y : List ℕ) → IsTextOf m text x → IsTextOf m words y
+    → text ++ x ≡ words ++ y → (text ≡ words) × (x ≡ y)
 same_text PeripheralId text words x y h k e = same_fronts text words x y (h ∙ sym k) e
-same_text (Display time) text words x y h k e =
-    (sym (append-nil text) ∙ ap (λ l. text ++ l) (sym h.1) ∙ e ∙ ap (λ l. words ++ l) k.1 ∙ append-nil words, h.1 ∙ sym k.1)
+same_text (Display time) text words x y h k e = (
+  sym (append-nil text) ∙ ap (λ l. text ++ l) (sym h.1) ∙ e ∙ ap (λ l. words ++ l) k.1
+      ∙ append-nil words,
+  h.1 ∙ sym k.1,
+)
 same_text _ text words x y h k e = (h ∙ sym k, ap (λ l. l ++ x) (sym h) ∙ e ∙ ap (λ l. l ++ y) k)
 
 -- the message in front is the first of the messages
-pub next_is : (bytes : List ℕ) (m : ReaderMsg) (text further : List ℕ) → StandAsMessages bytes → bytes ≡ head_bytes m ++ (text ++ further) → IsTextOf m text further → IsNextMessage bytes m text further
+pub next_is : (bytes : List ℕ) (m : ReaderMsg) (text further : List ℕ) → StandAsMessages bytes
+    → bytes ≡ head_bytes m ++ (text ++ further) → IsTextOf m text further
+    → IsNextMessage bytes m text further
 next_is bytes m text further stand e is_text = by stand.list.messages refl
   where
     front : length further < length bytes
     front =
         let long = ap length e in
-        omega (arith, long, head_counts m, length-append (head_bytes m) (text ++ further), length-append text further)
+        omega (
+          arith,
+          long,
+          head_counts m,
+          length-append (head_bytes m) (text ++ further),
+          length-append text further,
+        )
 
     by : (ms : List ReaderMsg) → stand.list.messages ≡ ms → IsNextMessage bytes m text further
     by [] none =
@@ -204,22 +246,37 @@ next_is bytes m text further stand e is_text = by stand.list.messages refl
         let rest = flat_map (reader_msg_bytes id words) ms in
         let own = text_of id words n in
         let last : IsDisplayLast (n ∷ ms) = subst IsDisplayLast some stand.last in
-        let spelled : bytes ≡ flat_map (reader_msg_bytes id words) (n ∷ ms) = stand.spelled ∙ ap (flat_map (reader_msg_bytes id words)) some in
-        let there : head_bytes n ++ (own ++ rest) ≡ head_bytes m ++ (text ++ further) = sym (append_assoc (head_bytes n) own rest) ∙ sym spelled ∙ e in
-        let same : n ≡ m = sym (front_found n (own ++ rest)) ∙ ap front_message there ∙ front_found m (text ++ further) in
-        let its : IsTextOf m (text_of id words m) rest = subst (λ x. IsTextOf x (text_of id words x) rest) same (has_its_text id words n ms stand.id_length stand.text_length last) in
-        let back : text_of id words m ++ rest ≡ text ++ further = append_cancel_left (head_bytes m) (text_of id words m ++ rest) (text ++ further) (ap (λ x. head_bytes x ++ (text_of id words x ++ rest)) (sym same) ∙ there) in
+        let spelled : bytes ≡ flat_map (reader_msg_bytes id words) (n ∷ ms) = stand.spelled
+        ∙ ap (flat_map (reader_msg_bytes id words)) some in
+        let there : head_bytes n ++ (own ++ rest) ≡ head_bytes m ++ (text ++ further) =
+        sym (append_assoc (head_bytes n) own rest) ∙ sym spelled ∙ e in
+        let same : n ≡ m = sym (front_found n (own ++ rest)) ∙ ap front_message there
+        ∙ front_found m (text ++ further) in
+        let its : IsTextOf m (text_of id words m) rest =
+        subst (λ x. IsTextOf x (text_of id words x) rest) same
+        (has_its_text id words n ms stand.id_length stand.text_length last) in
+        let back : text_of id words m ++ rest ≡ text ++ further = append_cancel_left (head_bytes m)
+        (text_of id words m ++ rest) (text ++ further)
+        (ap (λ x. head_bytes x ++ (text_of id words x ++ rest)) (sym same) ∙ there) in
         let parts = same_text m (text_of id words m) text rest further its is_text back in
         let later = rest_last n ms last in
-        let rest_read : messages_of further ≡ tidy id words ms = ap messages_of (sym parts.1) ∙ reads_tidy id words ms stand.id_length stand.text_length later in
+        let rest_read : messages_of further ≡ tidy id words ms = ap messages_of (sym parts.1)
+        ∙ reads_tidy id words ms stand.id_length stand.text_length later in
         record {
           before =
-              ap messages_of spelled ∙ reads_tidy id words (n ∷ ms) stand.id_length stand.text_length last
+              ap messages_of spelled
+              ∙ reads_tidy id words (n ∷ ms) stand.id_length stand.text_length last
               ∙ ap (λ x. tidy id words (x ∷ ms)) same ∙ sym (tidy_more id words m ms)
               ∙ ap (λ x. before_messages m x (tidy id words ms)) parts.0
               ∙ ap (before_messages m text) (sym rest_read);
           is_text = is_text;
-          stand = record { list = record { messages = ms; id = id; text = words }; id_length = stand.id_length; text_length = stand.text_length; last = later; spelled = sym parts.1 };
+          stand = record {
+            list = record { messages = ms; id = id; text = words };
+            id_length = stand.id_length;
+            text_length = stand.text_length;
+            last = later;
+            spelled = sym parts.1;
+          };
           shorter = front;
         }
 

@@ -13,41 +13,71 @@ or_both false b h k = k
 true_is_not_false : true ≡ false → ⊥
 true_is_not_false h = cc
 
-last_from : (front : List ReaderMsg) (x : ReaderMsg) → list_any is_display front ≡ false → IsDisplayLast (front ++ x ∷ [])
+last_from : (front : List ReaderMsg) (x : ReaderMsg) → list_any is_display front ≡ false
+    → IsDisplayLast (front ++ x ∷ [])
 last_from [] x h = tt
 last_from (y ∷ []) x h = ((or_parts (is_display y) false h).0, tt)
 last_from (y ∷ z ∷ front) x h =
     let parts = or_parts (is_display y) (list_any is_display (z ∷ front)) h in
     (parts.0, last_from (z ∷ front) x parts.1)
 
-last_to : (front : List ReaderMsg) (x : ReaderMsg) → IsDisplayLast (front ++ x ∷ []) → list_any is_display front ≡ false
+last_to : (front : List ReaderMsg) (x : ReaderMsg) → IsDisplayLast (front ++ x ∷ [])
+    → list_any is_display front ≡ false
 last_to [] x h = refl
 last_to (y ∷ []) x h = or_both (is_display y) false h.0 refl
-last_to (y ∷ z ∷ front) x h = or_both (is_display y) (list_any is_display (z ∷ front)) h.0 (last_to (z ∷ front) x h.1)
+last_to (y ∷ z ∷ front) x h = or_both (is_display y) (list_any is_display (z ∷ front)) h.0
+    (last_to (z ∷ front) x h.1)
 
 -- no display request stands before the last message exactly where the test of the others fails
-pub display_last : (ms front : List ReaderMsg) (x : ReaderMsg) (r : Bool) → ms ≡ front ++ x ∷ [] → r ≡ list_any is_display front → (IsTrue (not r) → IsDisplayLast ms) × (IsDisplayLast ms → IsTrue (not r))
-display_last ms front x true e h =
-    (λ t. absurd (cc), λ l. absurd (true_is_not_false (h ∙ last_to front x (subst IsDisplayLast e l))))
-display_last ms front x false e h = (λ t. subst IsDisplayLast (sym e) (last_from front x (sym h)), λ l. refl)
+pub display_last : (ms front : List ReaderMsg) (x : ReaderMsg) (r : Bool) → ms ≡ front ++ x ∷ []
+    → r ≡ list_any is_display front → (IsTrue (not r) → IsDisplayLast ms)
+    × (IsDisplayLast ms → IsTrue (not r))
+display_last ms front x true e h = (
+  λ t. absurd (cc),
+  λ l. absurd (true_is_not_false (h ∙ last_to front x (subst IsDisplayLast e l))),
+)
+display_last ms front x false e h = (
+  λ t. subst IsDisplayLast (sym e) (last_from front x (sym h)),
+  λ l. refl,
+)
 
 -- a message's bytes have room where all messages' have
-pub room_for_one : (id text : List ℕ) (ms : List ReaderMsg) (i : ℕ) (d : ReaderMsg) (bytes : List ℕ) → i < length ms → bytes ≡ flat_map (reader_msg_bytes id text) (take i ms) → length (flat_map (reader_msg_bytes id text) ms) ≤ 35 → length bytes + length (reader_msg_bytes id text (get_or ms i d)) ≤ 35
+pub room_for_one : (id text : List ℕ) (ms : List ReaderMsg) (i : ℕ) (d : ReaderMsg) (bytes : List ℕ)
+    → i < length ms → bytes ≡ flat_map (reader_msg_bytes id text) (take i ms)
+    → length (flat_map (reader_msg_bytes id text) ms) ≤ 35
+    → length bytes + length (reader_msg_bytes id text (get_or ms i d)) ≤ 35
 room_for_one id text ms i d bytes below e room =
     let fits = length-flat_map-take (reader_msg_bytes id text) ms i d below in
-    let same : length bytes ≡ length (flat_map (reader_msg_bytes id text) (take i ms)) = ap length e in
+    let same : length bytes ≡ length (flat_map (reader_msg_bytes id text) (take i ms)) =
+    ap length e in
     omega arith
 
 -- where the first two tests hold, the third decides
-pub valid_list : (list : ReaderMessages) (last id text : Bool) → (IsTrue last → IsDisplayLast list.messages) → last ≡ true → (IsTrue id → list_any is_id list.messages ≡ false → list.id ≡ replicate 29 0) → id ≡ true → (IsTrue text → list_any is_display list.messages ≡ false → list.text ≡ []) × ((list_any is_display list.messages ≡ false → list.text ≡ []) → IsTrue text) → length list.id ≡ 29 → length list.text ≤ 32 → (IsTrue text → IsReaderList list) × (IsReaderList list → IsTrue text)
+pub valid_list : (list : ReaderMessages) (last id text : Bool)
+    → (IsTrue last → IsDisplayLast list.messages) → last ≡ true
+    → (IsTrue id → list_any is_id list.messages ≡ false → list.id ≡ replicate 29 0) → id ≡ true
+    → (IsTrue text → list_any is_display list.messages ≡ false → list.text ≡ [])
+    × ((list_any is_display list.messages ≡ false → list.text ≡ []) → IsTrue text)
+    → length list.id ≡ 29 → length list.text ≤ 32 → (IsTrue text → IsReaderList list)
+    × (IsReaderList list → IsTrue text)
 valid_list list last id text on_last is_last on_id is_id on_text id_length text_length = (
-  λ t. record { id_length = id_length; text_length = text_length; last = on_last is_last; no_id = on_id is_id; no_text = on_text.0 t },
+  λ t. record {
+    id_length = id_length;
+    text_length = text_length;
+    last = on_last is_last;
+    no_id = on_id is_id;
+    no_text = on_text.0 t;
+  },
   λ h. on_text.1 h.no_text,
 )
 
 -- and have none where the bytes with them are too many
-pub no_room : (id text : List ℕ) (ms : List ReaderMsg) (i : ℕ) (d : ReaderMsg) (bytes : List ℕ) → i < length ms → bytes ≡ flat_map (reader_msg_bytes id text) (take i ms) → 35 < length bytes + length (reader_msg_bytes id text (get_or ms i d)) → 35 < length (flat_map (reader_msg_bytes id text) ms)
+pub no_room : (id text : List ℕ) (ms : List ReaderMsg) (i : ℕ) (d : ReaderMsg) (bytes : List ℕ)
+    → i < length ms → bytes ≡ flat_map (reader_msg_bytes id text) (take i ms)
+    → 35 < length bytes + length (reader_msg_bytes id text (get_or ms i d))
+    → 35 < length (flat_map (reader_msg_bytes id text) ms)
 no_room id text ms i d bytes below e over =
     let fits = length-flat_map-take (reader_msg_bytes id text) ms i d below in
-    let same : length bytes ≡ length (flat_map (reader_msg_bytes id text) (take i ms)) = ap length e in
+    let same : length bytes ≡ length (flat_map (reader_msg_bytes id text) (take i ms)) =
+    ap length e in
     omega arith

@@ -63,105 +63,212 @@ record Front {M : Type 0} (f : M → List ℕ) (Is : M → Type 0) (bytes : List
   low : All IsByte rest
 
 -- a message that can't be taken is the leftmost such
-abbrev pub Stops : {M : Type 0} → (M → List ℕ) → (M → Type 0) → (List ℕ → MsgFault → Type 0) → List ℕ → Type 0
+abbrev pub Stops : {M : Type 0} → (M → List ℕ) → (M → Type 0) → (List ℕ → MsgFault → Type 0)
+    → List ℕ → Type 0
 Stops {M} f Is No bytes = StopsAt f Is No bytes Message ⊎ StopsAt f Is No bytes Profile
 
 -- a message in front
-in_front : {M : Type 0} (f : M → List ℕ) (Is : M → Type 0) (No : List ℕ → MsgFault → Type 0) (message : M) (bytes rest : List ℕ) (fault : MsgFault) → Is message → bytes ≡ f message ++ rest → StopsAt f Is No rest fault → StopsAt f Is No bytes fault
-in_front f Is No message bytes rest fault right is stops =
-    (message ∷ stops.0, stops.1, (right, stops.2), is ∙ (ap (λ l. f message ++ l) stops.3 ∙ sym (append_assoc (f message) (flat_map f stops.0) stops.1)), stops.4)
+in_front : {M : Type 0} (f : M → List ℕ) (Is : M → Type 0) (No : List ℕ → MsgFault → Type 0)
+    (message : M) (bytes rest : List ℕ) (fault : MsgFault) → Is message → bytes ≡ f message ++ rest
+    → StopsAt f Is No rest fault → StopsAt f Is No bytes fault
+in_front f Is No message bytes rest fault right is stops = (
+  message ∷ stops.0,
+  stops.1,
+  (right, stops.2),
+  is
+      ∙ (ap (λ l. f message ++ l) stops.3
+      ∙ sym (append_assoc (f message) (flat_map f stops.0) stops.1)),
+  stops.4,
+)
 
-goes_on : {M : Type 0} (f : M → List ℕ) (Is : M → Type 0) (No : List ℕ → MsgFault → Type 0) (bytes : List ℕ) (front : Front f Is bytes) → Reads f Is front.rest ⊎ Stops f Is No front.rest → Reads f Is bytes ⊎ Stops f Is No bytes
+goes_on : {M : Type 0} (f : M → List ℕ) (Is : M → Type 0) (No : List ℕ → MsgFault → Type 0)
+    (bytes : List ℕ) (front : Front f Is bytes) → Reads f Is front.rest ⊎ Stops f Is No front.rest
+    → Reads f Is bytes ⊎ Stops f Is No bytes
 goes_on f Is No bytes front (inl reads) =
-    inl (record { list = front.message ∷ reads.list; messages = (front.right, reads.messages); spelled = front.spelled ∙ ap (λ l. f front.message ++ l) reads.spelled })
-goes_on f Is No bytes front (inr (inl stops)) = inr (inl (in_front f Is No front.message bytes front.rest Message front.right front.spelled stops))
-goes_on f Is No bytes front (inr (inr stops)) = inr (inr (in_front f Is No front.message bytes front.rest Profile front.right front.spelled stops))
+    inl (record {
+      list = front.message ∷ reads.list;
+      messages = (front.right, reads.messages);
+      spelled = front.spelled ∙ ap (λ l. f front.message ++ l) reads.spelled;
+    })
+goes_on f Is No bytes front (inr (inl stops)) =
+    inr (inl (in_front f Is No front.message bytes front.rest Message front.right front.spelled
+    stops))
+goes_on f Is No bytes front (inr (inr stops)) =
+    inr (inr (in_front f Is No front.message bytes front.rest Profile front.right front.spelled
+    stops))
 
 -- what stands at the front of bytes
 abbrev Step : {M : Type 0} → (M → List ℕ) → (M → Type 0) → (List ℕ → MsgFault → Type 0) → Type 0
-Step {M} f Is No = (first : ℕ) (further : List ℕ) → All IsByte (first ∷ further) → Front f Is (first ∷ further) ⊎ (No (first ∷ further) Message ⊎ No (first ∷ further) Profile)
+Step {M} f Is No = (first : ℕ) (further : List ℕ) → All IsByte (first ∷ further)
+    → Front f Is (first ∷ further) ⊎ (No (first ∷ further) Message ⊎ No (first ∷ further) Profile)
 
-reads : {M : Type 0} (f : M → List ℕ) (Is : M → Type 0) (No : List ℕ → MsgFault → Type 0) → Step f Is No → (fuel : ℕ) (bytes : List ℕ) → length bytes ≤ fuel → All IsByte bytes → Reads f Is bytes ⊎ Stops f Is No bytes
+reads : {M : Type 0} (f : M → List ℕ) (Is : M → Type 0) (No : List ℕ → MsgFault → Type 0)
+    → Step f Is No → (fuel : ℕ) (bytes : List ℕ) → length bytes ≤ fuel → All IsByte bytes
+    → Reads f Is bytes ⊎ Stops f Is No bytes
 reads f Is No step fuel [] short low = inl (record { list = []; messages = tt; spelled = refl })
 reads f Is No step zero (first ∷ further) short low = absurd (omega arith)
-reads f Is No step (suc fuel) (first ∷ further) short low = by (reads f Is No step fuel) (step first further low)
+reads f Is No step (suc fuel) (first ∷ further) short low =
+    by (reads f Is No step fuel) (step first further low)
   where
-    by : ((bytes : List ℕ) → length bytes ≤ fuel → All IsByte bytes → Reads f Is bytes ⊎ Stops f Is No bytes) → Front f Is (first ∷ further) ⊎ (No (first ∷ further) Message ⊎ No (first ∷ further) Profile) → Reads f Is (first ∷ further) ⊎ Stops f Is No (first ∷ further)
-    by more (inl front) = goes_on f Is No (first ∷ further) front (more front.rest (let shorter = front.shorter in omega arith) front.low)
+    by : ((bytes : List ℕ) → length bytes ≤ fuel → All IsByte bytes
+        → Reads f Is bytes ⊎ Stops f Is No bytes) → Front f Is (first ∷ further)
+        ⊎ (No (first ∷ further) Message ⊎ No (first ∷ further) Profile)
+        → Reads f Is (first ∷ further) ⊎ Stops f Is No (first ∷ further)
+    by more (inl front) = goes_on f Is No (first ∷ further) front
+        (more front.rest (let shorter = front.shorter in omega arith) front.low)
     by more (inr (inl none)) = inr (inl ([], first ∷ further, tt, refl, none))
     by more (inr (inr none)) = inr (inr ([], first ∷ further, tt, refl, none))
 
 -- the changer's messages
-changer_one : (first : ℕ) (further : List ℕ) (message : ChangerMsg) → All IsByte (first ∷ further) → IsChangerMsg message → first ∷ [] ≡ changer_msg_bytes message → Front changer_msg_bytes IsChangerMsg (first ∷ further)
-changer_one first further message low right is = record { message = message; rest = further; right = right; spelled = ap (λ l. l ++ further) is; shorter = omega arith; low = All-drop IsByte 1 (first ∷ further) low }
+changer_one : (first : ℕ) (further : List ℕ) (message : ChangerMsg) → All IsByte (first ∷ further)
+    → IsChangerMsg message → first ∷ [] ≡ changer_msg_bytes message
+    → Front changer_msg_bytes IsChangerMsg (first ∷ further)
+changer_one first further message low right is = record {
+  message = message;
+  rest = further;
+  right = right;
+  spelled = ap (λ l. l ++ further) is;
+  shorter = omega arith;
+  low = All-drop IsByte 1 (first ∷ further) low;
+}
 
-changer_two : (first second : ℕ) (rest : List ℕ) (message : ChangerMsg) → All IsByte (first ∷ second ∷ rest) → IsChangerMsg message → first ∷ second ∷ [] ≡ changer_msg_bytes message → Front changer_msg_bytes IsChangerMsg (first ∷ second ∷ rest)
-changer_two first second rest message low right is = record { message = message; rest = rest; right = right; spelled = ap (λ l. l ++ rest) is; shorter = omega arith; low = All-drop IsByte 2 (first ∷ second ∷ rest) low }
+changer_two : (first second : ℕ) (rest : List ℕ) (message : ChangerMsg)
+    → All IsByte (first ∷ second ∷ rest) → IsChangerMsg message
+    → first ∷ second ∷ [] ≡ changer_msg_bytes message
+    → Front changer_msg_bytes IsChangerMsg (first ∷ second ∷ rest)
+changer_two first second rest message low right is = record {
+  message = message;
+  rest = rest;
+  right = right;
+  spelled = ap (λ l. l ++ rest) is;
+  shorter = omega arith;
+  low = All-drop IsByte 2 (first ∷ second ∷ rest) low;
+}
 
-changer_status : (first : ℕ) (further : List ℕ) → All IsByte (first ∷ further) → first < 27 → (first ≡ 11) ⊎ (first ≢ 11) → Front changer_msg_bytes IsChangerMsg (first ∷ further)
-changer_status first further low small (inl reset) = changer_one first further changer.Reset low tt (ap (λ b. b ∷ []) reset)
-changer_status first further low small (inr other) = changer_one first further (changer.Status first) low (small, other) refl
+changer_status : (first : ℕ) (further : List ℕ) → All IsByte (first ∷ further) → first < 27
+    → (first ≡ 11) ⊎ (first ≢ 11) → Front changer_msg_bytes IsChangerMsg (first ∷ further)
+changer_status first further low small (inl reset) = changer_one first further changer.Reset low tt
+    (ap (λ b. b ∷ []) reset)
+changer_status first further low small (inr other) =
+    changer_one first further (changer.Status first) low (small, other) refl
 
-changer_pair : (first : ℕ) (further : List ℕ) → All IsByte (first ∷ further) → 64 ≤ first → Front changer_msg_bytes IsChangerMsg (first ∷ further) ⊎ (NoChangerMsg (first ∷ further) Message ⊎ NoChangerMsg (first ∷ further) Profile)
+changer_pair : (first : ℕ) (further : List ℕ) → All IsByte (first ∷ further) → 64 ≤ first
+    → Front changer_msg_bytes IsChangerMsg (first ∷ further)
+    ⊎ (NoChangerMsg (first ∷ further) Message ⊎ NoChangerMsg (first ∷ further) Profile)
 changer_pair first [] low least = inr (inl (inr (least, refl)))
-changer_pair first (second ∷ rest) low least = by (split 80 first) (split 96 first) (split 112 first) (split 128 first)
+changer_pair first (second ∷ rest) low least = by (split 80 first) (split 96 first)
+    (split 112 first) (split 128 first)
   where
     front : (n : ℕ) → first ≡ n → first ∷ second ∷ [] ≡ n ∷ second ∷ []
     front n is = ap (λ b. b ∷ second ∷ []) is
 
-    by : (first < 80) ⊎ (80 ≤ first) → (first < 96) ⊎ (96 ≤ first) → (first < 112) ⊎ (112 ≤ first) → (first < 128) ⊎ (128 ≤ first) → Front changer_msg_bytes IsChangerMsg (first ∷ second ∷ rest) ⊎ (NoChangerMsg (first ∷ second ∷ rest) Message ⊎ NoChangerMsg (first ∷ second ∷ rest) Profile)
-    by (inl a) b c d = inl (changer_two first second rest (changer.CashBox (first - 64) second) low (omega (arith, a)) (front (64 + (first - 64)) (omega arith)))
-    by (inr a) (inl b) c d = inl (changer_two first second rest (changer.Tube (first - 80) second) low (omega (arith, a, b)) (front (80 + (first - 80)) (omega (arith, a))))
+    by : (first < 80) ⊎ (80 ≤ first) → (first < 96) ⊎ (96 ≤ first) → (first < 112) ⊎ (112 ≤ first)
+        → (first < 128) ⊎ (128 ≤ first)
+        → Front changer_msg_bytes IsChangerMsg (first ∷ second ∷ rest)
+        ⊎ (NoChangerMsg (first ∷ second ∷ rest) Message ⊎ NoChangerMsg (first ∷ second ∷ rest)
+        Profile)
+    by (inl a) b c d =
+        inl (changer_two first second rest (changer.CashBox (first - 64) second) low
+        (omega (arith, a)) (front (64 + (first - 64)) (omega arith)))
+    by (inr a) (inl b) c d =
+        inl (changer_two first second rest (changer.Tube (first - 80) second) low
+        (omega (arith, a, b)) (front (80 + (first - 80)) (omega (arith, a))))
     by (inr a) (inr b) (inl c) d = inr (inl (inl (b, c)))
-    by (inr a) (inr b) (inr c) (inl d) = inl (changer_two first second rest (changer.Rejected (first - 112) second) low (omega (arith, c, d)) (front (112 + (first - 112)) (omega (arith, c))))
+    by (inr a) (inr b) (inr c) (inl d) =
+        inl (changer_two first second rest (changer.Rejected (first - 112) second) low
+        (omega (arith, c, d)) (front (112 + (first - 112)) (omega (arith, c))))
     by (inr a) (inr b) (inr c) (inr d) =
         let small : first < 256 = low 0 0 (omega arith) in
-        inl (changer_two first second rest (changer.ManualDispense ((first - 128) / 16) ((first - 128) % 16) second) low (omega (arith, d), omega arith) (front (128 + 16 * ((first - 128) / 16) + (first - 128) % 16) (omega (arith, d))))
+        inl (changer_two first second rest
+        (changer.ManualDispense ((first - 128) / 16) ((first - 128) % 16) second) low
+        (omega (arith, d), omega arith)
+        (front (128 + 16 * ((first - 128) / 16) + (first - 128) % 16) (omega (arith, d))))
 
 changer_step : Step changer_msg_bytes IsChangerMsg NoChangerMsg
 changer_step first further low = by (split 27 first) (split 32 first) (split 64 first)
   where
-    by : (first < 27) ⊎ (27 ≤ first) → (first < 32) ⊎ (32 ≤ first) → (first < 64) ⊎ (64 ≤ first) → Front changer_msg_bytes IsChangerMsg (first ∷ further) ⊎ (NoChangerMsg (first ∷ further) Message ⊎ NoChangerMsg (first ∷ further) Profile)
+    by : (first < 27) ⊎ (27 ≤ first) → (first < 32) ⊎ (32 ≤ first) → (first < 64) ⊎ (64 ≤ first)
+        → Front changer_msg_bytes IsChangerMsg (first ∷ further)
+        ⊎ (NoChangerMsg (first ∷ further) Message ⊎ NoChangerMsg (first ∷ further) Profile)
     by (inl a) b c = inl (changer_status first further low a (same_or_not first 11))
     by (inr a) (inl b) c = inr (inr (a, b))
-    by (inr a) (inr b) (inl c) = inl (changer_one first further (changer.Slugs (first - 32)) low (omega (arith, b, c)) (let is : first ≡ 32 + (first - 32) = omega (arith, b) in ap (λ x. x ∷ []) is))
+    by (inr a) (inr b) (inl c) =
+        inl (changer_one first further (changer.Slugs (first - 32)) low (omega (arith, b, c))
+        (let is : first ≡ 32 + (first - 32) = omega (arith, b) in ap (λ x. x ∷ []) is))
     by (inr a) (inr b) (inr c) = changer_pair first further low c
 
-pub changer_reads : (bytes : List ℕ) → All IsByte bytes → Reads changer_msg_bytes IsChangerMsg bytes ⊎ Stops changer_msg_bytes IsChangerMsg NoChangerMsg bytes
-changer_reads bytes low = reads changer_msg_bytes IsChangerMsg NoChangerMsg changer_step (length bytes) bytes (omega arith) low
+pub changer_reads : (bytes : List ℕ) → All IsByte bytes → Reads changer_msg_bytes IsChangerMsg bytes
+    ⊎ Stops changer_msg_bytes IsChangerMsg NoChangerMsg bytes
+changer_reads bytes low = reads changer_msg_bytes IsChangerMsg NoChangerMsg changer_step
+    (length bytes) bytes (omega arith) low
 
 -- the validator's messages
-bill_one : (first : ℕ) (further : List ℕ) (message : BillMsg) → All IsByte (first ∷ further) → IsBillMsg message → first ∷ [] ≡ bill_msg_bytes message → Front bill_msg_bytes IsBillMsg (first ∷ further)
-bill_one first further message low right is = record { message = message; rest = further; right = right; spelled = ap (λ l. l ++ further) is; shorter = omega arith; low = All-drop IsByte 1 (first ∷ further) low }
+bill_one : (first : ℕ) (further : List ℕ) (message : BillMsg) → All IsByte (first ∷ further)
+    → IsBillMsg message → first ∷ [] ≡ bill_msg_bytes message
+    → Front bill_msg_bytes IsBillMsg (first ∷ further)
+bill_one first further message low right is = record {
+  message = message;
+  rest = further;
+  right = right;
+  spelled = ap (λ l. l ++ further) is;
+  shorter = omega arith;
+  low = All-drop IsByte 1 (first ∷ further) low;
+}
 
-bill_status : (first : ℕ) (further : List ℕ) → All IsByte (first ∷ further) → (first < 27) ⊎ ((32 ≤ first) × (first < 64)) → (first ≡ 6) ⊎ (first ≢ 6) → Front bill_msg_bytes IsBillMsg (first ∷ further)
-bill_status first further low small (inl reset) = bill_one first further bill.Reset low tt (ap (λ b. b ∷ []) reset)
-bill_status first further low small (inr other) = bill_one first further (bill.Status first) low (other, small) refl
+bill_status : (first : ℕ) (further : List ℕ) → All IsByte (first ∷ further)
+    → (first < 27) ⊎ ((32 ≤ first) × (first < 64)) → (first ≡ 6) ⊎ (first ≢ 6)
+    → Front bill_msg_bytes IsBillMsg (first ∷ further)
+bill_status first further low small (inl reset) = bill_one first further bill.Reset low tt
+    (ap (λ b. b ∷ []) reset)
+bill_status first further low small (inr other) = bill_one first further (bill.Status first) low
+    (other, small) refl
 
 bill_step : Step bill_msg_bytes IsBillMsg NoBillMsg
-bill_step first further low = low_half (split 27 first) (split 32 first) (split 64 first) (split 96 first) (split 128 first)
+bill_step first further low = low_half (split 27 first) (split 32 first) (split 64 first)
+    (split 96 first) (split 128 first)
   where
     front : (n : ℕ) → first ≡ n → first ∷ [] ≡ n ∷ []
     front n is = ap (λ b. b ∷ []) is
 
-    high_half : 128 ≤ first → (first < 144) ⊎ (144 ≤ first) → (first < 160) ⊎ (160 ≤ first) → (first < 176) ⊎ (176 ≤ first) → (first < 192) ⊎ (192 ≤ first) → (first < 208) ⊎ (208 ≤ first) → Front bill_msg_bytes IsBillMsg (first ∷ further) ⊎ (NoBillMsg (first ∷ further) Message ⊎ NoBillMsg (first ∷ further) Profile)
-    high_half least (inl a) b c d e = inl (bill_one first further (bill.Stacked (first - 128)) low (omega (arith, a, least)) (front (128 + (first - 128)) (omega (arith, least))))
-    high_half least (inr a) (inl b) c d e = inl (bill_one first further (bill.Escrow (first - 144)) low (omega (arith, a, b)) (front (144 + (first - 144)) (omega (arith, a))))
-    high_half least (inr a) (inr b) (inl c) d e = inl (bill_one first further (bill.Returned (first - 160)) low (omega (arith, b, c)) (front (160 + (first - 160)) (omega (arith, b))))
+    high_half : 128 ≤ first → (first < 144) ⊎ (144 ≤ first) → (first < 160) ⊎ (160 ≤ first)
+        → (first < 176) ⊎ (176 ≤ first) → (first < 192) ⊎ (192 ≤ first)
+        → (first < 208) ⊎ (208 ≤ first) → Front bill_msg_bytes IsBillMsg (first ∷ further)
+        ⊎ (NoBillMsg (first ∷ further) Message ⊎ NoBillMsg (first ∷ further) Profile)
+    high_half least (inl a) b c d e =
+        inl (bill_one first further (bill.Stacked (first - 128)) low (omega (arith, a, least))
+        (front (128 + (first - 128)) (omega (arith, least))))
+    high_half least (inr a) (inl b) c d e =
+        inl (bill_one first further (bill.Escrow (first - 144)) low (omega (arith, a, b))
+        (front (144 + (first - 144)) (omega (arith, a))))
+    high_half least (inr a) (inr b) (inl c) d e =
+        inl (bill_one first further (bill.Returned (first - 160)) low (omega (arith, b, c))
+        (front (160 + (first - 160)) (omega (arith, b))))
     high_half least (inr a) (inr b) (inr c) (inl d) e = inr (inr (inr (inl (c, d))))
-    high_half least (inr a) (inr b) (inr c) (inr d) (inl e) = inl (bill_one first further (bill.Rejected (first - 192)) low (omega (arith, d, e)) (front (192 + (first - 192)) (omega (arith, d))))
+    high_half least (inr a) (inr b) (inr c) (inr d) (inl e) =
+        inl (bill_one first further (bill.Rejected (first - 192)) low (omega (arith, d, e))
+        (front (192 + (first - 192)) (omega (arith, d))))
     high_half least (inr a) (inr b) (inr c) (inr d) (inr e) = inr (inr (inr (inr e)))
 
-    low_half : (first < 27) ⊎ (27 ≤ first) → (first < 32) ⊎ (32 ≤ first) → (first < 64) ⊎ (64 ≤ first) → (first < 96) ⊎ (96 ≤ first) → (first < 128) ⊎ (128 ≤ first) → Front bill_msg_bytes IsBillMsg (first ∷ further) ⊎ (NoBillMsg (first ∷ further) Message ⊎ NoBillMsg (first ∷ further) Profile)
+    low_half : (first < 27) ⊎ (27 ≤ first) → (first < 32) ⊎ (32 ≤ first)
+        → (first < 64) ⊎ (64 ≤ first) → (first < 96) ⊎ (96 ≤ first) → (first < 128) ⊎ (128 ≤ first)
+        → Front bill_msg_bytes IsBillMsg (first ∷ further)
+        ⊎ (NoBillMsg (first ∷ further) Message ⊎ NoBillMsg (first ∷ further) Profile)
     low_half (inl a) b c d e = inl (bill_status first further low (inl a) (same_or_not first 6))
     low_half (inr a) (inl b) c d e = inr (inr (inl (a, b)))
-    low_half (inr a) (inr b) (inl c) d e = inl (bill_status first further low (inr (b, c)) (same_or_not first 6))
-    low_half (inr a) (inr b) (inr c) (inl d) e = inl (bill_one first further (bill.Attempts (first - 64)) low (omega (arith, c, d)) (front (64 + (first - 64)) (omega (arith, c))))
+    low_half (inr a) (inr b) (inl c) d e =
+        inl (bill_status first further low (inr (b, c)) (same_or_not first 6))
+    low_half (inr a) (inr b) (inr c) (inl d) e =
+        inl (bill_one first further (bill.Attempts (first - 64)) low (omega (arith, c, d))
+        (front (64 + (first - 64)) (omega (arith, c))))
     low_half (inr a) (inr b) (inr c) (inr d) (inl e) = inr (inl (d, e))
-    low_half (inr a) (inr b) (inr c) (inr d) (inr e) = high_half e (split 144 first) (split 160 first) (split 176 first) (split 192 first) (split 208 first)
+    low_half (inr a) (inr b) (inr c) (inr d) (inr e) =
+        high_half e (split 144 first) (split 160 first) (split 176 first) (split 192 first)
+        (split 208 first)
 
-pub bill_reads : (bytes : List ℕ) → All IsByte bytes → Reads bill_msg_bytes IsBillMsg bytes ⊎ Stops bill_msg_bytes IsBillMsg NoBillMsg bytes
-bill_reads bytes low = reads bill_msg_bytes IsBillMsg NoBillMsg bill_step (length bytes) bytes (omega arith) low
+pub bill_reads : (bytes : List ℕ) → All IsByte bytes → Reads bill_msg_bytes IsBillMsg bytes
+    ⊎ Stops bill_msg_bytes IsBillMsg NoBillMsg bytes
+bill_reads bytes low = reads bill_msg_bytes IsBillMsg NoBillMsg bill_step (length bytes) bytes
+    (omega arith) low
 
 -- a reader's message stands at the front of bytes
 record ReaderFront (first : ℕ) (further : List ℕ) : Type 0 where
@@ -174,12 +281,24 @@ record ReaderFront (first : ℕ) (further : List ℕ) : Type 0 where
   low : All IsByte rest
 
 abbrev NoFront : ℕ → List ℕ → Type 0
-NoFront first further = NoReaderMsg (first ∷ further) Message ⊎ NoReaderMsg (first ∷ further) Profile
+NoFront first further = NoReaderMsg (first ∷ further) Message ⊎ NoReaderMsg (first ∷ further)
+    Profile
 
 -- a message of one byte
-short_message : (first : ℕ) (further : List ℕ) (message : ReaderMsg) → All IsByte (first ∷ further) → IsTextOf message [] further → first ∷ [] ≡ head_bytes message → ReaderFront first further ⊎ NoFront first further
+short_message : (first : ℕ) (further : List ℕ) (message : ReaderMsg) → All IsByte (first ∷ further)
+    → IsTextOf message [] further → first ∷ [] ≡ head_bytes message → ReaderFront first further
+    ⊎ NoFront first further
 short_message first further message low none is =
-    inl (record { message = message; text = []; rest = further; is_text = none; spelled = ap (λ l. l ++ further) is ∙ ap (λ l. l ++ further) (sym (append-nil (head_bytes message))); shorter = omega arith; low = All-drop IsByte 1 (first ∷ further) low })
+    inl (record {
+      message = message;
+      text = [];
+      rest = further;
+      is_text = none;
+      spelled = ap (λ l. l ++ further) is
+          ∙ ap (λ l. l ++ further) (sym (append-nil (head_bytes message)));
+      shorter = omega arith;
+      low = All-drop IsByte 1 (first ∷ further) low;
+    })
 
 config : (further : List ℕ) → All IsByte (1 ∷ further) → ReaderFront 1 further ⊎ NoFront 1 further
 config (a ∷ b ∷ c ∷ d ∷ e ∷ f ∷ g ∷ rest) low =
@@ -199,7 +318,8 @@ display : (further : List ℕ) → All IsByte (2 ∷ further) → ReaderFront 2 
 display [] low = inr (inl (inr (inl (refl, inl refl))))
 display (time ∷ text) low = by (split 33 (length text))
   where
-    by : (length text < 33) ⊎ (33 ≤ length text) → ReaderFront 2 (time ∷ text) ⊎ NoFront 2 (time ∷ text)
+    by : (length text < 33) ⊎ (33 ≤ length text) → ReaderFront 2 (time ∷ text)
+        ⊎ NoFront 2 (time ∷ text)
     by (inl short) = inl (record {
       message = reader.Display time;
       text = text;
@@ -214,16 +334,33 @@ display (time ∷ text) low = by (split 33 (length text))
 session : (further : List ℕ) → All IsByte (3 ∷ further) → ReaderFront 3 further ⊎ NoFront 3 further
 session (a ∷ b ∷ rest) low =
     let small : b < 256 = low 2 0 (omega arith) in
-    inl (record { message = reader.BeginSession (256 * a + b); text = []; rest = rest; is_text = refl; spelled = ap (λ l. 3 ∷ (l ++ rest)) (pair_bytes a b small); shorter = omega arith; low = All-drop IsByte 3 (3 ∷ a ∷ b ∷ rest) low })
+    inl (record {
+      message = reader.BeginSession (256 * a + b);
+      text = [];
+      rest = rest;
+      is_text = refl;
+      spelled = ap (λ l. 3 ∷ (l ++ rest)) (pair_bytes a b small);
+      shorter = omega arith;
+      low = All-drop IsByte 3 (3 ∷ a ∷ b ∷ rest) low;
+    })
 session further low = inr (inl (inr (inr (inl (inl refl, omega arith)))))
 
 approved : (further : List ℕ) → All IsByte (5 ∷ further) → ReaderFront 5 further ⊎ NoFront 5 further
 approved (a ∷ b ∷ rest) low =
     let small : b < 256 = low 2 0 (omega arith) in
-    inl (record { message = reader.VendApproved (256 * a + b); text = []; rest = rest; is_text = refl; spelled = ap (λ l. 5 ∷ (l ++ rest)) (pair_bytes a b small); shorter = omega arith; low = All-drop IsByte 3 (5 ∷ a ∷ b ∷ rest) low })
+    inl (record {
+      message = reader.VendApproved (256 * a + b);
+      text = [];
+      rest = rest;
+      is_text = refl;
+      spelled = ap (λ l. 5 ∷ (l ++ rest)) (pair_bytes a b small);
+      shorter = omega arith;
+      low = All-drop IsByte 3 (5 ∷ a ∷ b ∷ rest) low;
+    })
 approved further low = inr (inl (inr (inr (inl (inr refl, omega arith)))))
 
-identification : (further : List ℕ) → All IsByte (9 ∷ further) → (length further < 29) ⊎ (29 ≤ length further) → ReaderFront 9 further ⊎ NoFront 9 further
+identification : (further : List ℕ) → All IsByte (9 ∷ further) → (length further < 29)
+    ⊎ (29 ≤ length further) → ReaderFront 9 further ⊎ NoFront 9 further
 identification further low (inl short) = inr (inl (inr (inr (inr (inl (refl, short))))))
 identification further low (inr long) =
     inl (record {
@@ -236,25 +373,43 @@ identification further low (inr long) =
       low = All-drop IsByte 30 (9 ∷ further) low;
     })
 
-malfunction : (further : List ℕ) → All IsByte (10 ∷ further) → ReaderFront 10 further ⊎ NoFront 10 further
+malfunction : (further : List ℕ) → All IsByte (10 ∷ further) → ReaderFront 10 further
+    ⊎ NoFront 10 further
 malfunction [] low = inr (inl (inr (inr (inr (inr (refl, refl))))))
 malfunction (code ∷ rest) low =
-    inl (record { message = reader.Malfunction code; text = []; rest = rest; is_text = refl; spelled = refl; shorter = omega arith; low = All-drop IsByte 2 (10 ∷ code ∷ rest) low })
+    inl (record {
+      message = reader.Malfunction code;
+      text = [];
+      rest = rest;
+      is_text = refl;
+      spelled = refl;
+      shorter = omega arith;
+      low = All-drop IsByte 2 (10 ∷ code ∷ rest) low;
+    })
 
-reader_step : (first : ℕ) (further : List ℕ) → All IsByte (first ∷ further) → ReaderFront first further ⊎ NoFront first further
+reader_step : (first : ℕ) (further : List ℕ) → All IsByte (first ∷ further)
+    → ReaderFront first further ⊎ NoFront first further
 reader_step zero further low = short_message 0 further reader.JustReset low refl refl
 reader_step (suc zero) further low = config further low
 reader_step (suc (suc zero)) further low = display further low
 reader_step (suc (suc (suc zero))) further low = session further low
-reader_step (suc (suc (suc (suc zero)))) further low = short_message 4 further reader.CancelRequest low refl refl
+reader_step (suc (suc (suc (suc zero)))) further low = short_message 4 further reader.CancelRequest
+    low refl refl
 reader_step (suc (suc (suc (suc (suc zero))))) further low = approved further low
-reader_step (suc (suc (suc (suc (suc (suc zero)))))) further low = short_message 6 further reader.VendDenied low refl refl
-reader_step (suc (suc (suc (suc (suc (suc (suc zero))))))) further low = short_message 7 further reader.EndSession low refl refl
-reader_step (suc (suc (suc (suc (suc (suc (suc (suc zero)))))))) further low = short_message 8 further reader.Cancelled low refl refl
-reader_step (suc (suc (suc (suc (suc (suc (suc (suc (suc zero))))))))) further low = identification further low (split 29 (length further))
-reader_step (suc (suc (suc (suc (suc (suc (suc (suc (suc (suc zero)))))))))) further low = malfunction further low
-reader_step (suc (suc (suc (suc (suc (suc (suc (suc (suc (suc (suc zero))))))))))) further low = short_message 11 further reader.OutOfSequence low refl refl
-reader_step (suc (suc (suc (suc (suc (suc (suc (suc (suc (suc (suc (suc first)))))))))))) further low = inr (inr (omega arith))
+reader_step (suc (suc (suc (suc (suc (suc zero)))))) further low =
+    short_message 6 further reader.VendDenied low refl refl
+reader_step (suc (suc (suc (suc (suc (suc (suc zero))))))) further low =
+    short_message 7 further reader.EndSession low refl refl
+reader_step (suc (suc (suc (suc (suc (suc (suc (suc zero)))))))) further low =
+    short_message 8 further reader.Cancelled low refl refl
+reader_step (suc (suc (suc (suc (suc (suc (suc (suc (suc zero))))))))) further low =
+    identification further low (split 29 (length further))
+reader_step (suc (suc (suc (suc (suc (suc (suc (suc (suc (suc zero)))))))))) further low =
+    malfunction further low
+reader_step (suc (suc (suc (suc (suc (suc (suc (suc (suc (suc (suc zero))))))))))) further low =
+    short_message 11 further reader.OutOfSequence low refl refl
+reader_step (suc (suc (suc (suc (suc (suc (suc (suc (suc (suc (suc (suc first)))))))))))) further
+    low = inr (inr (omega arith))
 
 -- bytes are a reader's list
 pub record ReadsList (bytes : List ℕ) : Type 0 where
@@ -265,17 +420,33 @@ pub record ReadsList (bytes : List ℕ) : Type 0 where
 abbrev pub ReaderStops : List ℕ → Type 0
 ReaderStops bytes = ReaderStopsAt bytes Message ⊎ ReaderStopsAt bytes Profile
 
-reader_goes_on : (whole : List ℕ) → length whole ≤ 35 → (fuel : ℕ) (list : ReaderMessages) (rest : List ℕ) → length rest ≤ fuel → All IsByte rest → Taken whole list rest → ReadsList whole ⊎ ReaderStops whole
-reader_goes_on whole few fuel list [] short low taken = inl (record { list = list; is_list = taken.is_list; spelled = all_read whole list [] taken refl })
+reader_goes_on : (whole : List ℕ) → length whole ≤ 35
+    → (fuel : ℕ) (list : ReaderMessages) (rest : List ℕ) → length rest ≤ fuel → All IsByte rest
+    → Taken whole list rest → ReadsList whole ⊎ ReaderStops whole
+reader_goes_on whole few fuel list [] short low taken =
+    inl (record {
+      list = list;
+      is_list = taken.is_list;
+      spelled = all_read whole list [] taken refl;
+    })
 reader_goes_on whole few zero list (first ∷ further) short low taken = absurd (omega arith)
-reader_goes_on whole few (suc fuel) list (first ∷ further) short low taken = by (reader_goes_on whole few fuel) (reader_step first further low)
+reader_goes_on whole few (suc fuel) list (first ∷ further) short low taken =
+    by (reader_goes_on whole few fuel) (reader_step first further low)
   where
-    by : ((list : ReaderMessages) (rest : List ℕ) → length rest ≤ fuel → All IsByte rest → Taken whole list rest → ReadsList whole ⊎ ReaderStops whole) → ReaderFront first further ⊎ NoFront first further → ReadsList whole ⊎ ReaderStops whole
+    by : ((list : ReaderMessages) (rest : List ℕ) → length rest ≤ fuel → All IsByte rest
+        → Taken whole list rest → ReadsList whole ⊎ ReaderStops whole) → ReaderFront first further
+        ⊎ NoFront first further → ReadsList whole ⊎ ReaderStops whole
     by more (inl front) =
-        more (with_message list front.message front.text) front.rest (let shorter = front.shorter in omega arith) front.low
-        (takes_next whole list (first ∷ further) first further front.message front.text front.rest few taken refl front.spelled front.shorter front.is_text)
-    by more (inr (inl none)) = inr (inl (stops_next whole list (first ∷ further) first further Message taken refl none))
-    by more (inr (inr none)) = inr (inr (stops_next whole list (first ∷ further) first further Profile taken refl none))
+        more (with_message list front.message front.text) front.rest (let shorter = front.shorter in
+        omega arith) front.low
+        (takes_next whole list (first ∷ further) first further front.message front.text front.rest
+        few taken refl front.spelled front.shorter front.is_text)
+    by more (inr (inl none)) =
+        inr (inl (stops_next whole list (first ∷ further) first further Message taken refl none))
+    by more (inr (inr none)) =
+        inr (inr (stops_next whole list (first ∷ further) first further Profile taken refl none))
 
-pub reader_reads : (bytes : List ℕ) → length bytes ≤ 35 → All IsByte bytes → ReadsList bytes ⊎ ReaderStops bytes
-reader_reads bytes few low = reader_goes_on bytes few (length bytes) no_messages bytes (omega arith) low (nothing_taken bytes)
+pub reader_reads : (bytes : List ℕ) → length bytes ≤ 35 → All IsByte bytes
+    → ReadsList bytes ⊎ ReaderStops bytes
+reader_reads bytes few low = reader_goes_on bytes few (length bytes) no_messages bytes (omega arith)
+    low (nothing_taken bytes)

@@ -31,22 +31,37 @@ record ReadsForm (f : AnswerForm) (bytes : List ℕ) : Type 0 where
 abbrev NoReading : AnswerForm → List ℕ → Type 0
 NoReading f bytes = NoReply f bytes Message ⊎ NoReply f bytes Profile
 
-setup_of_changer : (bytes : List ℕ) → All IsByte bytes → 7 ≤ length bytes → (setup : ChangerSetup) × (bytes ≡ changer_setup_bytes setup)
+setup_of_changer : (bytes : List ℕ) → All IsByte bytes → 7 ≤ length bytes → (setup : ChangerSetup)
+    × (bytes ≡ changer_setup_bytes setup)
 setup_of_changer (a ∷ b ∷ c ∷ d ∷ e ∷ f ∷ g ∷ rest) low least =
     let code : b ∷ c ∷ [] ≡ two_bytes (256 * b + c) = pair_bytes b c (low 2 0 (omega arith)) in
     let routing : f ∷ g ∷ [] ≡ two_bytes (256 * f + g) = pair_bytes f g (low 6 0 (omega arith)) in (
-      record { level = a; code = 256 * b + c; scaling = d; decimals = e; routing = 256 * f + g; credits = record { items = rest } },
-      ap (λ x. a ∷ (x ++ (d ∷ e ∷ f ∷ g ∷ rest))) code ∙ ap (λ x. a ∷ (two_bytes (256 * b + c) ++ (d ∷ e ∷ (x ++ rest)))) routing,
+      record {
+        level = a;
+        code = 256 * b + c;
+        scaling = d;
+        decimals = e;
+        routing = 256 * f + g;
+        credits = record { items = rest };
+      },
+      ap (λ x. a ∷ (x ++ (d ∷ e ∷ f ∷ g ∷ rest))) code
+          ∙ ap (λ x. a ∷ (two_bytes (256 * b + c) ++ (d ∷ e ∷ (x ++ rest)))) routing,
     )
 setup_of_changer bytes low least = absurd (omega arith)
 
-tubes_of : (bytes : List ℕ) → All IsByte bytes → 2 ≤ length bytes → (status : TubeStatus) × (bytes ≡ tube_status_bytes status)
-tubes_of (a ∷ b ∷ rest) low least =
-    (record { full = 256 * a + b; counts = record { items = rest } }, ap (λ x. x ++ rest) (pair_bytes a b (low 1 0 (omega arith))))
+tubes_of : (bytes : List ℕ) → All IsByte bytes → 2 ≤ length bytes → (status : TubeStatus)
+    × (bytes ≡ tube_status_bytes status)
+tubes_of (a ∷ b ∷ rest) low least = (
+  record { full = 256 * a + b; counts = record { items = rest } },
+  ap (λ x. x ++ rest) (pair_bytes a b (low 1 0 (omega arith))),
+)
 tubes_of bytes low least = absurd (omega arith)
 
-setup_of_bill : (bytes : List ℕ) → All IsByte bytes → 11 ≤ length bytes → ((setup : BillSetup) × (bytes ≡ bill_setup_bytes setup)) ⊎ ((slice_index bytes 10 ≢ 0) × (slice_index bytes 10 ≢ 255))
-setup_of_bill (a ∷ b ∷ c ∷ d ∷ e ∷ f ∷ g ∷ h ∷ i ∷ j ∷ k ∷ rest) low least = by (same_or_not k 255) (same_or_not k 0)
+setup_of_bill : (bytes : List ℕ) → All IsByte bytes → 11 ≤ length bytes
+    → ((setup : BillSetup) × (bytes ≡ bill_setup_bytes setup))
+    ⊎ ((slice_index bytes 10 ≢ 0) × (slice_index bytes 10 ≢ 255))
+setup_of_bill (a ∷ b ∷ c ∷ d ∷ e ∷ f ∷ g ∷ h ∷ i ∷ j ∷ k ∷ rest) low least =
+    by (same_or_not k 255) (same_or_not k 0)
   where
     code : b ∷ c ∷ [] ≡ two_bytes (256 * b + c)
     code = pair_bytes b c (low 2 0 (omega arith))
@@ -60,21 +75,62 @@ setup_of_bill (a ∷ b ∷ c ∷ d ∷ e ∷ f ∷ g ∷ h ∷ i ∷ j ∷ k ∷
     security : i ∷ j ∷ [] ≡ two_bytes (256 * i + j)
     security = pair_bytes i j (low 9 0 (omega arith))
 
-    spelled : (last : ℕ) → k ≡ last → a ∷ b ∷ c ∷ d ∷ e ∷ f ∷ g ∷ h ∷ i ∷ j ∷ k ∷ rest ≡ a ∷ (two_bytes (256 * b + c) ++ (two_bytes (256 * d + e) ++ (f ∷ (two_bytes (256 * g + h) ++ (two_bytes (256 * i + j) ++ (last ∷ rest))))))
+    spelled : (last : ℕ) → k ≡ last → a ∷ b ∷ c ∷ d ∷ e ∷ f ∷ g ∷ h ∷ i ∷ j ∷ k ∷ rest
+        ≡ a ∷ (two_bytes (256 * b + c)
+        ++ (two_bytes (256 * d + e)
+        ++ (f ∷ (two_bytes (256 * g + h) ++ (two_bytes (256 * i + j) ++ (last ∷ rest))))))
     spelled last is =
         ap (λ x. a ∷ (x ++ (d ∷ e ∷ f ∷ g ∷ h ∷ i ∷ j ∷ k ∷ rest))) code
         ∙ ap (λ x. a ∷ (two_bytes (256 * b + c) ++ (x ++ (f ∷ g ∷ h ∷ i ∷ j ∷ k ∷ rest)))) scaling
-        ∙ ap (λ x. a ∷ (two_bytes (256 * b + c) ++ (two_bytes (256 * d + e) ++ (f ∷ (x ++ (i ∷ j ∷ k ∷ rest)))))) capacity
-        ∙ ap (λ x. a ∷ (two_bytes (256 * b + c) ++ (two_bytes (256 * d + e) ++ (f ∷ (two_bytes (256 * g + h) ++ (x ++ (k ∷ rest))))))) security
-        ∙ ap (λ y. a ∷ (two_bytes (256 * b + c) ++ (two_bytes (256 * d + e) ++ (f ∷ (two_bytes (256 * g + h) ++ (two_bytes (256 * i + j) ++ (y ∷ rest))))))) is
+        ∙ ap (λ x.
+        a ∷ (two_bytes (256 * b + c)
+        ++ (two_bytes (256 * d + e) ++ (f ∷ (x ++ (i ∷ j ∷ k ∷ rest)))))) capacity
+        ∙ ap (λ x.
+        a ∷ (two_bytes (256 * b + c)
+        ++ (two_bytes (256 * d + e) ++ (f ∷ (two_bytes (256 * g + h) ++ (x ++ (k ∷ rest)))))))
+        security
+        ∙ ap (λ y.
+        a ∷ (two_bytes (256 * b + c)
+        ++ (two_bytes (256 * d + e)
+        ++ (f ∷ (two_bytes (256 * g + h) ++ (two_bytes (256 * i + j) ++ (y ∷ rest))))))) is
 
-    by : (k ≡ 255) ⊎ (k ≢ 255) → (k ≡ 0) ⊎ (k ≢ 0) → ((setup : BillSetup) × (a ∷ b ∷ c ∷ d ∷ e ∷ f ∷ g ∷ h ∷ i ∷ j ∷ k ∷ rest ≡ bill_setup_bytes setup)) ⊎ ((k ≢ 0) × (k ≢ 255))
-    by (inl held) other = inl (record { level = a; code = 256 * b + c; scaling = 256 * d + e; decimals = f; capacity = 256 * g + h; security = 256 * i + j; escrow = true; credits = record { items = rest } }, spelled 255 held)
-    by (inr missing) (inl none) = inl (record { level = a; code = 256 * b + c; scaling = 256 * d + e; decimals = f; capacity = 256 * g + h; security = 256 * i + j; escrow = false; credits = record { items = rest } }, spelled 0 none)
+    by : (k ≡ 255) ⊎ (k ≢ 255) → (k ≡ 0) ⊎ (k ≢ 0)
+        → ((setup : BillSetup)
+        × (a ∷ b ∷ c ∷ d ∷ e ∷ f ∷ g ∷ h ∷ i ∷ j ∷ k ∷ rest ≡ bill_setup_bytes setup))
+        ⊎ ((k ≢ 0) × (k ≢ 255))
+    by (inl held) other =
+        inl (
+          record {
+            level = a;
+            code = 256 * b + c;
+            scaling = 256 * d + e;
+            decimals = f;
+            capacity = 256 * g + h;
+            security = 256 * i + j;
+            escrow = true;
+            credits = record { items = rest };
+          },
+          spelled 255 held,
+        )
+    by (inr missing) (inl none) =
+        inl (
+          record {
+            level = a;
+            code = 256 * b + c;
+            scaling = 256 * d + e;
+            decimals = f;
+            capacity = 256 * g + h;
+            security = 256 * i + j;
+            escrow = false;
+            credits = record { items = rest };
+          },
+          spelled 0 none,
+        )
     by (inr missing) (inr present) = inr (present, missing)
 setup_of_bill bytes low least = absurd (omega arith)
 
-stacker_of : (bytes : List ℕ) → All IsByte bytes → length bytes ≡ 2 → (stacker : Stacker) × IsStacker stacker × (bytes ≡ stacker_bytes stacker)
+stacker_of : (bytes : List ℕ) → All IsByte bytes → length bytes ≡ 2
+    → (stacker : Stacker) × IsStacker stacker × (bytes ≡ stacker_bytes stacker)
 stacker_of (a ∷ b ∷ []) low two = by (split 128 a)
   where
     high : a < 256
@@ -83,14 +139,25 @@ stacker_of (a ∷ b ∷ []) low two = by (split 128 a)
     small : b < 256
     small = low 1 0 (omega arith)
 
-    by : (a < 128) ⊎ (128 ≤ a) → (stacker : Stacker) × IsStacker stacker × (a ∷ b ∷ [] ≡ stacker_bytes stacker)
-    by (inl less) =
-        (record { full = false; count = 256 * a + b }, omega (arith, less, small), pair_bytes a b small ∙ ap two_bytes (let e : 256 * a + b ≡ 0 + (256 * a + b) = omega arith in e))
-    by (inr more) =
-        (record { full = true; count = 256 * (a - 128) + b }, omega (arith, more, small, high), pair_bytes a b small ∙ ap two_bytes (let e : 256 * a + b ≡ 32768 + (256 * (a - 128) + b) = omega (arith, more) in e))
+    by : (a < 128) ⊎ (128 ≤ a) → (stacker : Stacker) × IsStacker stacker
+        × (a ∷ b ∷ [] ≡ stacker_bytes stacker)
+    by (inl less) = (
+      record { full = false; count = 256 * a + b },
+      omega (arith, less, small),
+      pair_bytes a b small
+          ∙ ap two_bytes (let e : 256 * a + b ≡ 0 + (256 * a + b) = omega arith in e),
+    )
+    by (inr more) = (
+      record { full = true; count = 256 * (a - 128) + b },
+      omega (arith, more, small, high),
+      pair_bytes a b small
+          ∙ ap two_bytes (let e : 256 * a + b ≡ 32768 + (256 * (a - 128) + b) =
+          omega (arith, more) in e),
+    )
 stacker_of bytes low two = absurd (omega arith)
 
-reads_form : (f : AnswerForm) (bytes : List ℕ) → All IsByte bytes → IsDataLength f (length bytes) → ReadsForm f bytes ⊎ NoReading f bytes
+reads_form : (f : AnswerForm) (bytes : List ℕ) → All IsByte bytes → IsDataLength f (length bytes)
+    → ReadsForm f bytes ⊎ NoReading f bytes
 reads_form form.ChangerSetup bytes low count =
     let found = setup_of_changer bytes low count.0 in
     inl (record { reply = reply.ChangerSetup found.0; form = refl; fields = tt; spelled = found.1 })
@@ -99,39 +166,84 @@ reads_form form.TubeStatus bytes low count =
     inl (record { reply = reply.TubeStatus found.0; form = refl; fields = tt; spelled = found.1 })
 reads_form form.ChangerPoll bytes low count = by (changer_reads bytes low)
   where
-    by : Reads changer_msg_bytes IsChangerMsg bytes ⊎ Stops changer_msg_bytes IsChangerMsg NoChangerMsg bytes → ReadsForm form.ChangerPoll bytes ⊎ NoReading form.ChangerPoll bytes
-    by (inl read) = inl (record { reply = reply.ChangerPoll (record { items = read.list }); form = refl; fields = read.messages; spelled = read.spelled })
+    by : Reads changer_msg_bytes IsChangerMsg bytes ⊎ Stops changer_msg_bytes IsChangerMsg
+        NoChangerMsg bytes → ReadsForm form.ChangerPoll bytes ⊎ NoReading form.ChangerPoll bytes
+    by (inl read) =
+        inl (record {
+          reply = reply.ChangerPoll (record { items = read.list });
+          form = refl;
+          fields = read.messages;
+          spelled = read.spelled;
+        })
     by (inr stops) = inr stops
 reads_form form.ChangerIdentification bytes low count =
-    inl (record { reply = reply.ChangerIdentification bytes; form = refl; fields = tt; spelled = refl })
+    inl (record {
+      reply = reply.ChangerIdentification bytes;
+      form = refl;
+      fields = tt;
+      spelled = refl;
+    })
 reads_form form.BillSetup bytes low count = by (setup_of_bill bytes low count.0)
   where
-    by : ((setup : BillSetup) × (bytes ≡ bill_setup_bytes setup)) ⊎ ((slice_index bytes 10 ≢ 0) × (slice_index bytes 10 ≢ 255)) → ReadsForm form.BillSetup bytes ⊎ NoReading form.BillSetup bytes
-    by (inl found) = inl (record { reply = reply.BillSetup found.0; form = refl; fields = tt; spelled = found.1 })
+    by : ((setup : BillSetup) × (bytes ≡ bill_setup_bytes setup))
+        ⊎ ((slice_index bytes 10 ≢ 0) × (slice_index bytes 10 ≢ 255))
+        → ReadsForm form.BillSetup bytes ⊎ NoReading form.BillSetup bytes
+    by (inl found) =
+        inl (record {
+          reply = reply.BillSetup found.0;
+          form = refl;
+          fields = tt;
+          spelled = found.1;
+        })
     by (inr none) = inr (inl (refl, none.0, none.1))
 reads_form form.BillPoll bytes low count = by (bill_reads bytes low)
   where
-    by : Reads bill_msg_bytes IsBillMsg bytes ⊎ Stops bill_msg_bytes IsBillMsg NoBillMsg bytes → ReadsForm form.BillPoll bytes ⊎ NoReading form.BillPoll bytes
-    by (inl read) = inl (record { reply = reply.BillPoll (record { items = read.list }); form = refl; fields = read.messages; spelled = read.spelled })
+    by : Reads bill_msg_bytes IsBillMsg bytes ⊎ Stops bill_msg_bytes IsBillMsg NoBillMsg bytes
+        → ReadsForm form.BillPoll bytes ⊎ NoReading form.BillPoll bytes
+    by (inl read) =
+        inl (record {
+          reply = reply.BillPoll (record { items = read.list });
+          form = refl;
+          fields = read.messages;
+          spelled = read.spelled;
+        })
     by (inr stops) = inr stops
 reads_form form.Stacker bytes low count =
     let found = stacker_of bytes low (omega (arith, count.0, count.1)) in
     inl (record { reply = reply.Stacker found.0; form = refl; fields = found.1; spelled = found.2 })
 reads_form form.BillIdentification bytes low count =
-    inl (record { reply = reply.BillIdentification bytes; form = refl; fields = tt; spelled = refl })
+    inl (record {
+      reply = reply.BillIdentification bytes;
+      form = refl;
+      fields = tt;
+      spelled = refl;
+    })
 reads_form form.BillIdentificationWithOptions bytes low count =
-    inl (record { reply = reply.BillIdentificationWithOptions bytes; form = refl; fields = tt; spelled = refl })
+    inl (record {
+      reply = reply.BillIdentificationWithOptions bytes;
+      form = refl;
+      fields = tt;
+      spelled = refl;
+    })
 reads_form form.Reader bytes low count = by (reader_reads bytes count.1 low)
   where
-    by : ReadsList bytes ⊎ ReaderStops bytes → ReadsForm form.Reader bytes ⊎ NoReading form.Reader bytes
-    by (inl read) = inl (record { reply = reply.Reader read.list; form = refl; fields = read.is_list; spelled = read.spelled })
+    by : ReadsList bytes ⊎ ReaderStops bytes → ReadsForm form.Reader bytes
+        ⊎ NoReading form.Reader bytes
+    by (inl read) =
+        inl (record {
+          reply = reply.Reader read.list;
+          form = refl;
+          fields = read.is_list;
+          spelled = read.spelled;
+        })
     by (inr stops) = inr stops
 
 -- whether a form allows a number
 allowed_or_not : (f : AnswerForm) (count : ℕ) → IsDataLength f count ⊎ (IsDataLength f count → ⊥)
 allowed_or_not f count = by (split (lengths_of f).0 count) (split (suc (lengths_of f).1) count)
   where
-    by : (count < (lengths_of f).0) ⊎ ((lengths_of f).0 ≤ count) → (count < suc (lengths_of f).1) ⊎ (suc (lengths_of f).1 ≤ count) → IsDataLength f count ⊎ (IsDataLength f count → ⊥)
+    by : (count < (lengths_of f).0) ⊎ ((lengths_of f).0 ≤ count) → (count < suc (lengths_of f).1)
+        ⊎ (suc (lengths_of f).1 ≤ count) → IsDataLength f count ⊎ (IsDataLength f count → ⊥)
     by (inl few) other = inr (λ h. omega (arith, few, h.0))
     by (inr least) (inl most) = inl (least, omega (arith, most))
     by (inr least) (inr many) = inr (λ h. omega (arith, many, h.1))
@@ -142,28 +254,44 @@ kept_or_not true false = inl (refl, refl)
 kept_or_not false may = inr (λ h. refl)
 
 abbrev Decided : Command → List ℕ → Type 0
-Decided command bytes = ((reply : Reply) × IsReplyTo command reply × (bytes ≡ reply_bytes reply)) ⊎ ((fault : MsgFault) × IsReadFault command bytes fault)
+Decided command bytes = ((reply : Reply) × IsReplyTo command reply × (bytes ≡ reply_bytes reply))
+    ⊎ ((fault : MsgFault) × IsReadFault command bytes fault)
 
-by_keeping : (command : Command) (bytes : List ℕ) (found : Reply) → IsAnswerTo command found → bytes ≡ reply_bytes found → ((has_kept found ≡ true) × (may_keep command ≡ false)) ⊎ (may_keep command ≡ false → has_kept found ≡ false) → Decided command bytes
-by_keeping command bytes found answer spelled (inl kept) = inr (Answer, inr (found, answer, spelled, kept.0, kept.1))
-by_keeping command bytes found answer spelled (inr free) = inl (found, record { answer = answer; kept = free }, spelled)
+by_keeping : (command : Command) (bytes : List ℕ) (found : Reply) → IsAnswerTo command found
+    → bytes ≡ reply_bytes found → ((has_kept found ≡ true) × (may_keep command ≡ false))
+    ⊎ (may_keep command ≡ false → has_kept found ≡ false) → Decided command bytes
+by_keeping command bytes found answer spelled (inl kept) =
+    inr (Answer, inr (found, answer, spelled, kept.0, kept.1))
+by_keeping command bytes found answer spelled (inr free) =
+    inl (found, record { answer = answer; kept = free }, spelled)
 
-by_reading : (command : Command) (bytes : List ℕ) (f : AnswerForm) → form_of command ≡ Some f → IsDataLength f (length bytes) → ReadsForm f bytes ⊎ NoReading f bytes → Decided command bytes
+by_reading : (command : Command) (bytes : List ℕ) (f : AnswerForm) → form_of command ≡ Some f
+    → IsDataLength f (length bytes) → ReadsForm f bytes ⊎ NoReading f bytes → Decided command bytes
 by_reading command bytes f e count (inl read) =
     let P : AnswerForm → Type 0 = λ g. IsDataLength g (length bytes) in
     let Q : List ℕ → Type 0 = λ x. IsDataLength (form_of_reply read.reply) (length x) in
-    let answer : IsAnswerTo command read.reply = record { form = e ∙ ap Some (sym read.form); count = subst Q read.spelled (subst P (sym read.form) count); fields = read.fields } in
-    by_keeping command bytes read.reply answer read.spelled (kept_or_not (has_kept read.reply) (may_keep command))
+    let answer : IsAnswerTo command read.reply = record {
+      form = e ∙ ap Some (sym read.form);
+      count = subst Q read.spelled (subst P (sym read.form) count);
+      fields = read.fields;
+    } in
+    by_keeping command bytes read.reply answer read.spelled
+    (kept_or_not (has_kept read.reply) (may_keep command))
 by_reading command bytes f e count (inr (inl none)) = inr (Message, (f, e, count, none))
 by_reading command bytes f e count (inr (inr none)) = inr (Profile, (f, e, count, none))
 
-by_length : (command : Command) (bytes : List ℕ) → All IsByte bytes → (f : AnswerForm) → form_of command ≡ Some f → IsDataLength f (length bytes) ⊎ (IsDataLength f (length bytes) → ⊥) → Decided command bytes
-by_length command bytes low f e (inl count) = by_reading command bytes f e count (reads_form f bytes low count)
+by_length : (command : Command) (bytes : List ℕ) → All IsByte bytes → (f : AnswerForm)
+    → form_of command ≡ Some f → IsDataLength f (length bytes) ⊎ (IsDataLength f (length bytes) → ⊥)
+    → Decided command bytes
+by_length command bytes low f e (inl count) = by_reading command bytes f e count
+    (reads_form f bytes low count)
 by_length command bytes low f e (inr wrong) = inr (Length, (f, e, wrong))
 
-by_form : (command : Command) (bytes : List ℕ) → All IsByte bytes → (asked : Option AnswerForm) → form_of command ≡ asked → Decided command bytes
+by_form : (command : Command) (bytes : List ℕ) → All IsByte bytes → (asked : Option AnswerForm)
+    → form_of command ≡ asked → Decided command bytes
 by_form command bytes low None e = inr (Answer, inl e)
-by_form command bytes low (Some f) e = by_length command bytes low f e (allowed_or_not f (length bytes))
+by_form command bytes low (Some f) e = by_length command bytes low f e
+    (allowed_or_not f (length bytes))
 
 pub decided : (command : Command) (bytes : List ℕ) → IsContent bytes → Decided command bytes
 decided command bytes content = by_form command bytes content.in_range (form_of command) refl

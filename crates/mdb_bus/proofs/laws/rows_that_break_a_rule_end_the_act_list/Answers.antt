@@ -8,6 +8,7 @@ use Rattle.mdb_bus.proofs.laws.rows_that_break_a_rule_end_the_act_list.Goals as 
 pub returns : goal.returns
 returns c =
     ends (stops c.grammar.ensures)
-    (λ pieces rows row order is. let b = backward c.grammar.ensures.open_front pieces rows row order is in
+    (λ pieces rows row order is. let b = backward c.grammar.ensures.open_front pieces rows row order
+    is in
     (b.before, b.next, b.in_order, b.rows_before, b.leads))
     (one_act_list c.grammar.ensures.open_front (readings_of c.grammar.ensures))

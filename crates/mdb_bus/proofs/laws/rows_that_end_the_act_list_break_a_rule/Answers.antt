@@ -5,4 +5,5 @@ use Rattle.mdb_bus.proofs.laws.rows_that_end_the_act_list_break_a_rule.Goals as 
 
 pub returns : goal.returns
 returns c = some_rule (decide c.grammar.ensures)
-    (λ pieces row next order leads. let more = forward pieces row next order leads in (more.in_order, more.rows))
+    (λ pieces row next order leads. let more = forward pieces row next order leads in
+    (more.in_order, more.rows))

@@ -6,10 +6,16 @@ use Rattle.mdb_msgs.proofs.needs.need_by_second.Goals as goal
 
 pub returns-in-16-to-23 : goal.returns-in-16-to-23
 returns-in-16-to-23 c =
-    let second : c.copied-second.result ≡ slice_get c.args.prefix.now 1 = grind (arith, common_steps) in
-    c.reader_need.ensures ∙ sym (need_of_reader (slice_index c.args.prefix.now 0) c.copied-second.result (omega arith) (omega arith)) ∙ ap (need (slice_index c.args.prefix.now 0)) second
+    let second : c.copied-second.result ≡ slice_get c.args.prefix.now 1 =
+    grind (arith, common_steps) in
+    c.reader_need.ensures
+    ∙ sym (need_of_reader (slice_index c.args.prefix.now 0) c.copied-second.result (omega arith)
+    (omega arith)) ∙ ap (need (slice_index c.args.prefix.now 0)) second
 
 pub returns-in-96-to-103 : goal.returns-in-96-to-103
 returns-in-96-to-103 c =
-    let second : c.copied-second.result ≡ slice_get c.args.prefix.now 1 = grind (arith, common_steps) in
-    c.reader_need-in-96-to-103.ensures ∙ sym (need_of_second_reader (slice_index c.args.prefix.now 0) c.copied-second.result (omega arith) (omega arith)) ∙ ap (need (slice_index c.args.prefix.now 0)) second
+    let second : c.copied-second.result ≡ slice_get c.args.prefix.now 1 =
+    grind (arith, common_steps) in
+    c.reader_need-in-96-to-103.ensures
+    ∙ sym (need_of_second_reader (slice_index c.args.prefix.now 0) c.copied-second.result
+    (omega arith) (omega arith)) ∙ ap (need (slice_index c.args.prefix.now 0)) second

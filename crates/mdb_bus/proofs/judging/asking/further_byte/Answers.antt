@@ -12,10 +12,13 @@ at_most one other same small = let e : one ≡ other = cc in omega (arith, small
 
 pub returns-in-Exactly : goal.returns-in-Exactly
 returns-in-Exactly c =
-    let told : needed c.args.so_far.now ≡ Exactly c.in-Exactly.length = sym c.need_of.ensures ∙ c.in-Exactly.is in
+    let told : needed c.args.so_far.now ≡ Exactly c.in-Exactly.length = sym c.need_of.ensures
+    ∙ c.in-Exactly.is in
     let front : IsAskFront (c.args.so_far.now ++ (c.args.word % 256) ∷ []) =
-    further_front c.need_leaves_a_command_open.ensures c.args.so_far.now (c.args.word % 256) c.in-Exactly.length
-    c.requires.two (are_bytes c.args.so_far.now c.type_inv.so_far) (omega arith) told c.if-so_far-length.true in
+    further_front c.need_leaves_a_command_open.ensures c.args.so_far.now (c.args.word % 256)
+    c.in-Exactly.length
+    c.requires.two (are_bytes c.args.so_far.now c.type_inv.so_far) (omega arith) told
+    c.if-so_far-length.true in
     let P : List ℕ → Type 0 = λ bytes. IsAskFront (bytes ++ (c.args.word % 256) ∷ []) in
     (omega (arith, c.requires.unmarked), subst P (sym c.requires.is) front)
 

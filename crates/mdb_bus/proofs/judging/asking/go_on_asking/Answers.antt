@@ -5,21 +5,25 @@ use Rattle.mdb_bus.proofs.judging.asking.go_on_asking.Goals as goal
 pub returns-in-len1-clause-judged : goal.returns-in-len1-clause-judged
 returns-in-len1-clause-judged c =
     let small : c.args.word < 256 = search rules in
-    λ levels. going_on c.args.bytes.now c.args.from.now c.args.at c.args.word levels c.second_byte.result
+    λ levels. going_on c.args.bytes.now c.args.from.now c.args.at c.args.word levels
+    c.second_byte.result
     c.requires.in_order (search rules) (search rules) small c.second_byte.ensures
 
 pub returns-in_default-clause-judged : goal.returns-in_default-clause-judged
 returns-in_default-clause-judged c =
     let small : c.args.word < 256 = search rules in
-    λ levels. going_on c.args.bytes.now c.args.from.now c.args.at c.args.word levels c.further_byte.result
+    λ levels. going_on c.args.bytes.now c.args.from.now c.args.at c.args.word levels
+    c.further_byte.result
     c.requires.in_order (search rules) (search rules) small c.further_byte.ensures
 
 pub returns-in-len1-clause-belongs : goal.returns-in-len1-clause-belongs
 returns-in-len1-clause-belongs c =
-    asking_belongs c.front_of_a_command_is_open.ensures c.args.bytes.now c.args.at c.args.word c.second_byte.result
+    asking_belongs c.front_of_a_command_is_open.ensures c.args.bytes.now c.args.at c.args.word
+    c.second_byte.result
     c.second_byte.ensures
 
 pub returns-in_default-clause-belongs : goal.returns-in_default-clause-belongs
 returns-in_default-clause-belongs c =
-    asking_belongs c.front_of_a_command_is_open.ensures c.args.bytes.now c.args.at c.args.word c.further_byte.result
+    asking_belongs c.front_of_a_command_is_open.ensures c.args.bytes.now c.args.at c.args.word
+    c.further_byte.result
     c.further_byte.ensures

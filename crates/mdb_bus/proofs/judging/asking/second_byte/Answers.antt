@@ -6,12 +6,14 @@ use Rattle.mdb_bus.proofs.judging.asking.second_byte.Goals as goal
 pub returns-in-Outside : goal.returns-in-Outside
 returns-in-Outside c =
     second_outside c.args.bytes.now c.args.first c.byte.result c.args.word
-    c.need_of-2.result c.requires.is c.byte.ensures.value c.requires.unmarked c.need_of-2.ensures c.in-Outside.is c.requires.begun
+    c.need_of-2.result c.requires.is c.byte.ensures.value c.requires.unmarked c.need_of-2.ensures
+    c.in-Outside.is c.requires.begun
 
 pub returns-in-Foreign : goal.returns-in-Foreign
 returns-in-Foreign c =
     second_foreign c.args.bytes.now c.args.first c.byte.result c.args.word
-    c.need_of-2.result c.requires.is c.byte.ensures.value c.requires.unmarked c.need_of-2.ensures c.in-Foreign.is c.requires.begun
+    c.need_of-2.result c.requires.is c.byte.ensures.value c.requires.unmarked c.need_of-2.ensures
+    c.in-Foreign.is c.requires.begun
 
 pub returns-in-More : goal.returns-in-More
 returns-in-More c =

@@ -3,4 +3,5 @@ use Rattle.mdb_bus.proofs.place.Place.advance.Goals as goal
 
 pub returns-in-Break-clause-advanced : goal.returns-in-Break-clause-advanced
 returns-in-Break-clause-advanced c =
-    each_break c.args.judged c.args.row.now _ c.in-Break.is (λ at length is there. c.end_by_break.ensures.advanced at length is)
+    each_break c.args.judged c.args.row.now _ c.in-Break.is
+    (λ at length is there. c.end_by_break.ensures.advanced at length is)

@@ -14,7 +14,9 @@ returns-in-Some-clause-advanced c =
     position_in p c.args.self.now.bytes c.args.self.now.command c.args.self.now.answer.reply in
     let Poll : Command → Type 0 = λ p. Spells p (block_of c.as_slice.result.now) in
     let Spelled : List ℕ → Type 0 = λ bytes. Spells c.poll.result (block_of bytes) in
-    asked_poll (position_at c.args.self.now) (position_at c.ask.new.self) c.args.self.now.bytes c.poll.result
+    asked_poll (position_at c.args.self.now) (position_at c.ask.new.self) c.args.self.now.bytes
+    c.poll.result
     (ended_act c.ask.result c.ask.new.act) (ap At c.requires.asking) c.block_has_one_command.ensures
-    (subst Spelled c.as_slice.ensures.bytes (subst Poll (sym c.poll.ensures) c.in-Some.ensures.some))
+    (subst Spelled c.as_slice.ensures.bytes
+    (subst Poll (sym c.poll.ensures) c.in-Some.ensures.some))
     c.ask.ensures.asked c.ask.ensures.ended

@@ -5,8 +5,10 @@ use Rattle.mdb_bus.proofs.spelled.Spelled.word.Goals as goal
 
 pub returns-then-index-bytes-clause-word : goal.returns-then-index-bytes-clause-word
 returns-then-index-bytes-clause-word c =
-    let within : c.args.index < length c.sealed-block.result = omega (arith, ap length c.bytes.ensures.bytes) in
-    word_there (reply_bytes c.args.self.now.reply) c.args.self.now.bytes c.sealed-block.result c.args.index
+    let within : c.args.index < length c.sealed-block.result =
+    omega (arith, ap length c.bytes.ensures.bytes) in
+    word_there (reply_bytes c.args.self.now.reply) c.args.self.now.bytes c.sealed-block.result
+    c.args.index
     c.word.result c.args.self.now.spelled c.sealed-block.ensures within c.word.ensures
 
 pub returns-then-index-bytes-clause-count : goal.returns-then-index-bytes-clause-count
@@ -16,8 +18,10 @@ returns-then-index-bytes-clause-count c =
 
 pub returns-else-index-bytes-clause-word : goal.returns-else-index-bytes-clause-word
 returns-else-index-bytes-clause-word c =
-    let past : length c.sealed-block.result ≤ c.args.index = omega (arith, ap length c.bytes.ensures.bytes) in
-    word_after (reply_bytes c.args.self.now.reply) c.args.self.now.bytes c.sealed-block.result c.args.index
+    let past : length c.sealed-block.result ≤ c.args.index =
+    omega (arith, ap length c.bytes.ensures.bytes) in
+    word_after (reply_bytes c.args.self.now.reply) c.args.self.now.bytes c.sealed-block.result
+    c.args.index
     c.args.self.now.spelled c.sealed-block.ensures past
 
 pub returns-else-index-bytes-clause-count : goal.returns-else-index-bytes-clause-count

@@ -12,7 +12,13 @@ one_byte _ = refl
 as_many : (messages : List BillMsg) → length messages ≡ length (flat_map bill_msg_bytes messages)
 as_many [] = refl
 as_many (message ∷ messages) =
-    omega (arith, as_many messages, one_byte message, length-append (bill_msg_bytes message) (flat_map bill_msg_bytes messages))
+    omega (
+      arith,
+      as_many messages,
+      one_byte message,
+      length-append (bill_msg_bytes message)
+          (flat_map bill_msg_bytes messages),
+    )
 
 pub returns : goal.returns
 returns c = as_many c.args.messages.now

@@ -4,4 +4,5 @@ use Rattle.mdb_msgs.proofs.Reading.{Going}
 use Rattle.mdb_msgs.proofs.reply.bill.read_messages.Given as goal
 
 abbrev pub invariant-loop-byte : goal.invariant-loop-byte
-invariant-loop-byte l = Going bill_msg_bytes IsBillMsg l.bytes l.messages.items (drop l.byte-index l.bytes)
+invariant-loop-byte l = Going bill_msg_bytes IsBillMsg l.bytes l.messages.items
+    (drop l.byte-index l.bytes)

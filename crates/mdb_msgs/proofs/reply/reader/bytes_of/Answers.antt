@@ -14,6 +14,15 @@ returns-then-remaining_capacity-len-clause-fits c =
     let own = ap length c.text_of-text.ensures in
     let both = length-append (head_bytes message) (text_of id text message) in
     let over : 35 < length c.loop-message.bytes.items + length (reader_msg_bytes id text message) =
-    omega (arith, head, own, both, c.if-remaining_capacity-len.true, c.len.ensures.value, c.remaining_capacity.ensures) in
-    let long = no_room id text c.args.messages.now c.loop-message.message-index JustReset _ c.loop-message-test.true c.loop-message.invariant.spelled over in
+    omega (
+      arith,
+      head,
+      own,
+      both,
+      c.if-remaining_capacity-len.true,
+      c.len.ensures.value,
+      c.remaining_capacity.ensures,
+    ) in
+    let long = no_room id text c.args.messages.now c.loop-message.message-index JustReset _
+    c.loop-message-test.true c.loop-message.invariant.spelled over in
     (λ no. absurd (cc no), λ few. absurd (omega (arith, long, few)))

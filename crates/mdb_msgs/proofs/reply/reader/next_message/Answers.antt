@@ -7,8 +7,10 @@ returns-in_err-first-clause-none c = λ _. nothing_read _ c.in_err-first.ensures
 
 pub returns-clause-some : goal.returns-clause-some
 returns-clause-some c =
-    rw c.ok.ensures.value (next_found _ _ _ c.requires c.in_ok-first.ensures.cases.0 c.read_message.result c.read_message.ensures.bytes c.read_message.ensures.text)
+    rw c.ok.ensures.value (next_found _ _ _ c.requires c.in_ok-first.ensures.cases.0
+    c.read_message.result c.read_message.ensures.bytes c.read_message.ensures.text)
 
 pub returns-clause-none : goal.returns-clause-none
 returns-clause-none c = λ none.
-    absurd (never_none _ _ _ c.requires c.in_ok-first.ensures.cases.0 c.read_message.result c.read_message.ensures.err (rw (← c.ok.ensures.value) none))
+    absurd (never_none _ _ _ c.requires c.in_ok-first.ensures.cases.0 c.read_message.result
+    c.read_message.ensures.err (rw (← c.ok.ensures.value) none))

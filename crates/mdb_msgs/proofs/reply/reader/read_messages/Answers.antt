@@ -12,16 +12,21 @@ loop-first-init c = (no_messages, nothing_taken c.args.bytes.now)
 pub returns-in_err-after-clause-err : goal.returns-in_err-after-clause-err
 returns-in_err-after-clause-err c =
     let p = err_from_is_err_and c.from_residual.result c.from_residual.ensures.1 in
-    rw (p.1, p.2) (stops_next _ _ _ _ _ _ c.loop-first.invariant.1 c.in-Some.ensures.cases.0 c.in_err-after.ensures.err)
+    rw (p.1, p.2) (stops_next _ _ _ _ _ _ c.loop-first.invariant.1 c.in-Some.ensures.cases.0
+    c.in_err-after.ensures.err)
 
 pub loop-first-preserved : goal.loop-first-preserved
-loop-first-preserved c =
-    (with_message c.loop-first.invariant.0 c.in_ok-after.field-0-0 c.in_ok-after.field-0-1.now, takes_next _ _ _ _ _ _ _ _ c.requires c.loop-first.invariant.1 c.in-Some.ensures.cases.0 c.in_ok-after.ensures.bytes c.in_ok-after.ensures.rest c.in_ok-after.ensures.text)
+loop-first-preserved c = (
+  with_message c.loop-first.invariant.0 c.in_ok-after.field-0-0 c.in_ok-after.field-0-1.now,
+  takes_next _ _ _ _ _ _ _ _ c.requires c.loop-first.invariant.1 c.in-Some.ensures.cases.0
+      c.in_ok-after.ensures.bytes c.in_ok-after.ensures.rest c.in_ok-after.ensures.text,
+)
 
 pub invariant_of-result : goal.invariant_of-result
 invariant_of-result c =
     let taken = c.loop-first.invariant in
-    are_messages taken.0 _ taken.1.is_list (c.list_of.ensures ∙ all_read _ _ _ taken.1 c.in_default.ensures.cases)
+    are_messages taken.0 _ taken.1.is_list (c.list_of.ensures
+    ∙ all_read _ _ _ taken.1 c.in_default.ensures.cases)
 
 pub returns-clause-fields : goal.returns-clause-fields
 returns-clause-fields c = (invariant_of-result c).is_list
