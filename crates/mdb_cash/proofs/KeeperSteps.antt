@@ -1,4 +1,4 @@
-use Rattle.std.proofs.Common.{◌≡◌, ◌∙◌, ◌↔◌, ◌&&◌, ◌==◌, not, ℕ, Bool, true, false, List, [], ◌∷◌, Option, None, Some, refl, ap, sym, subst, length, map, arith, if◌then◌else◌}
+use Rattle.std.proofs.Common.{◌≡◌, ◌∙◌, ◌↔◌, ◌&&◌, ◌==◌, not, ℕ, Bool, true, false, List, [], ◌∷◌, Option, None, Some, refl, ap, sym, subst, length, map, arith, if◌then◌else◌, sum_by}
 use Rattle.std.specs.Bool.{OnFalse}
 use Rattle.std.proofs.lemmas.Bool.{eqb-true}
 use Rattle.mdb_msgs.specs.declared.command.Command.{Command}
@@ -13,28 +13,50 @@ use Rattle.mdb_cash.specs.Choices.{CanStand}
 use Rattle.mdb_cash.specs.Gains.{controller_gains, device_gains, no_gains}
 use Rattle.mdb_cash.specs.Keeper.{Facts, Tables, facts_of}
 use Rattle.mdb_cash.specs.KeeperSteps.{Conduct, KeeperStep, ReplyStep, VmcAckStep}
-use Rattle.mdb_cash.specs.Kept.{MayBeRead, has_reset, held, holds_acked, holds_behind, holds_read, kept_of}
+use Rattle.mdb_cash.specs.Kept.{IsSummary, MayBeRead, Tells, has_reset, held, holds_acked, holds_behind, holds_read, kept_of}
 use Rattle.mdb_cash.specs.Pair.{IsOnly, IsOutcome, Stays}
 use Rattle.mdb_cash.specs.Past.{PastFacts}
 use Rattle.mdb_cash.specs.Steps.{ForOwn}
-use Rattle.mdb_cash.proofs.KeptLists.{TellsOnly, free_acked}
+use Rattle.mdb_cash.proofs.KeptLists.{TellsOnly, free_acked, tells_only}
 
 -- the state in which a reply with these messages leaves what its device holds
 abbrev pub holding_of : {Own M State : Type 0} → Conduct Own M State → List (Part M) → Choice → State → State
 holding_of conduct parts choice before = conduct.with_holds (holds_behind (kept_of parts) (holds_read choice (conduct.holds before))) before
 
+-- it, as the code finds it
+pub holding : {Own M State : Type 0} {conduct : Conduct Own M State} {parts : List (Part M)} {kept : List M} {choice : Choice} {before state : State} {was holds behind : Bool}
+    → was ≡ conduct.holds before → holds ≡ holds_read choice was → kept ≡ kept_of parts → behind ≡ holds_behind kept holds → state ≡ conduct.with_holds behind before
+    → state ≡ holding_of conduct parts choice before
+holding was_is holds_is kept_is behind_is state_is = rw (state_is, behind_is, kept_is, holds_is, was_is) refl
+
+-- what a reply tells, as the code finds it
+pub telling : {Own M State : Type 0} {conduct : Conduct Own M State} {past : PastFacts M} {poll polls was holds reset early : Bool} {parts : List (Part M)} {last held_now kept news : List M} {choice : Choice} {before : State}
+    → poll ≡ polls → was ≡ conduct.holds before → holds ≡ holds_read choice was → last ≡ past.kept → held_now ≡ held holds last → IsSummary kept reset early parts
+    → ((parts : List (Part M)) → IsSummary kept reset early parts → Tells poll choice past.reset_owed held_now parts news)
+    → ((parts : List (Part M)) (other : List M) → IsSummary kept reset early parts → Tells poll choice past.reset_owed held_now parts other → other ≡ news)
+    → TellsOnly polls choice past.reset_owed (held (holds_read choice (conduct.holds before)) past.kept) parts news
+telling poll_is was_is holds_is last_is held_is summary found only = tells_only poll_is (rw (held_is, last_is, holds_is, was_is) refl) refl summary found only
+
+-- a reply that tells nothing that it could
+pub untold : {Own M State : Type 0} {conduct : Conduct Own M State} {past : PastFacts M} {poll polls was holds reset early : Bool} {parts : List (Part M)} {last held_now kept : List M} {choice : Choice} {before : State}
+    → poll ≡ polls → was ≡ conduct.holds before → holds ≡ holds_read choice was → last ≡ past.kept → held_now ≡ held holds last → IsSummary kept reset early parts
+    → ((parts : List (Part M)) (other : List M) → IsSummary kept reset early parts → Tells poll choice past.reset_owed held_now parts other → ⊥)
+    → IsOutcome (ReplyStep conduct past polls parts choice before) None
+untold {Own} {M} {State} {conduct} {past} {poll} {polls} {was} {holds} {reset} {early} {parts} {last} poll_is was_is holds_is last_is held_is summary none after gains step =
+    none parts step.news summary (rw (poll_is, held_is, last_is, holds_is, was_is) step.tells)
+
 -- a reply that tells these news, and no others
 pub told : {Own M State : Type 0} {conduct : Conduct Own M State} {past : PastFacts M} {poll : Bool} {parts : List (Part M)} {choice : Choice} {before holding after : State} {news : List M} {gains : Gains}
     → TellsOnly poll choice past.reset_owed (held (holds_read choice (conduct.holds before)) past.kept) parts news
     → holding ≡ holding_of conduct parts choice before → IsOnly (conduct.Takes choice news holding) (Some after)
-    → gains ≡ device_gains (conduct.first news) (conduct.second news)
+    → gains ≡ device_gains (sum_by conduct.first news) (sum_by conduct.second news)
     → IsOutcome (ReplyStep conduct past poll parts choice before) (Some (after, gains))
 told {Own} {M} {State} {conduct} {past} {poll} {parts} {choice} {before} {holding} {after} {news} {gains} telling holding_is takes gains_are = (
   record { news = news; tells = telling.tells; takes = subst (λ h. conduct.Takes choice news h after) holding_is takes.0; gained = gains_are },
   λ other more step.
       let same : step.news ≡ news = telling.only step.news step.tells in (
         takes.1 other (subst (λ h. conduct.Takes choice news h other) (sym holding_is) (subst (λ ns. conduct.Takes choice ns (holding_of conduct parts choice before) other) same step.takes)),
-        step.gained ∙ (ap (λ ns. device_gains (conduct.first ns) (conduct.second ns)) same ∙ sym gains_are),
+        step.gained ∙ (ap (λ ns. device_gains (sum_by conduct.first ns) (sum_by conduct.second ns)) same ∙ sym gains_are),
       ),
 )
 
@@ -49,7 +71,7 @@ untaken {Own} {M} {State} {conduct} {past} {poll} {parts} {choice} {before} {hol
 -- the controller's ACK has one outcome
 pub acknowledged : {Own M State : Type 0} {conduct : Conduct Own M State} {polls poll reset was acked : Bool} {parts : List (Part M)} {kept : List M} {choice : Choice} {before released after : State} {gains : Gains}
     → poll ≡ polls → reset ≡ has_reset parts → kept ≡ kept_of parts → was ≡ conduct.holds before → acked ≡ holds_acked choice kept was → released ≡ conduct.with_holds acked before
-    → after ≡ (if poll && reset then conduct.heard_reset released else released) → gains ≡ (if poll then controller_gains (conduct.first kept) (conduct.second kept) else no_gains)
+    → after ≡ (if poll && reset then conduct.heard_reset released else released) → gains ≡ (if poll then controller_gains (sum_by conduct.first kept) (sum_by conduct.second kept) else no_gains)
     → IsOutcome (VmcAckStep conduct polls parts choice before) (Some (after, gains))
 acknowledged {Own} {M} {State} {conduct} {polls} {poll} {reset} {was} {acked} {parts} {kept} {choice} {before} {released} {after} {gains} poll_is reset_is kept_is was_is acked_is released_is after_is gains_are =
     let step : VmcAckStep conduct polls parts choice before after gains = record {
@@ -74,14 +96,12 @@ no_part tables conduct past (acts.VmcAck c r) choice before gains is ask ack rep
 no_part tables conduct past (acts.Break n) choice before gains is ask ack reply vmc_ack break = absurd (break n refl)
 no_part tables conduct past act choice before gains is ask ack reply vmc_ack break = ((refl, is), λ after more stays. (stays.0, stays.1 ∙ sym is))
 
--- where nothing is told, the device does nothing
-pub record IsIdle {Own M State : Type 0} (conduct : Conduct Own M State) : Type 0 where
-  pub same : (state : State) → conduct.with_holds (conduct.holds state) state ≡ state
-  pub first : conduct.first [] ≡ 0
-  pub second : conduct.second [] ≡ 0
+-- a state that holds what it holds is the same
+abbrev pub HoldsSame : {Own M State : Type 0} → Conduct Own M State → Type 0
+HoldsSame {Own} {M} {State} conduct = (state : State) → conduct.with_holds (conduct.holds state) state ≡ state
 
 -- an ACK of a reply without messages changes nothing
-idle_ack : {Own M State : Type 0} (conduct : Conduct Own M State) → IsIdle conduct → (poll : Bool) (parts : List (Part M)) (choice : Choice) (before after : State) (gains : Gains) → parts ≡ []
+idle_ack : {Own M State : Type 0} (conduct : Conduct Own M State) → HoldsSame conduct → (poll : Bool) (parts : List (Part M)) (choice : Choice) (before after : State) (gains : Gains) → parts ≡ []
     → VmcAckStep conduct poll parts choice before after gains ↔ Stays before after gains
 idle_ack {Own} {M} {State} conduct idle poll parts choice before after gains none =
     let to_is : acked conduct poll choice before parts ≡ before = ap (acked conduct poll choice before) none ∙ same poll in
@@ -96,18 +116,18 @@ idle_ack {Own} {M} {State} conduct idle poll parts choice before after gains non
         if p && has_reset ps then c.heard_reset released else released
 
     gained : {Own M State : Type 0} → Conduct Own M State → Bool → List (Part M) → Gains
-    gained c p ps = if p then controller_gains (c.first (kept_of ps)) (c.second (kept_of ps)) else no_gains
+    gained c p ps = if p then controller_gains (sum_by c.first (kept_of ps)) (sum_by c.second (kept_of ps)) else no_gains
 
     same : (p : Bool) → acked conduct p choice before [] ≡ before
-    same true = idle.same before
-    same false = idle.same before
+    same true = idle before
+    same false = idle before
 
     nothing : (p : Bool) → gained conduct p [] ≡ no_gains
-    nothing true = rw (idle.first, idle.second) refl
+    nothing true = refl
     nothing false = refl
 
 -- no messages: what the code asks
-pub idle : {T Own Setup Asked M State : Type 0} (tables : Tables Own Setup Asked M) (conduct : Facts Setup Asked M → Conduct Own M State) → ((facts : Facts Setup Asked M) → IsIdle (conduct facts))
+pub idle : {T Own Setup Asked M State : Type 0} (tables : Tables Own Setup Asked M) (conduct : Facts Setup Asked M → Conduct Own M State) → ((facts : Facts Setup Asked M) → HoldsSame (conduct facts))
     → (part_of : T → Part M) (messages : List T) (act : Act) (command : Command) (own : Own) (reply : Reply) (empty : Bool) → act ≡ acts.VmcAck command reply → tables.own command ≡ Some own
     → map part_of messages ≡ tables.parts_of reply → empty ≡ (length messages == 0)
     → OnFalse (not empty) ((past : List Act) (choice : Choice) (before after : State) (gains : Gains) → KeeperStep tables (conduct (facts_of tables past)) (facts_of tables past).past act choice before after gains ↔ (after ≡ before) × (gains ≡ no_gains))

@@ -1,6 +1,6 @@
 -- The validator and the controller's dealings with it (MDB/ICP 4.3, bill validator; states and
 -- sums, this profile). The first account is bills-in; nothing is added to the second.
-use Rattle.std.specs.Prelude.{◌≡◌, ◌⊎◌, ℕ, ◌*◌, ◌%◌, Bool, true, false, List, [], ◌∷◌, Option, Some, None, ◌==◌, if◌then◌else◌, sum_by}
+use Rattle.std.specs.Prelude.{◌≡◌, ◌⊎◌, ℕ, ◌*◌, ◌%◌, Bool, true, false, List, [], ◌∷◌, Option, Some, None, ◌==◌, if◌then◌else◌}
 use Rattle.mdb_msgs.specs.declared.command.Command.TheVariants as commands
 use Rattle.mdb_msgs.specs.declared.command.BillCommand.{BillCommand}
 use Rattle.mdb_msgs.specs.declared.command.BillCommand.TheVariants as bill
@@ -39,10 +39,6 @@ bill_value (Some setup) number = setup.scaling * counted (credit_of setup.credit
 abbrev pub stacked : Option BillSetup → BillReport → ℕ
 stacked setup (reports.Stacked number) = bill_value setup number
 stacked setup _ = 0
-
--- what kept messages add to bills-in
-abbrev pub all_stacked : Option BillSetup → List BillReport → ℕ
-all_stacked setup messages = sum_by (stacked setup) messages
 
 -- A bill may be stacked that never waited in escrow, or that waits there with an order to stack it;
 -- one may be returned with an order or without one.
@@ -104,8 +100,8 @@ conduct facts =
       Takes = λ choice news before after.
           TakesAll facts news (escrow_read choice before.escrow) after.escrow
           × (after.holds ≡ before.holds);
-      first = all_stacked facts.setup;
-      second = λ news. 0;
+      first = stacked facts.setup;
+      second = λ message. 0;
       heard_reset = λ state. state;
     }
 

@@ -1,6 +1,6 @@
 -- The changer and the controller's dealings with it (MDB/ICP 4.3, coin changer; states and sums,
 -- this profile). The accounts are coins-in and paid-out.
-use Rattle.std.specs.Prelude.{◌≡◌, ℕ, ◌*◌, ◌/◌, ◌%◌, Bool, true, false, ◌&&◌, List, Option, Some, None, ◌==◌, if◌then◌else◌, sum_by}
+use Rattle.std.specs.Prelude.{◌≡◌, ℕ, ◌*◌, ◌/◌, ◌%◌, Bool, true, false, ◌&&◌, List, Option, Some, None, ◌==◌, if◌then◌else◌}
 use Rattle.std.specs.List.{AllByRecursion}
 use Rattle.mdb_msgs.specs.declared.command.Command.TheVariants as commands
 use Rattle.mdb_msgs.specs.declared.command.ChangerCommand.{ChangerCommand}
@@ -47,13 +47,6 @@ deposited setup (Dispensed count coin) = 0
 abbrev pub paid_by_hand : Option ChangerSetup → ChangerReport → ℕ
 paid_by_hand setup (Dispensed count coin) = count * coin_value setup coin
 paid_by_hand setup _ = 0
-
--- what kept messages add to coins-in and to paid-out
-abbrev pub all_deposited : Option ChangerSetup → List ChangerReport → ℕ
-all_deposited setup reports = sum_by (deposited setup) reports
-
-abbrev pub all_paid_by_hand : Option ChangerSetup → List ChangerReport → ℕ
-all_paid_by_hand setup reports = sum_by (paid_by_hand setup) reports
 
 -- a new deposit is of a type that is enabled; coins may be dispensed by hand at any time
 abbrev pub MayBeNew : Facts → ChangerReport → Type 0
@@ -113,8 +106,8 @@ conduct facts =
       Acks = AckStep facts;
       Takes = λ choice news before after.
           AllByRecursion (MayBeNew facts) news × (after ≡ before);
-      first = all_deposited facts.setup;
-      second = all_paid_by_hand facts.setup;
+      first = deposited facts.setup;
+      second = paid_by_hand facts.setup;
       heard_reset = λ state. record state { owed = false };
     }
 

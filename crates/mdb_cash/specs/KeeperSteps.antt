@@ -1,6 +1,6 @@
 -- What a device that keeps messages does, and the controller with it (this profile): how it holds
 -- and tells them, and what counts of that.
-use Rattle.std.specs.Prelude.{◌≡◌, ℕ, Bool, true, false, ◌&&◌, List, if◌then◌else◌}
+use Rattle.std.specs.Prelude.{◌≡◌, ℕ, Bool, true, false, ◌&&◌, List, if◌then◌else◌, sum_by}
 use Rattle.mdb_bus.specs.declared.act.Act.{Act}
 use Rattle.mdb_cash.specs.declared.choice.Choice.{Choice}
 use Rattle.mdb_cash.specs.declared.gains.Gains.{Gains}
@@ -25,9 +25,9 @@ pub record Conduct (Own M State : Type 0) : Type 1 where
   pub Acks : Own → Choice → State → State → Gains → Type 0
   -- the device tells new messages in a reply under a choice
   pub Takes : Choice → List M → State → State → Type 0
-  -- what kept messages add to the first account, and to the second
-  pub first : List M → ℕ
-  pub second : List M → ℕ
+  -- what a kept message adds to the first account, and to the second
+  pub first : M → ℕ
+  pub second : M → ℕ
   -- the state once the controller has heard a reset message
   pub heard_reset : State → State
 
@@ -50,7 +50,7 @@ pub record ReplyStep {Own M State : Type 0} (conduct : Conduct Own M State) (pas
       (held (holds_read choice (conduct.holds before)) past.kept) parts news
   pub takes : conduct.Takes choice news (conduct.with_holds
       (holds_behind (kept_of parts) (holds_read choice (conduct.holds before))) before) after
-  pub gained : gains ≡ device_gains (conduct.first news) (conduct.second news)
+  pub gained : gains ≡ device_gains (sum_by conduct.first news) (sum_by conduct.second news)
 
 -- The controller acknowledges a reply. To POLL, all kept messages count for it, new or not, and it
 -- hears a reset message.
@@ -61,7 +61,8 @@ pub record VmcAckStep {Own M State : Type 0} (conduct : Conduct Own M State)
       let released = conduct.with_holds (holds_acked choice (kept_of parts) (conduct.holds before)) before in
       after ≡ (if poll && has_reset parts then conduct.heard_reset released else released)
   pub gained : gains ≡ (if poll
-      then controller_gains (conduct.first (kept_of parts)) (conduct.second (kept_of parts))
+      then controller_gains (sum_by conduct.first (kept_of parts))
+      (sum_by conduct.second (kept_of parts))
       else no_gains)
 
 -- a step of the device and the controller by an act under a choice

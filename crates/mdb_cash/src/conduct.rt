@@ -1,7 +1,7 @@
 //! What a device that keeps messages does, and the controller with it.
 
-ghost use Rattle.std.specs.Prelude.{◌≡◌, ◌≤◌, ◌<◌, ◌^◌, ◌&&◌, Bool, IfSome, Option, Some, length, if◌then◌else◌};
-ghost use Rattle.mdb_cash.specs.Gains.{IsSmall, controller_gains, no_gains};
+ghost use Rattle.std.specs.Prelude.{◌≡◌, ◌≤◌, ◌<◌, ◌^◌, IfSome, Option, Some, length, sum_by};
+ghost use Rattle.mdb_cash.specs.Gains.{IsSmall};
 ghost use Rattle.mdb_cash.specs.Keeper.{Facts};
 ghost use Rattle.mdb_cash.specs.KeeperSteps as spec;
 ghost use Rattle.mdb_cash.specs.KeeperValues.{facts_in};
@@ -68,17 +68,15 @@ pub trait Conduct: Keeper {
     ) -> Option<Self::State>
         ensures { IsOnly ((conduct (facts_in facts.now)).Takes choice news.now before) result };
 
-    /// What kept messages add to the first account.
-    fn first(facts: &KeeperFacts<Self>, messages: &[Self::Kept]) -> u64
-        requires { length messages.now ≤ 16 }
-        ensures value { result ≡ (conduct (facts_in facts.now)).first messages.now }
-        ensures small { result < 2 ^ 32 };
+    /// What a kept message adds to the first account.
+    fn first(facts: &KeeperFacts<Self>, message: Self::Kept) -> u64
+        ensures value { result ≡ (conduct (facts_in facts.now)).first message }
+        ensures small { result < 2 ^ 28 };
 
-    /// What they add to the second.
-    fn second(facts: &KeeperFacts<Self>, messages: &[Self::Kept]) -> u64
-        requires { length messages.now ≤ 16 }
-        ensures value { result ≡ (conduct (facts_in facts.now)).second messages.now }
-        ensures small { result < 2 ^ 32 };
+    /// What it adds to the second.
+    fn second(facts: &KeeperFacts<Self>, message: Self::Kept) -> u64
+        ensures value { result ≡ (conduct (facts_in facts.now)).second message }
+        ensures small { result < 2 ^ 28 };
 
     /// The state once the controller has heard a reset message.
     fn heard_reset(state: Self::State) -> Self::State
@@ -164,8 +162,8 @@ fn answer<K: Conduct>(
     let news = summary.told(K::is_poll(command), choice, facts.past.reset_owed, held)?;
     let holding = K::with_holds(before, holds_behind(summary.kept.as_slice(), holds));
     let after = K::take(facts, choice, news, holding)?;
-    let gains = Gains::of_device(K::first(facts, news), K::second(facts, news));
-    Some((after, gains))
+    let (first, second) = worth(facts, news);
+    Some((after, Gains::of_device(first, second)))
 }
 
 /// The controller acknowledges a reply.
@@ -182,37 +180,31 @@ fn vmc_ack<K: Conduct>(
 {
     let summary = K::summary_of(reply);
     let kept = summary.kept.as_slice();
-    let poll = K::is_poll(command);
     let released = K::with_holds(before, holds_acked(choice, kept, K::holds(before)));
-    let after = heard::<K>(poll, summary.reset, released);
-    (after, gains_heard(facts, poll, kept))
-}
-
-/// The state once the controller has heard an answer to POLL or to another command, with a reset
-/// message or without one.
-fn heard<K: Conduct>(poll: bool, reset: bool, state: K::State) -> K::State
-    ensures { (facts : Facts K.Setup K.Asked K.Kept)
-        → result ≡ (if poll && reset then (K.conduct facts).heard_reset state else state) }
-{
-    if poll && reset {
-        K::heard_reset(state)
+    if !K::is_poll(command) {
+        return (released, Gains::none());
+    }
+    let (first, second) = worth(facts, kept);
+    let gains = Gains::of_controller(first, second);
+    if summary.reset {
+        (K::heard_reset(released), gains)
     } else {
-        state
+        (released, gains)
     }
 }
 
-/// What the controller gains by kept messages, in an answer to POLL or to another command.
-fn gains_heard<K: Conduct>(facts: &KeeperFacts<K>, poll: bool, kept: &[K::Kept]) -> Gains
-    requires { length kept.now ≤ 16 }
-    ensures value { let conduct = K.conduct (facts_in facts.now) in
-        result ≡ (if poll
-        then controller_gains (conduct.first kept.now) (conduct.second kept.now)
-        else no_gains) }
-    ensures small { IsSmall result }
+/// What kept messages add to the two accounts.
+fn worth<K: Conduct>(facts: &KeeperFacts<K>, messages: &[K::Kept]) -> (u64, u64)
+    requires { length messages.now ≤ 16 }
+    ensures first { result.0 ≡ sum_by (K.conduct (facts_in facts.now)).first messages.now }
+    ensures second { result.1 ≡ sum_by (K.conduct (facts_in facts.now)).second messages.now }
+    ensures small { (result.0 < 2 ^ 32) × (result.1 < 2 ^ 32) }
 {
-    if poll {
-        Gains::of_controller(K::first(facts, kept), K::second(facts, kept))
-    } else {
-        Gains::none()
+    let mut first = 0;
+    let mut second = 0;
+    for message in messages {
+        first += K::first(facts, *message);
+        second += K::second(facts, *message);
     }
+    (first, second)
 }

@@ -8,7 +8,7 @@ use super::Bill;
 use super::report::BillReport;
 use super::state::{BillState, BillType, Escrow};
 use super::tables::BillFacts;
-use super::values::all_stacked;
+use super::values::stacked;
 use crate::choice::Choice;
 use crate::conduct::Conduct;
 use crate::gains::Gains;
@@ -62,11 +62,11 @@ impl Conduct for Bill {
         Some(BillState { escrow, ..before })
     }
 
-    fn first(facts: &BillFacts, messages: &[BillReport]) -> u64 {
-        all_stacked(&facts.setup, messages)
+    fn first(facts: &BillFacts, message: BillReport) -> u64 {
+        stacked(&facts.setup, message)
     }
 
-    fn second(_facts: &BillFacts, _messages: &[BillReport]) -> u64 {
+    fn second(_facts: &BillFacts, _message: BillReport) -> u64 {
         0
     }
 

@@ -1,6 +1,6 @@
 //! What the validator's bills are worth (MDB/ICP 4.3, bill validator).
 
-ghost use Rattle.std.specs.Prelude.{◌≡◌, ◌≤◌, ◌<◌, ◌^◌, length};
+ghost use Rattle.std.specs.Prelude.{◌≡◌, ◌≤◌};
 ghost use Rattle.mdb_cash.specs.Bill as spec;
 
 use super::report::BillReport;
@@ -19,7 +19,7 @@ fn bill_value(setup: &Option<BillSetup>, bill: u8) -> u64
 }
 
 /// What a kept message adds to bills-in.
-fn stacked(setup: &Option<BillSetup>, report: BillReport) -> u64
+pub(crate) fn stacked(setup: &Option<BillSetup>, report: BillReport) -> u64
     ensures value { result ≡ spec.stacked setup.now report }
     ensures small { result ≤ 16711425 }
 {
@@ -27,17 +27,4 @@ fn stacked(setup: &Option<BillSetup>, report: BillReport) -> u64
         BillReport::Stacked(bill) => bill_value(setup, bill),
         _ => 0,
     }
-}
-
-/// What kept messages add to bills-in.
-pub(crate) fn all_stacked(setup: &Option<BillSetup>, reports: &[BillReport]) -> u64
-    requires { length reports.now ≤ 16 }
-    ensures value { result ≡ spec.all_stacked setup.now reports.now }
-    ensures small { result < 2 ^ 32 }
-{
-    let mut total = 0;
-    for report in reports {
-        total += stacked(setup, *report);
-    }
-    total
 }

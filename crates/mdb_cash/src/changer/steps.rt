@@ -11,7 +11,7 @@ use super::Changer;
 use super::report::ChangerReport;
 use super::state::ChangerState;
 use super::tables::ChangerFacts;
-use super::values::{all_deposited, all_paid_by_hand, dispensed_value};
+use super::values::{deposited, dispensed_value, paid_by_hand};
 use crate::choice::Choice;
 use crate::conduct::Conduct;
 use crate::gains::Gains;
@@ -91,12 +91,12 @@ impl Conduct for Changer {
         }
     }
 
-    fn first(facts: &ChangerFacts, messages: &[ChangerReport]) -> u64 {
-        all_deposited(&facts.setup, messages)
+    fn first(facts: &ChangerFacts, message: ChangerReport) -> u64 {
+        deposited(&facts.setup, message)
     }
 
-    fn second(facts: &ChangerFacts, messages: &[ChangerReport]) -> u64 {
-        all_paid_by_hand(&facts.setup, messages)
+    fn second(facts: &ChangerFacts, message: ChangerReport) -> u64 {
+        paid_by_hand(&facts.setup, message)
     }
 
     fn heard_reset(state: ChangerState) -> ChangerState {
