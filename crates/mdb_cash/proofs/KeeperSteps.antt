@@ -13,19 +13,19 @@ use Rattle.mdb_cash.specs.Choices.{CanStand}
 use Rattle.mdb_cash.specs.Gains.{controller_gains, device_gains, no_gains}
 use Rattle.mdb_cash.specs.Keeper.{Facts, Tables, facts_of}
 use Rattle.mdb_cash.specs.KeeperSteps.{Conduct, KeeperStep, ReplyStep, VmcAckStep}
-use Rattle.mdb_cash.specs.Kept.{IsSummary, MayBeRead, Tells, has_reset, held, holds_acked, holds_behind, holds_read, kept_of}
-use Rattle.mdb_cash.specs.Pair.{IsOnly, IsOutcome, Stays}
+use Rattle.mdb_cash.specs.Kept.{IsSummary, MayBeRead, Tells, has_reset, held, holds_acked, holds_after, holds_read, kept_of}
+use Rattle.mdb_cash.specs.Pair.{IsOnly, IsOnlyStep, Stays}
 use Rattle.mdb_cash.specs.Past.{PastFacts}
 use Rattle.mdb_cash.specs.Steps.{ForOwn}
 use Rattle.mdb_cash.proofs.KeptLists.{TellsOnly, free_acked, tells_only}
 
 -- the state in which a reply with these messages leaves what its device holds
 abbrev pub holding_of : {Own M State : Type 0} → Conduct Own M State → List (Part M) → Choice → State → State
-holding_of conduct parts choice before = conduct.with_holds (holds_behind (kept_of parts) (holds_read choice (conduct.holds before))) before
+holding_of conduct parts choice before = conduct.with_holds (holds_after (kept_of parts) (holds_read choice (conduct.holds before))) before
 
 -- it, as the code finds it
 pub holding : {Own M State : Type 0} {conduct : Conduct Own M State} {parts : List (Part M)} {kept : List M} {choice : Choice} {before state : State} {was holds behind : Bool}
-    → was ≡ conduct.holds before → holds ≡ holds_read choice was → kept ≡ kept_of parts → behind ≡ holds_behind kept holds → state ≡ conduct.with_holds behind before
+    → was ≡ conduct.holds before → holds ≡ holds_read choice was → kept ≡ kept_of parts → behind ≡ holds_after kept holds → state ≡ conduct.with_holds behind before
     → state ≡ holding_of conduct parts choice before
 holding was_is holds_is kept_is behind_is state_is = rw (state_is, behind_is, kept_is, holds_is, was_is) refl
 
@@ -41,7 +41,7 @@ telling poll_is was_is holds_is last_is held_is summary found only = tells_only 
 pub untold : {Own M State : Type 0} {conduct : Conduct Own M State} {past : PastFacts M} {poll polls was holds reset early : Bool} {parts : List (Part M)} {last held_now kept : List M} {choice : Choice} {before : State}
     → poll ≡ polls → was ≡ conduct.holds before → holds ≡ holds_read choice was → last ≡ past.kept → held_now ≡ held holds last → IsSummary kept reset early parts
     → ((parts : List (Part M)) (other : List M) → IsSummary kept reset early parts → Tells poll choice past.reset_owed held_now parts other → ⊥)
-    → IsOutcome (ReplyStep conduct past polls parts choice before) None
+    → IsOnlyStep (ReplyStep conduct past polls parts choice before) None
 untold {Own} {M} {State} {conduct} {past} {poll} {polls} {was} {holds} {reset} {early} {parts} {last} poll_is was_is holds_is last_is held_is summary none after gains step =
     none parts step.news summary (rw (poll_is, held_is, last_is, holds_is, was_is) step.tells)
 
@@ -50,7 +50,7 @@ pub told : {Own M State : Type 0} {conduct : Conduct Own M State} {past : PastFa
     → TellsOnly poll choice past.reset_owed (held (holds_read choice (conduct.holds before)) past.kept) parts news
     → holding ≡ holding_of conduct parts choice before → IsOnly (conduct.Takes choice news holding) (Some after)
     → gains ≡ device_gains (sum_by conduct.first news) (sum_by conduct.second news)
-    → IsOutcome (ReplyStep conduct past poll parts choice before) (Some (after, gains))
+    → IsOnlyStep (ReplyStep conduct past poll parts choice before) (Some (after, gains))
 told {Own} {M} {State} {conduct} {past} {poll} {parts} {choice} {before} {holding} {after} {news} {gains} telling holding_is takes gains_are = (
   record { news = news; tells = telling.tells; takes = subst (λ h. conduct.Takes choice news h after) holding_is takes.0; gained = gains_are },
   λ other more step.
@@ -64,7 +64,7 @@ told {Own} {M} {State} {conduct} {past} {poll} {parts} {choice} {before} {holdin
 pub untaken : {Own M State : Type 0} {conduct : Conduct Own M State} {past : PastFacts M} {poll : Bool} {parts : List (Part M)} {choice : Choice} {before holding : State} {news : List M}
     → TellsOnly poll choice past.reset_owed (held (holds_read choice (conduct.holds before)) past.kept) parts news
     → holding ≡ holding_of conduct parts choice before → IsOnly (conduct.Takes choice news holding) None
-    → IsOutcome (ReplyStep conduct past poll parts choice before) None
+    → IsOnlyStep (ReplyStep conduct past poll parts choice before) None
 untaken {Own} {M} {State} {conduct} {past} {poll} {parts} {choice} {before} {holding} {news} telling holding_is none after gains step =
     none after (subst (λ h. conduct.Takes choice news h after) (sym holding_is) (subst (λ ns. conduct.Takes choice ns (holding_of conduct parts choice before) after) (telling.only step.news step.tells) step.takes))
 
@@ -72,7 +72,7 @@ untaken {Own} {M} {State} {conduct} {past} {poll} {parts} {choice} {before} {hol
 pub acknowledged : {Own M State : Type 0} {conduct : Conduct Own M State} {polls poll reset was acked : Bool} {parts : List (Part M)} {kept : List M} {choice : Choice} {before released after : State} {gains : Gains}
     → poll ≡ polls → reset ≡ has_reset parts → kept ≡ kept_of parts → was ≡ conduct.holds before → acked ≡ holds_acked choice kept was → released ≡ conduct.with_holds acked before
     → after ≡ (if poll && reset then conduct.heard_reset released else released) → gains ≡ (if poll then controller_gains (sum_by conduct.first kept) (sum_by conduct.second kept) else no_gains)
-    → IsOutcome (VmcAckStep conduct polls parts choice before) (Some (after, gains))
+    → IsOnlyStep (VmcAckStep conduct polls parts choice before) (Some (after, gains))
 acknowledged {Own} {M} {State} {conduct} {polls} {poll} {reset} {was} {acked} {parts} {kept} {choice} {before} {released} {after} {gains} poll_is reset_is kept_is was_is acked_is released_is after_is gains_are =
     let step : VmcAckStep conduct polls parts choice before after gains = record {
       to = rw (after_is, released_is, acked_is, was_is, kept_is, reset_is, poll_is) refl;
@@ -82,13 +82,13 @@ acknowledged {Own} {M} {State} {conduct} {polls} {poll} {reset} {was} {acked} {p
 
 -- a step by a command of the device
 pub by_own : {Own State : Type 0} {command : Option Own} {own : Own} (Step : Own → State → State → Gains → Type 0) (before : State) (outcome : Option (State × Gains)) → command ≡ Some own
-    → IsOutcome (Step own before) outcome → IsOutcome (ForOwn command Step before) outcome
-by_own {Own} {State} {command} {own} Step before outcome is step = subst (λ (c : Option Own). IsOutcome (ForOwn c Step before) outcome) (sym is) step
+    → IsOnlyStep (Step own before) outcome → IsOnlyStep (ForOwn command Step before) outcome
+by_own {Own} {State} {command} {own} Step before outcome is step = subst (λ (c : Option Own). IsOnlyStep (ForOwn c Step before) outcome) (sym is) step
 
 -- the acts that no device has a step by
 pub no_part : {Own Setup Asked M State : Type 0} (tables : Tables Own Setup Asked M) (conduct : Conduct Own M State) (past : PastFacts M) (act : Act) (choice : Choice) (before : State) (gains : Gains) → gains ≡ no_gains
     → ((c : Command) → act ≡ acts.Ask c → ⊥) → ((c : Command) → act ≡ acts.Ack c → ⊥) → ((c : Command) (r : Reply) → act ≡ acts.Reply c r → ⊥) → ((c : Command) (r : Reply) → act ≡ acts.VmcAck c r → ⊥) → ((n : ℕ) → act ≡ acts.Break n → ⊥)
-    → IsOutcome (KeeperStep tables conduct past act choice before) (Some (before, gains))
+    → IsOnlyStep (KeeperStep tables conduct past act choice before) (Some (before, gains))
 no_part tables conduct past (acts.Ask c) choice before gains is ask ack reply vmc_ack break = absurd (ask c refl)
 no_part tables conduct past (acts.Ack c) choice before gains is ask ack reply vmc_ack break = absurd (ack c refl)
 no_part tables conduct past (acts.Reply c r) choice before gains is ask ack reply vmc_ack break = absurd (reply c r refl)

@@ -9,8 +9,8 @@ use Rattle.mdb_msgs.specs.declared.reply.setup.BillSetup.{BillSetup}
 use Rattle.mdb_msgs.specs.Setup.{credit_of}
 use Rattle.mdb_bus.specs.declared.act.Act.{Act}
 use Rattle.mdb_bus.specs.declared.act.Act.TheVariants as acts
-use Rattle.mdb_cash.specs.declared.bill.report.BillReport.{BillReport}
-use Rattle.mdb_cash.specs.declared.bill.report.BillReport.TheVariants as reports
+use Rattle.mdb_cash.specs.declared.bill.activity.BillActivity.{BillActivity}
+use Rattle.mdb_cash.specs.declared.bill.activity.BillActivity.TheVariants as activity
 use Rattle.mdb_cash.specs.declared.bill.state.BillState.{BillState}
 use Rattle.mdb_cash.specs.declared.bill.state.BillType.{BillType}
 use Rattle.mdb_cash.specs.declared.bill.state.Escrow.{Escrow}
@@ -36,8 +36,8 @@ bill_value None number = 0
 bill_value (Some setup) number = setup.scaling * counted (credit_of setup.credits.items number)
 
 -- what a kept message adds to bills-in: a bill that was stacked
-abbrev pub stacked : Option BillSetup → BillReport → ℕ
-stacked setup (reports.Stacked number) = bill_value setup number
+abbrev pub stacked : Option BillSetup → BillActivity → ℕ
+stacked setup (activity.Stacked number) = bill_value setup number
 stacked setup _ = 0
 
 -- A bill may be stacked that never waited in escrow, or that waits there with an order to stack it;
@@ -50,18 +50,18 @@ MayReturn type escrow = (escrow ≡ Empty) ⊎ (escrow ≡ Waiting type) ⊎ (es
 
 -- What is in escrow before and behind a message that is new. A bill that is stacked or in escrow is
 -- of a type that is enabled. There are no types past 15, so nothing may be told of one.
-abbrev pub TakesMessage : Facts → BillReport → Escrow → Escrow → Type 0
-TakesMessage facts (reports.Stacked number) before after =
+abbrev pub TakesMessage : Facts → BillActivity → Escrow → Escrow → Type 0
+TakesMessage facts (activity.Stacked number) before after =
     (type : BillType) × (type.number ≡ number) × (facts.past.enabled number ≡ true)
     × MayStack type before × (after ≡ Empty)
-TakesMessage facts (reports.Escrow number) before after =
+TakesMessage facts (activity.Escrow number) before after =
     (type : BillType) × (type.number ≡ number) × (facts.past.enabled number ≡ true)
     × (before ≡ Empty) × (after ≡ Waiting type)
-TakesMessage facts (reports.Returned number) before after =
+TakesMessage facts (activity.Returned number) before after =
     (type : BillType) × (type.number ≡ number) × MayReturn type before × (after ≡ Empty)
 
 -- and behind messages in order
-abbrev pub TakesAll : Facts → List BillReport → Escrow → Escrow → Type 0
+abbrev pub TakesAll : Facts → List BillActivity → Escrow → Escrow → Type 0
 TakesAll facts [] before after = after ≡ before
 TakesAll facts (message ∷ messages) before after =
     (between : Escrow) × TakesMessage facts message before between
@@ -89,7 +89,7 @@ AckStep _ before after gains = Stays before after gains
 -- What the validator does of its own. Data answers SETUP, POLL, STACKER and IDENTIFICATION alone:
 -- the validator answers all other commands by ACK or NAK, RESET, BILL TYPE and ESCROW among them, so
 -- what it does behind those stands in `AckStep`. What is new moves what is in escrow.
-abbrev pub conduct : Facts → Conduct BillCommand BillReport BillState
+abbrev pub conduct : Facts → Conduct BillCommand BillActivity BillState
 conduct facts =
     record {
       power_on = power_on;

@@ -11,8 +11,8 @@ use Rattle.mdb_msgs.specs.Setup.{credit_of}
 use Rattle.mdb_bus.specs.declared.act.Act.{Act}
 use Rattle.mdb_bus.specs.declared.act.Act.TheVariants as acts
 use Rattle.mdb_cash.specs.declared.changer.state.ChangerState.{ChangerState}
-use Rattle.mdb_cash.specs.declared.changer.report.ChangerReport.{ChangerReport}
-use Rattle.mdb_cash.specs.declared.changer.report.ChangerReport.TheVariants.{Dispensed, CashBox, Tube}
+use Rattle.mdb_cash.specs.declared.changer.activity.ChangerActivity.{ChangerActivity}
+use Rattle.mdb_cash.specs.declared.changer.activity.ChangerActivity.TheVariants.{Dispensed, CashBox, Tube}
 use Rattle.mdb_cash.specs.declared.choice.Choice.{Choice}
 use Rattle.mdb_cash.specs.declared.choice.Choice.TheVariants.{Lost}
 use Rattle.mdb_cash.specs.declared.gains.Gains.{Gains}
@@ -38,18 +38,18 @@ abbrev pub dispensed_value : Option ChangerSetup → ℕ → ℕ
 dispensed_value setup coins = (coins / 16) * coin_value setup (coins % 16)
 
 -- what a kept message adds to coins-in: a deposit to cash box or tube
-abbrev pub deposited : Option ChangerSetup → ChangerReport → ℕ
+abbrev pub deposited : Option ChangerSetup → ChangerActivity → ℕ
 deposited setup (CashBox coin) = coin_value setup coin
 deposited setup (Tube coin) = coin_value setup coin
 deposited setup (Dispensed count coin) = 0
 
 -- what it adds to paid-out: coins dispensed by hand
-abbrev pub paid_by_hand : Option ChangerSetup → ChangerReport → ℕ
+abbrev pub paid_by_hand : Option ChangerSetup → ChangerActivity → ℕ
 paid_by_hand setup (Dispensed count coin) = count * coin_value setup coin
 paid_by_hand setup _ = 0
 
 -- a new deposit is of a type that is enabled; coins may be dispensed by hand at any time
-abbrev pub MayBeNew : Facts → ChangerReport → Type 0
+abbrev pub MayBeNew : Facts → ChangerActivity → Type 0
 MayBeNew facts (CashBox coin) = facts.past.enabled coin ≡ true
 MayBeNew facts (Tube coin) = facts.past.enabled coin ≡ true
 MayBeNew facts (Dispensed count coin) = Unit {0}
@@ -96,7 +96,7 @@ AckStep facts _ choice before after gains = Stays before after gains
 -- the changer answers all other commands by ACK or NAK, RESET, COIN TYPE and DISPENSE among them, so
 -- what it does behind those stands in `AckStep`. Behind a reset message the controller knows that
 -- nothing is owed.
-abbrev pub conduct : Facts → Conduct ChangerCommand ChangerReport ChangerState
+abbrev pub conduct : Facts → Conduct ChangerCommand ChangerActivity ChangerState
 conduct facts =
     record {
       power_on = power_on;

@@ -7,7 +7,7 @@ use Rattle.mdb_cash.specs.declared.gains.Gains.{Gains}
 use Rattle.mdb_cash.specs.declared.kept.Part.{Part}
 use Rattle.mdb_cash.specs.Gains.{no_gains, controller_gains, device_gains}
 use Rattle.mdb_cash.specs.Keeper.{Tables}
-use Rattle.mdb_cash.specs.Kept.{Tells, has_reset, held, holds_acked, holds_behind, holds_read, kept_of}
+use Rattle.mdb_cash.specs.Kept.{Tells, has_reset, held, holds_acked, holds_after, holds_read, kept_of}
 use Rattle.mdb_cash.specs.Pair.{Stays}
 use Rattle.mdb_cash.specs.Past.{PastFacts}
 use Rattle.mdb_cash.specs.Steps.{StepBy}
@@ -49,7 +49,7 @@ pub record ReplyStep {Own M State : Type 0} (conduct : Conduct Own M State) (pas
   pub tells : Tells poll choice past.reset_owed
       (held (holds_read choice (conduct.holds before)) past.kept) parts news
   pub takes : conduct.Takes choice news (conduct.with_holds
-      (holds_behind (kept_of parts) (holds_read choice (conduct.holds before))) before) after
+      (holds_after (kept_of parts) (holds_read choice (conduct.holds before))) before) after
   pub gained : gains ≡ device_gains (sum_by conduct.first news) (sum_by conduct.second news)
 
 -- The controller acknowledges a reply. To POLL, all kept messages count for it, new or not, and it

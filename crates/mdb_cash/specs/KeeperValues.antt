@@ -5,7 +5,7 @@ use Rattle.mdb_bus.specs.declared.act.Act.{Act}
 use Rattle.mdb_cash.specs.declared.keeper.KeeperFacts.{KeeperFacts}
 use Rattle.mdb_cash.specs.Keeper.{Facts, Tables, asked_by, effect_of, parts_by, setup_by}
 use Rattle.mdb_cash.specs.Past.{effect_answered, or_else, resets}
-use Rattle.mdb_cash.specs.PastValues.{past_behind, past_in, past_with}
+use Rattle.mdb_cash.specs.PastValues.{past_after, past_in, past_with}
 
 -- the facts that are kept
 abbrev pub facts_in : {K Own Setup Asked M Message : Type 0}
@@ -31,5 +31,5 @@ facts_told tables command reply facts =
     record {
       setup = or_else (tables.setup_of reply) facts.setup;
       asked = facts.asked;
-      past = past_behind (resets effect) effect (tables.parts_of reply) facts.past;
+      past = past_after (resets effect) effect (tables.parts_of reply) facts.past;
     }

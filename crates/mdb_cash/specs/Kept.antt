@@ -71,9 +71,9 @@ IsNew poll held kept new =
     (kept ≡ held ++ new) ⊎ ((poll ≡ false) × (kept ≡ []) × (new ≡ []))
 
 -- whether the device holds behind its reply: the kept list, and where it is empty what it held
-abbrev pub holds_behind : {M : Type 0} → List M → Bool → Bool
-holds_behind [] holds = holds
-holds_behind (message ∷ kept) holds = true
+abbrev pub holds_after : {M : Type 0} → List M → Bool → Bool
+holds_after [] holds = holds
+holds_after (message ∷ kept) holds = true
 
 -- whether the device holds behind the controller's ACK of a reply: an ACK of kept messages that it
 -- hears ends that, and any other leaves what is held

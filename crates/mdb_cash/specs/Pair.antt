@@ -40,9 +40,9 @@ Stays before after gains = (after ≡ before) × (gains ≡ no_gains)
 
 -- An answer is the one outcome of a step, the state behind it and its gains, or tells that there is
 -- no such step.
-abbrev pub IsOutcome : {State : Type 0} → (State → Gains → Type 0) → Option (State × Gains) → Type 0
-IsOutcome {State} Step None = (after : State) (gains : Gains) → Step after gains → ⊥
-IsOutcome {State} Step (Some outcome) =
+abbrev pub IsOnlyStep : {State : Type 0} → (State → Gains → Type 0) → Option (State × Gains) → Type 0
+IsOnlyStep {State} Step None = (after : State) (gains : Gains) → Step after gains → ⊥
+IsOnlyStep {State} Step (Some outcome) =
     Step outcome.0 outcome.1
     × ((after : State) (gains : Gains) → Step after gains
     → (after ≡ outcome.0) × (gains ≡ outcome.1))

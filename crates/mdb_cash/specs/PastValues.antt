@@ -26,9 +26,9 @@ past_in past =
 
 -- what counts behind one act more, which puts the device into its power-on state or doesn't, by
 -- which it takes a command or doesn't, and which tells messages or doesn't
-abbrev pub past_behind : {M : Type 0} → Bool → Effect → List (Part M) → PastFacts M
+abbrev pub past_after : {M : Type 0} → Bool → Effect → List (Part M) → PastFacts M
     → PastFacts M
-past_behind powers effect parts past =
+past_after powers effect parts past =
     record {
       enabled = λ kind. enables kind effect || (if powers then false else past.enabled kind);
       reset_owed = not (has_reset parts) && (powers || past.reset_owed);
@@ -39,4 +39,4 @@ past_behind powers effect parts past =
 abbrev pub past_with : {M : Type 0} → (Command → Effect) → (Act → List (Part M)) → Act
     → PastFacts M → PastFacts M
 past_with effect_of parts_by act past =
-    past_behind (powers_on effect_of act) (effect_by effect_of act) (parts_by act) past
+    past_after (powers_on effect_of act) (effect_by effect_of act) (parts_by act) past

@@ -5,12 +5,12 @@ ghost use Rattle.mdb_cash.specs.Gains.{IsSmall};
 ghost use Rattle.mdb_cash.specs.Keeper.{Facts};
 ghost use Rattle.mdb_cash.specs.KeeperSteps as spec;
 ghost use Rattle.mdb_cash.specs.KeeperValues.{facts_in};
-ghost use Rattle.mdb_cash.specs.Pair.{IsOnly, IsOutcome};
+ghost use Rattle.mdb_cash.specs.Pair.{IsOnly, IsOnlyStep};
 
 use crate::choice::Choice;
 use crate::gains::Gains;
 use crate::keeper::{Keeper, KeeperFacts};
-use crate::kept::{held, holds_acked, holds_behind, holds_read, may_be_read};
+use crate::kept::{held, holds_acked, holds_after, holds_read, may_be_read};
 use mdb_bus::Act;
 use mdb_msgs::Reply;
 
@@ -44,7 +44,7 @@ pub trait Conduct: Keeper {
         command: Self::Own,
         before: Self::State,
     ) -> (Self::State, Gains)
-        ensures outcome { IsOutcome ((conduct (facts_in facts.now)).Asks command before)
+        ensures step { IsOnlyStep ((conduct (facts_in facts.now)).Asks command before)
             (Some result) }
         ensures small { IsSmall result.1 };
 
@@ -55,7 +55,7 @@ pub trait Conduct: Keeper {
         choice: Choice,
         before: Self::State,
     ) -> (Self::State, Gains)
-        ensures outcome { IsOutcome ((conduct (facts_in facts.now)).Acks command choice before)
+        ensures step { IsOnlyStep ((conduct (facts_in facts.now)).Acks command choice before)
             (Some result) }
         ensures small { IsSmall result.1 };
 
@@ -92,10 +92,10 @@ pub(crate) fn step<K: Conduct>(
     choice: Choice,
     before: K::State,
 ) -> Option<(K::State, Gains)>
-    ensures outcome { let known = facts_in facts.now in
-        IsOutcome (spec.KeeperStep K.tables (K.conduct known) known.past act.now choice before)
+    ensures step { let known = facts_in facts.now in
+        IsOnlyStep (spec.KeeperStep K.tables (K.conduct known) known.past act.now choice before)
         result }
-    ensures small { IfSome result (λ outcome. IsSmall outcome.1) }
+    ensures small { IfSome result (λ step. IsSmall step.1) }
 {
     match act {
         Act::Ask(command) => match K::own(command) {
@@ -126,10 +126,10 @@ fn ack<K: Conduct>(
     choice: Choice,
     before: K::State,
 ) -> Option<(K::State, Gains)>
-    ensures outcome { IsOutcome
+    ensures step { IsOnlyStep
         (spec.AckStep (K.conduct (facts_in facts.now)) (K.tables.is_poll command) command choice
         before) result }
-    ensures small { IfSome result (λ outcome. IsSmall outcome.1) }
+    ensures small { IfSome result (λ step. IsSmall step.1) }
 {
     if !K::is_poll(command) {
         Some(K::ack(facts, command, choice, before))
@@ -148,10 +148,10 @@ fn answer<K: Conduct>(
     choice: Choice,
     before: K::State,
 ) -> Option<(K::State, Gains)>
-    ensures outcome { let known = facts_in facts.now in
-        IsOutcome (spec.ReplyStep (K.conduct known) known.past (K.tables.is_poll command)
+    ensures step { let known = facts_in facts.now in
+        IsOnlyStep (spec.ReplyStep (K.conduct known) known.past (K.tables.is_poll command)
         (K.tables.parts_of reply.now) choice before) result }
-    ensures small { IfSome result (λ outcome. IsSmall outcome.1) }
+    ensures small { IfSome result (λ step. IsSmall step.1) }
 {
     if !may_be_read(choice, K::messages_in(reply)) {
         return None;
@@ -160,7 +160,7 @@ fn answer<K: Conduct>(
     let holds = holds_read(choice, K::holds(before));
     let held = held(holds, facts.past.kept.as_slice());
     let news = summary.told(K::is_poll(command), choice, facts.past.reset_owed, held)?;
-    let holding = K::with_holds(before, holds_behind(summary.kept.as_slice(), holds));
+    let holding = K::with_holds(before, holds_after(summary.kept.as_slice(), holds));
     let after = K::take(facts, choice, news, holding)?;
     let (first, second) = worth(facts, news);
     Some((after, Gains::of_device(first, second)))
@@ -174,7 +174,7 @@ fn vmc_ack<K: Conduct>(
     choice: Choice,
     before: K::State,
 ) -> (K::State, Gains)
-    ensures outcome { IsOutcome (spec.VmcAckStep (K.conduct (facts_in facts.now))
+    ensures step { IsOnlyStep (spec.VmcAckStep (K.conduct (facts_in facts.now))
         (K.tables.is_poll command) (K.tables.parts_of reply.now) choice before) (Some result) }
     ensures small { IsSmall result.1 }
 {

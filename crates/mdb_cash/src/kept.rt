@@ -193,8 +193,8 @@ pub fn held<M>(holds: bool, last: &[M]) -> &[M]
 }
 
 /// Whether a device holds behind its reply, which has these kept messages.
-pub fn holds_behind<M>(kept: &[M], holds: bool) -> bool
-    ensures { result ≡ spec.holds_behind kept.now holds }
+pub fn holds_after<M>(kept: &[M], holds: bool) -> bool
+    ensures { result ≡ spec.holds_after kept.now holds }
 {
     holds || !kept.is_empty()
 }

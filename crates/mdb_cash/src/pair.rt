@@ -10,7 +10,7 @@ ghost use Rattle.mdb_cash.specs.declared.gains.Gains.{Gains};
 ghost use Rattle.mdb_cash.specs.Choices.{CanStand};
 ghost use Rattle.mdb_cash.specs.Gains.{IsSmall, no_gains};
 ghost use Rattle.mdb_cash.specs.Machine.{IsMachineOf, Machine};
-ghost use Rattle.mdb_cash.specs.Pair.{CanStandFor, IsActOf, IsChosenStep, IsMove, IsOfAnother, IsOtherMove, IsOutcome, Stays};
+ghost use Rattle.mdb_cash.specs.Pair.{CanStandFor, IsActOf, IsChosenStep, IsMove, IsOfAnother, IsOtherMove, IsOnlyStep, Stays};
 
 use super::choice::{Choice, other_choice};
 use super::gains::Gains;
@@ -114,15 +114,15 @@ pub trait Pair {
 
     /// The step by an act under a choice, from a state: the state after it, and what it adds to the
     /// sums. `None` where there is no such step.
-    fn outcome(
+    fn step_from(
         facts: &Self::Facts,
         act: &Act,
         choice: Choice,
         before: Self::State,
     ) -> Option<(Self::State, Gains)>
-        ensures outcome { (acts : List Act) → stands_for facts.now acts
-            → IsOutcome (machine.Step acts act.now choice before) result }
-        ensures small { IfSome result (λ outcome. IsSmall outcome.1) };
+        ensures step { (acts : List Act) → stands_for facts.now acts
+            → IsOnlyStep (machine.Step acts act.now choice before) result }
+        ensures small { IfSome result (λ step. IsSmall step.1) };
 
     /// Two states have two codes.
     ghost apart: { (one other : Self.State) → code_of one ≡ code_of other → one ≡ other };
@@ -173,7 +173,7 @@ pub trait Pair {
             return None;
         }
         let before = Self::state(code);
-        let outcome = Self::outcome(facts, act, choice, before);
+        let outcome = Self::step_from(facts, act, choice, before);
         match outcome {
             None => None,
             Some((after, gains)) => Some((Self::code(after), gains)),

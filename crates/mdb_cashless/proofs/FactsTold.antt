@@ -7,14 +7,14 @@ use Rattle.mdb_msgs.specs.declared.reply.Reply.{Reply}
 use Rattle.mdb_msgs.specs.declared.reply.reader.ReaderMsg.{ReaderMsg}
 use Rattle.mdb_bus.specs.declared.act.Act.TheVariants as acts
 use Rattle.mdb_cash.specs.Past.{effect_taken, or_else, resets, tells_out_of_sequence}
-use Rattle.mdb_cash.specs.PastValues.{past_behind}
+use Rattle.mdb_cash.specs.PastValues.{past_after}
 use Rattle.mdb_cashless.specs.declared.reader.transaction.Transaction.{Transaction}
 use Rattle.mdb_cashless.specs.ReaderFacts.{Facts, effect_of, effect_of_own, own_messages, own_of, own_transaction}
 use Rattle.mdb_cashless.specs.ReaderMessages.{amount_in, begin_session, config_in, last_said, messages_of, part_of}
-use Rattle.mdb_cashless.specs.ReaderValues.{facts_with, last_behind, taken, told}
+use Rattle.mdb_cashless.specs.ReaderValues.{facts_with, last_after, taken, told}
 use Rattle.mdb_cashless.specs.Transactions.{transaction_of}
 use Rattle.mdb_cashless.specs.Units.{own}
-use Rattle.mdb_cashless.proofs.Behind.{same_facts}
+use Rattle.mdb_cashless.proofs.FactsAfter.{same_facts}
 
 -- the facts behind a reply, where it is known whether it refuses its command
 abbrev answered : ReaderUnit → Command → Bool → List ReaderMsg → Facts → Facts
@@ -26,7 +26,7 @@ answered unit command refused messages old =
           then None
           else or_else (own_transaction (own_of unit (if refused then None else Some command))) old.taken;
       amount = unwrap_or (last_said amount_in (own_messages unit command messages)) old.amount;
-      past = past_behind (resets (effect_taken (effect_of unit) (if refused then None else Some command)))
+      past = past_after (resets (effect_taken (effect_of unit) (if refused then None else Some command)))
           (effect_taken (effect_of unit) (if refused then None else Some command))
           (map part_of (own_messages unit command messages)) old.past;
     }
@@ -41,7 +41,7 @@ answered_own found refused messages old =
       asked = old.asked;
       taken = if resets (effect_of_own took) || begin_session own_ones then None else or_else (own_transaction took) old.taken;
       amount = unwrap_or (last_said amount_in own_ones) old.amount;
-      past = past_behind (resets (effect_of_own took)) (effect_of_own took) (map part_of own_ones) old.past;
+      past = past_after (resets (effect_of_own took)) (effect_of_own took) (map part_of own_ones) old.past;
     }
 
 same_answer : (unit : ReaderUnit) (command : Command) (refused : Bool) (messages : List ReaderMsg) (old : Facts) → answered unit command refused messages old ≡ answered_own (own unit command) refused messages old
@@ -50,7 +50,7 @@ same_answer unit command false messages old = refl
 
 -- the last transaction behind a command that is taken by an answer
 last_is : (command : ReaderCommand) (begins : Bool) (last : Option Transaction)
-    → (if resets (effect_of_own (Some command)) || begins then None else or_else (transaction_of command) last) ≡ (if begins then None else last_behind command last)
+    → (if resets (effect_of_own (Some command)) || begins then None else or_else (transaction_of command) last) ≡ (if begins then None else last_after command last)
 last_is reader.Reset true last = refl
 last_is reader.Reset false last = refl
 last_is (reader.SetupConfig level columns rows display) begins last = refl

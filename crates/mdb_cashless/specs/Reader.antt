@@ -13,14 +13,14 @@ use Rattle.mdb_cash.specs.declared.choice.Choice.{Choice}
 use Rattle.mdb_cash.specs.declared.choice.Choice.TheVariants.{Lost, Restart}
 use Rattle.mdb_cash.specs.declared.gains.Gains.{Gains}
 use Rattle.mdb_cash.specs.Gains.{no_gains, controller_gains, device_gains}
-use Rattle.mdb_cash.specs.Kept.{Tells, held, holds_acked, holds_behind, kept_of}
+use Rattle.mdb_cash.specs.Kept.{Tells, held, holds_acked, holds_after, kept_of}
 use Rattle.mdb_cash.specs.Machine.{Machine}
 use Rattle.mdb_cash.specs.Pair.{Stays}
 use Rattle.mdb_cash.specs.Past.{or_else, resets, tells_out_of_sequence}
 use Rattle.mdb_cashless.specs.declared.reader.device.DeviceState.TheVariants as device
-use Rattle.mdb_cashless.specs.declared.reader.report.ReaderConfig.{ReaderConfig}
-use Rattle.mdb_cashless.specs.declared.reader.report.ReaderReport.{ReaderReport}
-use Rattle.mdb_cashless.specs.declared.reader.report.ReaderReport.TheVariants.{VendApproved}
+use Rattle.mdb_cashless.specs.declared.reader.messages.ReaderConfig.{ReaderConfig}
+use Rattle.mdb_cashless.specs.declared.reader.messages.ReaderActivity.{ReaderActivity}
+use Rattle.mdb_cashless.specs.declared.reader.messages.ReaderActivity.TheVariants.{VendApproved}
 use Rattle.mdb_cashless.specs.declared.reader.state.ReaderState.{ReaderState}
 use Rattle.mdb_cashless.specs.declared.reader.view.View.{View}
 use Rattle.mdb_cashless.specs.declared.reader.view.View.TheVariants as view
@@ -46,12 +46,12 @@ value None amount = 0
 value (Some config) amount = config.scale * amount
 
 -- what a new kept message adds to the reader's approved: the value of a message 05
-abbrev pub approved : Option ReaderConfig → ReaderReport → ℕ
+abbrev pub approved : Option ReaderConfig → ReaderActivity → ℕ
 approved config (VendApproved amount) = value config amount
-approved config report = 0
+approved config message = 0
 
-abbrev pub all_approved : Option ReaderConfig → List ReaderReport → ℕ
-all_approved config reports = sum_by (approved config) reports
+abbrev pub all_approved : Option ReaderConfig → List ReaderActivity → ℕ
+all_approved config news = sum_by (approved config) news
 
 -- what a heard message adds to the controller's approved: the value of a message 05 that makes its
 -- view Approved
@@ -197,14 +197,14 @@ last_transaction facts command = or_else (own_transaction command) facts.taken
 -- last one, and behind RESET a reset message is owed.
 pub record ReplyStep (facts : Facts) (command : ReaderCommand) (reply : Reply)
     (choice : Choice) (before after : ReaderState) (gains : Gains) : Type 0 where
-  pub news : List ReaderReport
+  pub news : List ReaderActivity
   pub tells : Tells (is_poll command) choice (owes_reset facts (taken command reply))
       (held (before_messages facts command reply choice before).holds facts.past.kept)
       (parts_of reply) news
   pub told : all_told (last_transaction facts (taken command reply)) news
       (before_messages facts command reply choice before).device ≡ Some after.device
   pub view : after.view ≡ before.view
-  pub holds : after.holds ≡ holds_behind (kept_of (parts_of reply))
+  pub holds : after.holds ≡ holds_after (kept_of (parts_of reply))
       (before_messages facts command reply choice before).holds
   pub gained : gains ≡ device_gains
       (all_approved (or_else (last_said config_in (messages_of reply)) facts.config) news)

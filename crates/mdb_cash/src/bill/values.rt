@@ -3,7 +3,7 @@
 ghost use Rattle.std.specs.Prelude.{◌≡◌, ◌≤◌};
 ghost use Rattle.mdb_cash.specs.Bill as spec;
 
-use super::report::BillReport;
+use super::activity::BillActivity;
 use crate::credits::counted;
 use mdb_msgs::BillSetup;
 
@@ -19,12 +19,12 @@ fn bill_value(setup: &Option<BillSetup>, bill: u8) -> u64
 }
 
 /// What a kept message adds to bills-in.
-pub(crate) fn stacked(setup: &Option<BillSetup>, report: BillReport) -> u64
-    ensures value { result ≡ spec.stacked setup.now report }
+pub(crate) fn stacked(setup: &Option<BillSetup>, message: BillActivity) -> u64
+    ensures value { result ≡ spec.stacked setup.now message }
     ensures small { result ≤ 16711425 }
 {
-    match report {
-        BillReport::Stacked(bill) => bill_value(setup, bill),
+    match message {
+        BillActivity::Stacked(bill) => bill_value(setup, bill),
         _ => 0,
     }
 }

@@ -5,10 +5,10 @@ ghost use Rattle.std.specs.List.{AllByRecursion};
 ghost use Rattle.mdb_cash.specs.Changer as spec;
 ghost use Rattle.mdb_cash.specs.Gains.{IsSmall};
 ghost use Rattle.mdb_cash.specs.KeeperValues.{facts_in};
-ghost use Rattle.mdb_cash.specs.Pair.{IsOutcome};
+ghost use Rattle.mdb_cash.specs.Pair.{IsOnlyStep};
 
 use super::Changer;
-use super::report::ChangerReport;
+use super::activity::ChangerActivity;
 use super::state::ChangerState;
 use super::tables::ChangerFacts;
 use super::values::{deposited, dispensed_value, paid_by_hand};
@@ -81,7 +81,7 @@ impl Conduct for Changer {
     fn take(
         facts: &ChangerFacts,
         _choice: Choice,
-        news: &[ChangerReport],
+        news: &[ChangerActivity],
         before: ChangerState,
     ) -> Option<ChangerState> {
         if may_be_new(facts, news) {
@@ -91,11 +91,11 @@ impl Conduct for Changer {
         }
     }
 
-    fn first(facts: &ChangerFacts, message: ChangerReport) -> u64 {
+    fn first(facts: &ChangerFacts, message: ChangerActivity) -> u64 {
         deposited(&facts.setup, message)
     }
 
-    fn second(facts: &ChangerFacts, message: ChangerReport) -> u64 {
+    fn second(facts: &ChangerFacts, message: ChangerActivity) -> u64 {
         paid_by_hand(&facts.setup, message)
     }
 
@@ -109,7 +109,7 @@ impl Conduct for Changer {
 
 /// The controller asks for coins.
 fn ask_for_coins(facts: &ChangerFacts, coins: u8, before: ChangerState) -> (ChangerState, Gains)
-    ensures outcome { IsOutcome (spec.DispenseStep (facts_in facts.now) coins before)
+    ensures step { IsOnlyStep (spec.DispenseStep (facts_in facts.now) coins before)
         (Some result) }
     ensures small { IsSmall result.1 }
 {
@@ -146,18 +146,18 @@ fn owed_acked(choice: Choice, owed: bool) -> bool
 }
 
 /// Whether kept messages may be new.
-fn may_be_new(facts: &ChangerFacts, reports: &[ChangerReport]) -> bool
-    ensures { IsTrue result ↔ AllByRecursion (spec.MayBeNew (facts_in facts.now)) reports.now }
+fn may_be_new(facts: &ChangerFacts, news: &[ChangerActivity]) -> bool
+    ensures { IsTrue result ↔ AllByRecursion (spec.MayBeNew (facts_in facts.now)) news.now }
 {
-    reports.iter().all(|report| may_be_told(facts, *report))
+    news.iter().all(|message| may_be_told(facts, *message))
 }
 
 /// Whether a kept message may be new.
-fn may_be_told(facts: &ChangerFacts, report: ChangerReport) -> bool
-    ensures { IsTrue result ↔ spec.MayBeNew (facts_in facts.now) report }
+fn may_be_told(facts: &ChangerFacts, message: ChangerActivity) -> bool
+    ensures { IsTrue result ↔ spec.MayBeNew (facts_in facts.now) message }
 {
-    match report {
-        ChangerReport::CashBox(coin) | ChangerReport::Tube(coin) => facts.past.is_enabled(coin),
-        ChangerReport::Dispensed { .. } => true,
+    match message {
+        ChangerActivity::CashBox(coin) | ChangerActivity::Tube(coin) => facts.past.is_enabled(coin),
+        ChangerActivity::Dispensed { .. } => true,
     }
 }

@@ -22,7 +22,7 @@ use Rattle.mdb_cashless.specs.Reader.{ForOwn, ReaderStep, machine, power_on}
 use Rattle.mdb_cash.specs.declared.past.Effect.TheVariants as effects
 use Rattle.mdb_cash.specs.Past.{PastFacts, effect_by, last_told, or_else, past_of, powers_on, resets, tells_out_of_sequence}
 use Rattle.mdb_cash.specs.inner.PastWays as past_ways
-use Rattle.mdb_cashless.specs.declared.reader.report.ReaderReport.{ReaderReport}
+use Rattle.mdb_cashless.specs.declared.reader.messages.ReaderActivity.{ReaderActivity}
 use Rattle.mdb_cashless.specs.declared.reader.transaction.Transaction.{Transaction}
 use Rattle.mdb_cashless.specs.inner.PlainReader.{as_plain}
 use Rattle.mdb_cashless.specs.ReaderFacts.{Facts, amount_by, asked_by, config_by, effect_of, effect_of_own, facts_of, last_taken, messages_by, own_of, own_transaction, parts_by, transaction_taken_by}
@@ -84,7 +84,7 @@ is_machine unit = record {
 
 -- the facts behind one act more, by what that act is to the reader
 abbrev known_more : ReaderUnit → List Act → List ReaderMsg → Option Transaction
-    → Option Transaction → Bool → PastFacts ReaderReport → Facts
+    → Option Transaction → Bool → PastFacts ReaderActivity → Facts
 known_more unit before messages asked taken powers past =
     record {
       config = or_else (last_said config_in messages) (last_told (config_by unit) before);

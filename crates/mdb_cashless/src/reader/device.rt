@@ -5,13 +5,13 @@ ghost use Rattle.mdb_msgs.specs.declared.command.ReaderCommand.TheVariants as re
 ghost use Rattle.mdb_cashless.specs.inner.ReaderCodes as codes;
 ghost use Rattle.mdb_cashless.specs.ReaderDevice as spec;
 
-use super::report::ReaderReport;
+use super::messages::ReaderActivity;
 use super::transaction::Transaction;
 use mdb_msgs::ReaderCommand;
 
 /// Where a reader returns to at the end of a session (this profile).
 #[derive(Clone, Copy, PartialEq, Eq, Debug)]
-pub enum Place {
+pub enum Home {
     /// It was disabled last.
     Disabled,
     /// It was enabled last.
@@ -29,24 +29,24 @@ pub enum DeviceState {
     /// It takes cards.
     Enabled,
     /// In a session: it waits for a request.
-    Idle(Place),
+    Idle(Home),
     /// In a session: it works on a request.
-    Vend(Place),
+    Vend(Home),
     /// In a session: it has approved a sale.
-    Approved(Place),
+    Approved(Home),
     /// The session was completed, and it hasn't told its end yet.
-    Ending(Place),
+    Ending(Home),
 }
 
-impl Place {
+impl Home {
     /// Its number.
     fn number(self) -> usize
-        ensures number { result ≡ codes.place_number self }
+        ensures number { result ≡ codes.home_number self }
         ensures below { result < 2 }
     {
         match self {
-            Place::Disabled => 0,
-            Place::Enabled => 1,
+            Home::Disabled => 0,
+            Home::Enabled => 1,
         }
     }
 
@@ -55,8 +55,8 @@ impl Place {
         ensures { result ≡ spec.returned self }
     {
         match self {
-            Place::Disabled => DeviceState::Disabled,
-            Place::Enabled => DeviceState::Enabled,
+            Home::Disabled => DeviceState::Disabled,
+            Home::Enabled => DeviceState::Enabled,
         }
     }
 }
@@ -87,14 +87,14 @@ impl DeviceState {
             0 => DeviceState::Inactive,
             1 => DeviceState::Disabled,
             2 => DeviceState::Enabled,
-            3 => DeviceState::Idle(Place::Disabled),
-            4 => DeviceState::Idle(Place::Enabled),
-            5 => DeviceState::Vend(Place::Disabled),
-            6 => DeviceState::Vend(Place::Enabled),
-            7 => DeviceState::Approved(Place::Disabled),
-            8 => DeviceState::Approved(Place::Enabled),
-            9 => DeviceState::Ending(Place::Disabled),
-            _ => DeviceState::Ending(Place::Enabled),
+            3 => DeviceState::Idle(Home::Disabled),
+            4 => DeviceState::Idle(Home::Enabled),
+            5 => DeviceState::Vend(Home::Disabled),
+            6 => DeviceState::Vend(Home::Enabled),
+            7 => DeviceState::Approved(Home::Disabled),
+            8 => DeviceState::Approved(Home::Enabled),
+            9 => DeviceState::Ending(Home::Disabled),
+            _ => DeviceState::Ending(Home::Enabled),
         }
     }
 
@@ -123,10 +123,10 @@ impl DeviceState {
     {
         match self {
             DeviceState::Disabled => DeviceState::Enabled,
-            DeviceState::Idle(_) => DeviceState::Idle(Place::Enabled),
-            DeviceState::Vend(_) => DeviceState::Vend(Place::Enabled),
-            DeviceState::Approved(_) => DeviceState::Approved(Place::Enabled),
-            DeviceState::Ending(_) => DeviceState::Ending(Place::Enabled),
+            DeviceState::Idle(_) => DeviceState::Idle(Home::Enabled),
+            DeviceState::Vend(_) => DeviceState::Vend(Home::Enabled),
+            DeviceState::Approved(_) => DeviceState::Approved(Home::Enabled),
+            DeviceState::Ending(_) => DeviceState::Ending(Home::Enabled),
             DeviceState::Inactive | DeviceState::Enabled => self,
         }
     }
@@ -137,10 +137,10 @@ impl DeviceState {
     {
         match self {
             DeviceState::Enabled => DeviceState::Disabled,
-            DeviceState::Idle(_) => DeviceState::Idle(Place::Disabled),
-            DeviceState::Vend(_) => DeviceState::Vend(Place::Disabled),
-            DeviceState::Approved(_) => DeviceState::Approved(Place::Disabled),
-            DeviceState::Ending(_) => DeviceState::Ending(Place::Disabled),
+            DeviceState::Idle(_) => DeviceState::Idle(Home::Disabled),
+            DeviceState::Vend(_) => DeviceState::Vend(Home::Disabled),
+            DeviceState::Approved(_) => DeviceState::Approved(Home::Disabled),
+            DeviceState::Ending(_) => DeviceState::Ending(Home::Disabled),
             DeviceState::Inactive | DeviceState::Disabled => self,
         }
     }
@@ -183,18 +183,18 @@ impl DeviceState {
 
     /// The state behind a new kept message, where this was the last transaction taken; `None` where
     /// the message is impossible.
-    pub(crate) fn told(self, last: Option<Transaction>, report: ReaderReport) -> Option<DeviceState>
-        ensures { result ≡ spec.told last report self }
+    pub(crate) fn told(self, last: Option<Transaction>, message: ReaderActivity) -> Option<DeviceState>
+        ensures { result ≡ spec.told last message self }
     {
-        match (report, self) {
-            (ReaderReport::SessionBegun { .. }, DeviceState::Enabled) => {
-                Some(DeviceState::Idle(Place::Enabled))
+        match (message, self) {
+            (ReaderActivity::SessionBegun { .. }, DeviceState::Enabled) => {
+                Some(DeviceState::Idle(Home::Enabled))
             }
-            (ReaderReport::VendApproved { .. }, DeviceState::Vend(place)) if is_request(last) => {
+            (ReaderActivity::VendApproved { .. }, DeviceState::Vend(place)) if is_request(last) => {
                 Some(DeviceState::Approved(place))
             }
-            (ReaderReport::VendDenied, DeviceState::Vend(place)) => Some(DeviceState::Idle(place)),
-            (ReaderReport::SessionEnded, DeviceState::Ending(place)) => Some(place.state()),
+            (ReaderActivity::VendDenied, DeviceState::Vend(place)) => Some(DeviceState::Idle(place)),
+            (ReaderActivity::SessionEnded, DeviceState::Ending(place)) => Some(place.state()),
             _ => None,
         }
     }

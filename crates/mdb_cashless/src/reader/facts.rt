@@ -3,7 +3,7 @@
 ghost use Rattle.std.specs.Prelude.{◌≡◌, List, [], ◌∷◌, Some};
 ghost use Rattle.mdb_cashless.specs.ReaderFacts.{effect_of_own};
 
-use super::report::{ReaderConfig, ReaderReport, Said, messages_of};
+use super::messages::{ReaderConfig, ReaderActivity, Said, messages_of};
 use super::transaction::{Transaction, transaction_of};
 use super::unit::own;
 use mdb_bus::Act;
@@ -24,7 +24,7 @@ pub struct ReaderFacts {
     /// The amount of the last approval, in units of the scale factor.
     pub(crate) amount: u16,
     /// The reset message, and the last kept list.
-    pub(crate) past: Past<ReaderReport, 35>,
+    pub(crate) past: Past<ReaderActivity, 35>,
 }
 
 impl ReaderFacts {
@@ -90,7 +90,7 @@ impl ReaderFacts {
         ensures { (acts : List Act) → facts_in self.old ≡ facts_of unit acts
             → facts_in self.new ≡ facts_of unit (act.now ∷ acts) }
     {
-        what_counts_goes_on_act_by_act::<ReaderReport>();
+        what_counts_goes_on_act_by_act::<ReaderActivity>();
         self.note(unit, act);
     }
 

@@ -1,5 +1,5 @@
 use Rattle.mdb_cashless.specs.ReaderFacts.{effect_of, parts_by}
-use Rattle.mdb_cashless.proofs.Behind.{behind}
+use Rattle.mdb_cashless.proofs.FactsAfter.{behind}
 use Rattle.mdb_cashless.proofs.reader.facts.ReaderFacts.learn.Goals as goal
 
 pub returns : goal.returns

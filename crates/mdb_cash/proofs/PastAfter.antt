@@ -11,7 +11,7 @@ use Rattle.mdb_cash.specs.declared.past.Effect.TheVariants as effects
 use Rattle.mdb_cash.specs.declared.past.Past.{Past}
 use Rattle.mdb_cash.specs.Kept.{has_reset, kept_of}
 use Rattle.mdb_cash.specs.Past.{PastFacts, acts_from, effect_by, enables, last_told, or_else, past_of, powers_on, unless_empty}
-use Rattle.mdb_cash.specs.PastValues.{past_behind, past_in, past_with}
+use Rattle.mdb_cash.specs.PastValues.{past_after, past_in, past_with}
 
 -- facts with the same fields
 same_past : {M : Type 0} {one other : PastFacts M} → ((kind : ℕ) → one.enabled kind ≡ other.enabled kind) → one.reset_owed ≡ other.reset_owed → one.kept ≡ other.kept → one ≡ other
@@ -54,15 +54,15 @@ either_bit mask more coin = rw (bit_at_or mask more coin) (either (bit_at mask c
     either a (suc (suc b)) p q = absurd (omega arith)
 
 -- a device in its power-on state
-pub powered : {M : Type 0} {CAP : ℕ} (old new : Past M CAP) → new.enabled ≡ 0 → new.reset_owed ≡ true → new.kept.items ≡ old.kept.items → past_in new ≡ past_behind true effects.Other [] (past_in old)
+pub powered : {M : Type 0} {CAP : ℕ} (old new : Past M CAP) → new.enabled ≡ 0 → new.reset_owed ≡ true → new.kept.items ≡ old.kept.items → past_in new ≡ past_after true effects.Other [] (past_in old)
 powered old new enabled reset_owed kept = same_past (λ kind. ap (λ m. bit_at m kind == 1) enabled ∙ ap (λ b. b == 1) (bit_at-zero kind)) reset_owed kept
 
 -- one that has enabled types
 pub enabled_more : {M : Type 0} {CAP : ℕ} (old new : Past M CAP) (mask : ℕ) → new.enabled ≡ bit_or old.enabled mask → new.reset_owed ≡ old.reset_owed → new.kept.items ≡ old.kept.items
-    → past_in new ≡ past_behind false (effects.Enable mask) [] (past_in old)
+    → past_in new ≡ past_after false (effects.Enable mask) [] (past_in old)
 enabled_more old new mask enabled reset_owed kept = same_past (λ kind. ap (λ m. bit_at m kind == 1) enabled ∙ either_bit old.enabled mask kind) reset_owed kept
 
 -- one that has told messages
 pub told_more : {M : Type 0} {CAP : ℕ} (old new : Past M CAP) (parts : List (Part M)) → new.enabled ≡ old.enabled → new.reset_owed ≡ (not (has_reset parts) && old.reset_owed)
-    → new.kept.items ≡ unwrap_or (unless_empty (kept_of parts)) old.kept.items → past_in new ≡ past_behind false effects.Other parts (past_in old)
+    → new.kept.items ≡ unwrap_or (unless_empty (kept_of parts)) old.kept.items → past_in new ≡ past_after false effects.Other parts (past_in old)
 told_more old new parts enabled reset_owed kept = same_past (λ kind. ap (λ m. bit_at m kind == 1) enabled) reset_owed kept
