@@ -10,16 +10,16 @@ use Rattle.mdb_cash.specs.PastValues.{past_after}
 use Rattle.mdb_cash.proofs.PastAfter.{past_more}
 
 -- facts with the same fields
-pub same_fields : {Setup Asked M : Type 0} {one other : Facts Setup Asked M} → one.setup ≡ other.setup → one.asked ≡ other.asked → one.past ≡ other.past → one ≡ other
+pub same_fields : {Setup Asked M : Type 0} {one other : Facts Setup Asked M} → one.setup ≡ other.setup → one.last_asked ≡ other.last_asked → one.past ≡ other.past → one ≡ other
 same_fields {Setup} {Asked} {M} {one} {other} setup asked past =
     let same : record one { setup = one.setup } ≡ record other { setup = other.setup } = cc (setup, asked, past) in
     same
 
--- the facts behind one act more, from those before it
+-- the facts after one act more, from those before it
 pub facts_more : {Own Setup Asked M : Type 0} (tables : Tables Own Setup Asked M) (act : Act) (acts : List Act) → facts_with tables act (facts_of tables acts) ≡ facts_of tables (act ∷ acts)
 facts_more tables act acts = same_fields refl refl (past_more (effect_of tables) (parts_by tables) act acts)
 
--- the facts behind a reply of the device: its setup table, the command that it takes, its messages
+-- the facts after a reply of the device: its setup table, the command that it takes, its messages
 pub replied : {Own Setup Asked M : Type 0} (tables : Tables Own Setup Asked M) (command : Own) (reply : Reply) (old noted : Facts Setup Asked M) (taken kept : PastFacts M) (answered effect : Effect)
     → noted ≡ record old { setup = or_else (tables.setup_of reply) old.setup }
     → effect ≡ tables.effect_of command → answered ≡ effect_answered effect reply

@@ -33,7 +33,7 @@ first_of_two : {X : Type 0} (first second : Option X) (x : X) → unwrap_or firs
 first_of_two (Some y) second x = refl
 first_of_two None second x = refl
 
--- what counts behind one act more, from what did before it
+-- what counts after one act more, from what did before it
 pub past_more : {M : Type 0} (effect_of : Command → Effect) (parts_by : Act → List (Part M)) (act : Act) (acts : List Act)
     → past_with effect_of parts_by act (past_of effect_of parts_by acts) ≡ past_of effect_of parts_by (act ∷ acts)
 past_more effect_of parts_by act acts =

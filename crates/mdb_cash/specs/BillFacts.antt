@@ -1,4 +1,4 @@
--- What is known of the validator behind a list of acts, the newest first (this profile).
+-- What is known of the validator after a list of acts, the newest first (this profile).
 use Rattle.std.specs.Prelude.{Bool, true, false, List, Option, Some, None}
 use Rattle.std.specs.declared.convert.Infallible.{Infallible}
 use Rattle.mdb_msgs.specs.declared.command.Command.{Command}
@@ -60,6 +60,6 @@ tables =
 abbrev pub Facts : Type 0
 Facts = keeper.Facts BillSetup Infallible BillActivity
 
--- the facts behind acts
+-- the facts after acts
 abbrev pub facts_of : List Act → Facts
 facts_of = keeper.facts_of tables

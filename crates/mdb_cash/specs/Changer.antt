@@ -1,6 +1,6 @@
 -- The changer and the controller's dealings with it (MDB/ICP 4.3, coin changer; states and sums,
 -- this profile). The accounts are coins-in and paid-out.
-use Rattle.std.specs.Prelude.{◌≡◌, ℕ, ◌*◌, ◌/◌, ◌%◌, Bool, true, false, ◌&&◌, List, Option, Some, None, ◌==◌, if◌then◌else◌}
+use Rattle.std.specs.Prelude.{◌≡◌, refl, ℕ, ◌*◌, ◌/◌, ◌%◌, Bool, true, false, ◌&&◌, List, Option, Some, None, ◌==◌, if◌then◌else◌}
 use Rattle.std.specs.List.{AllByRecursion}
 use Rattle.mdb_msgs.specs.declared.command.Command.TheVariants as commands
 use Rattle.mdb_msgs.specs.declared.command.ChangerCommand.{ChangerCommand}
@@ -64,11 +64,11 @@ is_last (Some last) coins = last == coins
 abbrev pub DispenseStep : Facts → ℕ → ChangerState → ChangerState → Gains → Type 0
 DispenseStep facts coins before after gains =
     (after ≡ record before { owed = true })
-    × (gains ≡ (if before.owed && is_last facts.asked coins
+    × (gains ≡ (if before.owed && is_last facts.last_asked coins
     then no_gains
     else controller_gains 0 (dispensed_value facts.setup coins)))
 
--- The controller asks: behind RESET nothing is owed.
+-- The controller asks: after RESET nothing is owed.
 abbrev pub AskStep : Facts → ChangerCommand → ChangerState → ChangerState → Gains → Type 0
 AskStep facts (changer.Dispense coins) before after gains =
     DispenseStep facts coins before after gains
@@ -81,40 +81,42 @@ abbrev pub owed_acked : Choice → Bool → Bool
 owed_acked Lost owed = owed
 owed_acked choice owed = false
 
--- The changer acknowledges a command that isn't POLL (of POLL `KeeperSteps` tells): by that it takes
--- RESET, and holds nothing. It has dispensed what
--- DISPENSE asked for, and that is owed no longer if the controller hears it.
-abbrev pub AckStep : Facts → ChangerCommand → Choice → ChangerState → ChangerState → Gains → Type 0
-AckStep facts changer.Reset choice before after gains =
+-- The changer takes a command that isn't POLL, by its ACK (of POLL `KeeperSteps` tells): after
+-- RESET it holds nothing. It has dispensed what DISPENSE asked for, and that is owed no longer if
+-- the controller hears it.
+abbrev pub TakeStep : Facts → ChangerCommand → Choice → ChangerState → ChangerState → Gains → Type 0
+TakeStep facts changer.Reset choice before after gains =
     (after ≡ record before { holds = false }) × (gains ≡ no_gains)
-AckStep facts (changer.Dispense coins) choice before after gains =
+TakeStep facts (changer.Dispense coins) choice before after gains =
     (after ≡ record before { owed = owed_acked choice before.owed })
     × (gains ≡ device_gains 0 (dispensed_value facts.setup coins))
-AckStep facts _ choice before after gains = Stays before after gains
+TakeStep facts _ choice before after gains = Stays before after gains
 
 -- What the changer does of its own. Data answers SETUP, TUBE STATUS, POLL and IDENTIFICATION alone:
--- the changer answers all other commands by ACK or NAK, RESET, COIN TYPE and DISPENSE among them, so
--- what it does behind those stands in `AckStep`. Behind a reset message the controller knows that
+-- the changer answers all other commands by ACK or NAK, RESET, COIN TYPE and DISPENSE among them,
+-- so what it does after those stands in `TakeStep`. After a reset message the controller knows that
 -- nothing is owed.
-abbrev pub conduct : Facts → Conduct ChangerCommand ChangerActivity ChangerState
-conduct facts =
+abbrev pub conduct : Conduct ChangerCommand ChangerSetup ℕ ChangerActivity ChangerState
+conduct =
     record {
       power_on = power_on;
       holds = λ state. state.holds;
-      with_holds = λ holds state. record state { holds = holds };
-      Asks = AskStep facts;
-      Acks = AckStep facts;
-      Takes = λ choice news before after.
+      with_holds = λ holding state. record state { holds = holding };
+      holds_as_set = λ holding state. refl;
+      same_as_set = λ state. refl;
+      Asks = AskStep;
+      Acks = TakeStep;
+      TellsNews = λ facts choice news before after.
           AllByRecursion (MayBeNew facts) news × (after ≡ before);
-      first = deposited facts.setup;
-      second = paid_by_hand facts.setup;
+      first_gain = λ facts. deposited facts.setup;
+      second_gain = λ facts. paid_by_hand facts.setup;
       heard_reset = λ state. record state { owed = false };
     }
 
 -- A step of the changer and the controller by an act under a choice, after acts that leave these
 -- facts.
 abbrev pub ChangerStep : Facts → Act → Choice → ChangerState → ChangerState → Gains → Type 0
-ChangerStep facts = KeeperStep tables (conduct facts) facts.past
+ChangerStep = KeeperStep tables conduct
 
 -- The machine of the changer. It starts at power-on.
 abbrev pub machine : Machine ChangerState

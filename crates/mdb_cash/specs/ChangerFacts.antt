@@ -1,4 +1,4 @@
--- What is known of the changer behind a list of acts, the newest first (this profile).
+-- What is known of the changer after a list of acts, the newest first (this profile).
 use Rattle.std.specs.Prelude.{ℕ, Bool, true, false, List, Option, Some, None}
 use Rattle.mdb_msgs.specs.declared.command.Command.{Command}
 use Rattle.mdb_msgs.specs.declared.command.Command.TheVariants as commands
@@ -60,6 +60,6 @@ tables =
 abbrev pub Facts : Type 0
 Facts = keeper.Facts ChangerSetup ℕ ChangerActivity
 
--- the facts behind acts
+-- the facts after acts
 abbrev pub facts_of : List Act → Facts
 facts_of = keeper.facts_of tables

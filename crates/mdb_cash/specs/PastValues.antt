@@ -1,4 +1,4 @@
--- What counts of the acts so far, act by act: of no act, and behind one act more; and what of it a
+-- What counts of the acts so far, act by act: of no act, and after one act more; and what of it a
 -- value of `Past` stands for. The public functions of `Past` say by this what they do, and a law of
 -- `laws` says that what counts goes on so.
 use Rattle.std.specs.Prelude.{ℕ, ◌==◌, Bool, true, false, not, ◌&&◌, ◌||◌, List, [], unwrap_or, if◌then◌else◌}
@@ -24,7 +24,7 @@ past_in past =
       kept = past.kept.items;
     }
 
--- what counts behind one act more, which puts the device into its power-on state or doesn't, by
+-- what counts after one act more, which puts the device into its power-on state or doesn't, by
 -- which it takes a command or doesn't, and which tells messages or doesn't
 abbrev pub past_after : {M : Type 0} → Bool → Effect → List (Part M) → PastFacts M
     → PastFacts M
@@ -35,7 +35,7 @@ past_after powers effect parts past =
       kept = unwrap_or (unless_empty (kept_of parts)) past.kept;
     }
 
--- what counts behind one act more
+-- what counts after one act more
 abbrev pub past_with : {M : Type 0} → (Command → Effect) → (Act → List (Part M)) → Act
     → PastFacts M → PastFacts M
 past_with effect_of parts_by act past =

@@ -21,9 +21,9 @@ use crate::gains::Gains;
 use crate::keeper::Keeper;
 use crate::kept::may_be_read;
 use crate::pair::Pair;
+pub use activity::BillActivity;
 use mdb_bus::Act;
 use mdb_msgs::{BillCommand, Command, Device};
-pub use activity::BillActivity;
 pub use state::{BillState, BillType, Escrow};
 pub use tables::BillFacts;
 

@@ -21,9 +21,9 @@ use crate::gains::Gains;
 use crate::keeper::Keeper;
 use crate::kept::may_be_read;
 use crate::pair::Pair;
+pub use activity::ChangerActivity;
 use mdb_bus::Act;
 use mdb_msgs::{ChangerCommand, Command, Device};
-pub use activity::ChangerActivity;
 pub use state::ChangerState;
 pub use tables::ChangerFacts;
 

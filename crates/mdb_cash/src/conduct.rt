@@ -2,7 +2,6 @@
 
 ghost use Rattle.std.specs.Prelude.{◌≡◌, ◌≤◌, ◌<◌, ◌^◌, IfSome, Option, Some, length, sum_by};
 ghost use Rattle.mdb_cash.specs.Gains.{IsSmall};
-ghost use Rattle.mdb_cash.specs.Keeper.{Facts};
 ghost use Rattle.mdb_cash.specs.KeeperSteps as spec;
 ghost use Rattle.mdb_cash.specs.KeeperValues.{facts_in};
 ghost use Rattle.mdb_cash.specs.Pair.{IsOnly, IsOnlyStep};
@@ -19,24 +18,20 @@ pub trait Conduct: Keeper {
     /// The states of the device and the controller.
     type State: Copy;
 
-    /// What the device does, after acts that leave these facts.
-    ghost conduct: { Facts Self.Setup Self.Asked Self.Kept
-        → spec.Conduct Self.Own Self.Kept Self.State };
+    /// What the device does.
+    ghost conduct: { spec.Conduct Self.Own Self.Setup Self.Asked Self.Kept Self.State };
 
     /// The state at power-on.
     fn power_on() -> Self::State
-        ensures { (facts : Facts Self.Setup Self.Asked Self.Kept)
-            → result ≡ (conduct facts).power_on };
+        ensures { result ≡ conduct.power_on };
 
     /// Whether the device holds kept messages.
     fn holds(state: Self::State) -> bool
-        ensures { (facts : Facts Self.Setup Self.Asked Self.Kept)
-            → result ≡ (conduct facts).holds state };
+        ensures { result ≡ conduct.holds state };
 
     /// The same state, where the device holds kept messages or doesn't.
     fn with_holds(state: Self::State, holds: bool) -> Self::State
-        ensures { (facts : Facts Self.Setup Self.Asked Self.Kept)
-            → result ≡ (conduct facts).with_holds holds state };
+        ensures { result ≡ conduct.with_holds holds state };
 
     /// The controller asks.
     fn ask(
@@ -44,7 +39,7 @@ pub trait Conduct: Keeper {
         command: Self::Own,
         before: Self::State,
     ) -> (Self::State, Gains)
-        ensures step { IsOnlyStep ((conduct (facts_in facts.now)).Asks command before)
+        ensures step { IsOnlyStep (conduct.Asks (facts_in facts.now) command before)
             (Some result) }
         ensures small { IsSmall result.1 };
 
@@ -55,33 +50,32 @@ pub trait Conduct: Keeper {
         choice: Choice,
         before: Self::State,
     ) -> (Self::State, Gains)
-        ensures step { IsOnlyStep ((conduct (facts_in facts.now)).Acks command choice before)
+        ensures step { IsOnlyStep (conduct.Acks (facts_in facts.now) command choice before)
             (Some result) }
         ensures small { IsSmall result.1 };
 
     /// The state after new messages in a reply under a choice. `None` where they can't be.
-    fn take(
+    fn tell_news(
         facts: &KeeperFacts<Self>,
         choice: Choice,
         news: &[Self::Kept],
         before: Self::State,
     ) -> Option<Self::State>
-        ensures { IsOnly ((conduct (facts_in facts.now)).Takes choice news.now before) result };
+        ensures { IsOnly (conduct.TellsNews (facts_in facts.now) choice news.now before) result };
 
     /// What a kept message adds to the first account.
-    fn first(facts: &KeeperFacts<Self>, message: Self::Kept) -> u64
-        ensures value { result ≡ (conduct (facts_in facts.now)).first message }
+    fn first_gain(facts: &KeeperFacts<Self>, message: Self::Kept) -> u64
+        ensures value { result ≡ conduct.first_gain (facts_in facts.now) message }
         ensures small { result < 2 ^ 28 };
 
     /// What it adds to the second.
-    fn second(facts: &KeeperFacts<Self>, message: Self::Kept) -> u64
-        ensures value { result ≡ (conduct (facts_in facts.now)).second message }
+    fn second_gain(facts: &KeeperFacts<Self>, message: Self::Kept) -> u64
+        ensures value { result ≡ conduct.second_gain (facts_in facts.now) message }
         ensures small { result < 2 ^ 28 };
 
     /// The state once the controller has heard a reset message.
     fn heard_reset(state: Self::State) -> Self::State
-        ensures { (facts : Facts Self.Setup Self.Asked Self.Kept)
-            → result ≡ (conduct facts).heard_reset state };
+        ensures { result ≡ conduct.heard_reset state };
 }
 
 /// The step by an act under a choice, from a state: the state after it, and its gains. `None`
@@ -92,9 +86,8 @@ pub(crate) fn step<K: Conduct>(
     choice: Choice,
     before: K::State,
 ) -> Option<(K::State, Gains)>
-    ensures step { let known = facts_in facts.now in
-        IsOnlyStep (spec.KeeperStep K.tables (K.conduct known) known.past act.now choice before)
-        result }
+    ensures step { IsOnlyStep
+        (spec.KeeperStep K.tables K.conduct (facts_in facts.now) act.now choice before) result }
     ensures small { IfSome result (λ step. IsSmall step.1) }
 {
     match act {
@@ -127,7 +120,7 @@ fn ack<K: Conduct>(
     before: K::State,
 ) -> Option<(K::State, Gains)>
     ensures step { IsOnlyStep
-        (spec.AckStep (K.conduct (facts_in facts.now)) (K.tables.is_poll command) command choice
+        (spec.AckStep K.conduct (facts_in facts.now) (K.tables.is_poll command) command choice
         before) result }
     ensures small { IfSome result (λ step. IsSmall step.1) }
 {
@@ -148,8 +141,8 @@ fn answer<K: Conduct>(
     choice: Choice,
     before: K::State,
 ) -> Option<(K::State, Gains)>
-    ensures step { let known = facts_in facts.now in
-        IsOnlyStep (spec.ReplyStep (K.conduct known) known.past (K.tables.is_poll command)
+    ensures step { IsOnlyStep
+        (spec.ReplyStep K.conduct (facts_in facts.now) (K.tables.is_poll command)
         (K.tables.parts_of reply.now) choice before) result }
     ensures small { IfSome result (λ step. IsSmall step.1) }
 {
@@ -161,7 +154,7 @@ fn answer<K: Conduct>(
     let held = held(holds, facts.past.kept.as_slice());
     let news = summary.told(K::is_poll(command), choice, facts.past.reset_owed, held)?;
     let holding = K::with_holds(before, holds_after(summary.kept.as_slice(), holds));
-    let after = K::take(facts, choice, news, holding)?;
+    let after = K::tell_news(facts, choice, news, holding)?;
     let (first, second) = worth(facts, news);
     Some((after, Gains::of_device(first, second)))
 }
@@ -174,8 +167,9 @@ fn vmc_ack<K: Conduct>(
     choice: Choice,
     before: K::State,
 ) -> (K::State, Gains)
-    ensures step { IsOnlyStep (spec.VmcAckStep (K.conduct (facts_in facts.now))
-        (K.tables.is_poll command) (K.tables.parts_of reply.now) choice before) (Some result) }
+    ensures step { IsOnlyStep
+        (spec.VmcAckStep K.conduct (facts_in facts.now) (K.tables.is_poll command)
+        (K.tables.parts_of reply.now) choice before) (Some result) }
     ensures small { IsSmall result.1 }
 {
     let summary = K::summary_of(reply);
@@ -196,15 +190,15 @@ fn vmc_ack<K: Conduct>(
 /// What kept messages add to the two accounts.
 fn worth<K: Conduct>(facts: &KeeperFacts<K>, messages: &[K::Kept]) -> (u64, u64)
     requires { length messages.now ≤ 16 }
-    ensures first { result.0 ≡ sum_by (K.conduct (facts_in facts.now)).first messages.now }
-    ensures second { result.1 ≡ sum_by (K.conduct (facts_in facts.now)).second messages.now }
+    ensures first { result.0 ≡ sum_by (K.conduct.first_gain (facts_in facts.now)) messages.now }
+    ensures second { result.1 ≡ sum_by (K.conduct.second_gain (facts_in facts.now)) messages.now }
     ensures small { (result.0 < 2 ^ 32) × (result.1 < 2 ^ 32) }
 {
     let mut first = 0;
     let mut second = 0;
     for message in messages {
-        first += K::first(facts, *message);
-        second += K::second(facts, *message);
+        first += K::first_gain(facts, *message);
+        second += K::second_gain(facts, *message);
     }
     (first, second)
 }

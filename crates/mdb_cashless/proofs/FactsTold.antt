@@ -16,7 +16,7 @@ use Rattle.mdb_cashless.specs.Transactions.{transaction_of}
 use Rattle.mdb_cashless.specs.Units.{own}
 use Rattle.mdb_cashless.proofs.FactsAfter.{same_facts}
 
--- the facts behind a reply, where it is known whether it refuses its command
+-- the facts after a reply, where it is known whether it refuses its command
 abbrev answered : ReaderUnit → Command → Bool → List ReaderMsg → Facts → Facts
 answered unit command refused messages old =
     record {
@@ -48,7 +48,7 @@ same_answer : (unit : ReaderUnit) (command : Command) (refused : Bool) (messages
 same_answer unit command true messages old = refl
 same_answer unit command false messages old = refl
 
--- the last transaction behind a command that is taken by an answer
+-- the last transaction after a command that is taken by an answer
 last_is : (command : ReaderCommand) (begins : Bool) (last : Option Transaction)
     → (if resets (effect_of_own (Some command)) || begins then None else or_else (transaction_of command) last) ≡ (if begins then None else last_after command last)
 last_is reader.Reset true last = refl
@@ -71,7 +71,7 @@ own_answer : (its : ReaderCommand) (refused : Bool) (messages : List ReaderMsg) 
 own_answer its true messages old = refl
 own_answer its false messages old = same_facts refl refl (last_is its (begin_session messages) old.taken) refl refl
 
--- the facts behind a reply of this reader: it has taken its command or not, and has told messages
+-- the facts after a reply of this reader: it has taken its command or not, and has told messages
 pub replied : (unit : ReaderUnit) (command : Command) (its : ReaderCommand) (reply : Reply) (old mid new : Facts) → own unit command ≡ Some its
     → mid ≡ taken (if tells_out_of_sequence reply then None else Some its) old → new ≡ told (messages_of reply) mid → new ≡ facts_with unit (acts.Reply command reply) old
 replied unit command its reply old mid new found mid_is new_is =

@@ -103,13 +103,13 @@ denied true p = tt
 denied false p = p refl
 
 -- a POLL that is acknowledged while nothing is held changes nothing
-same_behind : (facts : Facts) (choice : Choice) (device : DeviceState) (view : View)
+same_after : (facts : Facts) (choice : Choice) (device : DeviceState) (view : View)
     → record (take facts reader.Poll (record { device = device; view = view; holds = false })) {
       view = view_heard choice reader.Poll view;
     } ≡ record { device = device; view = view; holds = false }
-same_behind facts Plain device view = refl
-same_behind facts Lost device view = refl
-same_behind facts Restart device view = refl
+same_after facts Plain device view = refl
+same_after facts Lost device view = refl
+same_after facts Restart device view = refl
 
 none_sold : (facts : Facts) (device : DeviceState) (view : View)
     → sold facts reader.Poll (record { device = device; view = view; holds = false }) ≡ 0
@@ -121,12 +121,12 @@ rests_apart : (facts : Facts) (choice : Choice) (device : DeviceState) (view : V
     ↔ (after ≡ record { device = device; view = view; holds = false }) × (gains ≡ no_gains)
 rests_apart facts choice device view after gains = (
   (λ step. (
-    step.to ∙ same_behind facts choice device view,
+    step.to ∙ same_after facts choice device view,
     step.gained ∙ ap (device_gains 0) (none_sold facts device view),
   )),
   (λ both. record {
     poll = refl;
-    to = both.0 ∙ sym (same_behind facts choice device view);
+    to = both.0 ∙ sym (same_after facts choice device view);
     gained = both.1 ∙ sym (ap (device_gains 0) (none_sold facts device view));
   }),
 )

@@ -1,6 +1,6 @@
 -- The states of a cashless reader, and what commands and messages make of them (MDB/ICP 4.3,
--- cashless device, for Inactive, Disabled, Enabled, Idle and Vend; Approved, Ending and the places
--- of return, this profile).
+-- cashless device, for Inactive, Disabled, Enabled, Idle and Vend; Approved, Ending and where a
+-- reader returns to, this profile).
 use Rattle.std.specs.Prelude.{Bool, true, false, List, [], ◌∷◌, Option, Some, None, if◌then◌else◌}
 use Rattle.mdb_msgs.specs.declared.command.ReaderCommand.{ReaderCommand}
 use Rattle.mdb_msgs.specs.declared.command.ReaderCommand.TheVariants as reader
@@ -14,8 +14,8 @@ use Rattle.mdb_cashless.specs.declared.reader.transaction.Transaction.{Transacti
 use Rattle.mdb_cashless.specs.declared.reader.transaction.Transaction.TheVariants as transaction
 
 -- What a command makes of the reader that takes it, where that has an effect. SETUP config makes it
--- Disabled without SETUP prices. In a session READER ENABLE and READER DISABLE change the place of
--- return, which all others keep.
+-- Disabled without SETUP prices. In a session READER ENABLE and READER DISABLE change where the
+-- reader returns to, which all others keep.
 abbrev pub effect : ReaderCommand → DeviceState → DeviceState
 effect reader.Reset before = Inactive
 effect (reader.SetupConfig level columns rows display) Inactive = Disabled
@@ -48,7 +48,7 @@ abbrev pub is_sale : ReaderCommand → DeviceState → Bool
 is_sale (reader.VendSuccess item) (Approved back) = true
 is_sale command before = false
 
--- the state at a place of return
+-- the state in which a session leaves the reader
 abbrev pub returned : Home → DeviceState
 returned home.Disabled = Disabled
 returned home.Enabled = Enabled

@@ -26,7 +26,7 @@ facts_in facts =
       past = past_in facts.past;
     }
 
--- the facts behind one act more
+-- the facts after one act more
 abbrev pub facts_with : ReaderUnit → Act → Facts → Facts
 facts_with unit act facts =
     record {
@@ -38,12 +38,12 @@ facts_with unit act facts =
       past = past_with (effect_of unit) (parts_by unit) act facts.past;
     }
 
--- the last transaction behind a command that is taken
+-- the last transaction after a command that is taken
 abbrev pub last_after : ReaderCommand → Option Transaction → Option Transaction
 last_after reader.Reset last = None
 last_after command last = or_else (transaction_of command) last
 
--- the facts behind a command that is taken, if one is
+-- the facts after a command that is taken, if one is
 abbrev pub taken : Option ReaderCommand → Facts → Facts
 taken None facts = facts
 taken (Some command) facts =
@@ -53,11 +53,11 @@ taken (Some command) facts =
           facts.past;
     }
 
--- the facts behind a break
+-- the facts after a break
 abbrev pub powered : Facts → Facts
 powered facts = record facts { taken = None; past = past_after true effects.Other [] facts.past }
 
--- the facts behind the messages of a reply
+-- the facts after the messages of a reply
 abbrev pub told : List ReaderMsg → Facts → Facts
 told messages facts =
     record facts {
@@ -67,7 +67,7 @@ told messages facts =
       past = past_after false effects.Other (map part_of messages) facts.past;
     }
 
--- whether the controller's view may change behind a command that it sends
+-- whether the controller's view may change after a command that it sends
 abbrev pub changes_view : ReaderCommand → Bool
 changes_view reader.Reset = true
 changes_view command = elim (transaction_of command) [ Some transaction ↦ true | None ↦ false ]

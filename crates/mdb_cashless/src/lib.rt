@@ -10,7 +10,7 @@ mod reader;
 pub use reader::Reader;
 pub use reader::device::{DeviceState, Home};
 pub use reader::facts::ReaderFacts;
-pub use reader::messages::{ReaderConfig, ReaderActivity};
+pub use reader::messages::{ReaderActivity, ReaderConfig};
 pub use reader::state::ReaderState;
 pub use reader::transaction::Transaction;
 pub use reader::view::View;

@@ -15,14 +15,14 @@ use Rattle.mdb_cash.specs.Past.{effect_taken, last_told, or_else, resets}
 use Rattle.mdb_cash.specs.inner.PastWays.{answered_still, one_more}
 use Rattle.mdb_cash.specs.inner.StepWays.{IsOwnOf}
 
--- the facts behind a command more that is asked
+-- the facts after a command more that is asked
 abbrev asked_more : {Own Setup Asked M : Type 0} → Tables Own Setup Asked M → List Act → Option Own
     → Facts Setup Asked M
 asked_more tables acts own = record (facts_of tables acts) {
-  asked = or_else (option_and_then tables.asked_of own) (last_told (asked_by tables) acts);
+  last_asked = or_else (option_and_then tables.asked_of own) (last_told (asked_by tables) acts);
 }
 
--- and behind an answer more, by what the device takes and its reply
+-- and after an answer more, by what the device takes and its reply
 abbrev more : {Own Setup Asked M : Type 0} → Tables Own Setup Asked M → List Act → Effect
     → Option Reply → Facts Setup Asked M
 more tables acts effect reply = record (facts_of tables acts) {

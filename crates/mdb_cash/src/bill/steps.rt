@@ -52,21 +52,21 @@ impl Conduct for Bill {
         (after, Gains::none())
     }
 
-    fn take(
+    fn tell_news(
         facts: &BillFacts,
         choice: Choice,
         news: &[BillActivity],
         before: BillState,
     ) -> Option<BillState> {
-        let escrow = take_all(facts, news, before.escrow.read(choice))?;
+        let escrow = move_bills(facts, news, before.escrow.read(choice))?;
         Some(BillState { escrow, ..before })
     }
 
-    fn first(facts: &BillFacts, message: BillActivity) -> u64 {
+    fn first_gain(facts: &BillFacts, message: BillActivity) -> u64 {
         stacked(&facts.setup, message)
     }
 
-    fn second(_facts: &BillFacts, _message: BillActivity) -> u64 {
+    fn second_gain(_facts: &BillFacts, _message: BillActivity) -> u64 {
         0
     }
 
@@ -75,20 +75,20 @@ impl Conduct for Bill {
     }
 }
 
-/// What is in escrow behind new messages. `None` where they can't be.
-fn take_all(facts: &BillFacts, messages: &[BillActivity], from: Escrow) -> Option<Escrow>
-    ensures { IsOnly (spec.TakesAll (facts_in facts.now) messages.now from) result }
+/// What is in escrow after new messages. `None` where they can't be.
+fn move_bills(facts: &BillFacts, messages: &[BillActivity], from: Escrow) -> Option<Escrow>
+    ensures { IsOnly (spec.MovesBills (facts_in facts.now) messages.now from) result }
 {
     let mut escrow = from;
     for message in messages {
-        escrow = take(facts, *message, escrow)?;
+        escrow = move_bill(facts, *message, escrow)?;
     }
     Some(escrow)
 }
 
-/// What is in escrow behind one new message. `None` where it can't be.
-fn take(facts: &BillFacts, message: BillActivity, escrow: Escrow) -> Option<Escrow>
-    ensures { IsOnly (spec.TakesMessage (facts_in facts.now) message escrow) result }
+/// What is in escrow after one new message. `None` where it can't be.
+fn move_bill(facts: &BillFacts, message: BillActivity, escrow: Escrow) -> Option<Escrow>
+    ensures { IsOnly (spec.MovesBill (facts_in facts.now) message escrow) result }
 {
     match message {
         BillActivity::Stacked(number) => {

@@ -78,7 +78,7 @@ impl Conduct for Changer {
         }
     }
 
-    fn take(
+    fn tell_news(
         facts: &ChangerFacts,
         _choice: Choice,
         news: &[ChangerActivity],
@@ -91,11 +91,11 @@ impl Conduct for Changer {
         }
     }
 
-    fn first(facts: &ChangerFacts, message: ChangerActivity) -> u64 {
+    fn first_gain(facts: &ChangerFacts, message: ChangerActivity) -> u64 {
         deposited(&facts.setup, message)
     }
 
-    fn second(facts: &ChangerFacts, message: ChangerActivity) -> u64 {
+    fn second_gain(facts: &ChangerFacts, message: ChangerActivity) -> u64 {
         paid_by_hand(&facts.setup, message)
     }
 
@@ -117,7 +117,7 @@ fn ask_for_coins(facts: &ChangerFacts, coins: u8, before: ChangerState) -> (Chan
         owed: true,
         ..before
     };
-    if before.owed && is_last(facts.asked, coins) {
+    if before.owed && is_last(facts.last_asked, coins) {
         (after, Gains::none())
     } else {
         let asked = dispensed_value(&facts.setup, coins);
@@ -126,10 +126,10 @@ fn ask_for_coins(facts: &ChangerFacts, coins: u8, before: ChangerState) -> (Chan
 }
 
 /// Whether this is Y1 of the last DISPENSE that was asked.
-fn is_last(asked: Option<u8>, coins: u8) -> bool
-    ensures { result ≡ spec.is_last asked coins }
+fn is_last(last_asked: Option<u8>, coins: u8) -> bool
+    ensures { result ≡ spec.is_last last_asked coins }
 {
-    match asked {
+    match last_asked {
         None => false,
         Some(last) => last == coins,
     }

@@ -10,7 +10,7 @@ use Rattle.mdb_cashless.specs.declared.reader.state.ReaderState.{ReaderState}
 use Rattle.mdb_cashless.specs.declared.reader.view.View.{View}
 use Rattle.mdb_cashless.specs.declared.reader.view.View.TheVariants as view
 
--- the numbers of the places of return, of the reader's states and of the views
+-- the numbers of the homes, of the reader's states and of the views
 abbrev pub home_number : Home → ℕ
 home_number home.Disabled = 0
 home_number home.Enabled = 1
@@ -99,18 +99,18 @@ holds_again true = refl
 holds_again false = refl
 
 -- numbers are small
-small_place : (p : Home) → home_number p < 2
-small_place home.Disabled = omega arith
-small_place home.Enabled = omega arith
+small_home : (p : Home) → home_number p < 2
+small_home home.Disabled = omega arith
+small_home home.Enabled = omega arith
 
 small_device : (d : DeviceState) → device_number d < 11
 small_device device.Inactive = omega arith
 small_device device.Disabled = omega arith
 small_device device.Enabled = omega arith
-small_device (device.Idle back) = let small = small_place back in omega arith
-small_device (device.Vend back) = let small = small_place back in omega arith
-small_device (device.Approved back) = let small = small_place back in omega arith
-small_device (device.Ending back) = let small = small_place back in omega arith
+small_device (device.Idle back) = let small = small_home back in omega arith
+small_device (device.Vend back) = let small = small_home back in omega arith
+small_device (device.Approved back) = let small = small_home back in omega arith
+small_device (device.Ending back) = let small = small_home back in omega arith
 
 small_view : (v : View) → view_number v < 8
 small_view view.NoSession = omega arith

@@ -18,7 +18,7 @@ ghost use Rattle.mdb_cashless.specs.ReaderView as reader_view;
 
 use super::device::DeviceState;
 use super::facts::ReaderFacts;
-use super::messages::{ReaderConfig, ReaderActivity, Said, is_kept, messages_of, tells_of_reset};
+use super::messages::{ReaderActivity, ReaderConfig, Said, is_kept, messages_of, tells_of_reset};
 use super::state::ReaderState;
 use super::taking::{is_poll, sold, take};
 use super::transaction::{Transaction, transaction_of};
@@ -54,7 +54,7 @@ fn read(choice: Choice, before: ReaderState) -> ReaderState
     }
 }
 
-/// The state behind taking a command, if one is taken.
+/// The state after taking a command, if one is taken.
 #[inline(always)]
 fn take_any(facts: &ReaderFacts, command: Option<ReaderCommand>, before: ReaderState) -> ReaderState
     ensures { result ≡ spec.take_any (facts_in facts.now) command before }
@@ -164,7 +164,7 @@ fn all_told(
     Some(device)
 }
 
-/// The view behind hearing that a reply's command was taken, if it was.
+/// The view after hearing that a reply's command was taken, if it was.
 fn view_answered(command: ReaderCommand, reply: &Reply, view: View) -> View
     ensures { result ≡ spec.view_answered (spec.taken command reply.now) view }
 {
@@ -200,7 +200,7 @@ pub(crate) fn vmc_ack(
 /// What hearing messages makes of the controller's view and sums.
 #[derive(Clone, Copy)]
 struct Hearing {
-    /// The view behind them.
+    /// The view after them.
     view: View,
     /// What they add to the controller's approved.
     approved: u64,
@@ -233,7 +233,7 @@ fn hear(config: Option<ReaderConfig>, before: View, messages: ReaderIter<'_>) ->
     }
 }
 
-/// Whether the reader holds behind the controller's ACK of messages of which it keeps one, or none.
+/// Whether the reader holds after the controller's ACK of messages of which it keeps one, or none.
 fn holds_on(choice: Choice, keeps: bool, holds: bool) -> bool
     ensures { (messages : List ReaderMsg) → keeps ≡ list_any is_kept messages
         → result ≡ holds_acked choice (kept_of (map part_of messages)) holds }

@@ -18,8 +18,8 @@ pub enum Home {
     Enabled,
 }
 
-/// A state of a cashless reader (MDB/ICP 4.3, cashless device; the states Approved and Ending and
-/// the places of return, this profile).
+/// A state of a cashless reader (MDB/ICP 4.3, cashless device; the states Approved and Ending, and
+/// where it returns to, this profile).
 #[derive(Clone, Copy, PartialEq, Eq, Debug)]
 pub enum DeviceState {
     /// It waits for SETUP: its power-on state.
@@ -71,10 +71,10 @@ impl DeviceState {
             DeviceState::Inactive => 0,
             DeviceState::Disabled => 1,
             DeviceState::Enabled => 2,
-            DeviceState::Idle(place) => 3 + place.number(),
-            DeviceState::Vend(place) => 5 + place.number(),
-            DeviceState::Approved(place) => 7 + place.number(),
-            DeviceState::Ending(place) => 9 + place.number(),
+            DeviceState::Idle(home) => 3 + home.number(),
+            DeviceState::Vend(home) => 5 + home.number(),
+            DeviceState::Approved(home) => 7 + home.number(),
+            DeviceState::Ending(home) => 9 + home.number(),
         }
     }
 
@@ -98,8 +98,8 @@ impl DeviceState {
         }
     }
 
-    /// The state behind taking a command.
-    pub(crate) fn behind(self, command: ReaderCommand) -> DeviceState
+    /// The state after taking a command.
+    pub(crate) fn after(self, command: ReaderCommand) -> DeviceState
         ensures { result ≡ spec.effect command self }
     {
         match (command, self) {
@@ -110,14 +110,14 @@ impl DeviceState {
             (ReaderCommand::VendRequest { .. } | ReaderCommand::VendCancel, _) => self.vending(),
             (
                 ReaderCommand::VendSuccess { .. } | ReaderCommand::VendFailure,
-                DeviceState::Approved(place),
-            ) => DeviceState::Idle(place),
+                DeviceState::Approved(home),
+            ) => DeviceState::Idle(home),
             (ReaderCommand::SessionComplete, _) => self.ending(),
             _ => self,
         }
     }
 
-    /// The state behind READER ENABLE.
+    /// The state after READER ENABLE.
     fn enabled(self) -> DeviceState
         ensures { result ≡ spec.effect reader.Enable self }
     {
@@ -131,7 +131,7 @@ impl DeviceState {
         }
     }
 
-    /// The state behind READER DISABLE.
+    /// The state after READER DISABLE.
     fn disabled(self) -> DeviceState
         ensures { result ≡ spec.effect reader.Disable self }
     {
@@ -145,28 +145,28 @@ impl DeviceState {
         }
     }
 
-    /// The state behind VEND REQUEST and VEND CANCEL.
+    /// The state after VEND REQUEST and VEND CANCEL.
     fn vending(self) -> DeviceState
         ensures cancel { result ≡ spec.effect reader.VendCancel self }
         ensures request { (price item : ℕ)
             → result ≡ spec.effect (reader.VendRequest price item) self }
     {
         match self {
-            DeviceState::Idle(place) | DeviceState::Vend(place) | DeviceState::Approved(place) =>
-                DeviceState::Vend(place),
+            DeviceState::Idle(home) | DeviceState::Vend(home) | DeviceState::Approved(home) =>
+                DeviceState::Vend(home),
             _ => self,
         }
     }
 
-    /// The state behind SESSION COMPLETE.
+    /// The state after SESSION COMPLETE.
     fn ending(self) -> DeviceState
         ensures { result ≡ spec.effect reader.SessionComplete self }
     {
         match self {
-            DeviceState::Idle(place)
-            | DeviceState::Vend(place)
-            | DeviceState::Approved(place)
-            | DeviceState::Ending(place) => DeviceState::Ending(place),
+            DeviceState::Idle(home)
+            | DeviceState::Vend(home)
+            | DeviceState::Approved(home)
+            | DeviceState::Ending(home) => DeviceState::Ending(home),
             _ => self,
         }
     }
@@ -181,20 +181,24 @@ impl DeviceState {
         )
     }
 
-    /// The state behind a new kept message, where this was the last transaction taken; `None` where
+    /// The state after a new kept message, where this was the last transaction taken; `None` where
     /// the message is impossible.
-    pub(crate) fn told(self, last: Option<Transaction>, message: ReaderActivity) -> Option<DeviceState>
+    pub(crate) fn told(
+        self,
+        last: Option<Transaction>,
+        message: ReaderActivity,
+    ) -> Option<DeviceState>
         ensures { result ≡ spec.told last message self }
     {
         match (message, self) {
             (ReaderActivity::SessionBegun { .. }, DeviceState::Enabled) => {
                 Some(DeviceState::Idle(Home::Enabled))
             }
-            (ReaderActivity::VendApproved { .. }, DeviceState::Vend(place)) if is_request(last) => {
-                Some(DeviceState::Approved(place))
+            (ReaderActivity::VendApproved { .. }, DeviceState::Vend(home)) if is_request(last) => {
+                Some(DeviceState::Approved(home))
             }
-            (ReaderActivity::VendDenied, DeviceState::Vend(place)) => Some(DeviceState::Idle(place)),
-            (ReaderActivity::SessionEnded, DeviceState::Ending(place)) => Some(place.state()),
+            (ReaderActivity::VendDenied, DeviceState::Vend(home)) => Some(DeviceState::Idle(home)),
+            (ReaderActivity::SessionEnded, DeviceState::Ending(home)) => Some(home.state()),
             _ => None,
         }
     }

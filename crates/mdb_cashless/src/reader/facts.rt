@@ -1,9 +1,9 @@
-//! What is known of a reader behind the acts so far.
+//! What is known of a reader after the acts so far.
 
 ghost use Rattle.std.specs.Prelude.{◌≡◌, List, [], ◌∷◌, Some};
 ghost use Rattle.mdb_cashless.specs.ReaderFacts.{effect_of_own};
 
-use super::messages::{ReaderConfig, ReaderActivity, Said, messages_of};
+use super::messages::{ReaderActivity, ReaderConfig, Said, messages_of};
 use super::transaction::{Transaction, transaction_of};
 use super::unit::own;
 use mdb_bus::Act;
@@ -41,7 +41,7 @@ impl ReaderFacts {
     ghost use Rattle.mdb_cashless.specs.ReaderValues.{facts_in, facts_with, powered, taken, told};
     ghost use Rattle.mdb_cashless.specs.Transactions.{transaction_of as transaction};
 
-    /// The facts behind no act.
+    /// The facts after no act.
     pub(crate) fn start() -> ReaderFacts
         ensures { (unit : ReaderUnit) → facts_in result ≡ facts_of unit [] }
     {

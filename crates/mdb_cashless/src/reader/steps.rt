@@ -87,7 +87,7 @@ fn ask(
     Some((after, Gains::of_controller(0, sold)))
 }
 
-/// The view behind a command that the controller sends; `None` where it may not send it.
+/// The view after a command that the controller sends; `None` where it may not send it.
 fn asked(facts: &ReaderFacts, command: ReaderCommand, view: View) -> Option<View>
     ensures { result ≡ spec.asked (facts_in facts.now) command view }
 {
@@ -190,7 +190,7 @@ pub(crate) fn heeds_choice(act: &Act, state: ReaderState) -> bool
     }
 }
 
-/// Whether the controller's view may change behind a command that it sends.
+/// Whether the controller's view may change after a command that it sends.
 fn changes_view(command: ReaderCommand) -> bool
     ensures { result ≡ changes_view command }
 {

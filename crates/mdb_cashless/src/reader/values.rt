@@ -3,7 +3,7 @@
 ghost use Rattle.std.specs.Prelude.{◌≡◌, ◌≤◌, ◌<◌, ◌^◌, length};
 ghost use Rattle.mdb_cashless.specs.Reader as spec;
 
-use super::messages::{ReaderConfig, ReaderActivity};
+use super::messages::{ReaderActivity, ReaderConfig};
 use super::view::View;
 use mdb_msgs::ReaderMsg;
 

@@ -1,7 +1,7 @@
 use Rattle.std.proofs.Common.{ap, ◌∙◌, sum_by}
 use Rattle.mdb_cash.specs.Gains.{device_gains}
 use Rattle.mdb_cash.specs.KeeperValues.{facts_in}
-use Rattle.mdb_cash.proofs.KeeperSteps.{holding, telling, told, untaken, untold}
+use Rattle.mdb_cash.proofs.KeeperSteps.{holding, telling, told, impossible, untold}
 use Rattle.mdb_cash.proofs.Sizes.{summary_fits}
 use Rattle.mdb_cash.proofs.conduct.answer.Goals as goal
 
@@ -13,17 +13,14 @@ told-requires g c = summary_fits g.row.K-Kept g.met.K.Keeper.few_bytes
 
 pub returns-in_err-news-clause-step : goal.returns-in_err-news-clause-step
 returns-in_err-news-clause-step g c =
-    let known = facts_in c.args.facts.now in
-    rw c.from_residual.ensures (untold c.is_poll.ensures (c.holds.ensures known) c.holds_read-holds.ensures c.as_slice.ensures.value c.held-held.ensures c.summary_of-summary.ensures c.in_err-news.ensures.none)
+    rw c.from_residual.ensures (untold c.is_poll.ensures c.holds.ensures c.holds_read-holds.ensures c.as_slice.ensures.value c.held-held.ensures c.summary_of-summary.ensures c.in_err-news.ensures.none)
 
 pub returns-in_err-after-clause-step : goal.returns-in_err-after-clause-step
 returns-in_err-after-clause-step g c =
-    let known = facts_in c.args.facts.now in
-    rw c.from_residual-in_err-after.ensures (untaken (telling c.is_poll.ensures (c.holds.ensures known) c.holds_read-holds.ensures c.as_slice.ensures.value c.held-held.ensures c.summary_of-summary.ensures c.in_ok-news.ensures.found c.in_ok-news.ensures.only) (holding (c.holds.ensures known) c.holds_read-holds.ensures (c.as_slice-2.ensures.value ∙ c.summary_of-summary.ensures.kept_is) c.holds_after.ensures (c.with_holds-holding.ensures known)) c.in_err-after.ensures)
+    rw c.from_residual-in_err-after.ensures (impossible (telling c.is_poll.ensures c.holds.ensures c.holds_read-holds.ensures c.as_slice.ensures.value c.held-held.ensures c.summary_of-summary.ensures c.in_ok-news.ensures.found c.in_ok-news.ensures.only) (holding c.holds.ensures c.holds_read-holds.ensures (c.as_slice-2.ensures.value ∙ c.summary_of-summary.ensures.kept_is) c.holds_after.ensures c.with_holds-holding.ensures) c.in_err-after.ensures)
 
 pub returns-clause-step : goal.returns-clause-step
 returns-clause-step g c =
-    let known = facts_in c.args.facts.now in
-    let conduct = g.K.Conduct.conduct known in
-    told (telling c.is_poll.ensures (c.holds.ensures known) c.holds_read-holds.ensures c.as_slice.ensures.value c.held-held.ensures c.summary_of-summary.ensures c.in_ok-news.ensures.found c.in_ok-news.ensures.only) (holding (c.holds.ensures known) c.holds_read-holds.ensures (c.as_slice-2.ensures.value ∙ c.summary_of-summary.ensures.kept_is) c.holds_after.ensures (c.with_holds-holding.ensures known)) c.in_ok-after.ensures
-    (c.of_device.ensures ∙ (ap (λ f. device_gains f c.worth.result.1) c.worth.ensures.first ∙ ap (device_gains (sum_by conduct.first c.in_ok-news.news.now)) c.worth.ensures.second))
+    let first_gain = g.K.Conduct.conduct.first_gain (facts_in c.args.facts.now) in
+    told (telling c.is_poll.ensures c.holds.ensures c.holds_read-holds.ensures c.as_slice.ensures.value c.held-held.ensures c.summary_of-summary.ensures c.in_ok-news.ensures.found c.in_ok-news.ensures.only) (holding c.holds.ensures c.holds_read-holds.ensures (c.as_slice-2.ensures.value ∙ c.summary_of-summary.ensures.kept_is) c.holds_after.ensures c.with_holds-holding.ensures) c.in_ok-after.ensures
+    (c.of_device.ensures ∙ (ap (λ f. device_gains f c.worth.result.1) c.worth.ensures.first ∙ ap (device_gains (sum_by first_gain c.in_ok-news.news.now)) c.worth.ensures.second))

@@ -6,7 +6,7 @@ use Rattle.mdb_cash.proofs.Escrows.{leaves_all, leaves_more, leaves_none}
 use Rattle.mdb_cash.proofs.bill.steps.move_bills.Goals as goal
 
 pub loop-message-init : goal.loop-message-init
-loop-message-init c = record { behind = λ to. (λ takes. takes, λ takes. takes) }
+loop-message-init c = record { as_rest = λ to. (λ takes. takes, λ takes. takes) }
 
 pub returns-in_err-escrow : goal.returns-in_err-escrow
 returns-in_err-escrow c =

@@ -38,9 +38,9 @@ returns-clause-step c =
     } in
     let told_is = sym c.all_told.ensures ∙ c.in_ok-device.was in
     let last_is = c.last_transaction.ensures ∙ ap (last_transaction (facts_in c.args.facts.now)) (c.taken-taken.ensures c.args.reply.now said.refused_is) in
-    let behind_is = c.holds_after.ensures ∙ ap (λ ks. holds_after ks c.take_any-middle.result.holds) c.as_slice-2.ensures.value in
+    let after_holds_is = c.holds_after.ensures ∙ ap (λ ks. holds_after ks c.take_any-middle.result.holds) c.as_slice-2.ensures.value in
     let config_is = c.or-config.ensures ∙ (or_is c.read.new.self.config c.args.facts.now.config
     ∙ ap (λ o. or_else o c.args.facts.now.config) said.config_is) in
     let sold_is = c.sold_any.ensures.value ∙ (ap (λ t. sold_any (facts_in c.args.facts.now) t c.read-start.result) (c.taken-taken.ensures c.args.reply.now said.refused_is)
     ∙ ap (sold_any (facts_in c.args.facts.now) (taken c.args.command c.args.reply.now)) c.read-start.ensures) in
-    told looked c.in_ok-new.ensures.found c.in_ok-new.ensures.only last_is told_is behind_is config_is c.all_approved-approved.ensures.value sold_is c.of_device.ensures
+    told looked c.in_ok-new.ensures.found c.in_ok-new.ensures.only last_is told_is after_holds_is config_is c.all_approved-approved.ensures.value sold_is c.of_device.ensures
