@@ -29,10 +29,6 @@ pub stacks_not : (facts : Facts) {message : BillActivity} {escrow : Escrow} (bil
     → (facts.past.enabled number ≡ true → MayStack bill escrow → ⊥) → (x : Escrow) → MovesBill facts message escrow x → ⊥
 stacks_not facts {message} {escrow} bill is same denied = rw is (λ x takes. denied takes.2 (subst (λ t. MayStack t escrow) (same_type takes.0 bill (takes.1 ∙ sym same)) takes.3))
 
-pub puts_not : (facts : Facts) {message : BillActivity} {escrow : Escrow} {number : ℕ} → message ≡ activity.Escrow number
-    → (facts.past.enabled number ≡ true → escrow ≡ Empty → ⊥) → (x : Escrow) → MovesBill facts message escrow x → ⊥
-puts_not facts is denied = rw is (λ x takes. denied takes.2 takes.3)
-
 pub returns_not : (facts : Facts) {message : BillActivity} {escrow : Escrow} (bill : BillType) {number : ℕ} → message ≡ activity.Returned number → bill.number ≡ number
     → (MayReturn bill escrow → ⊥) → (x : Escrow) → MovesBill facts message escrow x → ⊥
 returns_not facts {message} {escrow} bill is same denied = rw is (λ x takes. denied (subst (λ t. MayReturn t escrow) (same_type takes.0 bill (takes.1 ∙ sym same)) takes.2))

@@ -1,6 +1,6 @@
 use Rattle.std.proofs.Common.{◌≡◌, ◌==◌, ◌||◌, ◌&&◌, not, ℕ, zero, suc, ◌<◌, Bool, true, false, List, [], ◌∷◌, Option, Some, None, refl, ap, ◌∙◌, arith, unwrap_or, bit_or, max, if◌then◌else◌}
 use Rattle.std.proofs.Math.Path.{fun_ext}
-use Rattle.std.proofs.lemmas.Nat.Bits.{bit_at_or, bit_at-lt, bit_at-zero}
+use Rattle.std.proofs.lemmas.Nat.Bits.{bit_at_or, bit_at-lt}
 use Rattle.std.specs.Int.{bit_at}
 use Rattle.std.specs.List.{list_any}
 use Rattle.mdb_msgs.specs.declared.command.Command.{Command}
@@ -53,16 +53,7 @@ either_bit mask more coin = rw (bit_at_or mask more coin) (either (bit_at mask c
     either (suc (suc a)) b p q = absurd (omega arith)
     either a (suc (suc b)) p q = absurd (omega arith)
 
--- a device in its power-on state
-pub powered : {M : Type 0} {CAP : ℕ} (old new : Past M CAP) → new.enabled ≡ 0 → new.reset_owed ≡ true → new.kept.items ≡ old.kept.items → past_in new ≡ past_after true effects.Other [] (past_in old)
-powered old new enabled reset_owed kept = same_past (λ kind. ap (λ m. bit_at m kind == 1) enabled ∙ ap (λ b. b == 1) (bit_at-zero kind)) reset_owed kept
-
--- one that has enabled types
+-- a device that has enabled types
 pub enabled_more : {M : Type 0} {CAP : ℕ} (old new : Past M CAP) (mask : ℕ) → new.enabled ≡ bit_or old.enabled mask → new.reset_owed ≡ old.reset_owed → new.kept.items ≡ old.kept.items
     → past_in new ≡ past_after false (effects.Enable mask) [] (past_in old)
 enabled_more old new mask enabled reset_owed kept = same_past (λ kind. ap (λ m. bit_at m kind == 1) enabled ∙ either_bit old.enabled mask kind) reset_owed kept
-
--- one that has told messages
-pub told_more : {M : Type 0} {CAP : ℕ} (old new : Past M CAP) (parts : List (Part M)) → new.enabled ≡ old.enabled → new.reset_owed ≡ (not (has_reset parts) && old.reset_owed)
-    → new.kept.items ≡ unwrap_or (unless_empty (kept_of parts)) old.kept.items → past_in new ≡ past_after false effects.Other parts (past_in old)
-told_more old new parts enabled reset_owed kept = same_past (λ kind. ap (λ m. bit_at m kind == 1) enabled) reset_owed kept

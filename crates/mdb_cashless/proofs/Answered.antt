@@ -49,22 +49,6 @@ pub untold : {facts : Facts} {command : ReaderCommand} {reply : Reply} {choice :
     → (after : ReaderState) (gains : Gains) → ReplyStep facts command reply choice before after gains → ⊥
 untold {facts} {command} {reply} looked none after gains step = none (parts_of reply) step.news looked.summary (telling looked step.has_news)
 
--- a reply that it can't tell: a new message is impossible
-pub mistold : {facts : Facts} {command : ReaderCommand} {reply : Reply} {choice : Choice} {before : ReaderState} {poll owed reset early : Bool} {middle : ReaderState} {holding kept news : List ReaderActivity} {last : Option Transaction}
-    → Looked facts command reply choice before poll owed reset early middle holding kept
-    → ((parts : List (Part ReaderActivity)) (other : List ReaderActivity) → IsSummary kept reset early parts → HasNews poll choice owed holding parts other → other ≡ news)
-    → last ≡ last_transaction facts (taken command reply)
-    → all_told last news middle.device ≡ None
-    → (after : ReaderState) (gains : Gains) → ReplyStep facts command reply choice before after gains → ⊥
-mistold {facts} {command} {reply} {choice} {before} {poll} {owed} {reset} {early} {middle} {holding} {kept} {news} {last} looked only last_is none after gains step =
-    let same : step.news ≡ news = only (parts_of reply) step.news looked.summary (telling looked step.has_news) in
-    let told : all_told last news middle.device ≡ Some after.device =
-    ap (all_told last news) (ap (λ (s : ReaderState). s.device) looked.middle_is)
-    ∙ (ap (λ ns. all_told last ns (before_messages facts command reply choice before).device) (sym same)
-    ∙ (ap (λ l. all_told l step.news (before_messages facts command reply choice before).device) last_is ∙ step.told)) in
-    let never : None ≡ Some after.device = sym none ∙ told in
-    absurd cc
-
 -- a reply that it can tell, and what that is
 pub told : {facts : Facts} {command : ReaderCommand} {reply : Reply} {choice : Choice} {before : ReaderState} {poll owed reset early : Bool} {middle : ReaderState} {holding kept news : List ReaderActivity} {last : Option Transaction} {device : DeviceState} {after_holds : Bool} {config : Option ReaderConfig} {approved sold : ℕ} {gains : Gains}
     → Looked facts command reply choice before poll owed reset early middle holding kept
