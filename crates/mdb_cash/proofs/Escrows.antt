@@ -1,66 +1,62 @@
 use Rattle.std.proofs.Common.{◌≡◌, ◌∙◌, ◌↔◌, ℕ, Bool, true, false, List, [], ◌∷◌, Some, refl, ap, sym, subst, length, if◌then◌else◌, map, not, ◌==◌, arith}
-use Rattle.mdb_cash.specs.declared.bill.report.BillReport.{BillReport}
-use Rattle.mdb_cash.specs.declared.bill.report.BillReport.TheVariants as reports
+use Rattle.mdb_cash.specs.declared.bill.activity.BillActivity.{BillActivity}
+use Rattle.mdb_cash.specs.declared.bill.activity.BillActivity.TheVariants as activity
 use Rattle.mdb_cash.specs.declared.bill.state.BillType.{BillType}
 use Rattle.mdb_cash.specs.declared.bill.state.Escrow.{Escrow}
 use Rattle.mdb_cash.specs.declared.bill.state.Escrow.TheVariants.{Empty, Waiting}
-use Rattle.mdb_cash.specs.Bill.{MayReturn, MayStack, TakesAll, TakesMessage}
+use Rattle.mdb_cash.specs.Bill.{MayReturn, MayStack, MovesBills, MovesBill}
 use Rattle.mdb_cash.specs.inner.BillCodes.{same_type}
 use Rattle.mdb_cash.specs.BillFacts.{Facts}
 use Rattle.mdb_cash.specs.Pair.{IsOnly}
-use Rattle.mdb_cash.proofs.KeptLists.{TellsOnly}
+use Rattle.mdb_cash.proofs.KeptLists.{HasNewsOnly}
 
 -- a message that can be new
-pub stacks : (facts : Facts) {message : BillReport} {escrow : Escrow} (bill : BillType) {number : ℕ} → message ≡ reports.Stacked number → bill.number ≡ number
-    → facts.past.enabled number ≡ true → MayStack bill escrow → IsOnly (TakesMessage facts message escrow) (Some Empty)
+pub stacks : (facts : Facts) {message : BillActivity} {escrow : Escrow} (bill : BillType) {number : ℕ} → message ≡ activity.Stacked number → bill.number ≡ number
+    → facts.past.enabled number ≡ true → MayStack bill escrow → IsOnly (MovesBill facts message escrow) (Some Empty)
 stacks facts bill is same enabled may = rw is ((bill, same, enabled, may, refl), λ x takes. takes.4)
 
-pub puts : (facts : Facts) {message : BillReport} {escrow : Escrow} (bill : BillType) {number : ℕ} → message ≡ reports.Escrow number → bill.number ≡ number
-    → facts.past.enabled number ≡ true → escrow ≡ Empty → IsOnly (TakesMessage facts message escrow) (Some (Waiting bill))
+pub puts : (facts : Facts) {message : BillActivity} {escrow : Escrow} (bill : BillType) {number : ℕ} → message ≡ activity.Escrow number → bill.number ≡ number
+    → facts.past.enabled number ≡ true → escrow ≡ Empty → IsOnly (MovesBill facts message escrow) (Some (Waiting bill))
 puts facts bill is same enabled may =
     rw is ((bill, same, enabled, may, refl), λ x takes. takes.4 ∙ ap Waiting (same_type takes.0 bill (takes.1 ∙ sym same)))
 
-pub returns : (facts : Facts) {message : BillReport} {escrow : Escrow} (bill : BillType) {number : ℕ} → message ≡ reports.Returned number → bill.number ≡ number
-    → MayReturn bill escrow → IsOnly (TakesMessage facts message escrow) (Some Empty)
+pub returns : (facts : Facts) {message : BillActivity} {escrow : Escrow} (bill : BillType) {number : ℕ} → message ≡ activity.Returned number → bill.number ≡ number
+    → MayReturn bill escrow → IsOnly (MovesBill facts message escrow) (Some Empty)
 returns facts bill is same may = rw is ((bill, same, may, refl), λ x takes. takes.3)
 
 -- and one that can't
-pub stacks_not : (facts : Facts) {message : BillReport} {escrow : Escrow} (bill : BillType) {number : ℕ} → message ≡ reports.Stacked number → bill.number ≡ number
-    → (facts.past.enabled number ≡ true → MayStack bill escrow → ⊥) → (x : Escrow) → TakesMessage facts message escrow x → ⊥
+pub stacks_not : (facts : Facts) {message : BillActivity} {escrow : Escrow} (bill : BillType) {number : ℕ} → message ≡ activity.Stacked number → bill.number ≡ number
+    → (facts.past.enabled number ≡ true → MayStack bill escrow → ⊥) → (x : Escrow) → MovesBill facts message escrow x → ⊥
 stacks_not facts {message} {escrow} bill is same denied = rw is (λ x takes. denied takes.2 (subst (λ t. MayStack t escrow) (same_type takes.0 bill (takes.1 ∙ sym same)) takes.3))
 
-pub puts_not : (facts : Facts) {message : BillReport} {escrow : Escrow} {number : ℕ} → message ≡ reports.Escrow number
-    → (facts.past.enabled number ≡ true → escrow ≡ Empty → ⊥) → (x : Escrow) → TakesMessage facts message escrow x → ⊥
-puts_not facts is denied = rw is (λ x takes. denied takes.2 takes.3)
-
-pub returns_not : (facts : Facts) {message : BillReport} {escrow : Escrow} (bill : BillType) {number : ℕ} → message ≡ reports.Returned number → bill.number ≡ number
-    → (MayReturn bill escrow → ⊥) → (x : Escrow) → TakesMessage facts message escrow x → ⊥
+pub returns_not : (facts : Facts) {message : BillActivity} {escrow : Escrow} (bill : BillType) {number : ℕ} → message ≡ activity.Returned number → bill.number ≡ number
+    → (MayReturn bill escrow → ⊥) → (x : Escrow) → MovesBill facts message escrow x → ⊥
 returns_not facts {message} {escrow} bill is same denied = rw is (λ x takes. denied (subst (λ t. MayReturn t escrow) (same_type takes.0 bill (takes.1 ∙ sym same)) takes.2))
 
--- what messages leave in escrow is what the rest of them leaves behind those that are done
-pub record Leaves (facts : Facts) (all rest : List BillReport) (from now : Escrow) : Type 0 where
-  pub behind : (to : Escrow) → TakesAll facts all from to ↔ TakesAll facts rest now to
+-- what messages leave in escrow is what the rest of them leaves after those that are done
+pub record Leaves (facts : Facts) (all rest : List BillActivity) (from now : Escrow) : Type 0 where
+  pub as_rest : (to : Escrow) → MovesBills facts all from to ↔ MovesBills facts rest now to
 
-pub leaves_more : {facts : Facts} {all rest tail : List BillReport} {from now next : Escrow} {message : BillReport} → rest ≡ message ∷ tail → IsOnly (TakesMessage facts message now) (Some next)
+pub leaves_more : {facts : Facts} {all rest tail : List BillActivity} {from now next : Escrow} {message : BillActivity} → rest ≡ message ∷ tail → IsOnly (MovesBill facts message now) (Some next)
     → Leaves facts all rest from now → Leaves facts all tail from next
 leaves_more {facts} {all} {rest} {tail} {from} {now} {next} {message} is only leaves =
     record {
-      behind = λ to. (
+      as_rest = λ to. (
         λ takes.
-            let more : TakesAll facts (message ∷ tail) now to = subst (λ r. TakesAll facts r now to) is ((leaves.behind to).0 takes) in
-            subst (λ e. TakesAll facts tail e to) (only.1 more.0 more.1) more.2,
-        λ takes. (leaves.behind to).1 (subst (λ r. TakesAll facts r now to) (sym is) (next, only.0, takes)),
+            let more : MovesBills facts (message ∷ tail) now to = subst (λ r. MovesBills facts r now to) is ((leaves.as_rest to).0 takes) in
+            subst (λ e. MovesBills facts tail e to) (only.1 more.0 more.1) more.2,
+        λ takes. (leaves.as_rest to).1 (subst (λ r. MovesBills facts r now to) (sym is) (next, only.0, takes)),
       );
     }
 
-pub leaves_none : {facts : Facts} {all rest tail : List BillReport} {from now : Escrow} {message : BillReport} → rest ≡ message ∷ tail → ((x : Escrow) → TakesMessage facts message now x → ⊥)
-    → Leaves facts all rest from now → (to : Escrow) → TakesAll facts all from to → ⊥
+pub leaves_none : {facts : Facts} {all rest tail : List BillActivity} {from now : Escrow} {message : BillActivity} → rest ≡ message ∷ tail → ((x : Escrow) → MovesBill facts message now x → ⊥)
+    → Leaves facts all rest from now → (to : Escrow) → MovesBills facts all from to → ⊥
 leaves_none {facts} {all} {rest} {tail} {from} {now} {message} is none leaves to takes =
-    let more : TakesAll facts (message ∷ tail) now to = subst (λ r. TakesAll facts r now to) is ((leaves.behind to).0 takes) in
+    let more : MovesBills facts (message ∷ tail) now to = subst (λ r. MovesBills facts r now to) is ((leaves.as_rest to).0 takes) in
     none more.0 more.1
 
-pub leaves_all : {facts : Facts} {all rest : List BillReport} {from now : Escrow} → rest ≡ [] → Leaves facts all rest from now → IsOnly (TakesAll facts all from) (Some now)
+pub leaves_all : {facts : Facts} {all rest : List BillActivity} {from now : Escrow} → rest ≡ [] → Leaves facts all rest from now → IsOnly (MovesBills facts all from) (Some now)
 leaves_all {facts} {all} {rest} {from} {now} is leaves = (
-  (leaves.behind now).1 (subst (λ r. TakesAll facts r now now) (sym is) refl),
-  λ to takes. let end : TakesAll facts [] now to = subst (λ r. TakesAll facts r now to) is ((leaves.behind to).0 takes) in end,
+  (leaves.as_rest now).1 (subst (λ r. MovesBills facts r now now) (sym is) refl),
+  λ to takes. let end : MovesBills facts [] now to = subst (λ r. MovesBills facts r now to) is ((leaves.as_rest to).0 takes) in end,
 )

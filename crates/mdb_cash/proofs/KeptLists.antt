@@ -7,7 +7,7 @@ use Rattle.mdb_cash.specs.declared.kept.Part.{Part}
 use Rattle.mdb_cash.specs.declared.kept.Part.TheVariants as part
 use Rattle.mdb_cash.specs.declared.choice.Choice.{Choice}
 use Rattle.mdb_cash.specs.declared.choice.Choice.TheVariants.{Plain, Lost, Restart}
-use Rattle.mdb_cash.specs.Kept.{IsNew, MayBeRead, IsSummary, Tells, has_reset, holds_acked, is_reset, keeps_early, kept_by, kept_of}
+use Rattle.mdb_cash.specs.Kept.{IsNew, MayBeRead, IsSummary, HasNews, has_reset, holds_acked, is_reset, keeps_early, kept_by, kept_of}
 
 -- the kept list of a reply with one message more
 pub kept_of-more : {M : Type 0} (parts : List (Part M)) (p : Part M) → kept_of (parts ++ p ∷ []) ≡ kept_of parts ++ kept_of (p ∷ [])
@@ -27,7 +27,7 @@ keeps_early-more (part.Other ∷ parts) p = keeps_early-more parts p
 -- a reply that its device can't tell, since its kept list doesn't begin with what it holds
 pub untold : {M X : Type 0} (o : Option X) (poll owed reset early : Bool) (choice : Choice) (holding : List M) {kept items : List M} → kept ≡ items
     → IfNone o ((other : List M) → IsNew poll holding kept other → ⊥)
-    → IfNone o ((parts : List (Part M)) (other : List M) → IsSummary items reset early parts → Tells poll choice owed holding parts other → ⊥)
+    → IfNone o ((parts : List (Part M)) (other : List M) → IsSummary items reset early parts → HasNews poll choice owed holding parts other → ⊥)
 untold (Some x) poll owed reset early choice holding is none = tt
 untold None poll owed reset early choice holding is none = λ parts other summary tells. none other (rw (is, summary.kept_is) tells.new)
 
@@ -45,21 +45,21 @@ no_restart false part_of messages is = λ read.
     absurd (cc (has, hasnt))
 
 -- what a reply tells, and that it tells nothing else
-pub record TellsOnly {M : Type 0} (poll : Bool) (choice : Choice) (owed : Bool) (holding : List M) (parts : List (Part M)) (news : List M) : Type 0 where
-  pub tells : Tells poll choice owed holding parts news
-  pub only : (other : List M) → Tells poll choice owed holding parts other → other ≡ news
+pub record HasNewsOnly {M : Type 0} (poll : Bool) (choice : Choice) (owed : Bool) (holding : List M) (parts : List (Part M)) (news : List M) : Type 0 where
+  pub has_news : HasNews poll choice owed holding parts news
+  pub only : (other : List M) → HasNews poll choice owed holding parts other → other ≡ news
 
 -- it, as the code finds it
-pub tells_only : {M : Type 0} {poll polls owed reset early : Bool} {choice : Choice} {holding held items news : List M} {parts messages : List (Part M)}
+pub only_news : {M : Type 0} {poll polls owed reset early : Bool} {choice : Choice} {holding held items news : List M} {parts messages : List (Part M)}
     → poll ≡ polls → holding ≡ held → messages ≡ parts → IsSummary items reset early messages
-    → ((parts : List (Part M)) → IsSummary items reset early parts → Tells poll choice owed holding parts news)
-    → ((parts : List (Part M)) (other : List M) → IsSummary items reset early parts → Tells poll choice owed holding parts other → other ≡ news)
-    → TellsOnly polls choice owed held parts news
-tells_only {M} {poll} {polls} {owed} {reset} {early} {choice} {holding} {held} {items} {news} {parts} {messages} poll_is held_is parts_are summary found only =
-    let so : TellsOnly poll choice owed holding messages news = record { tells = found messages summary; only = λ other. only messages other summary } in
-    subst (λ (p : Bool). TellsOnly p choice owed held parts news) poll_is
-    (subst (λ (h : List M). TellsOnly poll choice owed h parts news) held_is
-    (subst (λ (ps : List (Part M)). TellsOnly poll choice owed holding ps news) parts_are so))
+    → ((parts : List (Part M)) → IsSummary items reset early parts → HasNews poll choice owed holding parts news)
+    → ((parts : List (Part M)) (other : List M) → IsSummary items reset early parts → HasNews poll choice owed holding parts other → other ≡ news)
+    → HasNewsOnly polls choice owed held parts news
+only_news {M} {poll} {polls} {owed} {reset} {early} {choice} {holding} {held} {items} {news} {parts} {messages} poll_is held_is parts_are summary found only =
+    let so : HasNewsOnly poll choice owed holding messages news = record { has_news = found messages summary; only = λ other. only messages other summary } in
+    subst (λ (p : Bool). HasNewsOnly p choice owed held parts news) poll_is
+    (subst (λ (h : List M). HasNewsOnly poll choice owed h parts news) held_is
+    (subst (λ (ps : List (Part M)). HasNewsOnly poll choice owed holding ps news) parts_are so))
 
 -- an ACK leaves a device that holds nothing so, whether it hears that or not
 pub free_acked : {M : Type 0} (choice : Choice) (kept : List M) {holds : Bool} → holds ≡ false

@@ -4,6 +4,6 @@ pub mod FirstBytes
 pub mod KeeperSteps
 pub mod KeptLists
 pub mod Masks
-pub mod PastBehind
+pub mod PastAfter
 pub mod Sizes
 pub mod Ways

@@ -3,7 +3,7 @@ use Rattle.std.proofs.Math.Pow.{pow_mono}
 use Rattle.std.proofs.lemmas.Nat.{div_below}
 use Rattle.std.specs.Int.{bit_at}
 
--- a mask of 16 bits has no bit behind them
+-- a mask of 16 bits has no bit after them
 pub past_mask : (mask coin : ℕ) → mask < 65536 → 16 ≤ coin → bit_at mask coin ≡ 0
 past_mask mask coin small past =
     let large : 2 ^ 16 ≤ 2 ^ coin = pow_mono past in

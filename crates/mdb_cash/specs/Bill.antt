@@ -1,6 +1,7 @@
 -- The validator and the controller's dealings with it (MDB/ICP 4.3, bill validator; states and
 -- sums, this profile). The first account is bills-in; nothing is added to the second.
-use Rattle.std.specs.Prelude.{◌≡◌, ◌⊎◌, ℕ, ◌*◌, ◌%◌, Bool, true, false, List, [], ◌∷◌, Option, Some, None, ◌==◌, if◌then◌else◌, sum_by}
+use Rattle.std.specs.Prelude.{◌≡◌, refl, ◌⊎◌, ℕ, ◌*◌, ◌%◌, Bool, true, false, List, [], ◌∷◌, Option, Some, None, ◌==◌, if◌then◌else◌}
+use Rattle.std.specs.declared.convert.Infallible.{Infallible}
 use Rattle.mdb_msgs.specs.declared.command.Command.TheVariants as commands
 use Rattle.mdb_msgs.specs.declared.command.BillCommand.{BillCommand}
 use Rattle.mdb_msgs.specs.declared.command.BillCommand.TheVariants as bill
@@ -9,8 +10,8 @@ use Rattle.mdb_msgs.specs.declared.reply.setup.BillSetup.{BillSetup}
 use Rattle.mdb_msgs.specs.Setup.{credit_of}
 use Rattle.mdb_bus.specs.declared.act.Act.{Act}
 use Rattle.mdb_bus.specs.declared.act.Act.TheVariants as acts
-use Rattle.mdb_cash.specs.declared.bill.report.BillReport.{BillReport}
-use Rattle.mdb_cash.specs.declared.bill.report.BillReport.TheVariants as reports
+use Rattle.mdb_cash.specs.declared.bill.activity.BillActivity.{BillActivity}
+use Rattle.mdb_cash.specs.declared.bill.activity.BillActivity.TheVariants as activity
 use Rattle.mdb_cash.specs.declared.bill.state.BillState.{BillState}
 use Rattle.mdb_cash.specs.declared.bill.state.BillType.{BillType}
 use Rattle.mdb_cash.specs.declared.bill.state.Escrow.{Escrow}
@@ -36,13 +37,9 @@ bill_value None number = 0
 bill_value (Some setup) number = setup.scaling * counted (credit_of setup.credits.items number)
 
 -- what a kept message adds to bills-in: a bill that was stacked
-abbrev pub stacked : Option BillSetup → BillReport → ℕ
-stacked setup (reports.Stacked number) = bill_value setup number
+abbrev pub stacked : Option BillSetup → BillActivity → ℕ
+stacked setup (activity.Stacked number) = bill_value setup number
 stacked setup _ = 0
-
--- what kept messages add to bills-in
-abbrev pub all_stacked : Option BillSetup → List BillReport → ℕ
-all_stacked setup messages = sum_by (stacked setup) messages
 
 -- A bill may be stacked that never waited in escrow, or that waits there with an order to stack it;
 -- one may be returned with an order or without one.
@@ -52,67 +49,69 @@ MayStack type escrow = (escrow ≡ Empty) ⊎ (escrow ≡ Ordered type)
 abbrev pub MayReturn : BillType → Escrow → Type 0
 MayReturn type escrow = (escrow ≡ Empty) ⊎ (escrow ≡ Waiting type) ⊎ (escrow ≡ Ordered type)
 
--- What is in escrow before and behind a message that is new. A bill that is stacked or in escrow is
+-- What is in escrow before and after a message that is new. A bill that is stacked or in escrow is
 -- of a type that is enabled. There are no types past 15, so nothing may be told of one.
-abbrev pub TakesMessage : Facts → BillReport → Escrow → Escrow → Type 0
-TakesMessage facts (reports.Stacked number) before after =
+abbrev pub MovesBill : Facts → BillActivity → Escrow → Escrow → Type 0
+MovesBill facts (activity.Stacked number) before after =
     (type : BillType) × (type.number ≡ number) × (facts.past.enabled number ≡ true)
     × MayStack type before × (after ≡ Empty)
-TakesMessage facts (reports.Escrow number) before after =
+MovesBill facts (activity.Escrow number) before after =
     (type : BillType) × (type.number ≡ number) × (facts.past.enabled number ≡ true)
     × (before ≡ Empty) × (after ≡ Waiting type)
-TakesMessage facts (reports.Returned number) before after =
+MovesBill facts (activity.Returned number) before after =
     (type : BillType) × (type.number ≡ number) × MayReturn type before × (after ≡ Empty)
 
--- and behind messages in order
-abbrev pub TakesAll : Facts → List BillReport → Escrow → Escrow → Type 0
-TakesAll facts [] before after = after ≡ before
-TakesAll facts (message ∷ messages) before after =
-    (between : Escrow) × TakesMessage facts message before between
-    × TakesAll facts messages between after
+-- and after messages in order
+abbrev pub MovesBills : Facts → List BillActivity → Escrow → Escrow → Type 0
+MovesBills facts [] before after = after ≡ before
+MovesBills facts (message ∷ messages) before after =
+    (between : Escrow) × MovesBill facts message before between
+    × MovesBills facts messages between after
 
--- what is in escrow behind Y1 of an ESCROW that the validator takes: where the lowest bit is set,
+-- what is in escrow after Y1 of an ESCROW that the validator takes: where the lowest bit is set,
 -- a bill that waits there has its order
 abbrev pub ordered : ℕ → Escrow → Escrow
 ordered order (Waiting type) = if order % 2 == 1 then Ordered type else Waiting type
 ordered order escrow = escrow
 
--- what is in escrow once a reply is read: behind a restart, nothing
+-- what is in escrow once a reply is read: after a restart, nothing
 abbrev pub escrow_read : Choice → Escrow → Escrow
 escrow_read Restart escrow = Empty
 escrow_read choice escrow = escrow
 
--- The validator acknowledges a command that isn't POLL (of POLL `KeeperSteps` tells): by that it
--- takes RESET, and is in its power-on state, or ESCROW.
-abbrev pub AckStep : BillCommand → BillState → BillState → Gains → Type 0
-AckStep bill.Reset before after gains = (after ≡ power_on) × (gains ≡ no_gains)
-AckStep (bill.Escrow order) before after gains =
+-- The validator takes a command that isn't POLL, by its ACK (of POLL `KeeperSteps` tells): after
+-- RESET it is in its power-on state.
+abbrev pub TakeStep : BillCommand → BillState → BillState → Gains → Type 0
+TakeStep bill.Reset before after gains = (after ≡ power_on) × (gains ≡ no_gains)
+TakeStep (bill.Escrow order) before after gains =
     (after ≡ record before { escrow = ordered order before.escrow }) × (gains ≡ no_gains)
-AckStep _ before after gains = Stays before after gains
+TakeStep _ before after gains = Stays before after gains
 
 -- What the validator does of its own. Data answers SETUP, POLL, STACKER and IDENTIFICATION alone:
--- the validator answers all other commands by ACK or NAK, RESET, BILL TYPE and ESCROW among them, so
--- what it does behind those stands in `AckStep`. What is new moves what is in escrow.
-abbrev pub conduct : Facts → Conduct BillCommand BillReport BillState
-conduct facts =
+-- the validator answers all other commands by ACK or NAK, RESET, BILL TYPE and ESCROW among them,
+-- so what it does after those stands in `TakeStep`. What is new moves what is in escrow.
+abbrev pub conduct : Conduct BillCommand BillSetup Infallible BillActivity BillState
+conduct =
     record {
       power_on = power_on;
       holds = λ state. state.holds;
-      with_holds = λ holds state. record state { holds = holds };
-      Asks = λ command. Stays;
-      Acks = λ command choice. AckStep command;
-      Takes = λ choice news before after.
-          TakesAll facts news (escrow_read choice before.escrow) after.escrow
+      with_holds = λ holding state. record state { holds = holding };
+      holds_as_set = λ holding state. refl;
+      same_as_set = λ state. refl;
+      Asks = λ facts command. Stays;
+      Acks = λ facts command choice. TakeStep command;
+      TellsNews = λ facts choice news before after.
+          MovesBills facts news (escrow_read choice before.escrow) after.escrow
           × (after.holds ≡ before.holds);
-      first = all_stacked facts.setup;
-      second = λ news. 0;
+      first_gain = λ facts. stacked facts.setup;
+      second_gain = λ facts message. 0;
       heard_reset = λ state. state;
     }
 
 -- A step of the validator and the controller by an act under a choice, after acts that leave
 -- these facts.
 abbrev pub BillStep : Facts → Act → Choice → BillState → BillState → Gains → Type 0
-BillStep facts = KeeperStep tables (conduct facts) facts.past
+BillStep = KeeperStep tables conduct
 
 -- The machine of the validator. It starts at power-on.
 abbrev pub machine : Machine BillState

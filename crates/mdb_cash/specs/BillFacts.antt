@@ -1,4 +1,4 @@
--- What is known of the validator behind a list of acts, the newest first (this profile).
+-- What is known of the validator after a list of acts, the newest first (this profile).
 use Rattle.std.specs.Prelude.{Bool, true, false, List, Option, Some, None}
 use Rattle.std.specs.declared.convert.Infallible.{Infallible}
 use Rattle.mdb_msgs.specs.declared.command.Command.{Command}
@@ -9,7 +9,7 @@ use Rattle.mdb_msgs.specs.declared.reply.Reply.{Reply}
 use Rattle.mdb_msgs.specs.declared.reply.Reply.TheVariants as replies
 use Rattle.mdb_msgs.specs.declared.reply.setup.BillSetup.{BillSetup}
 use Rattle.mdb_bus.specs.declared.act.Act.{Act}
-use Rattle.mdb_cash.specs.declared.bill.report.BillReport.{BillReport}
+use Rattle.mdb_cash.specs.declared.bill.activity.BillActivity.{BillActivity}
 use Rattle.mdb_cash.specs.declared.past.Effect.{Effect}
 use Rattle.mdb_cash.specs.declared.past.Effect.TheVariants as effects
 use Rattle.mdb_cash.specs.BillMessages.{parts_of}
@@ -43,7 +43,7 @@ setup_of (replies.BillSetup setup) = Some setup
 setup_of _ = None
 
 -- the validator, as a device that keeps messages
-abbrev pub tables : Tables BillCommand BillSetup Infallible BillReport
+abbrev pub tables : Tables BillCommand BillSetup Infallible BillActivity
 tables =
     record {
       own = own;
@@ -58,8 +58,8 @@ tables =
 -- the facts: the last setup table, the bill types that are enabled, the reset message, and the last
 -- kept list
 abbrev pub Facts : Type 0
-Facts = keeper.Facts BillSetup Infallible BillReport
+Facts = keeper.Facts BillSetup Infallible BillActivity
 
--- the facts behind acts
+-- the facts after acts
 abbrev pub facts_of : List Act → Facts
 facts_of = keeper.facts_of tables

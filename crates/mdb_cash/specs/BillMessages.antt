@@ -5,13 +5,13 @@ use Rattle.mdb_msgs.specs.declared.reply.Reply.{Reply}
 use Rattle.mdb_msgs.specs.declared.reply.Reply.TheVariants as replies
 use Rattle.mdb_msgs.specs.declared.reply.bill.BillMsg.{BillMsg}
 use Rattle.mdb_msgs.specs.declared.reply.bill.BillMsg.TheVariants as messages
-use Rattle.mdb_cash.specs.declared.bill.report.BillReport.{BillReport}
-use Rattle.mdb_cash.specs.declared.bill.report.BillReport.TheVariants.{Stacked, Escrow, Returned}
+use Rattle.mdb_cash.specs.declared.bill.activity.BillActivity.{BillActivity}
+use Rattle.mdb_cash.specs.declared.bill.activity.BillActivity.TheVariants.{Stacked, Escrow, Returned}
 use Rattle.mdb_cash.specs.declared.kept.Part.{Part}
 use Rattle.mdb_cash.specs.declared.kept.Part.TheVariants as part
 
 -- bills that were stacked, are in escrow, or were returned are kept
-abbrev pub part_of : BillMsg → Part BillReport
+abbrev pub part_of : BillMsg → Part BillActivity
 part_of (messages.Stacked bill) = part.Kept (Stacked bill)
 part_of (messages.Escrow bill) = part.Kept (Escrow bill)
 part_of (messages.Returned bill) = part.Kept (Returned bill)
@@ -19,6 +19,6 @@ part_of messages.Reset = part.Reset
 part_of _ = part.Other
 
 -- the messages of a reply of the validator
-abbrev pub parts_of : Reply → List (Part BillReport)
+abbrev pub parts_of : Reply → List (Part BillActivity)
 parts_of (replies.BillPoll list) = map part_of list.items
 parts_of _ = []

@@ -1,6 +1,6 @@
 -- The changer and the controller's dealings with it (MDB/ICP 4.3, coin changer; states and sums,
 -- this profile). The accounts are coins-in and paid-out.
-use Rattle.std.specs.Prelude.{◌≡◌, ℕ, ◌*◌, ◌/◌, ◌%◌, Bool, true, false, ◌&&◌, List, Option, Some, None, ◌==◌, if◌then◌else◌, sum_by}
+use Rattle.std.specs.Prelude.{◌≡◌, refl, ℕ, ◌*◌, ◌/◌, ◌%◌, Bool, true, false, ◌&&◌, List, Option, Some, None, ◌==◌, if◌then◌else◌}
 use Rattle.std.specs.List.{AllByRecursion}
 use Rattle.mdb_msgs.specs.declared.command.Command.TheVariants as commands
 use Rattle.mdb_msgs.specs.declared.command.ChangerCommand.{ChangerCommand}
@@ -11,8 +11,8 @@ use Rattle.mdb_msgs.specs.Setup.{credit_of}
 use Rattle.mdb_bus.specs.declared.act.Act.{Act}
 use Rattle.mdb_bus.specs.declared.act.Act.TheVariants as acts
 use Rattle.mdb_cash.specs.declared.changer.state.ChangerState.{ChangerState}
-use Rattle.mdb_cash.specs.declared.changer.report.ChangerReport.{ChangerReport}
-use Rattle.mdb_cash.specs.declared.changer.report.ChangerReport.TheVariants.{Dispensed, CashBox, Tube}
+use Rattle.mdb_cash.specs.declared.changer.activity.ChangerActivity.{ChangerActivity}
+use Rattle.mdb_cash.specs.declared.changer.activity.ChangerActivity.TheVariants.{Dispensed, CashBox, Tube}
 use Rattle.mdb_cash.specs.declared.choice.Choice.{Choice}
 use Rattle.mdb_cash.specs.declared.choice.Choice.TheVariants.{Lost}
 use Rattle.mdb_cash.specs.declared.gains.Gains.{Gains}
@@ -38,25 +38,18 @@ abbrev pub dispensed_value : Option ChangerSetup → ℕ → ℕ
 dispensed_value setup coins = (coins / 16) * coin_value setup (coins % 16)
 
 -- what a kept message adds to coins-in: a deposit to cash box or tube
-abbrev pub deposited : Option ChangerSetup → ChangerReport → ℕ
+abbrev pub deposited : Option ChangerSetup → ChangerActivity → ℕ
 deposited setup (CashBox coin) = coin_value setup coin
 deposited setup (Tube coin) = coin_value setup coin
 deposited setup (Dispensed count coin) = 0
 
 -- what it adds to paid-out: coins dispensed by hand
-abbrev pub paid_by_hand : Option ChangerSetup → ChangerReport → ℕ
+abbrev pub paid_by_hand : Option ChangerSetup → ChangerActivity → ℕ
 paid_by_hand setup (Dispensed count coin) = count * coin_value setup coin
 paid_by_hand setup _ = 0
 
--- what kept messages add to coins-in and to paid-out
-abbrev pub all_deposited : Option ChangerSetup → List ChangerReport → ℕ
-all_deposited setup reports = sum_by (deposited setup) reports
-
-abbrev pub all_paid_by_hand : Option ChangerSetup → List ChangerReport → ℕ
-all_paid_by_hand setup reports = sum_by (paid_by_hand setup) reports
-
 -- a new deposit is of a type that is enabled; coins may be dispensed by hand at any time
-abbrev pub MayBeNew : Facts → ChangerReport → Type 0
+abbrev pub MayBeNew : Facts → ChangerActivity → Type 0
 MayBeNew facts (CashBox coin) = facts.past.enabled coin ≡ true
 MayBeNew facts (Tube coin) = facts.past.enabled coin ≡ true
 MayBeNew facts (Dispensed count coin) = Unit {0}
@@ -71,11 +64,11 @@ is_last (Some last) coins = last == coins
 abbrev pub DispenseStep : Facts → ℕ → ChangerState → ChangerState → Gains → Type 0
 DispenseStep facts coins before after gains =
     (after ≡ record before { owed = true })
-    × (gains ≡ (if before.owed && is_last facts.asked coins
+    × (gains ≡ (if before.owed && is_last facts.last_asked coins
     then no_gains
     else controller_gains 0 (dispensed_value facts.setup coins)))
 
--- The controller asks: behind RESET nothing is owed.
+-- The controller asks: after RESET nothing is owed.
 abbrev pub AskStep : Facts → ChangerCommand → ChangerState → ChangerState → Gains → Type 0
 AskStep facts (changer.Dispense coins) before after gains =
     DispenseStep facts coins before after gains
@@ -88,40 +81,42 @@ abbrev pub owed_acked : Choice → Bool → Bool
 owed_acked Lost owed = owed
 owed_acked choice owed = false
 
--- The changer acknowledges a command that isn't POLL (of POLL `KeeperSteps` tells): by that it takes
--- RESET, and holds nothing. It has dispensed what
--- DISPENSE asked for, and that is owed no longer if the controller hears it.
-abbrev pub AckStep : Facts → ChangerCommand → Choice → ChangerState → ChangerState → Gains → Type 0
-AckStep facts changer.Reset choice before after gains =
+-- The changer takes a command that isn't POLL, by its ACK (of POLL `KeeperSteps` tells): after
+-- RESET it holds nothing. It has dispensed what DISPENSE asked for, and that is owed no longer if
+-- the controller hears it.
+abbrev pub TakeStep : Facts → ChangerCommand → Choice → ChangerState → ChangerState → Gains → Type 0
+TakeStep facts changer.Reset choice before after gains =
     (after ≡ record before { holds = false }) × (gains ≡ no_gains)
-AckStep facts (changer.Dispense coins) choice before after gains =
+TakeStep facts (changer.Dispense coins) choice before after gains =
     (after ≡ record before { owed = owed_acked choice before.owed })
     × (gains ≡ device_gains 0 (dispensed_value facts.setup coins))
-AckStep facts _ choice before after gains = Stays before after gains
+TakeStep facts _ choice before after gains = Stays before after gains
 
 -- What the changer does of its own. Data answers SETUP, TUBE STATUS, POLL and IDENTIFICATION alone:
--- the changer answers all other commands by ACK or NAK, RESET, COIN TYPE and DISPENSE among them, so
--- what it does behind those stands in `AckStep`. Behind a reset message the controller knows that
+-- the changer answers all other commands by ACK or NAK, RESET, COIN TYPE and DISPENSE among them,
+-- so what it does after those stands in `TakeStep`. After a reset message the controller knows that
 -- nothing is owed.
-abbrev pub conduct : Facts → Conduct ChangerCommand ChangerReport ChangerState
-conduct facts =
+abbrev pub conduct : Conduct ChangerCommand ChangerSetup ℕ ChangerActivity ChangerState
+conduct =
     record {
       power_on = power_on;
       holds = λ state. state.holds;
-      with_holds = λ holds state. record state { holds = holds };
-      Asks = AskStep facts;
-      Acks = AckStep facts;
-      Takes = λ choice news before after.
+      with_holds = λ holding state. record state { holds = holding };
+      holds_as_set = λ holding state. refl;
+      same_as_set = λ state. refl;
+      Asks = AskStep;
+      Acks = TakeStep;
+      TellsNews = λ facts choice news before after.
           AllByRecursion (MayBeNew facts) news × (after ≡ before);
-      first = all_deposited facts.setup;
-      second = all_paid_by_hand facts.setup;
+      first_gain = λ facts. deposited facts.setup;
+      second_gain = λ facts. paid_by_hand facts.setup;
       heard_reset = λ state. record state { owed = false };
     }
 
 -- A step of the changer and the controller by an act under a choice, after acts that leave these
 -- facts.
 abbrev pub ChangerStep : Facts → Act → Choice → ChangerState → ChangerState → Gains → Type 0
-ChangerStep facts = KeeperStep tables (conduct facts) facts.past
+ChangerStep = KeeperStep tables conduct
 
 -- The machine of the changer. It starts at power-on.
 abbrev pub machine : Machine ChangerState

@@ -1,4 +1,4 @@
--- What is known of the changer behind a list of acts, the newest first (this profile).
+-- What is known of the changer after a list of acts, the newest first (this profile).
 use Rattle.std.specs.Prelude.{ℕ, Bool, true, false, List, Option, Some, None}
 use Rattle.mdb_msgs.specs.declared.command.Command.{Command}
 use Rattle.mdb_msgs.specs.declared.command.Command.TheVariants as commands
@@ -8,7 +8,7 @@ use Rattle.mdb_msgs.specs.declared.reply.Reply.{Reply}
 use Rattle.mdb_msgs.specs.declared.reply.Reply.TheVariants as replies
 use Rattle.mdb_msgs.specs.declared.reply.setup.ChangerSetup.{ChangerSetup}
 use Rattle.mdb_bus.specs.declared.act.Act.{Act}
-use Rattle.mdb_cash.specs.declared.changer.report.ChangerReport.{ChangerReport}
+use Rattle.mdb_cash.specs.declared.changer.activity.ChangerActivity.{ChangerActivity}
 use Rattle.mdb_cash.specs.declared.past.Effect.{Effect}
 use Rattle.mdb_cash.specs.declared.past.Effect.TheVariants as effects
 use Rattle.mdb_cash.specs.ChangerMessages.{parts_of}
@@ -43,7 +43,7 @@ setup_of (replies.ChangerSetup setup) = Some setup
 setup_of _ = None
 
 -- the changer, as a device that keeps messages
-abbrev pub tables : Tables ChangerCommand ChangerSetup ℕ ChangerReport
+abbrev pub tables : Tables ChangerCommand ChangerSetup ℕ ChangerActivity
 tables =
     record {
       own = own;
@@ -58,8 +58,8 @@ tables =
 -- the facts: the last setup table, Y1 of the last DISPENSE asked, the coin types that are enabled,
 -- the reset message, and the last kept list
 abbrev pub Facts : Type 0
-Facts = keeper.Facts ChangerSetup ℕ ChangerReport
+Facts = keeper.Facts ChangerSetup ℕ ChangerActivity
 
--- the facts behind acts
+-- the facts after acts
 abbrev pub facts_of : List Act → Facts
 facts_of = keeper.facts_of tables

@@ -5,14 +5,14 @@ use Rattle.mdb_msgs.specs.declared.reply.Reply.TheVariants as replies
 use Rattle.mdb_msgs.specs.declared.reply.changer.ChangerMsg.{ChangerMsg}
 use Rattle.mdb_msgs.specs.declared.reply.changer.ChangerMsg.TheVariants as messages
 use Rattle.mdb_msgs.specs.Changer.{changer_msg_bytes}
-use Rattle.mdb_cash.specs.declared.changer.report.ChangerReport.{ChangerReport}
-use Rattle.mdb_cash.specs.declared.changer.report.ChangerReport.TheVariants.{Dispensed, CashBox, Tube}
+use Rattle.mdb_cash.specs.declared.changer.activity.ChangerActivity.{ChangerActivity}
+use Rattle.mdb_cash.specs.declared.changer.activity.ChangerActivity.TheVariants.{Dispensed, CashBox, Tube}
 use Rattle.mdb_cash.specs.declared.kept.Part.{Part}
 use Rattle.mdb_cash.specs.declared.kept.Part.TheVariants as part
 
 -- Deposits and coins dispensed by hand are kept. What such a message says is its first byte: the
 -- second one counts the coins that are then in the tube.
-abbrev pub part_of : ChangerMsg → Part ChangerReport
+abbrev pub part_of : ChangerMsg → Part ChangerActivity
 part_of (messages.ManualDispense count coin in_tube) = part.Kept (Dispensed count coin)
 part_of (messages.CashBox coin in_tube) = part.Kept (CashBox coin)
 part_of (messages.Tube coin in_tube) = part.Kept (Tube coin)
@@ -24,6 +24,6 @@ abbrev pub first_byte : ChangerMsg → ℕ
 first_byte message = slice_index (changer_msg_bytes message) 0
 
 -- the messages of a reply of the changer
-abbrev pub parts_of : Reply → List (Part ChangerReport)
+abbrev pub parts_of : Reply → List (Part ChangerActivity)
 parts_of (replies.ChangerPoll list) = map part_of list.items
 parts_of _ = []

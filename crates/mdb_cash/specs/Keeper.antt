@@ -1,4 +1,4 @@
--- A device that keeps messages, and what is known of it behind a list of acts, the newest first
+-- A device that keeps messages, and what is known of it after a list of acts, the newest first
 -- (this profile). Changer and validator are such devices.
 use Rattle.std.specs.Prelude.{ℕ, Bool, List, [], Option, None, option_and_then, option_map}
 use Rattle.std.specs.Option.{option_map_or}
@@ -56,16 +56,16 @@ pub record Facts (Setup Asked M : Type 0) : Type 0 where
   -- the last setup table
   pub setup : Option Setup
   -- what was asked last of what counts
-  pub asked : Option Asked
+  pub last_asked : Option Asked
   -- the types that are enabled, the reset message, and the last kept list
   pub past : PastFacts M
 
--- the facts behind acts
+-- the facts after acts
 abbrev pub facts_of : {Own Setup Asked M : Type 0} → Tables Own Setup Asked M → List Act
     → Facts Setup Asked M
 facts_of tables acts =
     record {
       setup = last_told (setup_by tables) acts;
-      asked = last_told (asked_by tables) acts;
+      last_asked = last_told (asked_by tables) acts;
       past = past_of (effect_of tables) (parts_by tables) acts;
     }

@@ -5,31 +5,31 @@ use Rattle.mdb_bus.specs.declared.act.Act.{Act}
 use Rattle.mdb_cash.specs.declared.keeper.KeeperFacts.{KeeperFacts}
 use Rattle.mdb_cash.specs.Keeper.{Facts, Tables, asked_by, effect_of, parts_by, setup_by}
 use Rattle.mdb_cash.specs.Past.{effect_answered, or_else, resets}
-use Rattle.mdb_cash.specs.PastValues.{past_behind, past_in, past_with}
+use Rattle.mdb_cash.specs.PastValues.{past_after, past_in, past_with}
 
 -- the facts that are kept
 abbrev pub facts_in : {K Own Setup Asked M Message : Type 0}
     → KeeperFacts K Own Setup Asked M Message → Facts Setup Asked M
 facts_in facts =
-    record { setup = facts.setup; asked = facts.asked; past = past_in facts.past }
+    record { setup = facts.setup; last_asked = facts.last_asked; past = past_in facts.past }
 
--- the facts behind one act more
+-- the facts after one act more
 abbrev pub facts_with : {Own Setup Asked M : Type 0} → Tables Own Setup Asked M → Act
     → Facts Setup Asked M → Facts Setup Asked M
 facts_with tables act facts =
     record {
       setup = or_else (setup_by tables act) facts.setup;
-      asked = or_else (asked_by tables act) facts.asked;
+      last_asked = or_else (asked_by tables act) facts.last_asked;
       past = past_with (effect_of tables) (parts_by tables) act facts.past;
     }
 
--- the facts behind a reply of the device to its command
+-- the facts after a reply of the device to its command
 abbrev pub facts_told : {Own Setup Asked M : Type 0} → Tables Own Setup Asked M → Own → Reply
     → Facts Setup Asked M → Facts Setup Asked M
 facts_told tables command reply facts =
     let effect = effect_answered (tables.effect_of command) reply in
     record {
       setup = or_else (tables.setup_of reply) facts.setup;
-      asked = facts.asked;
-      past = past_behind (resets effect) effect (tables.parts_of reply) facts.past;
+      last_asked = facts.last_asked;
+      past = past_after (resets effect) effect (tables.parts_of reply) facts.past;
     }

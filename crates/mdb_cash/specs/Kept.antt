@@ -54,7 +54,7 @@ MayBeRead choice parts = CanBeRead choice (has_reset parts) (keeps_early parts)
 abbrev pub MayBeKept : {M : Type 0} → Bool → List (Part M) → Type 0
 MayBeKept owed parts = owed ≡ true → keeps_early parts ≡ false
 
--- whether a device still holds what it held, once a reply is read: behind a restart it doesn't
+-- whether a device still holds what it held, once a reply is read: after a restart it doesn't
 abbrev pub holds_read : Choice → Bool → Bool
 holds_read Restart holds = false
 holds_read choice holds = holds
@@ -64,18 +64,18 @@ abbrev pub held : {M : Type 0} → Bool → List M → List M
 held true last = last
 held false last = []
 
--- Behind what the device holds, the rest of a kept list is new. An answer to another command than
+-- After what the device holds, the rest of a kept list is new. An answer to another command than
 -- POLL may leave out what is held, and then it has no kept message.
 abbrev pub IsNew : {M : Type 0} → Bool → List M → List M → List M → Type 0
 IsNew poll held kept new =
     (kept ≡ held ++ new) ⊎ ((poll ≡ false) × (kept ≡ []) × (new ≡ []))
 
--- whether the device holds behind its reply: the kept list, and where it is empty what it held
-abbrev pub holds_behind : {M : Type 0} → List M → Bool → Bool
-holds_behind [] holds = holds
-holds_behind (message ∷ kept) holds = true
+-- whether the device holds after its reply: the kept list, and where it is empty what it held
+abbrev pub holds_after : {M : Type 0} → List M → Bool → Bool
+holds_after [] holds = holds
+holds_after (message ∷ kept) holds = true
 
--- whether the device holds behind the controller's ACK of a reply: an ACK of kept messages that it
+-- whether the device holds after the controller's ACK of a reply: an ACK of kept messages that it
 -- hears ends that, and any other leaves what is held
 abbrev pub holds_acked : {M : Type 0} → Choice → List M → Bool → Bool
 holds_acked choice [] holds = holds
@@ -83,8 +83,8 @@ holds_acked Lost (message ∷ kept) holds = holds
 holds_acked choice (message ∷ kept) holds = false
 
 -- What a reply tells under a choice: while a reset message is owed, it keeps nothing in front of
--- one, and behind what its device holds (`holding`) the rest of its kept list is new.
-pub record Tells {M : Type 0} (poll : Bool) (choice : Choice) (owed : Bool) (holding : List M)
+-- one, and after what its device holds (`holding`) the rest of its kept list is new.
+pub record HasNews {M : Type 0} (poll : Bool) (choice : Choice) (owed : Bool) (holding : List M)
     (parts : List (Part M)) (news : List M) : Type 0 where
   pub read : MayBeRead choice parts
   pub reset : MayBeKept owed parts

@@ -16,9 +16,9 @@ pub record Machine (State : Type 0) : Type 1 where
   -- after acts, a step by an act under a choice, from a state to a state, with its gains
   pub Step : List Act → Act → Choice → State → State → Gains → Type 0
 
--- A machine is one of a device: an act in which the device has no part changes nothing, by a break
--- there is always a step, whatever the choice, and a choice that can't stand on an act leads nowhere
--- else than the plain one.
+-- A machine is one of a device: an act in which the device has no part changes nothing; by a break
+-- there is always a step, whatever the choice; and a choice that can't stand on an act leads
+-- nowhere else than the plain one.
 pub record IsMachineOf {State : Type 0} (device : Device) (machine : Machine State) : Type 0 where
   pub elsewhere : (acts : List Act) (act : Act) (choice : Choice) (before after : State)
       (gains : Gains) → (IsActOf device act → ⊥)

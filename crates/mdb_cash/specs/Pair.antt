@@ -38,14 +38,14 @@ CanStandFor device act choice = CanStand act choice ⊎ IsOfAnother device act
 abbrev pub Stays : {State : Type 0} → State → State → Gains → Type 0
 Stays before after gains = (after ≡ before) × (gains ≡ no_gains)
 
--- An answer is the one outcome of a step, the state behind it and its gains, or tells that there is
--- no such step.
-abbrev pub IsOutcome : {State : Type 0} → (State → Gains → Type 0) → Option (State × Gains) → Type 0
-IsOutcome {State} Step None = (after : State) (gains : Gains) → Step after gains → ⊥
-IsOutcome {State} Step (Some outcome) =
-    Step outcome.0 outcome.1
-    × ((after : State) (gains : Gains) → Step after gains
-    → (after ≡ outcome.0) × (gains ≡ outcome.1))
+-- an answer is the one step that there is, by the state after it and its gains, or tells that there
+-- is none
+abbrev pub IsOnlyStep : {State : Type 0} → (State → Gains → Type 0) → Option (State × Gains)
+    → Type 0
+IsOnlyStep {State} Step None = (after : State) (gains : Gains) → Step after gains → ⊥
+IsOnlyStep {State} Step (Some one) =
+    Step one.0 one.1
+    × ((after : State) (gains : Gains) → Step after gains → (after ≡ one.0) × (gains ≡ one.1))
 
 -- an answer is the one thing that is so, or tells that there is none
 abbrev pub IsOnly : {X : Type 0} → (X → Type 0) → Option X → Type 0

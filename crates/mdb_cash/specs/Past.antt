@@ -43,7 +43,7 @@ abbrev pub last_told : {X : Type 0} → (Act → Option X) → List Act → Opti
 last_told tells [] = None
 last_told tells (act ∷ acts) = or_else (tells act) (last_told tells acts)
 
--- the last act that passes a test, and the acts behind it; all acts where none passes
+-- the last act that passes a test, and the acts after it; all acts where none passes
 abbrev pub acts_from : (Act → Bool) → List Act → List Act
 acts_from passes [] = []
 acts_from passes (act ∷ acts) = act ∷ (if passes act then [] else acts_from passes acts)

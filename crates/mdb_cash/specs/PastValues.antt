@@ -1,4 +1,4 @@
--- What counts of the acts so far, act by act: of no act, and behind one act more; and what of it a
+-- What counts of the acts so far, act by act: of no act, and after one act more; and what of it a
 -- value of `Past` stands for. The public functions of `Past` say by this what they do, and a law of
 -- `laws` says that what counts goes on so.
 use Rattle.std.specs.Prelude.{ℕ, ◌==◌, Bool, true, false, not, ◌&&◌, ◌||◌, List, [], unwrap_or, if◌then◌else◌}
@@ -24,19 +24,19 @@ past_in past =
       kept = past.kept.items;
     }
 
--- what counts behind one act more, which puts the device into its power-on state or doesn't, by
+-- what counts after one act more, which puts the device into its power-on state or doesn't, by
 -- which it takes a command or doesn't, and which tells messages or doesn't
-abbrev pub past_behind : {M : Type 0} → Bool → Effect → List (Part M) → PastFacts M
+abbrev pub past_after : {M : Type 0} → Bool → Effect → List (Part M) → PastFacts M
     → PastFacts M
-past_behind powers effect parts past =
+past_after powers effect parts past =
     record {
       enabled = λ kind. enables kind effect || (if powers then false else past.enabled kind);
       reset_owed = not (has_reset parts) && (powers || past.reset_owed);
       kept = unwrap_or (unless_empty (kept_of parts)) past.kept;
     }
 
--- what counts behind one act more
+-- what counts after one act more
 abbrev pub past_with : {M : Type 0} → (Command → Effect) → (Act → List (Part M)) → Act
     → PastFacts M → PastFacts M
 past_with effect_of parts_by act past =
-    past_behind (powers_on effect_of act) (effect_by effect_of act) (parts_by act) past
+    past_after (powers_on effect_of act) (effect_by effect_of act) (parts_by act) past

@@ -9,7 +9,7 @@ ghost use Rattle.mdb_cash.specs.BillFacts.{facts_of};
 ghost use Rattle.mdb_cash.specs.KeeperValues.{facts_in};
 ghost use Rattle.mdb_cash.specs.inner.BillWays as ways;
 
-pub(crate) mod report;
+pub(crate) mod activity;
 pub(crate) mod state;
 mod steps;
 pub(crate) mod tables;
@@ -21,9 +21,9 @@ use crate::gains::Gains;
 use crate::keeper::Keeper;
 use crate::kept::may_be_read;
 use crate::pair::Pair;
+pub use activity::BillActivity;
 use mdb_bus::Act;
 use mdb_msgs::{BillCommand, Command, Device};
-pub use report::BillReport;
 pub use state::{BillState, BillType, Escrow};
 pub use tables::BillFacts;
 
@@ -105,7 +105,7 @@ impl Pair for Bill {
         BillState::at(code)
     }
 
-    fn outcome(
+    fn step_from(
         facts: &BillFacts,
         act: &Act,
         choice: Choice,

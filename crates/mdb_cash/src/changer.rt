@@ -9,7 +9,7 @@ ghost use Rattle.mdb_cash.specs.ChangerFacts.{facts_of};
 ghost use Rattle.mdb_cash.specs.KeeperValues.{facts_in};
 ghost use Rattle.mdb_cash.specs.inner.ChangerWays as ways;
 
-pub(crate) mod report;
+pub(crate) mod activity;
 pub(crate) mod state;
 mod steps;
 pub(crate) mod tables;
@@ -21,9 +21,9 @@ use crate::gains::Gains;
 use crate::keeper::Keeper;
 use crate::kept::may_be_read;
 use crate::pair::Pair;
+pub use activity::ChangerActivity;
 use mdb_bus::Act;
 use mdb_msgs::{ChangerCommand, Command, Device};
-pub use report::ChangerReport;
 pub use state::ChangerState;
 pub use tables::ChangerFacts;
 
@@ -110,7 +110,7 @@ impl Pair for Changer {
         ChangerState::at(code)
     }
 
-    fn outcome(
+    fn step_from(
         facts: &ChangerFacts,
         act: &Act,
         choice: Choice,

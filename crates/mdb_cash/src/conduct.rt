@@ -1,16 +1,15 @@
 //! What a device that keeps messages does, and the controller with it.
 
-ghost use Rattle.std.specs.Prelude.{◌≡◌, ◌≤◌, ◌<◌, ◌^◌, ◌&&◌, Bool, IfSome, Option, Some, length, if◌then◌else◌};
-ghost use Rattle.mdb_cash.specs.Gains.{IsSmall, controller_gains, no_gains};
-ghost use Rattle.mdb_cash.specs.Keeper.{Facts};
+ghost use Rattle.std.specs.Prelude.{◌≡◌, ◌≤◌, ◌<◌, ◌^◌, IfSome, Option, Some, length, sum_by};
+ghost use Rattle.mdb_cash.specs.Gains.{IsSmall};
 ghost use Rattle.mdb_cash.specs.KeeperSteps as spec;
 ghost use Rattle.mdb_cash.specs.KeeperValues.{facts_in};
-ghost use Rattle.mdb_cash.specs.Pair.{IsOnly, IsOutcome};
+ghost use Rattle.mdb_cash.specs.Pair.{IsOnly, IsOnlyStep};
 
 use crate::choice::Choice;
 use crate::gains::Gains;
 use crate::keeper::{Keeper, KeeperFacts};
-use crate::kept::{held, holds_acked, holds_behind, holds_read, may_be_read};
+use crate::kept::{held, holds_acked, holds_after, holds_read, may_be_read};
 use mdb_bus::Act;
 use mdb_msgs::Reply;
 
@@ -19,24 +18,20 @@ pub trait Conduct: Keeper {
     /// The states of the device and the controller.
     type State: Copy;
 
-    /// What the device does, after acts that leave these facts.
-    ghost conduct: { Facts Self.Setup Self.Asked Self.Kept
-        → spec.Conduct Self.Own Self.Kept Self.State };
+    /// What the device does.
+    ghost conduct: { spec.Conduct Self.Own Self.Setup Self.Asked Self.Kept Self.State };
 
     /// The state at power-on.
     fn power_on() -> Self::State
-        ensures { (facts : Facts Self.Setup Self.Asked Self.Kept)
-            → result ≡ (conduct facts).power_on };
+        ensures { result ≡ conduct.power_on };
 
     /// Whether the device holds kept messages.
     fn holds(state: Self::State) -> bool
-        ensures { (facts : Facts Self.Setup Self.Asked Self.Kept)
-            → result ≡ (conduct facts).holds state };
+        ensures { result ≡ conduct.holds state };
 
     /// The same state, where the device holds kept messages or doesn't.
     fn with_holds(state: Self::State, holds: bool) -> Self::State
-        ensures { (facts : Facts Self.Setup Self.Asked Self.Kept)
-            → result ≡ (conduct facts).with_holds holds state };
+        ensures { result ≡ conduct.with_holds holds state };
 
     /// The controller asks.
     fn ask(
@@ -44,7 +39,7 @@ pub trait Conduct: Keeper {
         command: Self::Own,
         before: Self::State,
     ) -> (Self::State, Gains)
-        ensures outcome { IsOutcome ((conduct (facts_in facts.now)).Asks command before)
+        ensures step { IsOnlyStep (conduct.Asks (facts_in facts.now) command before)
             (Some result) }
         ensures small { IsSmall result.1 };
 
@@ -55,35 +50,32 @@ pub trait Conduct: Keeper {
         choice: Choice,
         before: Self::State,
     ) -> (Self::State, Gains)
-        ensures outcome { IsOutcome ((conduct (facts_in facts.now)).Acks command choice before)
+        ensures step { IsOnlyStep (conduct.Acks (facts_in facts.now) command choice before)
             (Some result) }
         ensures small { IsSmall result.1 };
 
     /// The state after new messages in a reply under a choice. `None` where they can't be.
-    fn take(
+    fn tell_news(
         facts: &KeeperFacts<Self>,
         choice: Choice,
         news: &[Self::Kept],
         before: Self::State,
     ) -> Option<Self::State>
-        ensures { IsOnly ((conduct (facts_in facts.now)).Takes choice news.now before) result };
+        ensures { IsOnly (conduct.TellsNews (facts_in facts.now) choice news.now before) result };
 
-    /// What kept messages add to the first account.
-    fn first(facts: &KeeperFacts<Self>, messages: &[Self::Kept]) -> u64
-        requires { length messages.now ≤ 16 }
-        ensures value { result ≡ (conduct (facts_in facts.now)).first messages.now }
-        ensures small { result < 2 ^ 32 };
+    /// What a kept message adds to the first account.
+    fn first_gain(facts: &KeeperFacts<Self>, message: Self::Kept) -> u64
+        ensures value { result ≡ conduct.first_gain (facts_in facts.now) message }
+        ensures small { result < 2 ^ 28 };
 
-    /// What they add to the second.
-    fn second(facts: &KeeperFacts<Self>, messages: &[Self::Kept]) -> u64
-        requires { length messages.now ≤ 16 }
-        ensures value { result ≡ (conduct (facts_in facts.now)).second messages.now }
-        ensures small { result < 2 ^ 32 };
+    /// What it adds to the second.
+    fn second_gain(facts: &KeeperFacts<Self>, message: Self::Kept) -> u64
+        ensures value { result ≡ conduct.second_gain (facts_in facts.now) message }
+        ensures small { result < 2 ^ 28 };
 
     /// The state once the controller has heard a reset message.
     fn heard_reset(state: Self::State) -> Self::State
-        ensures { (facts : Facts Self.Setup Self.Asked Self.Kept)
-            → result ≡ (conduct facts).heard_reset state };
+        ensures { result ≡ conduct.heard_reset state };
 }
 
 /// The step by an act under a choice, from a state: the state after it, and its gains. `None`
@@ -94,10 +86,9 @@ pub(crate) fn step<K: Conduct>(
     choice: Choice,
     before: K::State,
 ) -> Option<(K::State, Gains)>
-    ensures outcome { let known = facts_in facts.now in
-        IsOutcome (spec.KeeperStep K.tables (K.conduct known) known.past act.now choice before)
-        result }
-    ensures small { IfSome result (λ outcome. IsSmall outcome.1) }
+    ensures step { IsOnlyStep
+        (spec.KeeperStep K.tables K.conduct (facts_in facts.now) act.now choice before) result }
+    ensures small { IfSome result (λ step. IsSmall step.1) }
 {
     match act {
         Act::Ask(command) => match K::own(command) {
@@ -128,10 +119,10 @@ fn ack<K: Conduct>(
     choice: Choice,
     before: K::State,
 ) -> Option<(K::State, Gains)>
-    ensures outcome { IsOutcome
-        (spec.AckStep (K.conduct (facts_in facts.now)) (K.tables.is_poll command) command choice
+    ensures step { IsOnlyStep
+        (spec.AckStep K.conduct (facts_in facts.now) (K.tables.is_poll command) command choice
         before) result }
-    ensures small { IfSome result (λ outcome. IsSmall outcome.1) }
+    ensures small { IfSome result (λ step. IsSmall step.1) }
 {
     if !K::is_poll(command) {
         Some(K::ack(facts, command, choice, before))
@@ -150,10 +141,10 @@ fn answer<K: Conduct>(
     choice: Choice,
     before: K::State,
 ) -> Option<(K::State, Gains)>
-    ensures outcome { let known = facts_in facts.now in
-        IsOutcome (spec.ReplyStep (K.conduct known) known.past (K.tables.is_poll command)
+    ensures step { IsOnlyStep
+        (spec.ReplyStep K.conduct (facts_in facts.now) (K.tables.is_poll command)
         (K.tables.parts_of reply.now) choice before) result }
-    ensures small { IfSome result (λ outcome. IsSmall outcome.1) }
+    ensures small { IfSome result (λ step. IsSmall step.1) }
 {
     if !may_be_read(choice, K::messages_in(reply)) {
         return None;
@@ -162,10 +153,10 @@ fn answer<K: Conduct>(
     let holds = holds_read(choice, K::holds(before));
     let held = held(holds, facts.past.kept.as_slice());
     let news = summary.told(K::is_poll(command), choice, facts.past.reset_owed, held)?;
-    let holding = K::with_holds(before, holds_behind(summary.kept.as_slice(), holds));
-    let after = K::take(facts, choice, news, holding)?;
-    let gains = Gains::of_device(K::first(facts, news), K::second(facts, news));
-    Some((after, gains))
+    let holding = K::with_holds(before, holds_after(summary.kept.as_slice(), holds));
+    let after = K::tell_news(facts, choice, news, holding)?;
+    let (first, second) = worth(facts, news);
+    Some((after, Gains::of_device(first, second)))
 }
 
 /// The controller acknowledges a reply.
@@ -176,43 +167,38 @@ fn vmc_ack<K: Conduct>(
     choice: Choice,
     before: K::State,
 ) -> (K::State, Gains)
-    ensures outcome { IsOutcome (spec.VmcAckStep (K.conduct (facts_in facts.now))
-        (K.tables.is_poll command) (K.tables.parts_of reply.now) choice before) (Some result) }
+    ensures step { IsOnlyStep
+        (spec.VmcAckStep K.conduct (facts_in facts.now) (K.tables.is_poll command)
+        (K.tables.parts_of reply.now) choice before) (Some result) }
     ensures small { IsSmall result.1 }
 {
     let summary = K::summary_of(reply);
     let kept = summary.kept.as_slice();
-    let poll = K::is_poll(command);
     let released = K::with_holds(before, holds_acked(choice, kept, K::holds(before)));
-    let after = heard::<K>(poll, summary.reset, released);
-    (after, gains_heard(facts, poll, kept))
-}
-
-/// The state once the controller has heard an answer to POLL or to another command, with a reset
-/// message or without one.
-fn heard<K: Conduct>(poll: bool, reset: bool, state: K::State) -> K::State
-    ensures { (facts : Facts K.Setup K.Asked K.Kept)
-        → result ≡ (if poll && reset then (K.conduct facts).heard_reset state else state) }
-{
-    if poll && reset {
-        K::heard_reset(state)
+    if !K::is_poll(command) {
+        return (released, Gains::none());
+    }
+    let (first, second) = worth(facts, kept);
+    let gains = Gains::of_controller(first, second);
+    if summary.reset {
+        (K::heard_reset(released), gains)
     } else {
-        state
+        (released, gains)
     }
 }
 
-/// What the controller gains by kept messages, in an answer to POLL or to another command.
-fn gains_heard<K: Conduct>(facts: &KeeperFacts<K>, poll: bool, kept: &[K::Kept]) -> Gains
-    requires { length kept.now ≤ 16 }
-    ensures value { let conduct = K.conduct (facts_in facts.now) in
-        result ≡ (if poll
-        then controller_gains (conduct.first kept.now) (conduct.second kept.now)
-        else no_gains) }
-    ensures small { IsSmall result }
+/// What kept messages add to the two accounts.
+fn worth<K: Conduct>(facts: &KeeperFacts<K>, messages: &[K::Kept]) -> (u64, u64)
+    requires { length messages.now ≤ 16 }
+    ensures first { result.0 ≡ sum_by (K.conduct.first_gain (facts_in facts.now)) messages.now }
+    ensures second { result.1 ≡ sum_by (K.conduct.second_gain (facts_in facts.now)) messages.now }
+    ensures small { (result.0 < 2 ^ 32) × (result.1 < 2 ^ 32) }
 {
-    if poll {
-        Gains::of_controller(K::first(facts, kept), K::second(facts, kept))
-    } else {
-        Gains::none()
+    let mut first = 0;
+    let mut second = 0;
+    for message in messages {
+        first += K::first_gain(facts, *message);
+        second += K::second_gain(facts, *message);
     }
+    (first, second)
 }

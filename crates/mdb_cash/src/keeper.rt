@@ -1,4 +1,4 @@
-//! A device that keeps messages, and what is known of it behind the acts so far.
+//! A device that keeps messages, and what is known of it after the acts so far.
 
 ghost use Rattle.std.specs.Prelude.{◌≡◌, ◌≤◌, List, [], ◌∷◌, length, map, option_map};
 ghost use Rattle.mdb_cash.specs.Keeper.{Tables};
@@ -83,7 +83,7 @@ pub struct KeeperFacts<K: Keeper> {
     /// The last setup table.
     pub(crate) setup: Option<K::Setup>,
     /// What was asked last of what counts.
-    pub(crate) asked: Option<K::Asked>,
+    pub(crate) last_asked: Option<K::Asked>,
     /// The types that are enabled, the reset message, and the last kept list.
     pub(crate) past: Past<K::Kept, 16>,
 }
@@ -95,13 +95,13 @@ impl<K: Keeper> KeeperFacts<K> {
     ghost use Rattle.mdb_cash.specs.KeeperValues.{facts_in, facts_with, facts_told};
     ghost use Rattle.mdb_cash.specs.Past.{or_else};
 
-    /// The facts behind no act.
+    /// The facts after no act.
     pub(crate) fn start() -> Self
         ensures { facts_in result ≡ facts_of K.tables [] }
     {
         KeeperFacts {
             setup: None,
-            asked: None,
+            last_asked: None,
             past: Past::start(),
         }
     }
@@ -112,7 +112,7 @@ impl<K: Keeper> KeeperFacts<K> {
     {
         KeeperFacts {
             setup: self.setup.as_ref().map(|setup| K::setup_copy(setup)),
-            asked: self.asked,
+            last_asked: self.last_asked,
             past: self.past.copy(),
         }
     }
@@ -157,7 +157,7 @@ impl<K: Keeper> KeeperFacts<K> {
     {
         if let Some(own) = K::own(command) {
             if let Some(asked) = K::asked_of(own) {
-                self.asked = Some(asked);
+                self.last_asked = Some(asked);
             }
         }
     }

@@ -6,7 +6,7 @@ ghost use Rattle.std.specs.List.{list_any};
 ghost use Rattle.arrayvec.specs.ArrayVec.{array_vec_len};
 ghost use Rattle.mdb_cash.specs.Kept as spec;
 ghost use Rattle.mdb_cash.specs.declared.kept.Part.{Part};
-ghost use Rattle.mdb_cash.specs.Kept.{CanBeRead, IsNew, IsSummary, MayBeRead, Tells};
+ghost use Rattle.mdb_cash.specs.Kept.{CanBeRead, IsNew, IsSummary, MayBeRead, HasNews};
 
 use crate::choice::Choice;
 use arrayvec::ArrayVec;
@@ -78,7 +78,7 @@ impl<M: KeptMessage + Drop, const CAP: usize> Summary<M, CAP> {
         self.put(part);
     }
 
-    /// Puts one message behind the others.
+    /// Puts one message after the others.
     fn put(&mut self, part: Part<M>)
         requires room { array_vec_len self.old.kept < CAP }
         ensures kept { self.new.kept.items ≡ self.old.kept.items ++ spec.kept_of (part ∷ []) }
@@ -119,13 +119,13 @@ impl<M: KeptMessage + Drop, const CAP: usize> Summary<M, CAP> {
     pub fn told(&self, is_poll: bool, choice: Choice, owed: bool, held: &[M]) -> Option<&[M]>
         ensures found { IfSome result (λ new. (parts : List (Part M))
             → IsSummary self.now.kept.items self.now.reset self.now.early parts
-            → Tells is_poll choice owed held.now parts new.now) }
+            → HasNews is_poll choice owed held.now parts new.now) }
         ensures only { IfSome result (λ new. (parts : List (Part M)) (other : List M)
             → IsSummary self.now.kept.items self.now.reset self.now.early parts
-            → Tells is_poll choice owed held.now parts other → other ≡ new.now) }
+            → HasNews is_poll choice owed held.now parts other → other ≡ new.now) }
         ensures none { IfNone result ((parts : List (Part M)) (other : List M)
             → IsSummary self.now.kept.items self.now.reset self.now.early parts
-            → Tells is_poll choice owed held.now parts other → ⊥) }
+            → HasNews is_poll choice owed held.now parts other → ⊥) }
         ensures few { IfSome result (λ new. length new.now ≤ array_vec_len self.now.kept) }
     {
         if !self.may_be_read(choice) || !self.may_be_kept(owed) {
@@ -192,14 +192,14 @@ pub fn held<M>(holds: bool, last: &[M]) -> &[M]
     if holds { last } else { &[] }
 }
 
-/// Whether a device holds behind its reply, which has these kept messages.
-pub fn holds_behind<M>(kept: &[M], holds: bool) -> bool
-    ensures { result ≡ spec.holds_behind kept.now holds }
+/// Whether a device holds after its reply, which has these kept messages.
+pub fn holds_after<M>(kept: &[M], holds: bool) -> bool
+    ensures { result ≡ spec.holds_after kept.now holds }
 {
     holds || !kept.is_empty()
 }
 
-/// Whether a device holds behind the controller's ACK of a reply with these kept messages.
+/// Whether a device holds after the controller's ACK of a reply with these kept messages.
 pub fn holds_acked<M>(choice: Choice, kept: &[M], holds: bool) -> bool
     ensures { result ≡ spec.holds_acked choice kept.now holds }
 {
@@ -222,7 +222,7 @@ fn are_same<M: KeptMessage>(one: &[M], other: &[M]) -> bool
     true
 }
 
-/// The kept messages of a reply that are new, behind those that its device holds; `None` where the
+/// The kept messages of a reply that are new, after those that its device holds; `None` where the
 /// device can't tell these.
 fn news<'a, M: KeptMessage>(is_poll: bool, held: &[M], kept: &'a [M]) -> Option<&'a [M]>
     ensures found { IfSome result (λ new. IsNew is_poll held.now kept.now new.now) }

@@ -17,8 +17,8 @@ pub mod laws;
 mod pair;
 pub mod past;
 
-pub use bill::{Bill, BillFacts, BillReport, BillState, BillType, Escrow};
-pub use changer::{Changer, ChangerFacts, ChangerReport, ChangerState};
+pub use bill::{Bill, BillActivity, BillFacts, BillState, BillType, Escrow};
+pub use changer::{Changer, ChangerActivity, ChangerFacts, ChangerState};
 pub use choice::{Choice, other_choice};
 pub use gains::Gains;
 pub use pair::{Pair, can_stand_for};

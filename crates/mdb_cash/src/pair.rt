@@ -10,7 +10,7 @@ ghost use Rattle.mdb_cash.specs.declared.gains.Gains.{Gains};
 ghost use Rattle.mdb_cash.specs.Choices.{CanStand};
 ghost use Rattle.mdb_cash.specs.Gains.{IsSmall, no_gains};
 ghost use Rattle.mdb_cash.specs.Machine.{IsMachineOf, Machine};
-ghost use Rattle.mdb_cash.specs.Pair.{CanStandFor, IsActOf, IsChosenStep, IsMove, IsOfAnother, IsOtherMove, IsOutcome, Stays};
+ghost use Rattle.mdb_cash.specs.Pair.{CanStandFor, IsActOf, IsChosenStep, IsMove, IsOfAnother, IsOtherMove, IsOnlyStep, Stays};
 
 use super::choice::{Choice, other_choice};
 use super::gains::Gains;
@@ -28,7 +28,7 @@ pub trait Pair {
 
     ghost CODES: { ℕ };
 
-    /// What is known behind the acts so far.
+    /// What is known after the acts so far.
     type Facts: Drop;
 
     /// The states.
@@ -40,7 +40,7 @@ pub trait Pair {
     /// The code of a state.
     ghost code_of: { Self.State → ℕ };
 
-    /// The facts are those behind acts.
+    /// The facts are those after acts.
     ghost stands_for: { Self.Facts → List Act → Type 0 };
 
     /// The states in which it may start, and its steps.
@@ -55,7 +55,7 @@ pub trait Pair {
         ensures code { (state : Self.State) → machine.Starts state ↔ (code_of state ≡ result) }
         ensures below { result < CODES };
 
-    /// The facts behind no act.
+    /// The facts after no act.
     fn facts_start() -> Self::Facts
         ensures { stands_for result [] };
 
@@ -114,15 +114,15 @@ pub trait Pair {
 
     /// The step by an act under a choice, from a state: the state after it, and what it adds to the
     /// sums. `None` where there is no such step.
-    fn outcome(
+    fn step_from(
         facts: &Self::Facts,
         act: &Act,
         choice: Choice,
         before: Self::State,
     ) -> Option<(Self::State, Gains)>
-        ensures outcome { (acts : List Act) → stands_for facts.now acts
-            → IsOutcome (machine.Step acts act.now choice before) result }
-        ensures small { IfSome result (λ outcome. IsSmall outcome.1) };
+        ensures step { (acts : List Act) → stands_for facts.now acts
+            → IsOnlyStep (machine.Step acts act.now choice before) result }
+        ensures small { IfSome result (λ step. IsSmall step.1) };
 
     /// Two states have two codes.
     ghost apart: { (one other : Self.State) → code_of one ≡ code_of other → one ≡ other };
@@ -140,7 +140,7 @@ pub trait Pair {
     ghost unmoved: { (facts : Self.Facts) (acts : List Act) (act : Act)
         → (IsActOf device act → ⊥) → stands_for facts acts → stands_for facts (act ∷ acts) };
 
-    /// The facts behind one act more. Those before it stay with their owner.
+    /// The facts after one act more. Those before it stay with their owner.
     final fn facts_after(facts: &Self::Facts, act: &Act) -> Self::Facts
         ensures { (acts : List Act) → stands_for facts.now acts
             → stands_for result (act.now ∷ acts) }
@@ -163,7 +163,8 @@ pub trait Pair {
         requires { code < CODES }
         ensures steps { (acts : List Act) → stands_for facts.now acts → (next : ℕ) (gains : Gains)
             → (result ≡ Some (next, gains))
-            ↔ IsChosenStep device act.now code_of (machine.Step acts act.now) choice code next gains }
+            ↔ IsChosenStep device act.now code_of (machine.Step acts act.now) choice code next
+            gains }
         ensures barred { (CanStandFor device act.now choice → ⊥) → result ≡ None }
         ensures elsewhere { (acts : List Act) → stands_for facts.now acts
             → IsOfAnother device act.now → result ≡ Some (code, no_gains) }
@@ -173,8 +174,8 @@ pub trait Pair {
             return None;
         }
         let before = Self::state(code);
-        let outcome = Self::outcome(facts, act, choice, before);
-        match outcome {
+        let found = Self::step_from(facts, act, choice, before);
+        match found {
             None => None,
             Some((after, gains)) => Some((Self::code(after), gains)),
         }

@@ -36,7 +36,7 @@ pub struct Past<M: Drop, const CAP: usize> {
 
 impl<M: KeptMessage + Drop, const CAP: usize> Past<M, CAP> {
     ghost use Rattle.mdb_cash.specs.declared.past.Effect.TheVariants as effects;
-    ghost use Rattle.mdb_cash.specs.PastValues.{no_past, past_behind, past_in};
+    ghost use Rattle.mdb_cash.specs.PastValues.{no_past, past_after, past_in};
 
     /// What counts of no act.
     pub fn start() -> Self
@@ -64,7 +64,7 @@ impl<M: KeptMessage + Drop, const CAP: usize> Past<M, CAP> {
 
     /// The device is put into its power-on state.
     pub fn power_on(&mut self)
-        ensures { past_in self.new ≡ past_behind true effects.Other [] (past_in self.old) }
+        ensures { past_in self.new ≡ past_after true effects.Other [] (past_in self.old) }
     {
         self.enabled = 0;
         self.reset_owed = true;
@@ -73,7 +73,7 @@ impl<M: KeptMessage + Drop, const CAP: usize> Past<M, CAP> {
     /// The device takes a command.
     pub fn take(&mut self, effect: Effect)
         ensures { past_in self.new
-            ≡ past_behind (spec.resets effect) effect [] (past_in self.old) }
+            ≡ past_after (spec.resets effect) effect [] (past_in self.old) }
     {
         match effect {
             Effect::Reset => self.power_on(),
@@ -86,7 +86,7 @@ impl<M: KeptMessage + Drop, const CAP: usize> Past<M, CAP> {
     pub fn keep(&mut self, summary: Summary<M, CAP>)
         ensures { (parts : List (Part M))
             → IsSummary summary.kept.items summary.reset summary.early parts
-            → past_in self.new ≡ past_behind false effects.Other parts (past_in self.old) }
+            → past_in self.new ≡ past_after false effects.Other parts (past_in self.old) }
     {
         if summary.reset {
             self.reset_owed = false;

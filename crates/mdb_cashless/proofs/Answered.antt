@@ -5,12 +5,12 @@ use Rattle.mdb_cash.specs.declared.choice.Choice.{Choice}
 use Rattle.mdb_cash.specs.declared.gains.Gains.{Gains}
 use Rattle.mdb_cash.specs.declared.kept.Part.{Part}
 use Rattle.mdb_cash.specs.Gains.{device_gains}
-use Rattle.mdb_cash.specs.Kept.{IsSummary, Tells, held, holds_behind, kept_of}
-use Rattle.mdb_cash.specs.Pair.{IsOutcome}
+use Rattle.mdb_cash.specs.Kept.{IsSummary, HasNews, held, holds_after, kept_of}
+use Rattle.mdb_cash.specs.Pair.{IsOnlyStep}
 use Rattle.mdb_cash.specs.Past.{or_else}
 use Rattle.mdb_cashless.specs.declared.reader.device.DeviceState.{DeviceState}
-use Rattle.mdb_cashless.specs.declared.reader.report.ReaderConfig.{ReaderConfig}
-use Rattle.mdb_cashless.specs.declared.reader.report.ReaderReport.{ReaderReport}
+use Rattle.mdb_cashless.specs.declared.reader.messages.ReaderConfig.{ReaderConfig}
+use Rattle.mdb_cashless.specs.declared.reader.messages.ReaderActivity.{ReaderActivity}
 use Rattle.mdb_cashless.specs.declared.reader.state.ReaderState.{ReaderState}
 use Rattle.mdb_cashless.specs.declared.reader.transaction.Transaction.{Transaction}
 use Rattle.mdb_cashless.specs.Reader.{ReplyStep, all_approved, before_messages, is_poll, last_transaction, owes_reset, read, sold_any, taken}
@@ -20,7 +20,7 @@ use Rattle.mdb_cashless.specs.ReaderMessages.{config_in, last_said, messages_of,
 use Rattle.mdb_cashless.proofs.Steps.{same_state}
 
 -- what the code has found out of a reply before it looks for new messages
-pub record Looked (facts : Facts) (command : ReaderCommand) (reply : Reply) (choice : Choice) (before : ReaderState) (poll owed reset early : Bool) (middle : ReaderState) (holding kept : List ReaderReport) : Type 0 where
+pub record Looked (facts : Facts) (command : ReaderCommand) (reply : Reply) (choice : Choice) (before : ReaderState) (poll owed reset early : Bool) (middle : ReaderState) (holding kept : List ReaderActivity) : Type 0 where
   pub polls : poll ≡ is_poll command
   pub owed_is : owed ≡ owes_reset facts (taken command reply)
   pub middle_is : middle ≡ before_messages facts command reply choice before
@@ -28,75 +28,59 @@ pub record Looked (facts : Facts) (command : ReaderCommand) (reply : Reply) (cho
   pub summary : IsSummary kept reset early (parts_of reply)
 
 -- what the reply tells, in the words of the code
-telling : {facts : Facts} {command : ReaderCommand} {reply : Reply} {choice : Choice} {before : ReaderState} {poll owed reset early : Bool} {middle : ReaderState} {holding kept : List ReaderReport} {news : List ReaderReport}
+telling : {facts : Facts} {command : ReaderCommand} {reply : Reply} {choice : Choice} {before : ReaderState} {poll owed reset early : Bool} {middle : ReaderState} {holding kept : List ReaderActivity} {news : List ReaderActivity}
     → Looked facts command reply choice before poll owed reset early middle holding kept
-    → Tells (is_poll command) choice (owes_reset facts (taken command reply)) (held (before_messages facts command reply choice before).holds facts.past.kept) (parts_of reply) news
-    → Tells poll choice owed holding (parts_of reply) news
+    → HasNews (is_poll command) choice (owes_reset facts (taken command reply)) (held (before_messages facts command reply choice before).holds facts.past.kept) (parts_of reply) news
+    → HasNews poll choice owed holding (parts_of reply) news
 telling {facts} looked tells = rw (looked.polls, looked.owed_is, looked.holding_is, ap (λ (s : ReaderState). held s.holds facts.past.kept) looked.middle_is) tells
 
-told_back : {facts : Facts} {command : ReaderCommand} {reply : Reply} {choice : Choice} {before : ReaderState} {poll owed reset early : Bool} {middle : ReaderState} {holding kept : List ReaderReport} {news : List ReaderReport}
+told_back : {facts : Facts} {command : ReaderCommand} {reply : Reply} {choice : Choice} {before : ReaderState} {poll owed reset early : Bool} {middle : ReaderState} {holding kept : List ReaderActivity} {news : List ReaderActivity}
     → Looked facts command reply choice before poll owed reset early middle holding kept
-    → Tells poll choice owed holding (parts_of reply) news
-    → Tells (is_poll command) choice (owes_reset facts (taken command reply)) (held (before_messages facts command reply choice before).holds facts.past.kept) (parts_of reply) news
+    → HasNews poll choice owed holding (parts_of reply) news
+    → HasNews (is_poll command) choice (owes_reset facts (taken command reply)) (held (before_messages facts command reply choice before).holds facts.past.kept) (parts_of reply) news
 told_back {facts} {command} {reply} {choice} {before} {poll} {owed} {reset} {early} {middle} {holding} {kept} {news} looked tells =
     let held_is : held (before_messages facts command reply choice before).holds facts.past.kept ≡ holding = sym (looked.holding_is ∙ ap (λ (s : ReaderState). held s.holds facts.past.kept) looked.middle_is) in
     rw (held_is, sym looked.polls, sym looked.owed_is) tells
 
 -- a reply that the reader can't tell: it doesn't tell what is held
-pub untold : {facts : Facts} {command : ReaderCommand} {reply : Reply} {choice : Choice} {before : ReaderState} {poll owed reset early : Bool} {middle : ReaderState} {holding kept : List ReaderReport}
+pub untold : {facts : Facts} {command : ReaderCommand} {reply : Reply} {choice : Choice} {before : ReaderState} {poll owed reset early : Bool} {middle : ReaderState} {holding kept : List ReaderActivity}
     → Looked facts command reply choice before poll owed reset early middle holding kept
-    → ((parts : List (Part ReaderReport)) (other : List ReaderReport) → IsSummary kept reset early parts → Tells poll choice owed holding parts other → ⊥)
+    → ((parts : List (Part ReaderActivity)) (other : List ReaderActivity) → IsSummary kept reset early parts → HasNews poll choice owed holding parts other → ⊥)
     → (after : ReaderState) (gains : Gains) → ReplyStep facts command reply choice before after gains → ⊥
-untold {facts} {command} {reply} looked none after gains step = none (parts_of reply) step.news looked.summary (telling looked step.tells)
-
--- a reply that it can't tell: a new message is impossible
-pub mistold : {facts : Facts} {command : ReaderCommand} {reply : Reply} {choice : Choice} {before : ReaderState} {poll owed reset early : Bool} {middle : ReaderState} {holding kept news : List ReaderReport} {last : Option Transaction}
-    → Looked facts command reply choice before poll owed reset early middle holding kept
-    → ((parts : List (Part ReaderReport)) (other : List ReaderReport) → IsSummary kept reset early parts → Tells poll choice owed holding parts other → other ≡ news)
-    → last ≡ last_transaction facts (taken command reply)
-    → all_told last news middle.device ≡ None
-    → (after : ReaderState) (gains : Gains) → ReplyStep facts command reply choice before after gains → ⊥
-mistold {facts} {command} {reply} {choice} {before} {poll} {owed} {reset} {early} {middle} {holding} {kept} {news} {last} looked only last_is none after gains step =
-    let same : step.news ≡ news = only (parts_of reply) step.news looked.summary (telling looked step.tells) in
-    let told : all_told last news middle.device ≡ Some after.device =
-    ap (all_told last news) (ap (λ (s : ReaderState). s.device) looked.middle_is)
-    ∙ (ap (λ ns. all_told last ns (before_messages facts command reply choice before).device) (sym same)
-    ∙ (ap (λ l. all_told l step.news (before_messages facts command reply choice before).device) last_is ∙ step.told)) in
-    let never : None ≡ Some after.device = sym none ∙ told in
-    absurd cc
+untold {facts} {command} {reply} looked none after gains step = none (parts_of reply) step.news looked.summary (telling looked step.has_news)
 
 -- a reply that it can tell, and what that is
-pub told : {facts : Facts} {command : ReaderCommand} {reply : Reply} {choice : Choice} {before : ReaderState} {poll owed reset early : Bool} {middle : ReaderState} {holding kept news : List ReaderReport} {last : Option Transaction} {device : DeviceState} {behind : Bool} {config : Option ReaderConfig} {approved sold : ℕ} {gains : Gains}
+pub told : {facts : Facts} {command : ReaderCommand} {reply : Reply} {choice : Choice} {before : ReaderState} {poll owed reset early : Bool} {middle : ReaderState} {holding kept news : List ReaderActivity} {last : Option Transaction} {device : DeviceState} {after_holds : Bool} {config : Option ReaderConfig} {approved sold : ℕ} {gains : Gains}
     → Looked facts command reply choice before poll owed reset early middle holding kept
-    → ((parts : List (Part ReaderReport)) → IsSummary kept reset early parts → Tells poll choice owed holding parts news)
-    → ((parts : List (Part ReaderReport)) (other : List ReaderReport) → IsSummary kept reset early parts → Tells poll choice owed holding parts other → other ≡ news)
+    → ((parts : List (Part ReaderActivity)) → IsSummary kept reset early parts → HasNews poll choice owed holding parts news)
+    → ((parts : List (Part ReaderActivity)) (other : List ReaderActivity) → IsSummary kept reset early parts → HasNews poll choice owed holding parts other → other ≡ news)
     → last ≡ last_transaction facts (taken command reply)
     → all_told last news middle.device ≡ Some device
-    → behind ≡ holds_behind kept middle.holds
+    → after_holds ≡ holds_after kept middle.holds
     → config ≡ or_else (last_said config_in (messages_of reply)) facts.config
     → approved ≡ all_approved config news → sold ≡ sold_any facts (taken command reply) (read choice before) → gains ≡ device_gains approved sold
-    → IsOutcome (ReplyStep facts command reply choice before) (Some (record { device = device; view = before.view; holds = behind }, gains))
-told {facts} {command} {reply} {choice} {before} {poll} {owed} {reset} {early} {middle} {holding} {kept} {news} {last} {device} {behind} {config} {approved} {sold} {gains} looked found only last_is told_is behind_is config_is approved_is sold_is gains_are =
+    → IsOnlyStep (ReplyStep facts command reply choice before) (Some (record { device = device; view = before.view; holds = after_holds }, gains))
+told {facts} {command} {reply} {choice} {before} {poll} {owed} {reset} {early} {middle} {holding} {kept} {news} {last} {device} {after_holds} {config} {approved} {sold} {gains} looked found only last_is told_is after_holds_is config_is approved_is sold_is gains_are =
     let ready = before_messages facts command reply choice before in
     let own_config = or_else (last_said config_in (messages_of reply)) facts.config in
     let devices : middle.device ≡ ready.device = ap (λ (s : ReaderState). s.device) looked.middle_is in
     let holding_on : middle.holds ≡ ready.holds = ap (λ (s : ReaderState). s.holds) looked.middle_is in
     let tells : all_told (last_transaction facts (taken command reply)) news ready.device ≡ Some device =
     ap (λ l. all_told l news ready.device) (sym last_is) ∙ (ap (all_told last news) (sym devices) ∙ told_is) in
-    let holds : behind ≡ holds_behind (kept_of (parts_of reply)) ready.holds =
-    behind_is ∙ (ap (λ ks. holds_behind ks middle.holds) looked.summary.kept_is ∙ ap (holds_behind (kept_of (parts_of reply))) holding_on) in
+    let holds : after_holds ≡ holds_after (kept_of (parts_of reply)) ready.holds =
+    after_holds_is ∙ (ap (λ ks. holds_after ks middle.holds) looked.summary.kept_is ∙ ap (holds_after (kept_of (parts_of reply))) holding_on) in
     let gained : gains ≡ device_gains (all_approved own_config news) (sold_any facts (taken command reply) (read choice before)) =
     gains_are ∙ (ap (λ a. device_gains a sold) (approved_is ∙ ap (λ c. all_approved c news) config_is) ∙ ap (device_gains (all_approved own_config news)) sold_is) in (
       record {
         news = news;
-        tells = told_back looked (found (parts_of reply) looked.summary);
+        has_news = told_back looked (found (parts_of reply) looked.summary);
         told = tells;
         view = refl;
         holds = holds;
         gained = gained;
       },
       λ other more step.
-          let same : step.news ≡ news = only (parts_of reply) step.news looked.summary (telling looked step.tells) in
+          let same : step.news ≡ news = only (parts_of reply) step.news looked.summary (telling looked step.has_news) in
           let both : Some other.device ≡ Some device =
           sym step.told ∙ (ap (λ ns. all_told (last_transaction facts (taken command reply)) ns ready.device) same ∙ tells) in
           let devices_same : other.device ≡ device = cc in (

@@ -91,7 +91,7 @@ plain_alone : (facts : Facts) (its : ReaderCommand) (command : Command) (reply :
 plain_alone facts its command reply before after gains never Plain stands step = step
 plain_alone facts its command reply before after gains never Lost stands step = absurd stands
 plain_alone facts its command reply before after gains never Restart stands step =
-    absurd (never step.tells.read)
+    absurd (never step.has_news.read)
 
 pub unread : (state : ReaderState) (act : Act) (command : Command) (reply : Reply) (tells : Bool)
     → act ≡ acts.Reply command reply

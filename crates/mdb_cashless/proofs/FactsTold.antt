@@ -7,16 +7,16 @@ use Rattle.mdb_msgs.specs.declared.reply.Reply.{Reply}
 use Rattle.mdb_msgs.specs.declared.reply.reader.ReaderMsg.{ReaderMsg}
 use Rattle.mdb_bus.specs.declared.act.Act.TheVariants as acts
 use Rattle.mdb_cash.specs.Past.{effect_taken, or_else, resets, tells_out_of_sequence}
-use Rattle.mdb_cash.specs.PastValues.{past_behind}
+use Rattle.mdb_cash.specs.PastValues.{past_after}
 use Rattle.mdb_cashless.specs.declared.reader.transaction.Transaction.{Transaction}
 use Rattle.mdb_cashless.specs.ReaderFacts.{Facts, effect_of, effect_of_own, own_messages, own_of, own_transaction}
 use Rattle.mdb_cashless.specs.ReaderMessages.{amount_in, begin_session, config_in, last_said, messages_of, part_of}
-use Rattle.mdb_cashless.specs.ReaderValues.{facts_with, last_behind, taken, told}
+use Rattle.mdb_cashless.specs.ReaderValues.{facts_with, last_after, taken, told}
 use Rattle.mdb_cashless.specs.Transactions.{transaction_of}
 use Rattle.mdb_cashless.specs.Units.{own}
-use Rattle.mdb_cashless.proofs.Behind.{same_facts}
+use Rattle.mdb_cashless.proofs.FactsAfter.{same_facts}
 
--- the facts behind a reply, where it is known whether it refuses its command
+-- the facts after a reply, where it is known whether it refuses its command
 abbrev answered : ReaderUnit → Command → Bool → List ReaderMsg → Facts → Facts
 answered unit command refused messages old =
     record {
@@ -26,7 +26,7 @@ answered unit command refused messages old =
           then None
           else or_else (own_transaction (own_of unit (if refused then None else Some command))) old.taken;
       amount = unwrap_or (last_said amount_in (own_messages unit command messages)) old.amount;
-      past = past_behind (resets (effect_taken (effect_of unit) (if refused then None else Some command)))
+      past = past_after (resets (effect_taken (effect_of unit) (if refused then None else Some command)))
           (effect_taken (effect_of unit) (if refused then None else Some command))
           (map part_of (own_messages unit command messages)) old.past;
     }
@@ -41,16 +41,16 @@ answered_own found refused messages old =
       asked = old.asked;
       taken = if resets (effect_of_own took) || begin_session own_ones then None else or_else (own_transaction took) old.taken;
       amount = unwrap_or (last_said amount_in own_ones) old.amount;
-      past = past_behind (resets (effect_of_own took)) (effect_of_own took) (map part_of own_ones) old.past;
+      past = past_after (resets (effect_of_own took)) (effect_of_own took) (map part_of own_ones) old.past;
     }
 
 same_answer : (unit : ReaderUnit) (command : Command) (refused : Bool) (messages : List ReaderMsg) (old : Facts) → answered unit command refused messages old ≡ answered_own (own unit command) refused messages old
 same_answer unit command true messages old = refl
 same_answer unit command false messages old = refl
 
--- the last transaction behind a command that is taken by an answer
+-- the last transaction after a command that is taken by an answer
 last_is : (command : ReaderCommand) (begins : Bool) (last : Option Transaction)
-    → (if resets (effect_of_own (Some command)) || begins then None else or_else (transaction_of command) last) ≡ (if begins then None else last_behind command last)
+    → (if resets (effect_of_own (Some command)) || begins then None else or_else (transaction_of command) last) ≡ (if begins then None else last_after command last)
 last_is reader.Reset true last = refl
 last_is reader.Reset false last = refl
 last_is (reader.SetupConfig level columns rows display) begins last = refl
@@ -71,7 +71,7 @@ own_answer : (its : ReaderCommand) (refused : Bool) (messages : List ReaderMsg) 
 own_answer its true messages old = refl
 own_answer its false messages old = same_facts refl refl (last_is its (begin_session messages) old.taken) refl refl
 
--- the facts behind a reply of this reader: it has taken its command or not, and has told messages
+-- the facts after a reply of this reader: it has taken its command or not, and has told messages
 pub replied : (unit : ReaderUnit) (command : Command) (its : ReaderCommand) (reply : Reply) (old mid new : Facts) → own unit command ≡ Some its
     → mid ≡ taken (if tells_out_of_sequence reply then None else Some its) old → new ≡ told (messages_of reply) mid → new ≡ facts_with unit (acts.Reply command reply) old
 replied unit command its reply old mid new found mid_is new_is =

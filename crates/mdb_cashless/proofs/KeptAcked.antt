@@ -1,4 +1,4 @@
--- What is held behind an ACK, by whether a message of the reply is kept.
+-- What is held after an ACK, by whether a message of the reply is kept.
 use Rattle.std.proofs.Common.{◌≡◌, ◌⊎◌, inl, inr, ◌&&◌, not, Bool, true, false, List, [], ◌∷◌, refl, map}
 use Rattle.std.specs.List.{list_any}
 use Rattle.mdb_msgs.specs.declared.reply.reader.ReaderMsg.{ReaderMsg}

@@ -1,5 +1,5 @@
 pub mod Answered
-pub mod Behind
+pub mod FactsAfter
 pub mod Choices
 pub mod FactsTold
 pub mod KeptAcked

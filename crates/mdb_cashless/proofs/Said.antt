@@ -7,8 +7,8 @@ use Rattle.mdb_msgs.specs.declared.reply.reader.ReaderMsg.{ReaderMsg}
 use Rattle.mdb_cash.specs.declared.kept.Part.{Part}
 use Rattle.mdb_cash.specs.Kept.{IsSummary}
 use Rattle.mdb_cash.specs.Past.{is_out_of_sequence, or_else}
-use Rattle.mdb_cashless.specs.declared.reader.report.ReaderReport.{ReaderReport}
-use Rattle.mdb_cashless.specs.declared.reader.report.Said.{Said}
+use Rattle.mdb_cashless.specs.declared.reader.messages.ReaderActivity.{ReaderActivity}
+use Rattle.mdb_cashless.specs.declared.reader.messages.Said.{Said}
 use Rattle.mdb_cashless.specs.ReaderMessages.{amount_in, begins_session, config_in, last_said, part_of}
 use Rattle.mdb_cashless.specs.inner.ReaderSaid.{IsSaid}
 
@@ -41,13 +41,13 @@ any_last f messages m = list_any-append f messages (m ∷ []) ∙ or_last (list_
 
 -- what messages say with one message more
 pub said_more : (old new : Said) (messages : List ReaderMsg) (m : ReaderMsg) → IsSaid old messages
-    → ((parts : List (Part ReaderReport)) → IsSummary old.summary.kept.items old.summary.reset old.summary.early parts → IsSummary new.summary.kept.items new.summary.reset new.summary.early (parts ++ part_of m ∷ []))
+    → ((parts : List (Part ReaderActivity)) → IsSummary old.summary.kept.items old.summary.reset old.summary.early parts → IsSummary new.summary.kept.items new.summary.reset new.summary.early (parts ++ part_of m ∷ []))
     → new.config ≡ or_else (config_in m) old.config → new.amount ≡ or_else (amount_in m) old.amount
     → new.begins ≡ (begins_session m || old.begins) → new.refused ≡ (is_out_of_sequence m || old.refused)
     → IsSaid new (messages ++ m ∷ [])
 said_more old new messages m said summary config amount begins refused =
     record {
-      summary_is = subst (λ (parts : List (Part ReaderReport)). IsSummary new.summary.kept.items new.summary.reset new.summary.early parts) (sym (map-append part_of messages (m ∷ []))) (summary (map part_of messages) said.summary_is);
+      summary_is = subst (λ (parts : List (Part ReaderActivity)). IsSummary new.summary.kept.items new.summary.reset new.summary.early parts) (sym (map-append part_of messages (m ∷ []))) (summary (map part_of messages) said.summary_is);
       config_is = config ∙ (ap (or_else (config_in m)) said.config_is ∙ sym (last_said-more config_in messages m));
       amount_is = amount ∙ (ap (or_else (amount_in m)) said.amount_is ∙ sym (last_said-more amount_in messages m));
       begins_is = begins ∙ (ap (λ b. begins_session m || b) said.begins_is ∙ sym (any_last begins_session messages m));

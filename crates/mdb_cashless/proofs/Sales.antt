@@ -87,7 +87,7 @@ still unit SuccessOwed act so_far leaves none tells = (tells.0, last_still unit 
 still unit FailureOwed act so_far leaves none tells = tt
 still unit Ending act so_far leaves none tells = tt
 
--- the view behind hearing that a transaction command was taken
+-- the view after hearing that a transaction command was taken
 tells_taken : (unit : ReaderUnit) (view : View) (so_far : List Act) → TellsOfSale unit view so_far → TellsOfSale unit (reader_view.taken view) so_far
 tells_taken unit NoSession so_far tells = tt
 tells_taken unit Idle so_far tells = tt
@@ -320,7 +320,7 @@ requests unit command price item so_far is = record {
   undecided = All-nil (LeavesSale unit (λ t. (t ≡ Request price item) ⊎ (t ≡ Cancel)));
 }
 
--- the view behind each transaction command
+-- the view after each transaction command
 asks_request : SameFields → (unit : ReaderUnit) (command : Command) (price item : ℕ) (so_far : List Act) (before after : View) → own unit command ≡ Some (reader.VendRequest price item)
     → TellsOfSale unit before so_far → sent (last_told (asked_by unit) so_far) (Request price item) before ≡ Some after
     → TellsOfSale unit after (acts.Ask command ∷ so_far)
@@ -409,7 +409,7 @@ asks_success law unit command item so_far SuccessOwed after is tells sends = let
 asks_success law unit command item so_far FailureOwed after is tells sends = absurd cc
 asks_success law unit command item so_far Ending after is tells sends = absurd cc
 
--- the view behind each command to the reader
+-- the view after each command to the reader
 asks_own : SameFields → (unit : ReaderUnit) (command : Command) (its : ReaderCommand) (so_far : List Act) (before after : View) → own unit command ≡ Some its
     → TellsOfSale unit before so_far → asked (facts_of unit so_far) its before ≡ Some after → TellsOfSale unit after (acts.Ask command ∷ so_far)
 asks_own law unit command reader.Reset so_far before after is tells sends =

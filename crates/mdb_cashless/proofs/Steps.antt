@@ -11,7 +11,7 @@ use Rattle.mdb_cash.specs.declared.choice.Choice.{Choice}
 use Rattle.mdb_cash.specs.declared.choice.Choice.TheVariants.{Plain, Lost, Restart}
 use Rattle.mdb_cash.specs.declared.gains.Gains.{Gains}
 use Rattle.mdb_cash.specs.Gains.{controller_gains, device_gains, no_gains}
-use Rattle.mdb_cash.specs.Pair.{IsOutcome}
+use Rattle.mdb_cash.specs.Pair.{IsOnlyStep}
 use Rattle.mdb_cashless.specs.declared.reader.device.DeviceState.{DeviceState}
 use Rattle.mdb_cashless.specs.declared.reader.state.ReaderState.{ReaderState}
 use Rattle.mdb_cashless.specs.declared.reader.view.View.{View}
@@ -28,27 +28,27 @@ same_state {one} {other} device view holds =
 
 -- the outcome of a command to this reader
 for_own : (Step : ReaderCommand → ReaderState → ReaderState → Gains → Type 0) (before : ReaderState) (result : Option (ReaderState × Gains)) (found : Option ReaderCommand) (command : ReaderCommand)
-    → found ≡ Some command → IsOutcome (Step command before) result → IsOutcome (ForOwn found Step before) result
+    → found ≡ Some command → IsOnlyStep (Step command before) result → IsOnlyStep (ForOwn found Step before) result
 for_own Step before result None command is outcome = absurd cc
-for_own Step before result (Some other) command is outcome = let same : command ≡ other = cc in subst (λ (c : ReaderCommand). IsOutcome (Step c before) result) same outcome
+for_own Step before result (Some other) command is outcome = let same : command ≡ other = cc in subst (λ (c : ReaderCommand). IsOnlyStep (Step c before) result) same outcome
 
 pub asks : (facts : Facts) (before : ReaderState) (result : Option (ReaderState × Gains)) (unit : ReaderUnit) (act : Act) (command : Command) (its : ReaderCommand) (choice : Choice)
-    → act ≡ acts.Ask command → own unit command ≡ Some its → IsOutcome (AskStep facts its before) result → IsOutcome (ReaderStep unit facts act choice before) result
-asks facts before result unit act command its choice is found outcome = subst (λ (a : Act). IsOutcome (ReaderStep unit facts a choice before) result) (sym is) (for_own _ before result (own unit command) its found outcome)
+    → act ≡ acts.Ask command → own unit command ≡ Some its → IsOnlyStep (AskStep facts its before) result → IsOnlyStep (ReaderStep unit facts act choice before) result
+asks facts before result unit act command its choice is found outcome = subst (λ (a : Act). IsOnlyStep (ReaderStep unit facts a choice before) result) (sym is) (for_own _ before result (own unit command) its found outcome)
 
 pub acks : (facts : Facts) (before : ReaderState) (result : Option (ReaderState × Gains)) (unit : ReaderUnit) (act : Act) (command : Command) (its : ReaderCommand) (choice : Choice)
-    → act ≡ acts.Ack command → own unit command ≡ Some its → IsOutcome (AckStep facts its choice before) result → IsOutcome (ReaderStep unit facts act choice before) result
-acks facts before result unit act command its choice is found outcome = subst (λ (a : Act). IsOutcome (ReaderStep unit facts a choice before) result) (sym is) (for_own _ before result (own unit command) its found outcome)
+    → act ≡ acts.Ack command → own unit command ≡ Some its → IsOnlyStep (AckStep facts its choice before) result → IsOnlyStep (ReaderStep unit facts act choice before) result
+acks facts before result unit act command its choice is found outcome = subst (λ (a : Act). IsOnlyStep (ReaderStep unit facts a choice before) result) (sym is) (for_own _ before result (own unit command) its found outcome)
 
 pub replies : (facts : Facts) (before : ReaderState) (result : Option (ReaderState × Gains)) (unit : ReaderUnit) (act : Act) (command : Command) (reply : Reply) (its : ReaderCommand) (choice : Choice)
-    → act ≡ acts.Reply command reply → own unit command ≡ Some its → IsOutcome (ReplyStep facts its reply choice before) result → IsOutcome (ReaderStep unit facts act choice before) result
-replies facts before result unit act command reply its choice is found outcome = subst (λ (a : Act). IsOutcome (ReaderStep unit facts a choice before) result) (sym is) (for_own _ before result (own unit command) its found outcome)
+    → act ≡ acts.Reply command reply → own unit command ≡ Some its → IsOnlyStep (ReplyStep facts its reply choice before) result → IsOnlyStep (ReaderStep unit facts act choice before) result
+replies facts before result unit act command reply its choice is found outcome = subst (λ (a : Act). IsOnlyStep (ReaderStep unit facts a choice before) result) (sym is) (for_own _ before result (own unit command) its found outcome)
 
 -- the controller's ACK has one outcome
 pub vmc_acks : (facts : Facts) (before after : ReaderState) (gains : Gains) (unit : ReaderUnit) (act : Act) (command : Command) (reply : Reply) (its : ReaderCommand) (choice : Choice)
-    → act ≡ acts.VmcAck command reply → own unit command ≡ Some its → VmcAckStep facts its reply choice before after gains → IsOutcome (ReaderStep unit facts act choice before) (Some (after, gains))
+    → act ≡ acts.VmcAck command reply → own unit command ≡ Some its → VmcAckStep facts its reply choice before after gains → IsOnlyStep (ReaderStep unit facts act choice before) (Some (after, gains))
 vmc_acks facts before after gains unit act command reply its choice is found step =
-    subst (λ (a : Act). IsOutcome (ReaderStep unit facts a choice before) (Some (after, gains))) (sym is)
+    subst (λ (a : Act). IsOnlyStep (ReaderStep unit facts a choice before) (Some (after, gains))) (sym is)
     (for_own (λ c. VmcAckStep facts c reply choice) before (Some (after, gains)) (own unit command) its found (step, λ other more one. (one.to ∙ sym step.to, one.gained ∙ sym step.gained)))
 
 -- a command that leaves the view
@@ -103,13 +103,13 @@ denied true p = tt
 denied false p = p refl
 
 -- a POLL that is acknowledged while nothing is held changes nothing
-same_behind : (facts : Facts) (choice : Choice) (device : DeviceState) (view : View)
+same_after : (facts : Facts) (choice : Choice) (device : DeviceState) (view : View)
     → record (take facts reader.Poll (record { device = device; view = view; holds = false })) {
       view = view_heard choice reader.Poll view;
     } ≡ record { device = device; view = view; holds = false }
-same_behind facts Plain device view = refl
-same_behind facts Lost device view = refl
-same_behind facts Restart device view = refl
+same_after facts Plain device view = refl
+same_after facts Lost device view = refl
+same_after facts Restart device view = refl
 
 none_sold : (facts : Facts) (device : DeviceState) (view : View)
     → sold facts reader.Poll (record { device = device; view = view; holds = false }) ≡ 0
@@ -121,12 +121,12 @@ rests_apart : (facts : Facts) (choice : Choice) (device : DeviceState) (view : V
     ↔ (after ≡ record { device = device; view = view; holds = false }) × (gains ≡ no_gains)
 rests_apart facts choice device view after gains = (
   (λ step. (
-    step.to ∙ same_behind facts choice device view,
+    step.to ∙ same_after facts choice device view,
     step.gained ∙ ap (device_gains 0) (none_sold facts device view),
   )),
   (λ both. record {
     poll = refl;
-    to = both.0 ∙ sym (same_behind facts choice device view);
+    to = both.0 ∙ sym (same_after facts choice device view);
     gained = both.1 ∙ sym (ap (device_gains 0) (none_sold facts device view));
   }),
 )

@@ -13,14 +13,14 @@ use Rattle.mdb_cash.specs.declared.choice.Choice.{Choice}
 use Rattle.mdb_cash.specs.declared.choice.Choice.TheVariants.{Lost, Restart}
 use Rattle.mdb_cash.specs.declared.gains.Gains.{Gains}
 use Rattle.mdb_cash.specs.Gains.{no_gains, controller_gains, device_gains}
-use Rattle.mdb_cash.specs.Kept.{Tells, held, holds_acked, holds_behind, kept_of}
+use Rattle.mdb_cash.specs.Kept.{HasNews, held, holds_acked, holds_after, kept_of}
 use Rattle.mdb_cash.specs.Machine.{Machine}
 use Rattle.mdb_cash.specs.Pair.{Stays}
 use Rattle.mdb_cash.specs.Past.{or_else, resets, tells_out_of_sequence}
 use Rattle.mdb_cashless.specs.declared.reader.device.DeviceState.TheVariants as device
-use Rattle.mdb_cashless.specs.declared.reader.report.ReaderConfig.{ReaderConfig}
-use Rattle.mdb_cashless.specs.declared.reader.report.ReaderReport.{ReaderReport}
-use Rattle.mdb_cashless.specs.declared.reader.report.ReaderReport.TheVariants.{VendApproved}
+use Rattle.mdb_cashless.specs.declared.reader.messages.ReaderConfig.{ReaderConfig}
+use Rattle.mdb_cashless.specs.declared.reader.messages.ReaderActivity.{ReaderActivity}
+use Rattle.mdb_cashless.specs.declared.reader.messages.ReaderActivity.TheVariants.{VendApproved}
 use Rattle.mdb_cashless.specs.declared.reader.state.ReaderState.{ReaderState}
 use Rattle.mdb_cashless.specs.declared.reader.view.View.{View}
 use Rattle.mdb_cashless.specs.declared.reader.view.View.TheVariants as view
@@ -46,12 +46,12 @@ value None amount = 0
 value (Some config) amount = config.scale * amount
 
 -- what a new kept message adds to the reader's approved: the value of a message 05
-abbrev pub approved : Option ReaderConfig → ReaderReport → ℕ
+abbrev pub approved : Option ReaderConfig → ReaderActivity → ℕ
 approved config (VendApproved amount) = value config amount
-approved config report = 0
+approved config message = 0
 
-abbrev pub all_approved : Option ReaderConfig → List ReaderReport → ℕ
-all_approved config reports = sum_by (approved config) reports
+abbrev pub all_approved : Option ReaderConfig → List ReaderActivity → ℕ
+all_approved config news = sum_by (approved config) news
 
 -- what a heard message adds to the controller's approved: the value of a message 05 that makes its
 -- view Approved
@@ -76,7 +76,7 @@ drops reader.Reset = true
 drops command = elim (transaction_of command) [ Some transaction ↦ true | None ↦ false ]
 
 -- whether a command is the last transaction that the reader took, while it still holds what it told
--- behind that: the controller may not have heard the answer, and so tells it again
+-- after that: the controller may not have heard the answer, and so tells it again
 abbrev pub is_repeated : Facts → ReaderCommand → Bool → Bool
 is_repeated facts command holds =
     holds && elim (transaction_of command) [
@@ -102,7 +102,7 @@ sold facts command before =
     else if reader_device.is_sale command before.device then value facts.config facts.amount
     else 0
 
--- The view behind a command that the controller sends; None where it may not send it. RESET ends
+-- The view after a command that the controller sends; None where it may not send it. RESET ends
 -- the session in its view, taken or not; the commands that are neither RESET nor a transaction
 -- leave the view.
 abbrev pub asked : Facts → ReaderCommand → View → Option View
@@ -131,7 +131,7 @@ pub record AskStep (facts : Facts) (command : ReaderCommand) (before after : Rea
   pub holds : after.holds ≡ before.holds
   pub gained : gains ≡ controller_gains 0 (sold_to facts command before.view)
 
--- the view behind hearing that the reader took a command: that tells something of a transaction
+-- the view after hearing that the reader took a command: that tells something of a transaction
 -- command
 abbrev pub view_taken : ReaderCommand → View → View
 view_taken command before =
@@ -140,7 +140,7 @@ view_taken command before =
       | None ↦ before
     ]
 
--- the view behind an answer that takes a command, which the controller heard or didn't hear
+-- the view after an answer that takes a command, which the controller heard or didn't hear
 abbrev pub view_heard : Choice → ReaderCommand → View → View
 view_heard Lost command before = before
 view_heard choice command before = view_taken command before
@@ -155,7 +155,7 @@ pub record AckStep (facts : Facts) (command : ReaderCommand) (choice : Choice)
   }
   pub gained : gains ≡ device_gains 0 (sold facts command before)
 
--- the state of the reader once a reply is read: behind a restart it is in its power-on state, and
+-- the state of the reader once a reply is read: after a restart it is in its power-on state, and
 -- holds nothing; the controller doesn't know of that yet
 abbrev pub read : Choice → ReaderState → ReaderState
 read Restart before = record before { device = device.Inactive; holds = false }
@@ -166,7 +166,7 @@ read choice before = before
 abbrev pub taken : ReaderCommand → Reply → Option ReaderCommand
 taken command reply = if tells_out_of_sequence reply then None else Some command
 
--- the state behind taking it, if it is taken, and what that adds to the reader's sold
+-- the state after taking it, if it is taken, and what that adds to the reader's sold
 abbrev pub take_any : Facts → Option ReaderCommand → ReaderState → ReaderState
 take_any facts None before = before
 take_any facts (Some command) before = take facts command before
@@ -180,37 +180,37 @@ abbrev pub before_messages : Facts → ReaderCommand → Reply → Choice → Re
 before_messages facts command reply choice before =
     take_any facts (taken command reply) (read choice before)
 
--- whether a reset message is owed where a command is taken, if one is: behind RESET it is (which is
+-- whether a reset message is owed where a command is taken, if one is: after RESET it is (which is
 -- of no matter, since no kept message stands in an answer to RESET)
 abbrev pub owes_reset : Facts → Option ReaderCommand → Bool
 owes_reset facts command = resets (effect_of_own command) || facts.past.reset_owed
 
--- the last transaction that the reader took where a command is taken, if one is (behind RESET there
+-- the last transaction that the reader took where a command is taken, if one is (after RESET there
 -- is none, but the reader is Inactive then, and no message asks)
 abbrev pub last_transaction : Facts → Option ReaderCommand → Option Transaction
 last_transaction facts command = or_else (own_transaction command) facts.taken
 
 -- The reader replies with data, which is read as plain or as telling of a restart. If it takes
--- the command by that, the command has its effect first. Then come the messages: behind those that
+-- the command by that, the command has its effect first. Then come the messages: after those that
 -- it holds stand the new ones, each of which has its effect. They are valued by the reply's own
 -- config message, if it has one; a sale is not. A transaction command that is taken is already the
--- last one, and behind RESET a reset message is owed.
+-- last one, and after RESET a reset message is owed.
 pub record ReplyStep (facts : Facts) (command : ReaderCommand) (reply : Reply)
     (choice : Choice) (before after : ReaderState) (gains : Gains) : Type 0 where
-  pub news : List ReaderReport
-  pub tells : Tells (is_poll command) choice (owes_reset facts (taken command reply))
+  pub news : List ReaderActivity
+  pub has_news : HasNews (is_poll command) choice (owes_reset facts (taken command reply))
       (held (before_messages facts command reply choice before).holds facts.past.kept)
       (parts_of reply) news
   pub told : all_told (last_transaction facts (taken command reply)) news
       (before_messages facts command reply choice before).device ≡ Some after.device
   pub view : after.view ≡ before.view
-  pub holds : after.holds ≡ holds_behind (kept_of (parts_of reply))
+  pub holds : after.holds ≡ holds_after (kept_of (parts_of reply))
       (before_messages facts command reply choice before).holds
   pub gained : gains ≡ device_gains
       (all_approved (or_else (last_said config_in (messages_of reply)) facts.config) news)
       (sold_any facts (taken command reply) (read choice before))
 
--- the view behind hearing that the reply's command was taken, if it was
+-- the view after hearing that the reply's command was taken, if it was
 abbrev pub view_answered : Option ReaderCommand → View → View
 view_answered None before = before
 view_answered (Some command) before = view_taken command before

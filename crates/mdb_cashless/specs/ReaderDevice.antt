@@ -1,34 +1,34 @@
 -- The states of a cashless reader, and what commands and messages make of them (MDB/ICP 4.3,
--- cashless device, for Inactive, Disabled, Enabled, Idle and Vend; Approved, Ending and the places
--- of return, this profile).
+-- cashless device, for Inactive, Disabled, Enabled, Idle and Vend; Approved, Ending and where a
+-- reader returns to, this profile).
 use Rattle.std.specs.Prelude.{Bool, true, false, List, [], ◌∷◌, Option, Some, None, if◌then◌else◌}
 use Rattle.mdb_msgs.specs.declared.command.ReaderCommand.{ReaderCommand}
 use Rattle.mdb_msgs.specs.declared.command.ReaderCommand.TheVariants as reader
 use Rattle.mdb_cashless.specs.declared.reader.device.DeviceState.{DeviceState}
 use Rattle.mdb_cashless.specs.declared.reader.device.DeviceState.TheVariants.{Inactive, Disabled, Enabled, Idle, Vend, Approved, Ending}
-use Rattle.mdb_cashless.specs.declared.reader.device.Place.{Place}
-use Rattle.mdb_cashless.specs.declared.reader.device.Place.TheVariants as place
-use Rattle.mdb_cashless.specs.declared.reader.report.ReaderReport.{ReaderReport}
-use Rattle.mdb_cashless.specs.declared.reader.report.ReaderReport.TheVariants.{SessionBegun, VendApproved, VendDenied, SessionEnded}
+use Rattle.mdb_cashless.specs.declared.reader.device.Home.{Home}
+use Rattle.mdb_cashless.specs.declared.reader.device.Home.TheVariants as home
+use Rattle.mdb_cashless.specs.declared.reader.messages.ReaderActivity.{ReaderActivity}
+use Rattle.mdb_cashless.specs.declared.reader.messages.ReaderActivity.TheVariants.{SessionBegun, VendApproved, VendDenied, SessionEnded}
 use Rattle.mdb_cashless.specs.declared.reader.transaction.Transaction.{Transaction}
 use Rattle.mdb_cashless.specs.declared.reader.transaction.Transaction.TheVariants as transaction
 
 -- What a command makes of the reader that takes it, where that has an effect. SETUP config makes it
--- Disabled without SETUP prices. In a session READER ENABLE and READER DISABLE change the place of
--- return, which all others keep.
+-- Disabled without SETUP prices. In a session READER ENABLE and READER DISABLE change where the
+-- reader returns to, which all others keep.
 abbrev pub effect : ReaderCommand → DeviceState → DeviceState
 effect reader.Reset before = Inactive
 effect (reader.SetupConfig level columns rows display) Inactive = Disabled
 effect reader.Enable Disabled = Enabled
-effect reader.Enable (Idle back) = Idle place.Enabled
-effect reader.Enable (Vend back) = Vend place.Enabled
-effect reader.Enable (Approved back) = Approved place.Enabled
-effect reader.Enable (Ending back) = Ending place.Enabled
+effect reader.Enable (Idle back) = Idle home.Enabled
+effect reader.Enable (Vend back) = Vend home.Enabled
+effect reader.Enable (Approved back) = Approved home.Enabled
+effect reader.Enable (Ending back) = Ending home.Enabled
 effect reader.Disable Enabled = Disabled
-effect reader.Disable (Idle back) = Idle place.Disabled
-effect reader.Disable (Vend back) = Vend place.Disabled
-effect reader.Disable (Approved back) = Approved place.Disabled
-effect reader.Disable (Ending back) = Ending place.Disabled
+effect reader.Disable (Idle back) = Idle home.Disabled
+effect reader.Disable (Vend back) = Vend home.Disabled
+effect reader.Disable (Approved back) = Approved home.Disabled
+effect reader.Disable (Ending back) = Ending home.Disabled
 effect (reader.VendRequest price item) (Idle back) = Vend back
 effect (reader.VendRequest price item) (Vend back) = Vend back
 effect (reader.VendRequest price item) (Approved back) = Vend back
@@ -48,10 +48,10 @@ abbrev pub is_sale : ReaderCommand → DeviceState → Bool
 is_sale (reader.VendSuccess item) (Approved back) = true
 is_sale command before = false
 
--- the state at a place of return
-abbrev pub returned : Place → DeviceState
-returned place.Disabled = Disabled
-returned place.Enabled = Enabled
+-- the state in which a session leaves the reader
+abbrev pub returned : Home → DeviceState
+returned home.Disabled = Disabled
+returned home.Enabled = Enabled
 
 -- whether the last transaction that the reader took is a VEND REQUEST
 abbrev pub is_request : Option Transaction → Bool
@@ -61,13 +61,13 @@ is_request last = false
 -- What a new kept message needs of the reader, and what it makes of it, where this was the last
 -- transaction taken: 03 needs Enabled; 05 needs Vend, and that the last transaction is a VEND
 -- REQUEST; 06 needs Vend; 07 needs Ending. Elsewhere the message is impossible.
-abbrev pub told : Option Transaction → ReaderReport → DeviceState → Option DeviceState
-told last (SessionBegun funds) Enabled = Some (Idle place.Enabled)
+abbrev pub told : Option Transaction → ReaderActivity → DeviceState → Option DeviceState
+told last (SessionBegun funds) Enabled = Some (Idle home.Enabled)
 told last (VendApproved amount) (Vend back) =
     if is_request last then Some (Approved back) else None
 told last VendDenied (Vend back) = Some (Idle back)
 told last SessionEnded (Ending back) = Some (returned back)
-told last report before = None
+told last message before = None
 
 -- what may come of what came of something, if anything
 abbrev pub then_by : {X Y : Type 0} → Option X → (X → Option Y) → Option Y
@@ -75,7 +75,7 @@ then_by None next = None
 then_by (Some x) next = next x
 
 -- what new kept messages make of the reader, one after another
-abbrev pub all_told : Option Transaction → List ReaderReport → DeviceState → Option DeviceState
+abbrev pub all_told : Option Transaction → List ReaderActivity → DeviceState → Option DeviceState
 all_told last [] before = Some before
-all_told last (report ∷ reports) before =
-    then_by (told last report before) (all_told last reports)
+all_told last (message ∷ news) before =
+    then_by (told last message before) (all_told last news)

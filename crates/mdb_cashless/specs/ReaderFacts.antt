@@ -1,4 +1,4 @@
--- What is known of a reader behind a list of acts, the newest first (this profile).
+-- What is known of a reader after a list of acts, the newest first (this profile).
 use Rattle.std.specs.Prelude.{ℕ, Bool, List, [], ◌∷◌, Option, Some, None, unwrap_or, if◌then◌else◌, map, ◌||◌}
 use Rattle.mdb_msgs.specs.declared.command.Command.{Command}
 use Rattle.mdb_msgs.specs.declared.command.ReaderCommand.{ReaderCommand}
@@ -11,8 +11,8 @@ use Rattle.mdb_cash.specs.declared.kept.Part.{Part}
 use Rattle.mdb_cash.specs.declared.past.Effect.{Effect}
 use Rattle.mdb_cash.specs.declared.past.Effect.TheVariants as effects
 use Rattle.mdb_cash.specs.Past.{PastFacts, last_told, or_else, past_of, powers_on, taken_by}
-use Rattle.mdb_cashless.specs.declared.reader.report.ReaderConfig.{ReaderConfig}
-use Rattle.mdb_cashless.specs.declared.reader.report.ReaderReport.{ReaderReport}
+use Rattle.mdb_cashless.specs.declared.reader.messages.ReaderConfig.{ReaderConfig}
+use Rattle.mdb_cashless.specs.declared.reader.messages.ReaderActivity.{ReaderActivity}
 use Rattle.mdb_cashless.specs.declared.reader.transaction.Transaction.{Transaction}
 use Rattle.mdb_cashless.specs.ReaderMessages.{amount_in, begin_session, config_in, last_said, messages_of, part_of}
 use Rattle.mdb_cashless.specs.Transactions.{transaction_of}
@@ -36,7 +36,7 @@ abbrev pub amount_by : ReaderUnit → Act → Option ℕ
 amount_by unit act = last_said amount_in (messages_by unit act)
 
 -- what they are to the reader that keeps some of them
-abbrev pub parts_by : ReaderUnit → Act → List (Part ReaderReport)
+abbrev pub parts_by : ReaderUnit → Act → List (Part ReaderActivity)
 parts_by unit act = map part_of (messages_by unit act)
 
 -- What a command is to the reader that takes it: its RESET, or nothing that counts for what it
@@ -66,7 +66,7 @@ asked_by unit act = None
 abbrev pub transaction_taken_by : ReaderUnit → Act → Option Transaction
 transaction_taken_by unit act = own_transaction (own_of unit (taken_by act))
 
--- Whether there is no last transaction behind an act: behind a break, a RESET that the reader
+-- Whether there is no last transaction after an act: after a break, a RESET that the reader
 -- takes, and a reply that begins a session, even if that reply takes a transaction command.
 abbrev pub ends_transactions : ReaderUnit → Act → Bool
 ends_transactions unit act =
@@ -86,14 +86,14 @@ pub record Facts : Type 0 where
   pub config : Option ReaderConfig
   -- the last transaction command that the controller sent
   pub asked : Option Transaction
-  -- the last transaction that the reader took; none behind what ends them (`ends_transactions`)
+  -- the last transaction that the reader took; none after what ends them (`ends_transactions`)
   pub taken : Option Transaction
   -- the amount of the last message 05, of the last reply that has one; 0 where there was none
   pub amount : ℕ
   -- the reset message, and the last kept list; a reader has no types that could be enabled
-  pub past : PastFacts ReaderReport
+  pub past : PastFacts ReaderActivity
 
--- the facts behind acts
+-- the facts after acts
 abbrev pub facts_of : ReaderUnit → List Act → Facts
 facts_of unit acts =
     record {

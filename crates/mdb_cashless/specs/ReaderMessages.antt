@@ -9,13 +9,13 @@ use Rattle.mdb_msgs.specs.declared.reply.reader.ReaderMsg.TheVariants as message
 use Rattle.mdb_cash.specs.declared.kept.Part.{Part}
 use Rattle.mdb_cash.specs.declared.kept.Part.TheVariants as part
 use Rattle.mdb_cash.specs.Past.{or_else}
-use Rattle.mdb_cashless.specs.declared.reader.report.ReaderConfig.{ReaderConfig}
-use Rattle.mdb_cashless.specs.declared.reader.report.ReaderReport.{ReaderReport}
-use Rattle.mdb_cashless.specs.declared.reader.report.ReaderReport.TheVariants.{SessionBegun, VendApproved, VendDenied, SessionEnded}
+use Rattle.mdb_cashless.specs.declared.reader.messages.ReaderConfig.{ReaderConfig}
+use Rattle.mdb_cashless.specs.declared.reader.messages.ReaderActivity.{ReaderActivity}
+use Rattle.mdb_cashless.specs.declared.reader.messages.ReaderActivity.TheVariants.{SessionBegun, VendApproved, VendDenied, SessionEnded}
 
 -- the messages 03, 05, 06 and 07 are kept, and say all that their bytes are; 00 is the reset
 -- message
-abbrev pub part_of : ReaderMsg → Part ReaderReport
+abbrev pub part_of : ReaderMsg → Part ReaderActivity
 part_of messages.JustReset = part.Reset
 part_of (messages.BeginSession funds) = part.Kept (SessionBegun funds)
 part_of (messages.VendApproved amount) = part.Kept (VendApproved amount)
@@ -29,7 +29,7 @@ messages_of (replies.Reader list) = list.messages
 messages_of reply = []
 
 -- what they are to the reader that keeps some of them
-abbrev pub parts_of : Reply → List (Part ReaderReport)
+abbrev pub parts_of : Reply → List (Part ReaderActivity)
 parts_of reply = map part_of (messages_of reply)
 
 -- what a config message says of how the reader is set up

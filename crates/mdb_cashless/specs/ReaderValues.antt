@@ -7,7 +7,7 @@ use Rattle.mdb_msgs.specs.declared.command.ReaderUnit.{ReaderUnit}
 use Rattle.mdb_msgs.specs.declared.reply.reader.ReaderMsg.{ReaderMsg}
 use Rattle.mdb_bus.specs.declared.act.Act.{Act}
 use Rattle.mdb_cash.specs.declared.past.Effect.TheVariants as effects
-use Rattle.mdb_cash.specs.PastValues.{past_behind, past_in, past_with}
+use Rattle.mdb_cash.specs.PastValues.{past_after, past_in, past_with}
 use Rattle.mdb_cash.specs.Past.{or_else, resets}
 use Rattle.mdb_cashless.specs.declared.reader.facts.ReaderFacts.{ReaderFacts}
 use Rattle.mdb_cashless.specs.declared.reader.transaction.Transaction.{Transaction}
@@ -26,7 +26,7 @@ facts_in facts =
       past = past_in facts.past;
     }
 
--- the facts behind one act more
+-- the facts after one act more
 abbrev pub facts_with : ReaderUnit → Act → Facts → Facts
 facts_with unit act facts =
     record {
@@ -38,36 +38,36 @@ facts_with unit act facts =
       past = past_with (effect_of unit) (parts_by unit) act facts.past;
     }
 
--- the last transaction behind a command that is taken
-abbrev pub last_behind : ReaderCommand → Option Transaction → Option Transaction
-last_behind reader.Reset last = None
-last_behind command last = or_else (transaction_of command) last
+-- the last transaction after a command that is taken
+abbrev pub last_after : ReaderCommand → Option Transaction → Option Transaction
+last_after reader.Reset last = None
+last_after command last = or_else (transaction_of command) last
 
--- the facts behind a command that is taken, if one is
+-- the facts after a command that is taken, if one is
 abbrev pub taken : Option ReaderCommand → Facts → Facts
 taken None facts = facts
 taken (Some command) facts =
     record facts {
-      taken = last_behind command facts.taken;
-      past = past_behind (resets (effect_of_own (Some command))) (effect_of_own (Some command)) []
+      taken = last_after command facts.taken;
+      past = past_after (resets (effect_of_own (Some command))) (effect_of_own (Some command)) []
           facts.past;
     }
 
--- the facts behind a break
+-- the facts after a break
 abbrev pub powered : Facts → Facts
-powered facts = record facts { taken = None; past = past_behind true effects.Other [] facts.past }
+powered facts = record facts { taken = None; past = past_after true effects.Other [] facts.past }
 
--- the facts behind the messages of a reply
+-- the facts after the messages of a reply
 abbrev pub told : List ReaderMsg → Facts → Facts
 told messages facts =
     record facts {
       config = or_else (last_said config_in messages) facts.config;
       taken = if begin_session messages then None else facts.taken;
       amount = unwrap_or (last_said amount_in messages) facts.amount;
-      past = past_behind false effects.Other (map part_of messages) facts.past;
+      past = past_after false effects.Other (map part_of messages) facts.past;
     }
 
--- whether the controller's view may change behind a command that it sends
+-- whether the controller's view may change after a command that it sends
 abbrev pub changes_view : ReaderCommand → Bool
 changes_view reader.Reset = true
 changes_view command = elim (transaction_of command) [ Some transaction ↦ true | None ↦ false ]

@@ -8,7 +8,7 @@ use Rattle.mdb_cashless.specs.declared.reader.view.View.{View}
 use Rattle.mdb_cashless.specs.declared.reader.view.View.TheVariants.{NoSession, Idle, Asked, Waiting, Approved, SuccessOwed, FailureOwed, Ending}
 use Rattle.mdb_cashless.specs.Transactions.{is_again}
 
--- The transaction commands that the controller may send in each view, and the view behind them; the
+-- The transaction commands that the controller may send in each view, and the view after them; the
 -- same block is that of the last transaction command sent. Any other it may not send.
 abbrev pub sent : Option Transaction → Transaction → View → Option View
 sent last (Request price item) Idle = Some Asked
@@ -30,7 +30,7 @@ abbrev pub is_sale : Transaction → View → Bool
 is_sale (Success item) Approved = true
 is_sale transaction before = false
 
--- the view behind hearing that a transaction command was taken
+-- the view after hearing that a transaction command was taken
 abbrev pub taken : View → View
 taken Asked = Waiting
 taken SuccessOwed = Idle
@@ -43,7 +43,7 @@ awaits Asked = true
 awaits Waiting = true
 awaits before = false
 
--- the view behind hearing a message
+-- the view after hearing a message
 abbrev pub heard : ReaderMsg → View → View
 heard messages.JustReset before = NoSession
 heard (messages.BeginSession funds) NoSession = Idle
@@ -54,7 +54,7 @@ heard messages.VendDenied Waiting = Idle
 heard messages.EndSession Ending = NoSession
 heard message before = before
 
--- the view behind hearing messages, one after another
+-- the view after hearing messages, one after another
 abbrev pub all_heard : List ReaderMsg → View → View
 all_heard [] before = before
 all_heard (message ∷ messages) before = all_heard messages (heard message before)

@@ -37,7 +37,7 @@ pub record IsRequested (unit : ReaderUnit) (so_far : List Act) : Type 0 where
   pub order : so_far ≡ since ++ (acts.Ask (Reader unit (reader.VendRequest price item)) ∷ before)
   pub undecided : All (LeavesSale unit (λ t. (t ≡ Request price item) ⊎ (t ≡ Cancel))) since
 
--- The acts end in a reply and what was sent of it again: behind it came nothing but RET for it, and
+-- The acts end in a reply and what was sent of it again: after it came nothing but RET for it, and
 -- its repeats.
 pub record EndsInReply (command : Command) (reply : Reply) (so_far : List Act) : Type 0 where
   pub again : List Act

@@ -8,9 +8,9 @@ pub mod laws;
 mod reader;
 
 pub use reader::Reader;
-pub use reader::device::{DeviceState, Place};
+pub use reader::device::{DeviceState, Home};
 pub use reader::facts::ReaderFacts;
-pub use reader::report::{ReaderConfig, ReaderReport};
+pub use reader::messages::{ReaderActivity, ReaderConfig};
 pub use reader::state::ReaderState;
 pub use reader::transaction::Transaction;
 pub use reader::view::View;

@@ -13,7 +13,7 @@ ghost use Rattle.mdb_cashless.specs.Units as units;
 mod answers;
 pub(crate) mod device;
 pub(crate) mod facts;
-pub(crate) mod report;
+pub(crate) mod messages;
 pub(crate) mod state;
 mod steps;
 mod taking;
@@ -95,7 +95,7 @@ impl<const UNIT: usize> Pair for Reader<UNIT> {
         ReaderState::at(code)
     }
 
-    fn outcome(
+    fn step_from(
         facts: &ReaderFacts,
         act: &Act,
         choice: Choice,

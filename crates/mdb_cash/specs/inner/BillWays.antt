@@ -28,10 +28,10 @@ pub elsewhere : (facts : Facts) (act : Act) (choice : Choice) (before after : Bi
     → BillStep facts act choice before after gains ↔ Stays before after gains
 elsewhere facts = step_ways.elsewhere own _ is_own
 
-looks_away : (facts : Facts) → LooksAway (conduct facts)
-looks_away facts = record {
-  acks = λ command before after gains step. step;
-  takes = λ news before after step. step;
+looks_away : LooksAway conduct
+looks_away = record {
+  acks = λ facts command before after gains step. step;
+  tells_news = λ facts news before after step. step;
 }
 
 -- the machine is one of the device
@@ -39,8 +39,7 @@ pub is_machine : IsMachineOf devices.Bill machine
 is_machine = record {
   elsewhere = λ acts. elsewhere (facts_of acts);
   breaks = λ acts length choice before. (power_on, no_gains, (refl, refl));
-  as_plain = λ acts. as_plain tables (conduct (facts_of acts)) (looks_away (facts_of acts))
-      (facts_of acts).past;
+  as_plain = λ acts. as_plain tables conduct looks_away (facts_of acts);
 }
 
 pub unmoved : (known : Facts) (before : List Act) (act : Act) → (IsActOf devices.Bill act → ⊥)

@@ -10,7 +10,7 @@ use Rattle.mdb_cash.specs.declared.changer.state.ChangerState.{ChangerState}
 use Rattle.mdb_cash.specs.declared.choice.Choice.{Choice}
 use Rattle.mdb_cash.specs.declared.choice.Choice.TheVariants.{Plain, Restart}
 use Rattle.mdb_cash.specs.declared.gains.Gains.{Gains}
-use Rattle.mdb_cash.specs.Changer.{AckStep, ChangerStep, conduct, machine, power_on}
+use Rattle.mdb_cash.specs.Changer.{ChangerStep, TakeStep, conduct, machine, power_on}
 use Rattle.mdb_cash.specs.ChangerFacts.{Facts, facts_of, own, tables}
 use Rattle.mdb_cash.specs.Gains.{no_gains}
 use Rattle.mdb_cash.specs.inner.KeeperPlain.{LooksAway, as_plain}
@@ -33,16 +33,16 @@ elsewhere facts = step_ways.elsewhere own _ is_own
 
 -- an ACK of the changer tells of no restart
 as_ack : (facts : Facts) (command : ChangerCommand) (before after : ChangerState) (gains : Gains)
-    → AckStep facts command Restart before after gains
-    → AckStep facts command Plain before after gains
+    → TakeStep facts command Restart before after gains
+    → TakeStep facts command Plain before after gains
 as_ack facts changer.Reset before after gains step = step
 as_ack facts (changer.Dispense coins) before after gains step = step
 as_ack facts _ before after gains step = step
 
-looks_away : (facts : Facts) → LooksAway (conduct facts)
-looks_away facts = record {
-  acks = as_ack facts;
-  takes = λ news before after step. step;
+looks_away : LooksAway conduct
+looks_away = record {
+  acks = as_ack;
+  tells_news = λ facts news before after step. step;
 }
 
 -- the machine is one of the device
@@ -50,8 +50,7 @@ pub is_machine : IsMachineOf devices.Changer machine
 is_machine = record {
   elsewhere = λ acts. elsewhere (facts_of acts);
   breaks = λ acts length choice before. (power_on, no_gains, (refl, refl));
-  as_plain = λ acts. as_plain tables (conduct (facts_of acts)) (looks_away (facts_of acts))
-      (facts_of acts).past;
+  as_plain = λ acts. as_plain tables conduct looks_away (facts_of acts);
 }
 
 pub unmoved : (known : Facts) (before : List Act) (act : Act) → (IsActOf devices.Changer act → ⊥)

@@ -13,7 +13,7 @@ use Rattle.mdb_cash.specs.declared.past.Effect.TheVariants as effects
 use Rattle.mdb_cash.specs.Kept.{has_reset, kept_of}
 use Rattle.mdb_cash.specs.Past.{PastFacts, acts_from, effect_by, effect_taken, enables, last_told, or_else, past_of, powers_on, tells_out_of_sequence, unless_empty}
 
--- what counts behind one act more, by what that act is to the device
+-- what counts after one act more, by what that act is to the device
 abbrev pub one_more : {M : Type 0} → (Command → Effect) → (Act → List (Part M)) → List Act → Effect
     → Bool → List (Part M) → PastFacts M
 one_more effect_of parts_by acts effect powers parts =

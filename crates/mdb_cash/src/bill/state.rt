@@ -85,7 +85,7 @@ impl Escrow {
         }
     }
 
-    /// What it is behind Y1 of an ESCROW that the validator takes.
+    /// What it is after Y1 of an ESCROW that the validator takes.
     pub(crate) fn ordered(self, order: u8) -> Escrow
         ensures { result ≡ spec.ordered order self }
     {

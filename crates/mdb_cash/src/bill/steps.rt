@@ -5,10 +5,10 @@ ghost use Rattle.mdb_cash.specs.KeeperValues.{facts_in};
 ghost use Rattle.mdb_cash.specs.Pair.{IsOnly};
 
 use super::Bill;
-use super::report::BillReport;
+use super::activity::BillActivity;
 use super::state::{BillState, BillType, Escrow};
 use super::tables::BillFacts;
-use super::values::all_stacked;
+use super::values::stacked;
 use crate::choice::Choice;
 use crate::conduct::Conduct;
 use crate::gains::Gains;
@@ -52,21 +52,21 @@ impl Conduct for Bill {
         (after, Gains::none())
     }
 
-    fn take(
+    fn tell_news(
         facts: &BillFacts,
         choice: Choice,
-        news: &[BillReport],
+        news: &[BillActivity],
         before: BillState,
     ) -> Option<BillState> {
-        let escrow = take_all(facts, news, before.escrow.read(choice))?;
+        let escrow = move_bills(facts, news, before.escrow.read(choice))?;
         Some(BillState { escrow, ..before })
     }
 
-    fn first(facts: &BillFacts, messages: &[BillReport]) -> u64 {
-        all_stacked(&facts.setup, messages)
+    fn first_gain(facts: &BillFacts, message: BillActivity) -> u64 {
+        stacked(&facts.setup, message)
     }
 
-    fn second(_facts: &BillFacts, _messages: &[BillReport]) -> u64 {
+    fn second_gain(_facts: &BillFacts, _message: BillActivity) -> u64 {
         0
     }
 
@@ -75,23 +75,23 @@ impl Conduct for Bill {
     }
 }
 
-/// What is in escrow behind new messages. `None` where they can't be.
-fn take_all(facts: &BillFacts, messages: &[BillReport], from: Escrow) -> Option<Escrow>
-    ensures { IsOnly (spec.TakesAll (facts_in facts.now) messages.now from) result }
+/// What is in escrow after new messages. `None` where they can't be.
+fn move_bills(facts: &BillFacts, messages: &[BillActivity], from: Escrow) -> Option<Escrow>
+    ensures { IsOnly (spec.MovesBills (facts_in facts.now) messages.now from) result }
 {
     let mut escrow = from;
     for message in messages {
-        escrow = take(facts, *message, escrow)?;
+        escrow = move_bill(facts, *message, escrow)?;
     }
     Some(escrow)
 }
 
-/// What is in escrow behind one new message. `None` where it can't be.
-fn take(facts: &BillFacts, message: BillReport, escrow: Escrow) -> Option<Escrow>
-    ensures { IsOnly (spec.TakesMessage (facts_in facts.now) message escrow) result }
+/// What is in escrow after one new message. `None` where it can't be.
+fn move_bill(facts: &BillFacts, message: BillActivity, escrow: Escrow) -> Option<Escrow>
+    ensures { IsOnly (spec.MovesBill (facts_in facts.now) message escrow) result }
 {
     match message {
-        BillReport::Stacked(number) => {
+        BillActivity::Stacked(number) => {
             let bill = BillType::new(number)?;
             if facts.past.is_enabled(number) && escrow.may_stack(bill) {
                 Some(Escrow::Empty)
@@ -99,7 +99,7 @@ fn take(facts: &BillFacts, message: BillReport, escrow: Escrow) -> Option<Escrow
                 None
             }
         }
-        BillReport::Escrow(number) => {
+        BillActivity::Escrow(number) => {
             let bill = BillType::new(number)?;
             if facts.past.is_enabled(number) && escrow.is_empty() {
                 Some(Escrow::Waiting(bill))
@@ -107,7 +107,7 @@ fn take(facts: &BillFacts, message: BillReport, escrow: Escrow) -> Option<Escrow
                 None
             }
         }
-        BillReport::Returned(number) => {
+        BillActivity::Returned(number) => {
             let bill = BillType::new(number)?;
             if escrow.may_return(bill) {
                 Some(Escrow::Empty)

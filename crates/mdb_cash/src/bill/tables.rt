@@ -4,7 +4,7 @@ ghost use Rattle.std.proofs.Common.{rules};
 ghost use Rattle.mdb_cash.specs.BillFacts as spec;
 
 use super::Bill;
-use super::report::BillReport;
+use super::activity::BillActivity;
 use crate::keeper::{Keeper, KeeperFacts};
 use crate::past::Effect;
 use mdb_msgs::{BillCommand, BillMsg, BillSetup, Command, Reply};
@@ -21,7 +21,7 @@ impl Keeper for Bill {
 
     type Asked = Infallible;
 
-    type Kept = BillReport;
+    type Kept = BillActivity;
 
     type Message = BillMsg;
 

@@ -1,9 +1,9 @@
 //! What the validator's bills are worth (MDB/ICP 4.3, bill validator).
 
-ghost use Rattle.std.specs.Prelude.{◌≡◌, ◌≤◌, ◌<◌, ◌^◌, length};
+ghost use Rattle.std.specs.Prelude.{◌≡◌, ◌≤◌};
 ghost use Rattle.mdb_cash.specs.Bill as spec;
 
-use super::report::BillReport;
+use super::activity::BillActivity;
 use crate::credits::counted;
 use mdb_msgs::BillSetup;
 
@@ -19,25 +19,12 @@ fn bill_value(setup: &Option<BillSetup>, bill: u8) -> u64
 }
 
 /// What a kept message adds to bills-in.
-fn stacked(setup: &Option<BillSetup>, report: BillReport) -> u64
-    ensures value { result ≡ spec.stacked setup.now report }
+pub(crate) fn stacked(setup: &Option<BillSetup>, message: BillActivity) -> u64
+    ensures value { result ≡ spec.stacked setup.now message }
     ensures small { result ≤ 16711425 }
 {
-    match report {
-        BillReport::Stacked(bill) => bill_value(setup, bill),
+    match message {
+        BillActivity::Stacked(bill) => bill_value(setup, bill),
         _ => 0,
     }
-}
-
-/// What kept messages add to bills-in.
-pub(crate) fn all_stacked(setup: &Option<BillSetup>, reports: &[BillReport]) -> u64
-    requires { length reports.now ≤ 16 }
-    ensures value { result ≡ spec.all_stacked setup.now reports.now }
-    ensures small { result < 2 ^ 32 }
-{
-    let mut total = 0;
-    for report in reports {
-        total += stacked(setup, *report);
-    }
-    total
 }

@@ -5,13 +5,13 @@ ghost use Rattle.std.specs.List.{AllByRecursion};
 ghost use Rattle.mdb_cash.specs.Changer as spec;
 ghost use Rattle.mdb_cash.specs.Gains.{IsSmall};
 ghost use Rattle.mdb_cash.specs.KeeperValues.{facts_in};
-ghost use Rattle.mdb_cash.specs.Pair.{IsOutcome};
+ghost use Rattle.mdb_cash.specs.Pair.{IsOnlyStep};
 
 use super::Changer;
-use super::report::ChangerReport;
+use super::activity::ChangerActivity;
 use super::state::ChangerState;
 use super::tables::ChangerFacts;
-use super::values::{all_deposited, all_paid_by_hand, dispensed_value};
+use super::values::{deposited, dispensed_value, paid_by_hand};
 use crate::choice::Choice;
 use crate::conduct::Conduct;
 use crate::gains::Gains;
@@ -78,10 +78,10 @@ impl Conduct for Changer {
         }
     }
 
-    fn take(
+    fn tell_news(
         facts: &ChangerFacts,
         _choice: Choice,
-        news: &[ChangerReport],
+        news: &[ChangerActivity],
         before: ChangerState,
     ) -> Option<ChangerState> {
         if may_be_new(facts, news) {
@@ -91,12 +91,12 @@ impl Conduct for Changer {
         }
     }
 
-    fn first(facts: &ChangerFacts, messages: &[ChangerReport]) -> u64 {
-        all_deposited(&facts.setup, messages)
+    fn first_gain(facts: &ChangerFacts, message: ChangerActivity) -> u64 {
+        deposited(&facts.setup, message)
     }
 
-    fn second(facts: &ChangerFacts, messages: &[ChangerReport]) -> u64 {
-        all_paid_by_hand(&facts.setup, messages)
+    fn second_gain(facts: &ChangerFacts, message: ChangerActivity) -> u64 {
+        paid_by_hand(&facts.setup, message)
     }
 
     fn heard_reset(state: ChangerState) -> ChangerState {
@@ -109,7 +109,7 @@ impl Conduct for Changer {
 
 /// The controller asks for coins.
 fn ask_for_coins(facts: &ChangerFacts, coins: u8, before: ChangerState) -> (ChangerState, Gains)
-    ensures outcome { IsOutcome (spec.DispenseStep (facts_in facts.now) coins before)
+    ensures step { IsOnlyStep (spec.DispenseStep (facts_in facts.now) coins before)
         (Some result) }
     ensures small { IsSmall result.1 }
 {
@@ -117,7 +117,7 @@ fn ask_for_coins(facts: &ChangerFacts, coins: u8, before: ChangerState) -> (Chan
         owed: true,
         ..before
     };
-    if before.owed && is_last(facts.asked, coins) {
+    if before.owed && is_last(facts.last_asked, coins) {
         (after, Gains::none())
     } else {
         let asked = dispensed_value(&facts.setup, coins);
@@ -126,10 +126,10 @@ fn ask_for_coins(facts: &ChangerFacts, coins: u8, before: ChangerState) -> (Chan
 }
 
 /// Whether this is Y1 of the last DISPENSE that was asked.
-fn is_last(asked: Option<u8>, coins: u8) -> bool
-    ensures { result ≡ spec.is_last asked coins }
+fn is_last(last_asked: Option<u8>, coins: u8) -> bool
+    ensures { result ≡ spec.is_last last_asked coins }
 {
-    match asked {
+    match last_asked {
         None => false,
         Some(last) => last == coins,
     }
@@ -146,18 +146,18 @@ fn owed_acked(choice: Choice, owed: bool) -> bool
 }
 
 /// Whether kept messages may be new.
-fn may_be_new(facts: &ChangerFacts, reports: &[ChangerReport]) -> bool
-    ensures { IsTrue result ↔ AllByRecursion (spec.MayBeNew (facts_in facts.now)) reports.now }
+fn may_be_new(facts: &ChangerFacts, news: &[ChangerActivity]) -> bool
+    ensures { IsTrue result ↔ AllByRecursion (spec.MayBeNew (facts_in facts.now)) news.now }
 {
-    reports.iter().all(|report| may_be_told(facts, *report))
+    news.iter().all(|message| may_be_told(facts, *message))
 }
 
 /// Whether a kept message may be new.
-fn may_be_told(facts: &ChangerFacts, report: ChangerReport) -> bool
-    ensures { IsTrue result ↔ spec.MayBeNew (facts_in facts.now) report }
+fn may_be_told(facts: &ChangerFacts, message: ChangerActivity) -> bool
+    ensures { IsTrue result ↔ spec.MayBeNew (facts_in facts.now) message }
 {
-    match report {
-        ChangerReport::CashBox(coin) | ChangerReport::Tube(coin) => facts.past.is_enabled(coin),
-        ChangerReport::Dispensed { .. } => true,
+    match message {
+        ChangerActivity::CashBox(coin) | ChangerActivity::Tube(coin) => facts.past.is_enabled(coin),
+        ChangerActivity::Dispensed { .. } => true,
     }
 }

@@ -4,7 +4,7 @@ ghost use Rattle.std.proofs.Common.{rules};
 ghost use Rattle.mdb_cash.specs.ChangerFacts as spec;
 
 use super::Changer;
-use super::report::ChangerReport;
+use super::activity::ChangerActivity;
 use crate::keeper::{Keeper, KeeperFacts};
 use crate::past::Effect;
 use mdb_msgs::{ChangerCommand, ChangerMsg, ChangerSetup, Command, Reply};
@@ -20,7 +20,7 @@ impl Keeper for Changer {
 
     type Asked = u8;
 
-    type Kept = ChangerReport;
+    type Kept = ChangerActivity;
 
     type Message = ChangerMsg;
 

@@ -1,9 +1,9 @@
 //! What the changer's coins are worth (MDB/ICP 4.3, coin changer).
 
-ghost use Rattle.std.specs.Prelude.{◌≡◌, ◌≤◌, ◌<◌, ◌^◌, length};
+ghost use Rattle.std.specs.Prelude.{◌≡◌, ◌≤◌};
 ghost use Rattle.mdb_cash.specs.Changer as spec;
 
-use super::report::ChangerReport;
+use super::activity::ChangerActivity;
 use crate::credits::counted;
 use mdb_msgs::ChangerSetup;
 
@@ -27,49 +27,23 @@ pub(crate) fn dispensed_value(setup: &Option<ChangerSetup>, coins: u8) -> u64
 }
 
 /// What a kept message adds to coins-in.
-fn deposited(setup: &Option<ChangerSetup>, report: ChangerReport) -> u64
-    ensures value { result ≡ spec.deposited setup.now report }
+pub(crate) fn deposited(setup: &Option<ChangerSetup>, message: ChangerActivity) -> u64
+    ensures value { result ≡ spec.deposited setup.now message }
     ensures small { result ≤ 65025 }
 {
-    match report {
-        ChangerReport::CashBox(coin) | ChangerReport::Tube(coin) => coin_value(setup, coin),
-        ChangerReport::Dispensed { .. } => 0,
+    match message {
+        ChangerActivity::CashBox(coin) | ChangerActivity::Tube(coin) => coin_value(setup, coin),
+        ChangerActivity::Dispensed { .. } => 0,
     }
 }
 
 /// What a kept message adds to paid-out.
-fn paid_by_hand(setup: &Option<ChangerSetup>, report: ChangerReport) -> u64
-    ensures value { result ≡ spec.paid_by_hand setup.now report }
+pub(crate) fn paid_by_hand(setup: &Option<ChangerSetup>, message: ChangerActivity) -> u64
+    ensures value { result ≡ spec.paid_by_hand setup.now message }
     ensures small { result ≤ 16581375 }
 {
-    match report {
-        ChangerReport::Dispensed { count, coin } => u64::from(count) * coin_value(setup, coin),
+    match message {
+        ChangerActivity::Dispensed { count, coin } => u64::from(count) * coin_value(setup, coin),
         _ => 0,
     }
-}
-
-/// What kept messages add to coins-in.
-pub(crate) fn all_deposited(setup: &Option<ChangerSetup>, reports: &[ChangerReport]) -> u64
-    requires { length reports.now ≤ 16 }
-    ensures value { result ≡ spec.all_deposited setup.now reports.now }
-    ensures small { result < 2 ^ 32 }
-{
-    let mut total = 0;
-    for report in reports {
-        total += deposited(setup, *report);
-    }
-    total
-}
-
-/// What kept messages add to paid-out.
-pub(crate) fn all_paid_by_hand(setup: &Option<ChangerSetup>, reports: &[ChangerReport]) -> u64
-    requires { length reports.now ≤ 16 }
-    ensures value { result ≡ spec.all_paid_by_hand setup.now reports.now }
-    ensures small { result < 2 ^ 32 }
-{
-    let mut total = 0;
-    for report in reports {
-        total += paid_by_hand(setup, *report);
-    }
-    total
 }

@@ -45,10 +45,10 @@ as_plain unit facts (acts.Reply c r) Lost before after gains barred step =
     before after gains
     (λ o own_step. record {
       news = own_step.news;
-      tells = record {
+      has_news = record {
         read = tt;
-        reset = own_step.tells.reset;
-        new = own_step.tells.new;
+        reset = own_step.has_news.reset;
+        new = own_step.has_news.new;
       };
       told = own_step.told;
       view = own_step.view;

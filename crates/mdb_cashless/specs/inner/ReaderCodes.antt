@@ -4,25 +4,25 @@ use Rattle.std.specs.Prelude.{◌≡◌, ℕ, zero, suc, ◌+◌, ◌*◌, ◌/�
 use Rattle.std.proofs.Common.{arith, sym, ap, ◌∙◌}
 use Rattle.mdb_cashless.specs.declared.reader.device.DeviceState.{DeviceState}
 use Rattle.mdb_cashless.specs.declared.reader.device.DeviceState.TheVariants as device
-use Rattle.mdb_cashless.specs.declared.reader.device.Place.{Place}
-use Rattle.mdb_cashless.specs.declared.reader.device.Place.TheVariants as place
+use Rattle.mdb_cashless.specs.declared.reader.device.Home.{Home}
+use Rattle.mdb_cashless.specs.declared.reader.device.Home.TheVariants as home
 use Rattle.mdb_cashless.specs.declared.reader.state.ReaderState.{ReaderState}
 use Rattle.mdb_cashless.specs.declared.reader.view.View.{View}
 use Rattle.mdb_cashless.specs.declared.reader.view.View.TheVariants as view
 
--- the numbers of the places of return, of the reader's states and of the views
-abbrev pub place_number : Place → ℕ
-place_number place.Disabled = 0
-place_number place.Enabled = 1
+-- the numbers of the homes, of the reader's states and of the views
+abbrev pub home_number : Home → ℕ
+home_number home.Disabled = 0
+home_number home.Enabled = 1
 
 abbrev pub device_number : DeviceState → ℕ
 device_number device.Inactive = 0
 device_number device.Disabled = 1
 device_number device.Enabled = 2
-device_number (device.Idle back) = 3 + place_number back
-device_number (device.Vend back) = 5 + place_number back
-device_number (device.Approved back) = 7 + place_number back
-device_number (device.Ending back) = 9 + place_number back
+device_number (device.Idle back) = 3 + home_number back
+device_number (device.Vend back) = 5 + home_number back
+device_number (device.Approved back) = 7 + home_number back
+device_number (device.Ending back) = 9 + home_number back
 
 abbrev pub view_number : View → ℕ
 view_number view.NoSession = 0
@@ -47,15 +47,15 @@ abbrev device_at : ℕ → DeviceState
 device_at zero = device.Inactive
 device_at (suc zero) = device.Disabled
 device_at (suc (suc zero)) = device.Enabled
-device_at (suc (suc (suc zero))) = device.Idle place.Disabled
-device_at (suc (suc (suc (suc zero)))) = device.Idle place.Enabled
-device_at (suc (suc (suc (suc (suc zero))))) = device.Vend place.Disabled
-device_at (suc (suc (suc (suc (suc (suc zero)))))) = device.Vend place.Enabled
-device_at (suc (suc (suc (suc (suc (suc (suc zero))))))) = device.Approved place.Disabled
-device_at (suc (suc (suc (suc (suc (suc (suc (suc zero)))))))) = device.Approved place.Enabled
-device_at (suc (suc (suc (suc (suc (suc (suc (suc (suc zero))))))))) = device.Ending place.Disabled
+device_at (suc (suc (suc zero))) = device.Idle home.Disabled
+device_at (suc (suc (suc (suc zero)))) = device.Idle home.Enabled
+device_at (suc (suc (suc (suc (suc zero))))) = device.Vend home.Disabled
+device_at (suc (suc (suc (suc (suc (suc zero)))))) = device.Vend home.Enabled
+device_at (suc (suc (suc (suc (suc (suc (suc zero))))))) = device.Approved home.Disabled
+device_at (suc (suc (suc (suc (suc (suc (suc (suc zero)))))))) = device.Approved home.Enabled
+device_at (suc (suc (suc (suc (suc (suc (suc (suc (suc zero))))))))) = device.Ending home.Disabled
 device_at (suc (suc (suc (suc (suc (suc (suc (suc (suc (suc n)))))))))) =
-    device.Ending place.Enabled
+    device.Ending home.Enabled
 
 abbrev view_at : ℕ → View
 view_at zero = view.NoSession
@@ -75,14 +75,14 @@ device_again : (d : DeviceState) → device_at (device_number d) ≡ d
 device_again device.Inactive = refl
 device_again device.Disabled = refl
 device_again device.Enabled = refl
-device_again (device.Idle place.Disabled) = refl
-device_again (device.Idle place.Enabled) = refl
-device_again (device.Vend place.Disabled) = refl
-device_again (device.Vend place.Enabled) = refl
-device_again (device.Approved place.Disabled) = refl
-device_again (device.Approved place.Enabled) = refl
-device_again (device.Ending place.Disabled) = refl
-device_again (device.Ending place.Enabled) = refl
+device_again (device.Idle home.Disabled) = refl
+device_again (device.Idle home.Enabled) = refl
+device_again (device.Vend home.Disabled) = refl
+device_again (device.Vend home.Enabled) = refl
+device_again (device.Approved home.Disabled) = refl
+device_again (device.Approved home.Enabled) = refl
+device_again (device.Ending home.Disabled) = refl
+device_again (device.Ending home.Enabled) = refl
 
 view_again : (v : View) → view_at (view_number v) ≡ v
 view_again view.NoSession = refl
@@ -99,18 +99,18 @@ holds_again true = refl
 holds_again false = refl
 
 -- numbers are small
-small_place : (p : Place) → place_number p < 2
-small_place place.Disabled = omega arith
-small_place place.Enabled = omega arith
+small_home : (p : Home) → home_number p < 2
+small_home home.Disabled = omega arith
+small_home home.Enabled = omega arith
 
 small_device : (d : DeviceState) → device_number d < 11
 small_device device.Inactive = omega arith
 small_device device.Disabled = omega arith
 small_device device.Enabled = omega arith
-small_device (device.Idle back) = let small = small_place back in omega arith
-small_device (device.Vend back) = let small = small_place back in omega arith
-small_device (device.Approved back) = let small = small_place back in omega arith
-small_device (device.Ending back) = let small = small_place back in omega arith
+small_device (device.Idle back) = let small = small_home back in omega arith
+small_device (device.Vend back) = let small = small_home back in omega arith
+small_device (device.Approved back) = let small = small_home back in omega arith
+small_device (device.Ending back) = let small = small_home back in omega arith
 
 small_view : (v : View) → view_number v < 8
 small_view view.NoSession = omega arith

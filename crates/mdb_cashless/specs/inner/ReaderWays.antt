@@ -23,7 +23,7 @@ use Rattle.mdb_cashless.specs.Reader.{ForOwn, ReaderStep, machine, power_on}
 use Rattle.mdb_cash.specs.declared.past.Effect.TheVariants as effects
 use Rattle.mdb_cash.specs.Past.{PastFacts, effect_by, last_told, or_else, past_of, powers_on, resets, tells_out_of_sequence}
 use Rattle.mdb_cash.specs.inner.PastWays as past_ways
-use Rattle.mdb_cashless.specs.declared.reader.report.ReaderReport.{ReaderReport}
+use Rattle.mdb_cashless.specs.declared.reader.messages.ReaderActivity.{ReaderActivity}
 use Rattle.mdb_cashless.specs.declared.reader.transaction.Transaction.{Transaction}
 use Rattle.mdb_cashless.specs.inner.PlainReader.{as_plain}
 use Rattle.mdb_cashless.specs.ReaderFacts.{Facts, amount_by, asked_by, config_by, effect_of, effect_of_own, facts_of, last_taken, messages_by, own_of, own_transaction, parts_by, transaction_taken_by}
@@ -83,9 +83,9 @@ is_machine unit = record {
   as_plain = λ acts. as_plain unit (facts_of unit acts);
 }
 
--- the facts behind one act more, by what that act is to the reader
+-- the facts after one act more, by what that act is to the reader
 abbrev known_more : ReaderUnit → List Act → List ReaderMsg → Option Transaction
-    → Option Transaction → Bool → PastFacts ReaderReport → Facts
+    → Option Transaction → Bool → PastFacts ReaderActivity → Facts
 known_more unit before messages asked taken powers past =
     record {
       config = or_else (last_said config_in messages) (last_told (config_by unit) before);
@@ -103,17 +103,17 @@ still_known : (unit : ReaderUnit) (act : Act) (before : List Act) → messages_b
     → effect_by (effect_of unit) act ≡ effects.Other → powers_on (effect_of unit) act ≡ false
     → facts_of unit before ≡ facts_of unit (act ∷ before)
 still_known unit act before messages asked taken effect powers =
-    let behind = past_of (effect_of unit) (parts_by unit) (act ∷ before) in
-    let past : past_of (effect_of unit) (parts_by unit) before ≡ behind =
+    let after = past_of (effect_of unit) (parts_by unit) (act ∷ before) in
+    let past : past_of (effect_of unit) (parts_by unit) before ≡ after =
     past_ways.still (effect_of unit) (parts_by unit) act before effect powers
     (ap (map part_of) messages) in
     ap (known_more unit before [] None None false) past
     ∙ sym (ap (λ m. known_more unit before m (asked_by unit act) (transaction_taken_by unit act)
-    (powers_on (effect_of unit) act) behind) messages
+    (powers_on (effect_of unit) act) after) messages
     ∙ ap (λ a. known_more unit before [] a (transaction_taken_by unit act)
-    (powers_on (effect_of unit) act) behind) asked
-    ∙ ap (λ t. known_more unit before [] None t (powers_on (effect_of unit) act) behind) taken
-    ∙ ap (λ b. known_more unit before [] None None b behind) powers)
+    (powers_on (effect_of unit) act) after) asked
+    ∙ ap (λ t. known_more unit before [] None t (powers_on (effect_of unit) act) after) taken
+    ∙ ap (λ b. known_more unit before [] None None b after) powers)
 
 -- a command to another device is no transaction that the reader takes, whatever the answer tells
 answered_none : (unit : ReaderUnit) (command : Command) (reply : Reply) → own unit command ≡ None

@@ -10,7 +10,7 @@ ghost use Rattle.mdb_msgs.specs.declared.reply.Reply.{Reply};
 ghost use Rattle.mdb_msgs.specs.declared.reply.reader.ReaderMsg.{ReaderMsg};
 ghost use Rattle.mdb_msgs.specs.Reader.{is_kept};
 ghost use Rattle.mdb_cashless.specs.ReaderMessages.{messages_of, part_of, parts_of};
-ghost use Rattle.mdb_cash.specs.Pair.{IsOutcome};
+ghost use Rattle.mdb_cash.specs.Pair.{IsOnlyStep};
 ghost use Rattle.mdb_cashless.specs.Reader as spec;
 ghost use Rattle.mdb_cashless.specs.ReaderDevice as reader_device;
 ghost use Rattle.mdb_cashless.specs.ReaderValues.{facts_in};
@@ -18,13 +18,13 @@ ghost use Rattle.mdb_cashless.specs.ReaderView as reader_view;
 
 use super::device::DeviceState;
 use super::facts::ReaderFacts;
-use super::report::{ReaderConfig, ReaderReport, Said, is_kept, messages_of, tells_of_reset};
+use super::messages::{ReaderActivity, ReaderConfig, Said, is_kept, messages_of, tells_of_reset};
 use super::state::ReaderState;
 use super::taking::{is_poll, sold, take};
 use super::transaction::{Transaction, transaction_of};
 use super::values::{all_approved, approved_to};
 use super::view::View;
-use mdb_cash::kept::{held, holds_behind};
+use mdb_cash::kept::{held, holds_after};
 use mdb_cash::past::tells_out_of_sequence;
 use mdb_cash::{Choice, Gains};
 use mdb_msgs::{ReaderCommand, ReaderIter, Reply};
@@ -54,7 +54,7 @@ fn read(choice: Choice, before: ReaderState) -> ReaderState
     }
 }
 
-/// The state behind taking a command, if one is taken.
+/// The state after taking a command, if one is taken.
 #[inline(always)]
 fn take_any(facts: &ReaderFacts, command: Option<ReaderCommand>, before: ReaderState) -> ReaderState
     ensures { result ≡ spec.take_any (facts_in facts.now) command before }
@@ -109,9 +109,9 @@ pub(crate) fn answer(
     choice: Choice,
     before: ReaderState,
 ) -> Option<(ReaderState, Gains)>
-    ensures outcome { IsOutcome
+    ensures step { IsOnlyStep
         (spec.ReplyStep (facts_in facts.now) command reply.now choice before) result }
-    ensures small { IfSome result (λ outcome. IsSmall outcome.1) }
+    ensures small { IfSome result (λ step. IsSmall step.1) }
 {
     if !may_be_read(choice, reply) {
         return None;
@@ -128,7 +128,7 @@ pub(crate) fn answer(
     let after = ReaderState {
         device,
         view: before.view,
-        holds: holds_behind(summary.kept.as_slice(), middle.holds),
+        holds: holds_after(summary.kept.as_slice(), middle.holds),
     };
     let config = said.config.or(facts.config);
     let approved = all_approved(config, new);
@@ -152,19 +152,19 @@ fn may_be_read(choice: Choice, reply: &Reply) -> bool
 /// What new kept messages make of the reader; `None` where they are impossible.
 fn all_told(
     last: Option<Transaction>,
-    reports: &[ReaderReport],
+    news: &[ReaderActivity],
     before: DeviceState,
 ) -> Option<DeviceState>
-    ensures { result ≡ reader_device.all_told last reports.now before }
+    ensures { result ≡ reader_device.all_told last news.now before }
 {
     let mut device = before;
-    for report in reports {
-        device = device.told(last, *report)?;
+    for message in news {
+        device = device.told(last, *message)?;
     }
     Some(device)
 }
 
-/// The view behind hearing that a reply's command was taken, if it was.
+/// The view after hearing that a reply's command was taken, if it was.
 fn view_answered(command: ReaderCommand, reply: &Reply, view: View) -> View
     ensures { result ≡ spec.view_answered (spec.taken command reply.now) view }
 {
@@ -183,7 +183,7 @@ pub(crate) fn vmc_ack(
     choice: Choice,
     before: ReaderState,
 ) -> (ReaderState, Gains)
-    ensures outcome { spec.VmcAckStep (facts_in facts.now) command reply.now choice before
+    ensures step { spec.VmcAckStep (facts_in facts.now) command reply.now choice before
         result.0 result.1 }
     ensures small { IsSmall result.1 }
 {
@@ -200,7 +200,7 @@ pub(crate) fn vmc_ack(
 /// What hearing messages makes of the controller's view and sums.
 #[derive(Clone, Copy)]
 struct Hearing {
-    /// The view behind them.
+    /// The view after them.
     view: View,
     /// What they add to the controller's approved.
     approved: u64,
@@ -233,7 +233,7 @@ fn hear(config: Option<ReaderConfig>, before: View, messages: ReaderIter<'_>) ->
     }
 }
 
-/// Whether the reader holds behind the controller's ACK of messages of which it keeps one, or none.
+/// Whether the reader holds after the controller's ACK of messages of which it keeps one, or none.
 fn holds_on(choice: Choice, keeps: bool, holds: bool) -> bool
     ensures { (messages : List ReaderMsg) → keeps ≡ list_any is_kept messages
         → result ≡ holds_acked choice (kept_of (map part_of messages)) holds }

@@ -5,21 +5,21 @@ ghost use Rattle.mdb_msgs.specs.declared.command.ReaderCommand.TheVariants as re
 ghost use Rattle.mdb_cashless.specs.inner.ReaderCodes as codes;
 ghost use Rattle.mdb_cashless.specs.ReaderDevice as spec;
 
-use super::report::ReaderReport;
+use super::messages::ReaderActivity;
 use super::transaction::Transaction;
 use mdb_msgs::ReaderCommand;
 
 /// Where a reader returns to at the end of a session (this profile).
 #[derive(Clone, Copy, PartialEq, Eq, Debug)]
-pub enum Place {
+pub enum Home {
     /// It was disabled last.
     Disabled,
     /// It was enabled last.
     Enabled,
 }
 
-/// A state of a cashless reader (MDB/ICP 4.3, cashless device; the states Approved and Ending and
-/// the places of return, this profile).
+/// A state of a cashless reader (MDB/ICP 4.3, cashless device; the states Approved and Ending, and
+/// where it returns to, this profile).
 #[derive(Clone, Copy, PartialEq, Eq, Debug)]
 pub enum DeviceState {
     /// It waits for SETUP: its power-on state.
@@ -29,24 +29,24 @@ pub enum DeviceState {
     /// It takes cards.
     Enabled,
     /// In a session: it waits for a request.
-    Idle(Place),
+    Idle(Home),
     /// In a session: it works on a request.
-    Vend(Place),
+    Vend(Home),
     /// In a session: it has approved a sale.
-    Approved(Place),
+    Approved(Home),
     /// The session was completed, and it hasn't told its end yet.
-    Ending(Place),
+    Ending(Home),
 }
 
-impl Place {
+impl Home {
     /// Its number.
     fn number(self) -> usize
-        ensures number { result ≡ codes.place_number self }
+        ensures number { result ≡ codes.home_number self }
         ensures below { result < 2 }
     {
         match self {
-            Place::Disabled => 0,
-            Place::Enabled => 1,
+            Home::Disabled => 0,
+            Home::Enabled => 1,
         }
     }
 
@@ -55,8 +55,8 @@ impl Place {
         ensures { result ≡ spec.returned self }
     {
         match self {
-            Place::Disabled => DeviceState::Disabled,
-            Place::Enabled => DeviceState::Enabled,
+            Home::Disabled => DeviceState::Disabled,
+            Home::Enabled => DeviceState::Enabled,
         }
     }
 }
@@ -71,10 +71,10 @@ impl DeviceState {
             DeviceState::Inactive => 0,
             DeviceState::Disabled => 1,
             DeviceState::Enabled => 2,
-            DeviceState::Idle(place) => 3 + place.number(),
-            DeviceState::Vend(place) => 5 + place.number(),
-            DeviceState::Approved(place) => 7 + place.number(),
-            DeviceState::Ending(place) => 9 + place.number(),
+            DeviceState::Idle(home) => 3 + home.number(),
+            DeviceState::Vend(home) => 5 + home.number(),
+            DeviceState::Approved(home) => 7 + home.number(),
+            DeviceState::Ending(home) => 9 + home.number(),
         }
     }
 
@@ -87,19 +87,19 @@ impl DeviceState {
             0 => DeviceState::Inactive,
             1 => DeviceState::Disabled,
             2 => DeviceState::Enabled,
-            3 => DeviceState::Idle(Place::Disabled),
-            4 => DeviceState::Idle(Place::Enabled),
-            5 => DeviceState::Vend(Place::Disabled),
-            6 => DeviceState::Vend(Place::Enabled),
-            7 => DeviceState::Approved(Place::Disabled),
-            8 => DeviceState::Approved(Place::Enabled),
-            9 => DeviceState::Ending(Place::Disabled),
-            _ => DeviceState::Ending(Place::Enabled),
+            3 => DeviceState::Idle(Home::Disabled),
+            4 => DeviceState::Idle(Home::Enabled),
+            5 => DeviceState::Vend(Home::Disabled),
+            6 => DeviceState::Vend(Home::Enabled),
+            7 => DeviceState::Approved(Home::Disabled),
+            8 => DeviceState::Approved(Home::Enabled),
+            9 => DeviceState::Ending(Home::Disabled),
+            _ => DeviceState::Ending(Home::Enabled),
         }
     }
 
-    /// The state behind taking a command.
-    pub(crate) fn behind(self, command: ReaderCommand) -> DeviceState
+    /// The state after taking a command.
+    pub(crate) fn after(self, command: ReaderCommand) -> DeviceState
         ensures { result ≡ spec.effect command self }
     {
         match (command, self) {
@@ -110,63 +110,63 @@ impl DeviceState {
             (ReaderCommand::VendRequest { .. } | ReaderCommand::VendCancel, _) => self.vending(),
             (
                 ReaderCommand::VendSuccess { .. } | ReaderCommand::VendFailure,
-                DeviceState::Approved(place),
-            ) => DeviceState::Idle(place),
+                DeviceState::Approved(home),
+            ) => DeviceState::Idle(home),
             (ReaderCommand::SessionComplete, _) => self.ending(),
             _ => self,
         }
     }
 
-    /// The state behind READER ENABLE.
+    /// The state after READER ENABLE.
     fn enabled(self) -> DeviceState
         ensures { result ≡ spec.effect reader.Enable self }
     {
         match self {
             DeviceState::Disabled => DeviceState::Enabled,
-            DeviceState::Idle(_) => DeviceState::Idle(Place::Enabled),
-            DeviceState::Vend(_) => DeviceState::Vend(Place::Enabled),
-            DeviceState::Approved(_) => DeviceState::Approved(Place::Enabled),
-            DeviceState::Ending(_) => DeviceState::Ending(Place::Enabled),
+            DeviceState::Idle(_) => DeviceState::Idle(Home::Enabled),
+            DeviceState::Vend(_) => DeviceState::Vend(Home::Enabled),
+            DeviceState::Approved(_) => DeviceState::Approved(Home::Enabled),
+            DeviceState::Ending(_) => DeviceState::Ending(Home::Enabled),
             DeviceState::Inactive | DeviceState::Enabled => self,
         }
     }
 
-    /// The state behind READER DISABLE.
+    /// The state after READER DISABLE.
     fn disabled(self) -> DeviceState
         ensures { result ≡ spec.effect reader.Disable self }
     {
         match self {
             DeviceState::Enabled => DeviceState::Disabled,
-            DeviceState::Idle(_) => DeviceState::Idle(Place::Disabled),
-            DeviceState::Vend(_) => DeviceState::Vend(Place::Disabled),
-            DeviceState::Approved(_) => DeviceState::Approved(Place::Disabled),
-            DeviceState::Ending(_) => DeviceState::Ending(Place::Disabled),
+            DeviceState::Idle(_) => DeviceState::Idle(Home::Disabled),
+            DeviceState::Vend(_) => DeviceState::Vend(Home::Disabled),
+            DeviceState::Approved(_) => DeviceState::Approved(Home::Disabled),
+            DeviceState::Ending(_) => DeviceState::Ending(Home::Disabled),
             DeviceState::Inactive | DeviceState::Disabled => self,
         }
     }
 
-    /// The state behind VEND REQUEST and VEND CANCEL.
+    /// The state after VEND REQUEST and VEND CANCEL.
     fn vending(self) -> DeviceState
         ensures cancel { result ≡ spec.effect reader.VendCancel self }
         ensures request { (price item : ℕ)
             → result ≡ spec.effect (reader.VendRequest price item) self }
     {
         match self {
-            DeviceState::Idle(place) | DeviceState::Vend(place) | DeviceState::Approved(place) =>
-                DeviceState::Vend(place),
+            DeviceState::Idle(home) | DeviceState::Vend(home) | DeviceState::Approved(home) =>
+                DeviceState::Vend(home),
             _ => self,
         }
     }
 
-    /// The state behind SESSION COMPLETE.
+    /// The state after SESSION COMPLETE.
     fn ending(self) -> DeviceState
         ensures { result ≡ spec.effect reader.SessionComplete self }
     {
         match self {
-            DeviceState::Idle(place)
-            | DeviceState::Vend(place)
-            | DeviceState::Approved(place)
-            | DeviceState::Ending(place) => DeviceState::Ending(place),
+            DeviceState::Idle(home)
+            | DeviceState::Vend(home)
+            | DeviceState::Approved(home)
+            | DeviceState::Ending(home) => DeviceState::Ending(home),
             _ => self,
         }
     }
@@ -181,20 +181,24 @@ impl DeviceState {
         )
     }
 
-    /// The state behind a new kept message, where this was the last transaction taken; `None` where
+    /// The state after a new kept message, where this was the last transaction taken; `None` where
     /// the message is impossible.
-    pub(crate) fn told(self, last: Option<Transaction>, report: ReaderReport) -> Option<DeviceState>
-        ensures { result ≡ spec.told last report self }
+    pub(crate) fn told(
+        self,
+        last: Option<Transaction>,
+        message: ReaderActivity,
+    ) -> Option<DeviceState>
+        ensures { result ≡ spec.told last message self }
     {
-        match (report, self) {
-            (ReaderReport::SessionBegun { .. }, DeviceState::Enabled) => {
-                Some(DeviceState::Idle(Place::Enabled))
+        match (message, self) {
+            (ReaderActivity::SessionBegun { .. }, DeviceState::Enabled) => {
+                Some(DeviceState::Idle(Home::Enabled))
             }
-            (ReaderReport::VendApproved { .. }, DeviceState::Vend(place)) if is_request(last) => {
-                Some(DeviceState::Approved(place))
+            (ReaderActivity::VendApproved { .. }, DeviceState::Vend(home)) if is_request(last) => {
+                Some(DeviceState::Approved(home))
             }
-            (ReaderReport::VendDenied, DeviceState::Vend(place)) => Some(DeviceState::Idle(place)),
-            (ReaderReport::SessionEnded, DeviceState::Ending(place)) => Some(place.state()),
+            (ReaderActivity::VendDenied, DeviceState::Vend(home)) => Some(DeviceState::Idle(home)),
+            (ReaderActivity::SessionEnded, DeviceState::Ending(home)) => Some(home.state()),
             _ => None,
         }
     }

@@ -1,9 +1,9 @@
-//! What is known of a reader behind the acts so far.
+//! What is known of a reader after the acts so far.
 
 ghost use Rattle.std.specs.Prelude.{◌≡◌, List, [], ◌∷◌, Some};
 ghost use Rattle.mdb_cashless.specs.ReaderFacts.{effect_of_own};
 
-use super::report::{ReaderConfig, ReaderReport, Said, messages_of};
+use super::messages::{ReaderActivity, ReaderConfig, Said, messages_of};
 use super::transaction::{Transaction, transaction_of};
 use super::unit::own;
 use mdb_bus::Act;
@@ -24,7 +24,7 @@ pub struct ReaderFacts {
     /// The amount of the last approval, in units of the scale factor.
     pub(crate) amount: u16,
     /// The reset message, and the last kept list.
-    pub(crate) past: Past<ReaderReport, 35>,
+    pub(crate) past: Past<ReaderActivity, 35>,
 }
 
 impl ReaderFacts {
@@ -41,7 +41,7 @@ impl ReaderFacts {
     ghost use Rattle.mdb_cashless.specs.ReaderValues.{facts_in, facts_with, powered, taken, told};
     ghost use Rattle.mdb_cashless.specs.Transactions.{transaction_of as transaction};
 
-    /// The facts behind no act.
+    /// The facts after no act.
     pub(crate) fn start() -> ReaderFacts
         ensures { (unit : ReaderUnit) → facts_in result ≡ facts_of unit [] }
     {
@@ -90,7 +90,7 @@ impl ReaderFacts {
         ensures { (acts : List Act) → facts_in self.old ≡ facts_of unit acts
             → facts_in self.new ≡ facts_of unit (act.now ∷ acts) }
     {
-        what_counts_goes_on_act_by_act::<ReaderReport>();
+        what_counts_goes_on_act_by_act::<ReaderActivity>();
         self.note(unit, act);
     }
 

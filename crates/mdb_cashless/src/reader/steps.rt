@@ -9,7 +9,7 @@ ghost use Rattle.mdb_cash.specs.declared.choice.Choice.TheVariants.{Plain};
 ghost use Rattle.mdb_cash.specs.declared.gains.Gains.{Gains};
 ghost use Rattle.mdb_cash.specs.Choices.{CanStand};
 ghost use Rattle.mdb_cash.specs.Gains.{IsSmall, no_gains};
-ghost use Rattle.mdb_cash.specs.Pair.{IsActOf, IsOutcome};
+ghost use Rattle.mdb_cash.specs.Pair.{IsActOf, IsOnlyStep};
 ghost use Rattle.mdb_cashless.specs.declared.reader.state.ReaderState.{ReaderState};
 ghost use Rattle.mdb_cashless.specs.ReaderFacts.{Facts};
 ghost use Rattle.mdb_cashless.specs.Reader as spec;
@@ -17,7 +17,7 @@ ghost use Rattle.mdb_cashless.specs.ReaderValues.{changes_view, facts_in};
 
 use super::answers::{answer, vmc_ack};
 use super::facts::ReaderFacts;
-use super::report::tells_of_reset;
+use super::messages::tells_of_reset;
 use super::state::ReaderState;
 use super::taking::{heeds_taking, is_poll, sold, take, view_heard};
 use super::transaction::transaction_of;
@@ -38,9 +38,9 @@ pub(crate) fn step(
     choice: Choice,
     before: ReaderState,
 ) -> Option<(ReaderState, Gains)>
-    ensures outcome { IsOutcome
+    ensures step { IsOnlyStep
         (spec.ReaderStep unit (facts_in facts.now) act.now choice before) result }
-    ensures small { IfSome result (λ outcome. IsSmall outcome.1) }
+    ensures small { IfSome result (λ step. IsSmall step.1) }
 {
     let stays = (before, Gains::none());
     match act {
@@ -74,8 +74,8 @@ fn ask(
     command: ReaderCommand,
     before: ReaderState,
 ) -> Option<(ReaderState, Gains)>
-    ensures outcome { IsOutcome (spec.AskStep (facts_in facts.now) command before) result }
-    ensures small { IfSome result (λ outcome. IsSmall outcome.1) }
+    ensures step { IsOnlyStep (spec.AskStep (facts_in facts.now) command before) result }
+    ensures small { IfSome result (λ step. IsSmall step.1) }
 {
     let view = asked(facts, command, before.view)?;
     let after = ReaderState {
@@ -87,7 +87,7 @@ fn ask(
     Some((after, Gains::of_controller(0, sold)))
 }
 
-/// The view behind a command that the controller sends; `None` where it may not send it.
+/// The view after a command that the controller sends; `None` where it may not send it.
 fn asked(facts: &ReaderFacts, command: ReaderCommand, view: View) -> Option<View>
     ensures { result ≡ spec.asked (facts_in facts.now) command view }
 {
@@ -119,8 +119,8 @@ fn ack(
     choice: Choice,
     before: ReaderState,
 ) -> Option<(ReaderState, Gains)>
-    ensures outcome { IsOutcome (spec.AckStep (facts_in facts.now) command choice before) result }
-    ensures small { IfSome result (λ outcome. IsSmall outcome.1) }
+    ensures step { IsOnlyStep (spec.AckStep (facts_in facts.now) command choice before) result }
+    ensures small { IfSome result (λ step. IsSmall step.1) }
 {
     if is_poll(command) && before.holds {
         return None;
@@ -190,7 +190,7 @@ pub(crate) fn heeds_choice(act: &Act, state: ReaderState) -> bool
     }
 }
 
-/// Whether the controller's view may change behind a command that it sends.
+/// Whether the controller's view may change after a command that it sends.
 fn changes_view(command: ReaderCommand) -> bool
     ensures { result ≡ changes_view command }
 {

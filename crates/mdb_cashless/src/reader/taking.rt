@@ -13,7 +13,7 @@ use super::view::View;
 use mdb_cash::Choice;
 use mdb_msgs::ReaderCommand;
 
-/// The view behind an answer that takes a command, which the controller heard or didn't hear.
+/// The view after an answer that takes a command, which the controller heard or didn't hear.
 pub(crate) fn view_heard(choice: Choice, command: ReaderCommand, view: View) -> View
     ensures { result ≡ spec.view_heard choice command view }
 {
@@ -35,7 +35,7 @@ pub(crate) fn heeds_taking(command: ReaderCommand, view: View) -> bool
 }
 
 /// Whether a command is the last transaction that the reader took, while it still holds what it
-/// told behind that.
+/// told after that.
 fn is_repeated(facts: &ReaderFacts, command: ReaderCommand, holds: bool) -> bool
     ensures { result ≡ spec.is_repeated (facts_in facts.now) command holds }
 {
@@ -64,7 +64,7 @@ pub(crate) fn take(facts: &ReaderFacts, command: ReaderCommand, before: ReaderSt
         return before;
     }
     ReaderState {
-        device: before.device.behind(command),
+        device: before.device.after(command),
         view: before.view,
         holds: before.holds && !drops(command),
     }

@@ -3,7 +3,7 @@
 ghost use Rattle.std.specs.Prelude.{◌≡◌, ◌≤◌, ◌<◌, ◌^◌, length};
 ghost use Rattle.mdb_cashless.specs.Reader as spec;
 
-use super::report::{ReaderConfig, ReaderReport};
+use super::messages::{ReaderActivity, ReaderConfig};
 use super::view::View;
 use mdb_msgs::ReaderMsg;
 
@@ -19,25 +19,25 @@ pub(crate) fn value(config: Option<ReaderConfig>, amount: u16) -> u64
 }
 
 /// What a new kept message adds to the reader's approved.
-fn approved(config: Option<ReaderConfig>, report: ReaderReport) -> u64
-    ensures value { result ≡ spec.approved config report }
+fn approved(config: Option<ReaderConfig>, message: ReaderActivity) -> u64
+    ensures value { result ≡ spec.approved config message }
     ensures small { result ≤ 16711425 }
 {
-    match report {
-        ReaderReport::VendApproved { amount } => value(config, amount),
+    match message {
+        ReaderActivity::VendApproved { amount } => value(config, amount),
         _ => 0,
     }
 }
 
 /// What new kept messages add to the reader's approved.
-pub(crate) fn all_approved(config: Option<ReaderConfig>, reports: &[ReaderReport]) -> u64
-    requires { length reports.now ≤ 35 }
-    ensures value { result ≡ spec.all_approved config reports.now }
+pub(crate) fn all_approved(config: Option<ReaderConfig>, news: &[ReaderActivity]) -> u64
+    requires { length news.now ≤ 35 }
+    ensures value { result ≡ spec.all_approved config news.now }
     ensures small { result < 2 ^ 32 }
 {
     let mut total = 0;
-    for report in reports {
-        total += approved(config, *report);
+    for message in news {
+        total += approved(config, *message);
     }
     total
 }

@@ -63,7 +63,7 @@ impl View {
         }
     }
 
-    /// The view behind a transaction command that the controller sends in it, where this was the
+    /// The view after a transaction command that the controller sends in it, where this was the
     /// last one sent; `None` where it may not send it.
     pub(crate) fn sent(self, last: Option<Transaction>, transaction: Transaction) -> Option<View>
         ensures { result ≡ spec.sent last transaction self }
@@ -96,7 +96,7 @@ impl View {
         )
     }
 
-    /// The view behind hearing that a transaction command was taken.
+    /// The view after hearing that a transaction command was taken.
     pub(crate) fn taken(self) -> View
         ensures { result ≡ spec.taken self }
     {
@@ -114,7 +114,7 @@ impl View {
         matches!(self, View::Asked | View::Waiting)
     }
 
-    /// The view behind hearing a message.
+    /// The view after hearing a message.
     pub(crate) fn heard(self, message: ReaderMsg) -> View
         ensures { result ≡ spec.heard message self }
     {

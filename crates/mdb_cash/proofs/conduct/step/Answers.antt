@@ -2,45 +2,45 @@ use Rattle.std.proofs.Common.{Some, sym, subst, ◌∙◌}
 use Rattle.mdb_bus.specs.declared.act.Act.{Act}
 use Rattle.mdb_cash.specs.KeeperSteps.{AckStep, KeeperStep, ReplyStep, VmcAckStep}
 use Rattle.mdb_cash.specs.KeeperValues.{facts_in}
-use Rattle.mdb_cash.specs.Pair.{IsOutcome}
+use Rattle.mdb_cash.specs.Pair.{IsOnlyStep}
 use Rattle.mdb_cash.proofs.KeeperSteps.{by_own, no_part}
 use Rattle.mdb_cash.proofs.conduct.step.Goals as goal
 
-pub returns-in-Some-clause-outcome : goal.returns-in-Some-clause-outcome
-returns-in-Some-clause-outcome g c =
+pub returns-in-Some-clause-step : goal.returns-in-Some-clause-step
+returns-in-Some-clause-step g c =
     let known = facts_in c.args.facts.now in
-    let conduct = g.K.Conduct.conduct known in
+    let conduct = g.K.Conduct.conduct in
     let tables = g.K.Keeper.tables in
-    subst (λ (a : Act). IsOutcome (KeeperStep tables conduct known.past a c.args.choice c.args.before) (Some c.ask.result)) (sym c.in-Ask.is)
-    (by_own conduct.Asks c.args.before (Some c.ask.result) (sym c.own.ensures ∙ c.in-Some.is) c.ask.ensures.outcome)
+    subst (λ (a : Act). IsOnlyStep (KeeperStep tables conduct known a c.args.choice c.args.before) (Some c.ask.result)) (sym c.in-Ask.is)
+    (by_own (conduct.Asks known) c.args.before (Some c.ask.result) (sym c.own.ensures ∙ c.in-Some.is) c.ask.ensures.step)
 
-pub returns-in-Some-own-clause-outcome : goal.returns-in-Some-own-clause-outcome
-returns-in-Some-own-clause-outcome g c =
+pub returns-in-Some-own-clause-step : goal.returns-in-Some-own-clause-step
+returns-in-Some-own-clause-step g c =
     let known = facts_in c.args.facts.now in
-    let conduct = g.K.Conduct.conduct known in
+    let conduct = g.K.Conduct.conduct in
     let tables = g.K.Keeper.tables in
-    subst (λ (a : Act). IsOutcome (KeeperStep tables conduct known.past a c.args.choice c.args.before) c.ack.result) (sym c.in-Ack.is)
-    (by_own (λ own. AckStep conduct (tables.is_poll own) own c.args.choice) c.args.before c.ack.result (sym c.own-in-Ack.ensures ∙ c.in-Some-own.is) c.ack.ensures.outcome)
+    subst (λ (a : Act). IsOnlyStep (KeeperStep tables conduct known a c.args.choice c.args.before) c.ack.result) (sym c.in-Ack.is)
+    (by_own (λ own. AckStep conduct known (tables.is_poll own) own c.args.choice) c.args.before c.ack.result (sym c.own-in-Ack.ensures ∙ c.in-Some-own.is) c.ack.ensures.step)
 
-pub returns-in-Some-own-2-clause-outcome : goal.returns-in-Some-own-2-clause-outcome
-returns-in-Some-own-2-clause-outcome g c =
+pub returns-in-Some-own-2-clause-step : goal.returns-in-Some-own-2-clause-step
+returns-in-Some-own-2-clause-step g c =
     let known = facts_in c.args.facts.now in
-    let conduct = g.K.Conduct.conduct known in
+    let conduct = g.K.Conduct.conduct in
     let tables = g.K.Keeper.tables in
-    subst (λ (a : Act). IsOutcome (KeeperStep tables conduct known.past a c.args.choice c.args.before) c.answer.result) (sym c.in-Reply.is)
-    (by_own (λ own. ReplyStep conduct known.past (tables.is_poll own) (tables.parts_of c.in-Reply.reply) c.args.choice) c.args.before c.answer.result (sym c.own-in-Reply.ensures ∙ c.in-Some-own-2.is) c.answer.ensures.outcome)
+    subst (λ (a : Act). IsOnlyStep (KeeperStep tables conduct known a c.args.choice c.args.before) c.answer.result) (sym c.in-Reply.is)
+    (by_own (λ own. ReplyStep conduct known (tables.is_poll own) (tables.parts_of c.in-Reply.reply) c.args.choice) c.args.before c.answer.result (sym c.own-in-Reply.ensures ∙ c.in-Some-own-2.is) c.answer.ensures.step)
 
-pub returns-in-Some-own-3-clause-outcome : goal.returns-in-Some-own-3-clause-outcome
-returns-in-Some-own-3-clause-outcome g c =
+pub returns-in-Some-own-3-clause-step : goal.returns-in-Some-own-3-clause-step
+returns-in-Some-own-3-clause-step g c =
     let known = facts_in c.args.facts.now in
-    let conduct = g.K.Conduct.conduct known in
+    let conduct = g.K.Conduct.conduct in
     let tables = g.K.Keeper.tables in
-    subst (λ (a : Act). IsOutcome (KeeperStep tables conduct known.past a c.args.choice c.args.before) (Some c.vmc_ack.result)) (sym c.in-VmcAck.is)
-    (by_own (λ own. VmcAckStep conduct (tables.is_poll own) (tables.parts_of c.in-VmcAck.reply) c.args.choice) c.args.before (Some c.vmc_ack.result) (sym c.own-in-VmcAck.ensures ∙ c.in-Some-own-3.is) c.vmc_ack.ensures.outcome)
+    subst (λ (a : Act). IsOnlyStep (KeeperStep tables conduct known a c.args.choice c.args.before) (Some c.vmc_ack.result)) (sym c.in-VmcAck.is)
+    (by_own (λ own. VmcAckStep conduct known (tables.is_poll own) (tables.parts_of c.in-VmcAck.reply) c.args.choice) c.args.before (Some c.vmc_ack.result) (sym c.own-in-VmcAck.ensures ∙ c.in-Some-own-3.is) c.vmc_ack.ensures.step)
 
-pub returns-in_default-clause-outcome : goal.returns-in_default-clause-outcome
-returns-in_default-clause-outcome g c =
+pub returns-in_default-clause-step : goal.returns-in_default-clause-step
+returns-in_default-clause-step g c =
     let known = facts_in c.args.facts.now in
     let none = c.in_default in
-    no_part g.K.Keeper.tables (g.K.Conduct.conduct known) known.past c.args.act.now c.args.choice c.args.before c.none-in_default.result c.none-in_default.ensures
+    no_part g.K.Keeper.tables g.K.Conduct.conduct known c.args.act.now c.args.choice c.args.before c.none-in_default.result c.none-in_default.ensures
     none.not-Ask none.not-Ack none.not-Reply none.not-VmcAck none.not-Break

@@ -1,4 +1,5 @@
-use Rattle.std.proofs.Common.{◌∙◌}
+use Rattle.std.proofs.Common.{sym, ap, ◌∙◌, refl, sum_by}
+use Rattle.mdb_cash.specs.Gains.{controller_gains}
 use Rattle.mdb_cash.specs.KeeperValues.{facts_in}
 use Rattle.mdb_cash.proofs.KeeperSteps.{acknowledged}
 use Rattle.mdb_cash.proofs.Sizes.{summary_fits}
@@ -7,8 +8,21 @@ use Rattle.mdb_cash.proofs.conduct.vmc_ack.Goals as goal
 pub summary_of-summary-requires : goal.summary_of-summary-requires
 summary_of-summary-requires g c = summary_fits g.row.K-Kept g.met.K.Keeper.few_bytes
 
-pub returns-clause-outcome : goal.returns-clause-outcome
-returns-clause-outcome g c =
-    let known = facts_in c.args.facts.now in
-    acknowledged c.is_poll-poll.ensures c.summary_of-summary.ensures.reset_is (c.as_slice-kept.ensures.value ∙ c.summary_of-summary.ensures.kept_is)
-    (c.holds.ensures known) c.holds_acked.ensures (c.with_holds-released.ensures known) (c.heard-after.ensures known) c.gains_heard.ensures.value
+pub returns-then-not-is_poll-clause-step : goal.returns-then-not-is_poll-clause-step
+returns-then-not-is_poll-clause-step g c =
+    acknowledged (sym c.if-not-is_poll.true ∙ c.is_poll.ensures) c.summary_of-summary.ensures.reset_is (c.as_slice-kept.ensures.value ∙ c.summary_of-summary.ensures.kept_is)
+    c.holds.ensures c.holds_acked.ensures c.with_holds-released.ensures refl c.none.ensures
+
+pub returns-then-summary-reset-clause-step : goal.returns-then-summary-reset-clause-step
+returns-then-summary-reset-clause-step g c =
+    let first_gain = g.K.Conduct.conduct.first_gain (facts_in c.args.facts.now) in
+    acknowledged (sym c.if-not-is_poll.false ∙ c.is_poll.ensures) (sym c.if-summary-reset.true ∙ c.summary_of-summary.ensures.reset_is) (c.as_slice-kept.ensures.value ∙ c.summary_of-summary.ensures.kept_is)
+    c.holds.ensures c.holds_acked.ensures c.with_holds-released.ensures c.heard_reset.ensures
+    (c.of_controller-gains.ensures ∙ (ap (λ f. controller_gains f c.worth.result.1) c.worth.ensures.first ∙ ap (controller_gains (sum_by first_gain c.as_slice-kept.result.now)) c.worth.ensures.second))
+
+pub returns-else-summary-reset-clause-step : goal.returns-else-summary-reset-clause-step
+returns-else-summary-reset-clause-step g c =
+    let first_gain = g.K.Conduct.conduct.first_gain (facts_in c.args.facts.now) in
+    acknowledged (sym c.if-not-is_poll.false ∙ c.is_poll.ensures) (sym c.if-summary-reset.false ∙ c.summary_of-summary.ensures.reset_is) (c.as_slice-kept.ensures.value ∙ c.summary_of-summary.ensures.kept_is)
+    c.holds.ensures c.holds_acked.ensures c.with_holds-released.ensures refl
+    (c.of_controller-gains.ensures ∙ (ap (λ f. controller_gains f c.worth.result.1) c.worth.ensures.first ∙ ap (controller_gains (sum_by first_gain c.as_slice-kept.result.now)) c.worth.ensures.second))

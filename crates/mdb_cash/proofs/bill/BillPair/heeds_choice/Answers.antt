@@ -21,4 +21,4 @@ returns-in-VmcAck-Bill-default c =
     let reply = c.in-VmcAck-Bill-default.field-1 in
     let act : c.args.act.now ≡ acts.VmcAck (commands.Bill command) reply = search rules in
     unheard tables conduct c.args.act.now (commands.Bill command) command reply c.args.state
-    c.args.state.holds act refl (λ facts. refl)
+    c.args.state.holds act refl refl

@@ -12,5 +12,5 @@ returns-in-VmcAck-Changer-default-clause-still c =
     let command = c.in-VmcAck-Changer-default.field-0-0 in
     let reply = c.in-VmcAck-Changer-default.reply in
     let act : c.args.act.now ≡ acts.VmcAck (commands.Changer command) reply = search rules in
-    idle tables conduct (λ facts. record { same = λ state. refl; first = refl; second = refl }) part_of c.messages_in.result.now
+    idle tables conduct part_of c.messages_in.result.now
     c.args.act.now (commands.Changer command) command reply c.is_empty.result act refl c.messages_in.ensures.parts c.is_empty.ensures

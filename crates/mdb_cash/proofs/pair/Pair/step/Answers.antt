@@ -6,14 +6,14 @@ use Rattle.mdb_cash.proofs.pair.Pair.step.Goals as goal
 pub returns-in-None-clause-elsewhere : goal.returns-in-None-clause-elsewhere
 returns-in-None-clause-elsewhere g c acts stands other =
     let before = c.state-before.result in
-    absurd (c.in-None.ensures.outcome acts stands before no_gains
+    absurd (c.in-None.ensures.step acts stands before no_gains
     ((g.met.Self.Pair.is_machine.elsewhere acts c.args.act.now c.args.choice before before no_gains
     (not_its_own g.Self.Pair.device c.args.act.now other)).1 (refl, refl)))
 
 pub returns-in-Some-clause-elsewhere : goal.returns-in-Some-clause-elsewhere
 returns-in-Some-clause-elsewhere g c acts stands other =
     let before = c.state-before.result in
-    let same = (c.in-Some.ensures.outcome acts stands).1 before no_gains
+    let same = (c.in-Some.ensures.step acts stands).1 before no_gains
     ((g.met.Self.Pair.is_machine.elsewhere acts c.args.act.now c.args.choice before before no_gains
     (not_its_own g.Self.Pair.device c.args.act.now other)).1 (refl, refl)) in
     let state = same.0 in

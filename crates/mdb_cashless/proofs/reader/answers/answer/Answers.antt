@@ -1,5 +1,5 @@
 use Rattle.std.proofs.Common.{◌∙◌, ap, subst, sym}
-use Rattle.mdb_cash.specs.Kept.{held, holds_behind}
+use Rattle.mdb_cash.specs.Kept.{held, holds_after}
 use Rattle.mdb_cash.specs.Past.{or_else}
 use Rattle.mdb_cashless.specs.Reader.{last_transaction, owes_reset, sold_any, take_any, taken}
 use Rattle.mdb_cashless.specs.inner.ReaderSaid.{IsSaid}
@@ -8,8 +8,8 @@ use Rattle.mdb_cashless.proofs.Answered.{Looked, told, untold}
 use Rattle.mdb_cashless.proofs.Said.{or_is}
 use Rattle.mdb_cashless.proofs.reader.answers.answer.Goals as goal
 
-pub returns-in_err-new-clause-outcome : goal.returns-in_err-new-clause-outcome
-returns-in_err-new-clause-outcome c =
+pub returns-in_err-new-clause-step : goal.returns-in_err-new-clause-step
+returns-in_err-new-clause-step c =
     let said = subst (IsSaid c.read.new.self) c.messages_of.ensures.messages c.read.ensures in
     let summary = c.read.new.self.summary in
     let looked : Looked (facts_in c.args.facts.now) c.args.command c.args.reply.now c.args.choice c.args.before c.is_poll.result c.owes_reset.result summary.reset summary.early c.take_any-middle.result c.held-held.result.now summary.kept.items =
@@ -23,8 +23,8 @@ returns-in_err-new-clause-outcome c =
     } in
     rw c.from_residual.ensures (untold looked c.in_err-new.ensures.none)
 
-pub returns-clause-outcome : goal.returns-clause-outcome
-returns-clause-outcome c =
+pub returns-clause-step : goal.returns-clause-step
+returns-clause-step c =
     let said = subst (IsSaid c.read.new.self) c.messages_of.ensures.messages c.read.ensures in
     let summary = c.read.new.self.summary in
     let looked : Looked (facts_in c.args.facts.now) c.args.command c.args.reply.now c.args.choice c.args.before c.is_poll.result c.owes_reset.result summary.reset summary.early c.take_any-middle.result c.held-held.result.now summary.kept.items =
@@ -38,9 +38,9 @@ returns-clause-outcome c =
     } in
     let told_is = sym c.all_told.ensures ∙ c.in_ok-device.was in
     let last_is = c.last_transaction.ensures ∙ ap (last_transaction (facts_in c.args.facts.now)) (c.taken-taken.ensures c.args.reply.now said.refused_is) in
-    let behind_is = c.holds_behind.ensures ∙ ap (λ ks. holds_behind ks c.take_any-middle.result.holds) c.as_slice-2.ensures.value in
+    let after_holds_is = c.holds_after.ensures ∙ ap (λ ks. holds_after ks c.take_any-middle.result.holds) c.as_slice-2.ensures.value in
     let config_is = c.or-config.ensures ∙ (or_is c.read.new.self.config c.args.facts.now.config
     ∙ ap (λ o. or_else o c.args.facts.now.config) said.config_is) in
     let sold_is = c.sold_any.ensures.value ∙ (ap (λ t. sold_any (facts_in c.args.facts.now) t c.read-start.result) (c.taken-taken.ensures c.args.reply.now said.refused_is)
     ∙ ap (sold_any (facts_in c.args.facts.now) (taken c.args.command c.args.reply.now)) c.read-start.ensures) in
-    told looked c.in_ok-new.ensures.found c.in_ok-new.ensures.only last_is told_is behind_is config_is c.all_approved-approved.ensures.value sold_is c.of_device.ensures
+    told looked c.in_ok-new.ensures.found c.in_ok-new.ensures.only last_is told_is after_holds_is config_is c.all_approved-approved.ensures.value sold_is c.of_device.ensures

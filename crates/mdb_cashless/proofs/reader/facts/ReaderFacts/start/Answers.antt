@@ -1,5 +1,5 @@
 use Rattle.std.proofs.Common.{refl}
-use Rattle.mdb_cashless.proofs.Behind.{same_facts}
+use Rattle.mdb_cashless.proofs.FactsAfter.{same_facts}
 use Rattle.mdb_cashless.proofs.reader.facts.ReaderFacts.start.Goals as goal
 
 pub returns : goal.returns

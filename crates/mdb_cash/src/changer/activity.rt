@@ -9,7 +9,7 @@ use mdb_msgs::ChangerMsg;
 /// same where their first bytes are; the second counts the coins that are then in the tube (this
 /// profile).
 #[derive(Clone, Copy, PartialEq, Eq, Debug)]
-pub enum ChangerReport {
+pub enum ChangerActivity {
     /// 80 to FF: so many coins of a type were dispensed by hand.
     Dispensed {
         /// How many.
@@ -23,30 +23,30 @@ pub enum ChangerReport {
     Tube(u8),
 }
 
-impl Default for ChangerReport {
+impl Default for ChangerActivity {
     fn default() -> Self {
-        ChangerReport::CashBox(0)
+        ChangerActivity::CashBox(0)
     }
 }
 
-impl KeptMessage for ChangerReport {
+impl KeptMessage for ChangerActivity {
     fn is(self, other: Self) -> bool {
         self == other
     }
 }
 
 impl Message for ChangerMsg {
-    type Kept = ChangerReport;
+    type Kept = ChangerActivity;
 
     ghost part_of = { spec.part_of };
 
-    fn part(self) -> Part<ChangerReport> {
+    fn part(self) -> Part<ChangerActivity> {
         match self {
             ChangerMsg::ManualDispense { count, coin, .. } => {
-                Part::Kept(ChangerReport::Dispensed { count, coin })
+                Part::Kept(ChangerActivity::Dispensed { count, coin })
             }
-            ChangerMsg::CashBox { coin, .. } => Part::Kept(ChangerReport::CashBox(coin)),
-            ChangerMsg::Tube { coin, .. } => Part::Kept(ChangerReport::Tube(coin)),
+            ChangerMsg::CashBox { coin, .. } => Part::Kept(ChangerActivity::CashBox(coin)),
+            ChangerMsg::Tube { coin, .. } => Part::Kept(ChangerActivity::Tube(coin)),
             ChangerMsg::Reset => Part::Reset,
             _ => Part::Other,
         }

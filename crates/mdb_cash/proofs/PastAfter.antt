@@ -1,6 +1,6 @@
 use Rattle.std.proofs.Common.{◌≡◌, ◌==◌, ◌||◌, ◌&&◌, not, ℕ, zero, suc, ◌<◌, Bool, true, false, List, [], ◌∷◌, Option, Some, None, refl, ap, ◌∙◌, arith, unwrap_or, bit_or, max, if◌then◌else◌}
 use Rattle.std.proofs.Math.Path.{fun_ext}
-use Rattle.std.proofs.lemmas.Nat.Bits.{bit_at_or, bit_at-lt, bit_at-zero}
+use Rattle.std.proofs.lemmas.Nat.Bits.{bit_at_or, bit_at-lt}
 use Rattle.std.specs.Int.{bit_at}
 use Rattle.std.specs.List.{list_any}
 use Rattle.mdb_msgs.specs.declared.command.Command.{Command}
@@ -11,7 +11,7 @@ use Rattle.mdb_cash.specs.declared.past.Effect.TheVariants as effects
 use Rattle.mdb_cash.specs.declared.past.Past.{Past}
 use Rattle.mdb_cash.specs.Kept.{has_reset, kept_of}
 use Rattle.mdb_cash.specs.Past.{PastFacts, acts_from, effect_by, enables, last_told, or_else, past_of, powers_on, unless_empty}
-use Rattle.mdb_cash.specs.PastValues.{past_behind, past_in, past_with}
+use Rattle.mdb_cash.specs.PastValues.{past_after, past_in, past_with}
 
 -- facts with the same fields
 same_past : {M : Type 0} {one other : PastFacts M} → ((kind : ℕ) → one.enabled kind ≡ other.enabled kind) → one.reset_owed ≡ other.reset_owed → one.kept ≡ other.kept → one ≡ other
@@ -33,7 +33,7 @@ first_of_two : {X : Type 0} (first second : Option X) (x : X) → unwrap_or firs
 first_of_two (Some y) second x = refl
 first_of_two None second x = refl
 
--- what counts behind one act more, from what did before it
+-- what counts after one act more, from what did before it
 pub past_more : {M : Type 0} (effect_of : Command → Effect) (parts_by : Act → List (Part M)) (act : Act) (acts : List Act)
     → past_with effect_of parts_by act (past_of effect_of parts_by acts) ≡ past_of effect_of parts_by (act ∷ acts)
 past_more effect_of parts_by act acts =
@@ -53,16 +53,7 @@ either_bit mask more coin = rw (bit_at_or mask more coin) (either (bit_at mask c
     either (suc (suc a)) b p q = absurd (omega arith)
     either a (suc (suc b)) p q = absurd (omega arith)
 
--- a device in its power-on state
-pub powered : {M : Type 0} {CAP : ℕ} (old new : Past M CAP) → new.enabled ≡ 0 → new.reset_owed ≡ true → new.kept.items ≡ old.kept.items → past_in new ≡ past_behind true effects.Other [] (past_in old)
-powered old new enabled reset_owed kept = same_past (λ kind. ap (λ m. bit_at m kind == 1) enabled ∙ ap (λ b. b == 1) (bit_at-zero kind)) reset_owed kept
-
--- one that has enabled types
+-- a device that has enabled types
 pub enabled_more : {M : Type 0} {CAP : ℕ} (old new : Past M CAP) (mask : ℕ) → new.enabled ≡ bit_or old.enabled mask → new.reset_owed ≡ old.reset_owed → new.kept.items ≡ old.kept.items
-    → past_in new ≡ past_behind false (effects.Enable mask) [] (past_in old)
+    → past_in new ≡ past_after false (effects.Enable mask) [] (past_in old)
 enabled_more old new mask enabled reset_owed kept = same_past (λ kind. ap (λ m. bit_at m kind == 1) enabled ∙ either_bit old.enabled mask kind) reset_owed kept
-
--- one that has told messages
-pub told_more : {M : Type 0} {CAP : ℕ} (old new : Past M CAP) (parts : List (Part M)) → new.enabled ≡ old.enabled → new.reset_owed ≡ (not (has_reset parts) && old.reset_owed)
-    → new.kept.items ≡ unwrap_or (unless_empty (kept_of parts)) old.kept.items → past_in new ≡ past_behind false effects.Other parts (past_in old)
-told_more old new parts enabled reset_owed kept = same_past (λ kind. ap (λ m. bit_at m kind == 1) enabled) reset_owed kept

@@ -2,7 +2,7 @@ use Rattle.std.proofs.Common.{◌≡◌}
 use Rattle.std.specs.List.{list_any}
 use Rattle.mdb_cash.specs.Kept.{is_reset}
 use Rattle.mdb_cashless.specs.ReaderMessages.{messages_of, part_of}
-use Rattle.mdb_cashless.proofs.reader.report.tells_of_reset.Given as goal
+use Rattle.mdb_cashless.proofs.reader.messages.tells_of_reset.Given as goal
 
 abbrev pub invariant-loop-message : goal.invariant-loop-message
 invariant-loop-message l =

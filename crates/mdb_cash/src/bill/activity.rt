@@ -7,7 +7,7 @@ use mdb_msgs::BillMsg;
 
 /// What a kept message of the validator says (MDB/ICP 4.3, bill validator).
 #[derive(Clone, Copy, PartialEq, Eq, Debug)]
-pub enum BillReport {
+pub enum BillActivity {
     /// 80 to 8F: a bill of this type was stacked.
     Stacked(u8),
     /// 90 to 9F: a bill of this type is in escrow.
@@ -16,28 +16,28 @@ pub enum BillReport {
     Returned(u8),
 }
 
-impl Default for BillReport {
+impl Default for BillActivity {
     fn default() -> Self {
-        BillReport::Stacked(0)
+        BillActivity::Stacked(0)
     }
 }
 
-impl KeptMessage for BillReport {
+impl KeptMessage for BillActivity {
     fn is(self, other: Self) -> bool {
         self == other
     }
 }
 
 impl Message for BillMsg {
-    type Kept = BillReport;
+    type Kept = BillActivity;
 
     ghost part_of = { spec.part_of };
 
-    fn part(self) -> Part<BillReport> {
+    fn part(self) -> Part<BillActivity> {
         match self {
-            BillMsg::Stacked(bill) => Part::Kept(BillReport::Stacked(bill)),
-            BillMsg::Escrow(bill) => Part::Kept(BillReport::Escrow(bill)),
-            BillMsg::Returned(bill) => Part::Kept(BillReport::Returned(bill)),
+            BillMsg::Stacked(bill) => Part::Kept(BillActivity::Stacked(bill)),
+            BillMsg::Escrow(bill) => Part::Kept(BillActivity::Escrow(bill)),
+            BillMsg::Returned(bill) => Part::Kept(BillActivity::Returned(bill)),
             BillMsg::Reset => Part::Reset,
             _ => Part::Other,
         }

@@ -12,7 +12,7 @@ use mdb_msgs::{ReaderIter, ReaderMsg, Reply};
 /// What a kept message of a cashless reader says (MDB/ICP 4.3, cashless device; what is kept, this
 /// profile). Two such messages are the same where all their bytes are.
 #[derive(Clone, Copy, PartialEq, Eq, Debug, Default)]
-pub enum ReaderReport {
+pub enum ReaderActivity {
     /// 03: a session begins.
     SessionBegun {
         /// The funds, in units of the scale factor.
@@ -41,22 +41,22 @@ pub struct ReaderConfig {
     pub response: u8,
 }
 
-impl KeptMessage for ReaderReport {
+impl KeptMessage for ReaderActivity {
     fn is(self, other: Self) -> bool {
         self == other
     }
 }
 
 /// What a message is to the reader that keeps some of them.
-fn part_of(message: ReaderMsg) -> Part<ReaderReport>
+fn part_of(message: ReaderMsg) -> Part<ReaderActivity>
     ensures { result ≡ spec.part_of message }
 {
     match message {
         ReaderMsg::JustReset => Part::Reset,
-        ReaderMsg::BeginSession { funds } => Part::Kept(ReaderReport::SessionBegun { funds }),
-        ReaderMsg::VendApproved { amount } => Part::Kept(ReaderReport::VendApproved { amount }),
-        ReaderMsg::VendDenied => Part::Kept(ReaderReport::VendDenied),
-        ReaderMsg::EndSession => Part::Kept(ReaderReport::SessionEnded),
+        ReaderMsg::BeginSession { funds } => Part::Kept(ReaderActivity::SessionBegun { funds }),
+        ReaderMsg::VendApproved { amount } => Part::Kept(ReaderActivity::VendApproved { amount }),
+        ReaderMsg::VendDenied => Part::Kept(ReaderActivity::VendDenied),
+        ReaderMsg::EndSession => Part::Kept(ReaderActivity::SessionEnded),
         _ => Part::Other,
     }
 }
@@ -78,7 +78,7 @@ pub(crate) fn messages_of(reply: &Reply) -> ReaderIter<'_>
 #[derive(Drop)]
 pub(crate) struct Said {
     /// What counts of them for what the reader keeps.
-    pub(crate) summary: Summary<ReaderReport, 35>,
+    pub(crate) summary: Summary<ReaderActivity, 35>,
     /// The last config message.
     pub(crate) config: Option<ReaderConfig>,
     /// The amount of the last approval, in units of the scale factor.
@@ -94,7 +94,7 @@ impl Said {
     ghost use Rattle.arrayvec.specs.ArrayVec.{array_vec_len};
     ghost use Rattle.mdb_cash.specs.Past.{is_out_of_sequence, or_else};
     ghost use Rattle.mdb_cash.specs.declared.kept.Part.{Part};
-    ghost use Rattle.mdb_cashless.specs.declared.reader.report.ReaderReport.{ReaderReport};
+    ghost use Rattle.mdb_cashless.specs.declared.reader.messages.ReaderActivity.{ReaderActivity};
     ghost use Rattle.mdb_cashless.specs.inner.ReaderSaid.{IsSaid};
 
     /// What no message says.
@@ -130,7 +130,7 @@ impl Said {
     #[inline(always)]
     fn add(&mut self, message: ReaderMsg)
         requires room { array_vec_len self.old.summary.kept < 35 }
-        ensures summary { (parts : List (Part ReaderReport))
+        ensures summary { (parts : List (Part ReaderActivity))
             → IsSummary self.old.summary.kept.items self.old.summary.reset self.old.summary.early
             parts
             → IsSummary self.new.summary.kept.items self.new.summary.reset self.new.summary.early

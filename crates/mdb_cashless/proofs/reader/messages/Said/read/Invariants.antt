@@ -1,7 +1,7 @@
 use Rattle.std.proofs.Common.{◌≡◌, ◌≤◌, ◌++◌, length}
 use Rattle.arrayvec.specs.ArrayVec.{array_vec_len}
 use Rattle.mdb_cashless.specs.inner.ReaderSaid.{IsSaid}
-use Rattle.mdb_cashless.proofs.reader.report.Said.read.Given as goal
+use Rattle.mdb_cashless.proofs.reader.messages.Said.read.Given as goal
 
 abbrev pub invariant-loop-message : goal.invariant-loop-message
 invariant-loop-message l =

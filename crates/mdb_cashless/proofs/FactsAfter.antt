@@ -18,9 +18,9 @@ first_of_two (Some y) second x = refl
 first_of_two None second x = refl
 
 -- facts that are kept go on with the acts
-pub behind : (unit : ReaderUnit) (act : Act) (acts : List Act) (old new : ReaderFacts)
+pub facts_after : (unit : ReaderUnit) (act : Act) (acts : List Act) (old new : ReaderFacts)
     → past_with (effect_of unit) (parts_by unit) act (past_of (effect_of unit) (parts_by unit) acts) ≡ past_of (effect_of unit) (parts_by unit) (act ∷ acts)
     → facts_in new ≡ facts_with unit act (facts_in old) → facts_in old ≡ facts_of unit acts → facts_in new ≡ facts_of unit (act ∷ acts)
-behind unit act acts old new past step before =
+facts_after unit act acts old new past step before =
     step ∙ (ap (facts_with unit act) before
     ∙ same_facts refl refl refl (first_of_two (amount_by unit act) (last_told (amount_by unit) acts) 0) past)

@@ -1,6 +1,6 @@
 use Rattle.std.proofs.Common.{[], ◌∷◌, ◌++◌, ◌∙◌, ap, append_assoc, arith, length-append, sym}
 use Rattle.mdb_cashless.proofs.Said.{said_more}
-use Rattle.mdb_cashless.proofs.reader.report.Said.read.Goals as goal
+use Rattle.mdb_cashless.proofs.reader.messages.Said.read.Goals as goal
 
 pub loop-message-preserved : goal.loop-message-preserved
 loop-message-preserved c =
