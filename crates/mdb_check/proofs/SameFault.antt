@@ -4,16 +4,12 @@ use Rattle.std.proofs.lemmas.List.{append-nil}
 use Rattle.mdb_words.specs.declared.event.Event.{Event}
 use Rattle.mdb_words.specs.declared.row.RowFault.{RowFault}
 use Rattle.mdb_words.specs.Row.{IsRow, IsRefusal}
-use Rattle.mdb_msgs.specs.declared.command.Device.{Device}
-use Rattle.mdb_msgs.specs.declared.command.Device.TheVariants as devices
-use Rattle.mdb_bus.specs.declared.act.Act.{Act}
 use Rattle.mdb_bus.specs.declared.fault.LinkFault.{LinkFault}
-use Rattle.mdb_bus.specs.declared.fault.Rule.{Rule}
-use Rattle.mdb_bus.specs.ActLists.{Piece, Whole, ArePieces, HasActList, acts_of, events_of}
+use Rattle.mdb_bus.specs.ActLists.{Piece, Whole, ArePieces, HasActList, events_of}
 use Rattle.mdb_bus.specs.LinkFaults.{IsLinkFault}
 use Rattle.mdb_follow.specs.declared.follower.TheConstants.{ROWS_MAX}
 use Rattle.mdb_follow.specs.declared.offence.Offence.{Offence}
-use Rattle.mdb_follow.specs.Offences.{BreaksLink, BreaksMachine, IsOffence, NoStep, rule_of}
+use Rattle.mdb_follow.specs.Offences.{BreaksLink, BreaksMachine, IsOffence}
 use Rattle.mdb_follow.specs.Runs.{IsReached}
 use Rattle.mdb_check.specs.declared.outcome.Outcome.{Outcome}
 use Rattle.mdb_check.specs.declared.outcome.Outcome.TheVariants.{Yes, No}
@@ -24,16 +20,6 @@ use Rattle.mdb_check.specs.ShownFault.{IsMachineRule, IsNoUpTo}
 use Rattle.mdb_check.specs.Verdict.{IsAnswer, IsBadRow, IsImpossible, IsOwnAnswer, IsTooLong}
 use Rattle.mdb_check.proofs.OneAnswer.{GoesOn, compared, row_not_refused, row_one}
 use Rattle.mdb_check.proofs.OneShowing.{BusLaws}
-
--- a machine that has no step has a rule of its own
-of_device : (device : Device) → IsMachineRule (rule_of device)
-of_device devices.Changer = inl refl
-of_device devices.Bill = inr (inl refl)
-of_device devices.Cashless = inr (inr refl)
-of_device devices.Cashless2 = inr (inr refl)
-
-of_machine : (broken : Rule) (act : Act) (before : List Act) → NoStep broken act before → IsMachineRule broken
-of_machine broken act before stops = subst IsMachineRule (sym stops.rule) (of_device stops.device)
 
 -- rows and one more that have an act list have one up to that row
 up_to : BusLaws → (rows longer more : List Event) (row event : Event) → event ≡ row → longer ≡ rows ++ event ∷ more → HasActList longer → HasActList (rows ++ row ∷ [])
@@ -50,7 +36,7 @@ earlier_row laws rows row offence list why_not = by_why why_not.why
     by_why (inl link) =
         let P : List Event → Type 0 = λ es. HasActList (es ++ row ∷ []) in
         absurd (laws.stops link.pieces row offence.rule link.act_list.in_order link.fault.rule.breaks (subst P (sym link.act_list.whole) list))
-    by_why (inr machine) = of_machine offence.rule machine.act (acts_of machine.earlier) machine.no_step
+    by_why (inr machine) = (machine.no_step.device, machine.no_step.rule)
 
 -- at the row of a fault, an offence has its rule and its blame
 at_the_row : BusLaws → (pieces : List Piece) (row : Event) (fault : LinkFault) (offence : Offence) → ArePieces pieces → IsLinkFault pieces row fault.rule fault.blame

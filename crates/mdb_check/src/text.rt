@@ -2,62 +2,17 @@
 
 ghost use Rattle.std.specs.Prelude.{◌≡◌, IfOk, OnOk};
 ghost use Rattle.std.specs.Io.KnownBytes.{Appends};
-ghost use Rattle.mdb_check.specs.Text.{account_line, accounts_text, blame_word, count_text, decimals_line, device_word, head_text, places_text, report_text, rule_word, side_text, silences_line};
+ghost use Rattle.mdb_check.specs.Text.{account_line, accounts_text, count_text, decimals_line, head_text, places_text, report_text, side_text, silences_line};
 
 use super::outcome::Outcome;
-use mdb_bus::{Blame, Rule};
 use mdb_follow::{Account, AccountName, Offence, Range, Report};
 use mdb_msgs::Device;
 use std::alloc::Global;
 use std::io;
 use std::io::Write;
 
-/// The word of a rule.
-pub(crate) fn word_of_rule(rule: Rule) -> &'static str
-    ensures { result.now ≡ rule_word rule }
-{
-    match rule {
-        Rule::Order => "Order",
-        Rule::Speaker => "Speaker",
-        Rule::Mode => "Mode",
-        Rule::Early => "Early",
-        Rule::Late => "Late",
-        Rule::Spacing => "Spacing",
-        Rule::Length => "Length",
-        Rule::Sum => "Sum",
-        Rule::Break => "Break",
-        Rule::Answer => "Answer",
-        Rule::Message => "Message",
-        Rule::Same => "Same",
-        Rule::Profile => "Profile",
-        Rule::Changer => "Changer",
-        Rule::Bill => "Bill",
-        Rule::Cashless => "Cashless",
-    }
-}
-
-/// The word of who is to blame.
-pub(crate) fn word_of_blame(blame: Blame) -> &'static str
-    ensures { result.now ≡ blame_word blame }
-{
-    match blame {
-        Blame::Controller => "controller",
-        Blame::Changer => "changer",
-        Blame::Bill => "bill",
-        Blame::Cashless => "cashless",
-        Blame::Cashless2 => "cashless-2",
-        Blame::Other => "other",
-    }
-}
-
-/// The word of a device: that of the blame for what it says.
-pub(crate) fn word_of_device(device: Device) -> &'static str
-    ensures { result.now ≡ device_word device }
-{
-    word_of_blame(Blame::on(Some(device)))
-}
-
-/// The text of an outcome as bytes: what `check` writes of it. Only want of memory is an error here.
+/// The text of an outcome as bytes: what `check` writes of it. Only want of memory is an error
+/// here.
 pub fn text_of(alloc: Global, outcome: &Outcome) -> io::Result<Vec<u8>>
     ensures { IfOk result (λ text. text.items ≡ report_text outcome.now) }
 {
@@ -116,10 +71,9 @@ fn write_places<W: Write>(writer: &mut W, device: Device, places: Option<u8>) ->
         (Appends (W.contents writer.old)
         (W.contents writer.new) (places_text device places)) }
 {
-    let word = word_of_device(device);
     match places {
-        Some(places) => write!(writer, " {word} {places}"),
-        None => write!(writer, " {word} -"),
+        Some(places) => write!(writer, " {device} {places}"),
+        None => write!(writer, " {device} -"),
     }
 }
 
@@ -177,8 +131,7 @@ fn write_count<W: Write>(writer: &mut W, device: Device, count: u64) -> io::Resu
         (Appends (W.contents writer.old)
         (W.contents writer.new) (count_text device count)) }
 {
-    let word = word_of_device(device);
-    write!(writer, " {word} {count}")
+    write!(writer, " {device} {count}")
 }
 
 /// Writes the four lines of a no.
@@ -187,9 +140,7 @@ fn write_offence<W: Write>(writer: &mut W, offence: &Offence) -> io::Result<()>
         (Appends (W.contents writer.old)
         (W.contents writer.new) (report_text (Outcome.No offence.now))) }
 {
-    let row = offence.row;
-    let rule = word_of_rule(offence.rule);
-    let blame = word_of_blame(offence.blame);
+    let Offence { row, rule, blame } = *offence;
     write!(
         writer,
         "verdict no\nrow {row}\nrule {rule}\nblame {blame}\n"
