@@ -65,7 +65,7 @@ same_row fields others rest left row event same told heard =
 none_beyond : BusLaws → (records : List (List (List ℕ))) (fault : LinkFault) (text : List ℕ) (shown : IsShownToFault records fault text) (rows : List Event)
     → GoesOn (events_of shown.pieces) rows (shown.fields ∷ shown.rest) → HasActList rows → ⊥
 none_beyond laws records fault text shown rows on list =
-    let same : on.event ≡ shown.row = same_row shown.fields on.fields shown.rest on.behind shown.row on.event on.record_is shown.row_told on.row in
+    let same : on.event ≡ shown.row = same_row shown.fields on.fields shown.rest on.after shown.row on.event on.record_is shown.row_told on.row in
     laws.stops shown.pieces shown.row fault.rule shown.shown.in_order shown.is.rule.breaks (up_to laws (events_of shown.pieces) rows on.more shown.row on.event same on.longer_is list)
 
 nothing_there : (fields : List (List ℕ)) (rest : List (List (List ℕ))) → [] ≡ fields ∷ rest → ⊥
@@ -75,7 +75,7 @@ nothing_there fields rest same = cc same
 no_yes : BusLaws → (records : List (List (List ℕ))) (fault : LinkFault) (text : List ℕ) → (shown : IsShownToFault records fault text) → (rows : List Event) → IsReached rows
     → ((rows ≡ events_of shown.pieces) × ([] ≡ shown.fields ∷ shown.rest)) ⊎ (GoesOn rows (events_of shown.pieces) [] ⊎ GoesOn (events_of shown.pieces) rows (shown.fields ∷ shown.rest)) → ⊥
 no_yes laws records fault text shown rows reached (inl same) = nothing_there shown.fields shown.rest same.1
-no_yes laws records fault text shown rows reached (inr (inl on)) = nothing_there on.fields on.behind on.record_is
+no_yes laws records fault text shown rows reached (inr (inl on)) = nothing_there on.fields on.after on.record_is
 no_yes laws records fault text shown rows reached (inr (inr on)) = none_beyond laws records fault text shown rows on (reached.1.pieces, reached.1.act_list)
 
 -- a no is that fault, or comes before it
@@ -85,13 +85,13 @@ no_up_to : BusLaws → (records : List (List (List ℕ))) (fault : LinkFault) (t
     → IsNoUpTo (length (events_of shown.pieces) + 1) fault (Ok (No offence))
 no_up_to laws records fault text shown offence is (inl same) =
     let event : shown.row ≡ is.row = same_row is.fields shown.fields is.stops.rest shown.rest is.row shown.row same.1 is.told shown.row_told in
-    let Behind : List Event → Type 0 = λ es. IsOffence es is.row offence in
+    let After : List Event → Type 0 = λ es. IsOffence es is.row offence in
     let OfRow : Event → Type 0 = λ e. IsOffence (events_of shown.pieces) e offence in
-    let here : IsOffence (events_of shown.pieces) shown.row offence = subst OfRow (sym event) (subst Behind same.0 is.is) in
+    let here : IsOffence (events_of shown.pieces) shown.row offence = subst OfRow (sym event) (subst After same.0 is.is) in
     let both : (offence.rule ≡ fault.rule) × (offence.blame ≡ fault.blame) = at_the_row laws shown.pieces shown.row fault offence shown.shown.in_order shown.is here in
     inr (here.number, both.0, both.1)
 no_up_to laws records fault text shown offence is (inr (inl on)) =
-    let event : on.event ≡ is.row = same_row is.fields on.fields is.stops.rest on.behind is.row on.event on.record_is is.told on.row in
+    let event : on.event ≡ is.row = same_row is.fields on.fields is.stops.rest on.after is.row on.event on.record_is is.told on.row in
     let list : HasActList (is.rows ++ is.row ∷ []) = up_to laws is.rows (events_of shown.pieces) on.more is.row on.event event on.longer_is (shown.pieces, record { in_order = shown.shown.in_order; whole = refl }) in
     let long : length (events_of shown.pieces) ≡ length is.rows + length (on.event ∷ on.more) = ap length on.longer_is ∙ length-append is.rows (on.event ∷ on.more) in
     inl (omega (arith, long, is.is.number), earlier_row laws is.rows is.row offence list is.is)
@@ -109,7 +109,7 @@ no_bad_row : BusLaws → (records : List (List (List ℕ))) (fault : LinkFault) 
     → ((is.rows ≡ events_of shown.pieces) × (is.fields ∷ is.stops.rest ≡ shown.fields ∷ shown.rest))
     ⊎ (GoesOn is.rows (events_of shown.pieces) (is.fields ∷ is.stops.rest) ⊎ GoesOn (events_of shown.pieces) is.rows (shown.fields ∷ shown.rest)) → ⊥
 no_bad_row laws records fault text shown row why is (inl same) = no_refusal is.fields shown.fields is.stops.rest shown.rest shown.row why same.1 is.refused shown.row_told
-no_bad_row laws records fault text shown row why is (inr (inl on)) = no_refusal is.fields on.fields is.stops.rest on.behind on.event why on.record_is is.refused on.row
+no_bad_row laws records fault text shown row why is (inr (inl on)) = no_refusal is.fields on.fields is.stops.rest on.after on.event why on.record_is is.refused on.row
 no_bad_row laws records fault text shown row why is (inr (inr on)) =
     none_beyond laws records fault text shown is.rows on (is.stops.possible.1.pieces, is.stops.possible.1.act_list)
 

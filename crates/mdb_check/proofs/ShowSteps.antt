@@ -21,7 +21,7 @@ use Rattle.mdb_check.proofs.Outputs.{break_both, put_both}
 
 -- The lines of some rows.
 
--- behind the old lines those of so many rows are added
+-- after the old lines those of so many rows are added
 pub record Adds (old lines : Lines) (was now : Output) (rows : List Event) (count : ℕ) : Type 0 where
   pub stands : HasPieces lines.bus
   pub few : lines.shown ≤ lines.rows
@@ -159,7 +159,7 @@ to_fault lines before now earlier events i event default row fault within is num
     record {
       pieces = has.pieces;
       row = event;
-      behind = drop (i + 1) events;
+      after = drop (i + 1) events;
       lead = lead_into lines before now earlier events i has;
       next = drop_one events i default within ∙ ap (λ e. e ∷ drop (i + 1) events) (sym is);
       is = faults has.pieces has.stands;
@@ -178,7 +178,7 @@ fault_added old lines was now later events i event default row fault within is a
       put_both before now later (show_text (closed_pieces has.pieces)) (fault_line row fault) has.written line,
     )
 
--- a text isn't put behind the lines so far
+-- a text isn't put after the lines so far
 line_untaken : (lines left : Lines) (before now later : Output) (earlier events : List Event) (i : ℕ) (text : List ℕ) → (has : HasShown lines before now (earlier ++ take i events))
     → IsAdded earlier events (show_text (closed_pieces has.pieces) ++ text) → (fault : RunFault) → IsNotTaken fault now later text → HasAdded left before later earlier events (Err fault)
 line_untaken lines left before now later earlier events i text has added (BadRow row fault) not_taken = absurd not_taken

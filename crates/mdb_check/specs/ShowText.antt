@@ -51,7 +51,7 @@ piece_text (RepeatTail command reply words events) = codes "cut"
 abbrev pub rows_text : ℕ → ℕ → List ℕ
 rows_text first last = decimal first ++ codes "-" ++ decimal last ++ codes " "
 
--- the line that tells of them, with these words behind
+-- the line that tells of them, with these words after them
 abbrev pub rows_line : ℕ → ℕ → List ℕ → List ℕ
 rows_line first last words = line (rows_text first last ++ words)
 

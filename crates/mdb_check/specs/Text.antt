@@ -29,7 +29,7 @@ places_text device (Some places) =
     codes " " ++ device_word device ++ codes " " ++ decimal places
 places_text device None = codes " " ++ device_word device ++ codes " -"
 
--- the line of the decimals
+-- how many decimal places each device told of
 abbrev pub decimals_line : Report → List ℕ
 decimals_line report =
     line (codes "decimals"
@@ -39,7 +39,7 @@ decimals_line report =
 abbrev pub count_text : Device → ℕ → List ℕ
 count_text device count = codes " " ++ device_word device ++ codes " " ++ decimal count
 
--- the line of the silences
+-- how many silences each device had
 abbrev pub silences_line : Report → List ℕ
 silences_line report =
     line (codes "silences"
@@ -51,14 +51,14 @@ side_text word range =
     codes " " ++ word ++ codes " " ++ signed_decimal range.least ++ codes ".."
     ++ signed_decimal range.greatest
 
--- the line of an account
+-- what an account comes to on each side, after its word
 abbrev pub account_line : AccountName → Account → List ℕ
 account_line name account =
     line (account_word name ++ side_text (side_word OfDevice) (range_of OfDevice account)
     ++ side_text (side_word OfController) (range_of OfController account)
     ++ side_text (side_word OfDifference) (range_of OfDifference account))
 
--- the lines of all accounts of a report
+-- a line for each account of a report
 abbrev pub accounts_text : Report → List ℕ
 accounts_text report = flat_map (λ name. account_line name (account_of name report)) ALL
 

@@ -52,7 +52,7 @@ fn write_head<W: Write>(writer: &mut W, rows: u64) -> io::Result<()>
     write!(writer, "verdict yes\nrows {rows}\n")
 }
 
-/// Writes the line of the decimals.
+/// Writes how many decimal places each device told of.
 fn write_decimals<W: Write>(writer: &mut W, report: &Report) -> io::Result<()>
     ensures { OnOk result
         (Appends (W.contents writer.old)
@@ -77,7 +77,7 @@ fn write_places<W: Write>(writer: &mut W, device: Device, places: Option<u8>) ->
     }
 }
 
-/// Writes the lines of all accounts.
+/// Writes a line for each account.
 fn write_accounts<W: Write>(writer: &mut W, report: &Report) -> io::Result<()>
     ensures { OnOk result
         (Appends (W.contents writer.old)
@@ -89,7 +89,7 @@ fn write_accounts<W: Write>(writer: &mut W, report: &Report) -> io::Result<()>
     Ok(())
 }
 
-/// Writes the line of an account.
+/// Writes what an account comes to on each side, after its word.
 fn write_account<W: Write>(writer: &mut W, name: AccountName, account: &Account) -> io::Result<()>
     ensures { OnOk result
         (Appends (W.contents writer.old)
@@ -102,7 +102,7 @@ fn write_account<W: Write>(writer: &mut W, name: AccountName, account: &Account)
     write!(writer, "\n")
 }
 
-/// Writes what an account comes to on one side, behind its word.
+/// Writes what an account comes to on one side, after its word.
 fn write_side<W: Write>(writer: &mut W, word: &str, range: Range) -> io::Result<()>
     ensures { OnOk result
         (Appends (W.contents writer.old)
@@ -112,7 +112,7 @@ fn write_side<W: Write>(writer: &mut W, word: &str, range: Range) -> io::Result<
     write!(writer, " {word} {least}..{greatest}")
 }
 
-/// Writes the line of the silences.
+/// Writes how many silences each device had.
 fn write_silences<W: Write>(writer: &mut W, report: &Report) -> io::Result<()>
     ensures { OnOk result
         (Appends (W.contents writer.old)
