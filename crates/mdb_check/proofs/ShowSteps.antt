@@ -1,6 +1,6 @@
 -- How far the lines of some rows have come.
 use Rattle.std.proofs.Common.{arith, refl, ap, sym, subst, inl, inr, ◌∙◌, ◌≡◌, ◌+◌, ◌<◌, ◌≤◌, ℕ, List, [], ◌∷◌, ◌++◌, Option, Some, None, Result, Ok, Err, length, length-append, append_assoc, take, drop, get_or, add-one, take-append-drop}
-use Rattle.std.proofs.lemmas.List.{append-nil, take_all, take_more}
+use Rattle.std.proofs.lemmas.List.{append-nil, take_more}
 use Rattle.std.proofs.Math.Seq.{drop-cons}
 use Rattle.std.specs.Prelude.{IsErrAnd}
 use Rattle.mdb_words.specs.declared.event.Event.{Event}
@@ -35,13 +35,6 @@ adds_none lines now stands few = record {
   counted = omega (arith);
   shown = λ before earlier has. let P : List Event → Type 0 = λ l. HasShown lines before now l in subst P (sym (append-nil earlier)) has;
 }
-
--- all rows are added
-pub adds_all : (old lines : Lines) (was now : Output) (rows : List Event) (i : ℕ) → length rows ≤ i → Adds old lines was now (take i rows) i
-    → (before : Output) (earlier : List Event) → HasShown old before was earlier → HasShown lines before now (earlier ++ rows)
-adds_all old lines was now rows i end adds before earlier has =
-    let P : List Event → Type 0 = λ l. HasShown lines before now (earlier ++ l) in
-    subst P (take_all i rows end) (adds.shown before earlier has)
 
 -- a row that ends no act is shown
 row_shown : (old new : Lines) (before now : Output) (rows : List Event) (event : Event) → HasShown old before now rows → new.rows ≡ old.rows + 1 → new.shown ≡ old.shown
