@@ -198,8 +198,12 @@ static READ: [(&[u8], Result<Command, MsgFault>); 8] = [
 
 /// Commands, the blocks that they are written as, and their devices.
 static WRITTEN: [(Command, &[u8], Device); 2] = [
-    (REQUEST, &REQUEST_BLOCK, Device::Cashless),
-    (SECOND_REQUEST, &SECOND_REQUEST_BLOCK, Device::Cashless2),
+    (REQUEST, &REQUEST_BLOCK, Device::Reader(ReaderUnit::First)),
+    (
+        SECOND_REQUEST,
+        &SECOND_REQUEST_BLOCK,
+        Device::Reader(ReaderUnit::Second),
+    ),
 ];
 
 /// Whole commands alone are read, and written as their blocks.

@@ -1,4 +1,4 @@
-//! A recording that the follower takes in two pieces, cut behind each of its rows.
+//! A recording that the follower takes in two pieces, cut after each of its rows.
 
 use mdb_check::{Blame, Offence, Rule};
 use mdb_follow::Follower;
@@ -89,14 +89,14 @@ fn is_as_wanted(front: &[Event], rest: &[Event]) -> bool {
     is_front_wanted && is_rest_wanted && is_kept && is_report_wanted
 }
 
-/// Cuts a recording behind each of its rows, prints each cut that comes out otherwise than wanted,
+/// Cuts a recording after each of its rows, prints each cut that comes out otherwise than wanted,
 /// and answers how many these are.
 fn cut_each(rt: &HostRuntime, events: &[Event]) -> io::Result<usize> {
     let mut differing: usize = 0;
     for cut in 1..=events.len() {
         let (front, rest) = events.split_at(cut);
         if !is_as_wanted(front, rest) {
-            println!(rt; "cut behind row {cut}: otherwise than wanted")?;
+            println!(rt; "cut after row {cut}: otherwise than wanted")?;
             differing = differing.saturating_add(1);
         }
     }

@@ -1,7 +1,7 @@
 //! Runs the program `mdbcheck` on each worked case of its folder, prints each that doesn't come
 //! out as it is wanted, and at the end how many there are. `data/README` says how a case is
-//! written. Then it gives a recording to the follower in two pieces (`cuts`), and makes calls of the
-//! libraries (`calls`).
+//! written. Then it gives a recording to the follower in two pieces (`cuts`), and makes calls of
+//! the libraries (`calls`).
 #![tactic(auto)]
 
 mod calls;
@@ -38,7 +38,7 @@ const NEXT_CASE: &str = "\ncase ";
 #[derive(Drop)]
 struct Case<'a> {
     name: &'a str,
-    // The words behind the program's name, parted by single blanks.
+    // The words after the program's name, parted by single blanks.
     words: &'a str,
     transcript: Vec<u8>,
     // The time of the last row that a line of `rows` or `again` has added; 0 before it.
@@ -86,7 +86,7 @@ impl<'a> Case<'a> {
         Ok(true)
     }
 
-    /// Adds what stands behind the first word of a line, and answers whether it is such a line.
+    /// Adds what stands after the first word of a line, and answers whether it is such a line.
     fn add(&mut self, word: &str, rest: &str) -> io::Result<bool> {
         let added = match word {
             "rows" => self.add_rows(rest),
@@ -111,7 +111,7 @@ impl<'a> Case<'a> {
         Ok(())
     }
 
-    /// Adds the rows of a line so many times as it says, each so long behind the row before it,
+    /// Adds the rows of a line so many times as it says, each so long after the row before it,
     /// and answers whether the line has that form.
     fn add_again(&mut self, line: &str) -> io::Result<bool> {
         let Some((times, rows)) = split_times(line) else {
@@ -125,7 +125,7 @@ impl<'a> Case<'a> {
         Ok(true)
     }
 
-    /// Adds rows, each so long behind the row before it as the number in front of it says, and
+    /// Adds rows, each so long after the row before it as the number in front of it says, and
     /// answers whether each has one.
     fn add_steps(&mut self, rows: &str) -> io::Result<bool> {
         for row in rows.split(' ') {
@@ -218,7 +218,7 @@ fn split_times(line: &str) -> Option<(u32, &str)> {
 }
 
 /// The number in front of a row, which is its time or the time from the row before it, and what
-/// stands behind the first comma.
+/// stands after the first comma.
 fn split_time(row: &str) -> Option<(u64, &str)> {
     let (time, rest) = row.split_once(',')?;
     Some((time.parse::<u64>().ok()?, rest))

@@ -47,7 +47,7 @@ pub ended : {R Row : Type 0} (Is : List (List ℕ) → Row → Type 0) (Refuses 
     → (found : Bool) → found ≡ false → ((to_come : List (List (List ℕ))) → ToCome remaining old to_come → Advances remaining new found to_come) → HasRead Is Refuses remaining all new rows End
 ended Is Refuses remaining all old new rows taken found is advances =
     let Q : Bool → Type 0 = λ f. Advances remaining new f taken.rest in
-    record { done = taken.done; rest = taken.rest; split = taken.split; told = taken.told; behind = subst Q is (advances taken.rest taken.to_come) }
+    record { done = taken.done; rest = taken.rest; split = taken.split; told = taken.told; after = subst Q is (advances taken.rest taken.to_come) }
 
 -- a record is no row
 pub refused : {R Row : Type 0} (Is : List (List ℕ) → Row → Type 0) (Refuses : List (List ℕ) → RowFault → Type 0) (remaining : R → Option (List ℕ)) (all : List (List (List ℕ))) (old new : Records R) (rows : List Row) (fault : RowFault) → Taken Is remaining all old rows
@@ -55,17 +55,17 @@ pub refused : {R Row : Type 0} (Is : List (List ℕ) → Row → Type 0) (Refuse
     → HasRead Is Refuses remaining all new rows (BadRow fault)
 refused Is Refuses remaining all old new rows fault taken found is advances no_row =
     let next = one_found remaining old new taken.rest found is advances taken.to_come in
-    record { done = taken.done; rest = taken.rest; split = taken.split; told = taken.told; behind = (current_fields new, next.0, next.1, no_row) }
+    record { done = taken.done; rest = taken.rest; split = taken.split; told = taken.told; after = (current_fields new, next.0, next.1, no_row) }
 
 -- a record can't be read
 pub failed : {R Row : Type 0} (Is : List (List ℕ) → Row → Type 0) (Refuses : List (List ℕ) → RowFault → Type 0) (remaining : R → Option (List ℕ)) (all : List (List (List ℕ))) (old new : Records R) (rows : List Row) (fault : ReadFault) → Taken Is remaining all old rows
     → HasRead Is Refuses remaining all new rows (Failed fault)
-failed Is Refuses remaining all old new rows fault taken = record { done = taken.done; rest = taken.rest; split = taken.split; told = taken.told; behind = tt }
+failed Is Refuses remaining all old new rows fault taken = record { done = taken.done; rest = taken.rest; split = taken.split; told = taken.told; after = tt }
 
 -- more is to come
 pub more : {R Row : Type 0} (Is : List (List ℕ) → Row → Type 0) (Refuses : List (List ℕ) → RowFault → Type 0) (remaining : R → Option (List ℕ)) (all : List (List (List ℕ))) (records : Records R) (rows : List Row) → Taken Is remaining all records rows
     → HasRead Is Refuses remaining all records rows More
-more Is Refuses remaining all records rows taken = record { done = taken.done; rest = taken.rest; split = taken.split; told = taken.told; behind = taken.to_come }
+more Is Refuses remaining all records rows taken = record { done = taken.done; rest = taken.rest; split = taken.split; told = taken.told; after = taken.to_come }
 
 -- the rows of a batch have room
 pub fits : {Row : Type 0} (room : ℕ) (rows : List Row) (next : Next) → FitsIn room rows next → length rows ≤ room

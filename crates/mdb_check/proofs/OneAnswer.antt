@@ -33,7 +33,7 @@ row_not_refused fields event fault row refused = grind (arith, common_steps)
 pub one_refusal : (fields : List (List ℕ)) (a b : RowFault) → IsRefusal fields a → IsRefusal fields b → a ≡ b
 one_refusal fields a b p q = grind (arith, common_steps)
 
--- The rows at the front of the records that are reached, where no more row goes on: there is no record behind them, it is no
+-- The rows at the front of the records that are reached, where no more row goes on: there is no record after them, it is no
 -- row, it isn't reached, or it is one too many.
 record Front (limit : ℕ) (records : List (List (List ℕ))) (rows : List Event) (rest : List (List (List ℕ))) : Type 0 where
   done : List (List (List ℕ))
@@ -43,13 +43,13 @@ record Front (limit : ℕ) (records : List (List (List ℕ))) (rows : List Event
   few : length rows ≤ limit
   ends : (fields : List (List ℕ)) (more : List (List (List ℕ))) (event : Event) → rest ≡ fields ∷ more → IsRow fields event → IsReached (rows ++ event ∷ []) → length rows < limit → ⊥
 
--- of two fronts of rows the longer one goes on behind the shorter one, with a record that is a row
+-- of two fronts of rows the longer one goes on after the shorter one, with a record that is a row
 pub record GoesOn (rows longer : List Event) (rest : List (List (List ℕ))) : Type 0 where
   pub fields : List (List ℕ)
-  pub behind : List (List (List ℕ))
+  pub after : List (List (List ℕ))
   pub event : Event
   pub more : List Event
-  pub record_is : rest ≡ fields ∷ behind
+  pub record_is : rest ≡ fields ∷ after
   pub row : IsRow fields event
   pub longer_is : longer ≡ rows ++ event ∷ more
 
@@ -57,7 +57,7 @@ pub record GoesOn (rows longer : List Event) (rest : List (List (List ℕ))) : T
 one_more_in_front : (rows longer : List Event) (rest : List (List (List ℕ))) (event other : Event) → event ≡ other → GoesOn rows longer rest → GoesOn (event ∷ rows) (other ∷ longer) rest
 one_more_in_front rows longer rest event other one on = record {
   fields = on.fields;
-  behind = on.behind;
+  after = on.after;
   event = on.event;
   more = on.more;
   record_is = on.record_is;
@@ -65,14 +65,14 @@ one_more_in_front rows longer rest event other one on = record {
   longer_is = ap (λ e. e ∷ longer) (sym one) ∙ ap (λ es. event ∷ es) on.longer_is;
 }
 
--- of two fronts of rows of the same records, either both are one, or one goes on behind the other
+-- of two fronts of rows of the same records, either both are one, or one goes on after the other
 pub compared : (done others rest left : List (List (List ℕ))) (rows events : List Event) → AreRows done rows → AreRows others events → done ++ rest ≡ others ++ left
     → ((rows ≡ events) × (rest ≡ left)) ⊎ (GoesOn rows events rest ⊎ GoesOn events rows left)
 compared [] [] rest left [] [] told heard same = inl (refl, same)
 compared [] (fields ∷ others) rest left [] (event ∷ events) told heard same =
-    inr (inl (record { fields = fields; behind = others ++ left; event = event; more = events; record_is = same; row = heard.0; longer_is = refl }))
+    inr (inl (record { fields = fields; after = others ++ left; event = event; more = events; record_is = same; row = heard.0; longer_is = refl }))
 compared (fields ∷ done) [] rest left (event ∷ rows) [] told heard same =
-    inr (inr (record { fields = fields; behind = done ++ rest; event = event; more = rows; record_is = sym same; row = told.0; longer_is = refl }))
+    inr (inr (record { fields = fields; after = done ++ rest; event = event; more = rows; record_is = sym same; row = told.0; longer_is = refl }))
 compared (fields ∷ done) (first ∷ others) rest left (event ∷ rows) (other ∷ events) told heard same =
     let here : first ≡ fields = cc in
     let P : List (List ℕ) → Type 0 = λ f. IsRow f other in
@@ -94,9 +94,9 @@ no_longer : RunLaws → (limit : ℕ) (records : List (List (List ℕ))) (rows e
 no_longer laws limit records rows events rest left first second on =
     let split : events ≡ (rows ++ on.event ∷ []) ++ on.more = on.longer_is ∙ sym (append_assoc rows (on.event ∷ []) on.more) in
     let long : length events ≡ length rows + length (on.event ∷ on.more) = ap length on.longer_is ∙ length-append rows (on.event ∷ on.more) in
-    first.ends on.fields on.behind on.event on.record_is on.row (laws.fronts (rows ++ on.event ∷ []) on.more (subst IsReached split second.possible)) (omega (arith, second.few, long))
+    first.ends on.fields on.after on.event on.record_is on.row (laws.fronts (rows ++ on.event ∷ []) on.more (subst IsReached split second.possible)) (omega (arith, second.few, long))
 
--- such a front of the records is one, and so is what stands behind it
+-- such a front of the records is one, and so is what stands after it
 one_front : RunLaws → (limit : ℕ) (records : List (List (List ℕ))) (rows events : List Event) (rest left : List (List (List ℕ))) → Front limit records rows rest → Front limit records events left → (rows ≡ events) × (rest ≡ left)
 one_front laws limit records rows events rest left first second = by_case (compared first.done second.done rest left rows events first.told second.told (sym first.split ∙ second.split))
   where
@@ -156,7 +156,7 @@ long_front limit records is = record {
   ends = λ fields more event same told list below. omega (arith, is.full, below);
 }
 
--- the offence behind a front is one
+-- the offence after a front is one
 one_offence : RunLaws → (limit : ℕ) (records : List (List (List ℕ))) (a b : Offence) → IsImpossible limit records a → IsImpossible limit records b → a ≡ b
 one_offence laws limit records a b first second =
     let same = one_front laws limit records _ _ _ _ (no_front laws limit records a first) (no_front laws limit records b second) in
@@ -164,9 +164,9 @@ one_offence laws limit records a b first second =
     let fields : second.fields ≡ first.fields = cc in
     let P : List (List ℕ) → Type 0 = λ f. IsRow f second.row in
     let event : second.row ≡ first.row = row_one first.fields second.row first.row (subst P fields second.told) first.told in
-    let Behind : List Event → Type 0 = λ rs. IsOffence rs second.row b in
+    let After : List Event → Type 0 = λ rs. IsOffence rs second.row b in
     let OfRow : Event → Type 0 = λ e. IsOffence first.rows e b in
-    laws.one_offence first.rows first.row a b first.is (subst OfRow event (subst Behind (sym same.0) second.is))
+    laws.one_offence first.rows first.row a b first.is (subst OfRow event (subst After (sym same.0) second.is))
 
 -- the record that is no row is one, and so is its refusal
 one_bad_row : RunLaws → (limit : ℕ) (records : List (List (List ℕ))) (m n : ℕ) (a b : RowFault) → IsBadRow limit records m a → IsBadRow limit records n b → (m ≡ n) × (a ≡ b)
@@ -217,8 +217,8 @@ bad_or_long laws limit records row fault first second =
 one_yes : RunLaws → (limit : ℕ) (records : List (List (List ℕ))) (a b : Report) → IsPossible limit records a → IsPossible limit records b → a ≡ b
 one_yes laws limit records a b first second =
     let same = one_front laws limit records _ _ _ _ (yes_front limit records a first) (yes_front limit records b second) in
-    let Behind : List Event → Type 0 = λ rs. IsReport rs b in
-    laws.one_report first.rows a b first.is (subst Behind (sym same.0) second.is)
+    let After : List Event → Type 0 = λ rs. IsReport rs b in
+    laws.one_report first.rows a b first.is (subst After (sym same.0) second.is)
 
 -- the answer to the records of a text is one
 pub one_answer : RunLaws → (limit : ℕ) (records : List (List (List ℕ))) (a b : Result Outcome RunFault) → IsAnswer limit records a → IsAnswer limit records b → IsOwnAnswer a → IsOwnAnswer b → a ≡ b

@@ -36,7 +36,7 @@ no_longer laws records pieces others rest left first second on =
     let split : events_of others ≡ (rows ++ on.event ∷ []) ++ on.more = on.longer_is ∙ sym (append_assoc rows (on.event ∷ []) on.more) in
     let long : length (events_of others) ≡ length rows + length (on.event ∷ on.more) = ap length on.longer_is ∙ length-append rows (on.event ∷ on.more) in
     let has : HasActList (events_of others) = (others, record { in_order = second.shown.in_order; whole = refl }) in
-    first.ends on.fields on.behind on.event on.record_is on.row (laws.fronts (rows ++ on.event ∷ []) on.more (subst HasActList split has)) (omega (arith, second.few, long))
+    first.ends on.fields on.after on.event on.record_is on.row (laws.fronts (rows ++ on.event ∷ []) on.more (subst HasActList split has)) (omega (arith, second.few, long))
 
 -- such a front is one
 one_front : BusLaws → (records : List (List (List ℕ))) (pieces others : List Piece) (rest left : List (List (List ℕ))) → Front records pieces rest → Front records others left → (pieces ≡ others) × (rest ≡ left)
@@ -49,7 +49,7 @@ one_front laws records pieces others rest left first second =
     by_case (inr (inl on)) = absurd (no_longer laws records pieces others rest left first second on)
     by_case (inr (inr on)) = absurd (no_longer laws records others pieces left rest second first on)
 
--- how the showing of a text ends behind its front
+-- how the showing of a text ends after its front
 abbrev pub Ends : List Piece → List (List (List ℕ)) → Result (Option LinkFault) RunFault → List ℕ → Type 0
 Ends pieces rest (Ok None) text = (rest ≡ []) × (text ≡ show_text pieces)
 Ends pieces rest (Ok (Some fault)) text =
@@ -120,14 +120,14 @@ ending laws records (Err Memory) text is own = absurd own
 none_left : (rest : List (List (List ℕ))) (fields : List (List ℕ)) (more : List (List (List ℕ))) → rest ≡ [] → rest ≡ fields ∷ more → ⊥
 none_left rest fields more none some = let clash : [] ≡ fields ∷ more = sym none ∙ some in cc clash
 
-same_fields : (rest : List (List (List ℕ))) (fields others : List (List ℕ)) (more behind : List (List (List ℕ))) → rest ≡ fields ∷ more → rest ≡ others ∷ behind → others ≡ fields
-same_fields rest fields others more behind one other = let same : fields ∷ more ≡ others ∷ behind = sym one ∙ other in cc
+same_fields : (rest : List (List (List ℕ))) (fields others : List (List ℕ)) (more after : List (List (List ℕ))) → rest ≡ fields ∷ more → rest ≡ others ∷ after → others ≡ fields
+same_fields rest fields others more after one other = let same : fields ∷ more ≡ others ∷ after = sym one ∙ other in cc
 
-no_bad_row : (rest : List (List (List ℕ))) (fields others : List (List ℕ)) (more behind : List (List (List ℕ))) (event : Event) (fault : RowFault) → rest ≡ fields ∷ more → rest ≡ others ∷ behind
+no_bad_row : (rest : List (List (List ℕ))) (fields others : List (List ℕ)) (more after : List (List (List ℕ))) (event : Event) (fault : RowFault) → rest ≡ fields ∷ more → rest ≡ others ∷ after
     → IsRow fields event → IsRefusal others fault → ⊥
-no_bad_row rest fields others more behind event fault one other row refused =
+no_bad_row rest fields others more after event fault one other row refused =
     let P : List (List ℕ) → Type 0 = λ f. IsRefusal f fault in
-    row_not_refused fields event fault row (subst P (same_fields rest fields others more behind one other) refused)
+    row_not_refused fields event fault row (subst P (same_fields rest fields others more after one other) refused)
 
 abbrev pub Same : Result (Option LinkFault) RunFault → Result (Option LinkFault) RunFault → List ℕ → List ℕ → Type 0
 Same a b s t = (a ≡ b) × (s ≡ t)
@@ -139,7 +139,7 @@ same_fault : (a b : LinkFault) → a.rule ≡ b.rule → a.blame ≡ b.blame →
 unfolding fault_with
 same_fault a b rule blame = ap (λ r. fault_with r a.blame) rule ∙ ap (λ x. fault_with b.rule x) blame
 
--- two ends behind one front
+-- two ends after one front
 one_end : BusLaws → (pieces : List Piece) (rest : List (List (List ℕ))) (a b : Result (Option LinkFault) RunFault) (s t : List ℕ) → Ends pieces rest a s → Ends pieces rest b t → Same a b s t
 one_end laws pieces rest (Ok None) (Ok None) s t p q = (refl, p.1 ∙ sym q.1)
 one_end laws pieces rest (Ok None) (Ok (Some fault)) s t p q = absurd (none_left rest q.0 q.1 p.0 q.3)

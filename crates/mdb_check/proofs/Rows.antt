@@ -37,7 +37,7 @@ all_push Is (r ∷ records) [] fields row told is = absurd told
 pub one_longer : {Row : Type 0} (rows longer : List Row) (row : Row) → longer ≡ rows ++ row ∷ [] → length longer ≡ length rows + 1
 one_longer rows longer row are = ap length are ∙ length-append rows (row ∷ [])
 
--- rows behind rows
+-- rows after rows
 pub all_append : {Row : Type 0} (Is : List (List ℕ) → Row → Type 0) (one : List (List (List ℕ))) (first : List Row) (other : List (List (List ℕ))) (second : List Row) → AreAll Is one first → AreAll Is other second
     → AreAll Is (one ++ other) (first ++ second)
 all_append Is [] [] other second told more = more
@@ -77,7 +77,7 @@ read_before Is all rows more rest read =
       read = record { done = parts.done; split = read.split ∙ (ap (λ l. l ++ rest) parts.is ∙ append_assoc parts.done parts.after rest); told = parts.told };
     }
 
--- and the record of the row behind them
+-- and the record of the row after them
 pub record IsReadUpTo {Row : Type 0} (Is : List (List ℕ) → Row → Type 0) (all : List (List (List ℕ))) (rows : List Row) (row : Row) : Type 0 where
   pub fields : List (List ℕ)
   pub rest : List (List (List ℕ))

@@ -4,16 +4,12 @@ use Rattle.std.proofs.lemmas.List.{append-nil}
 use Rattle.mdb_words.specs.declared.event.Event.{Event}
 use Rattle.mdb_words.specs.declared.row.RowFault.{RowFault}
 use Rattle.mdb_words.specs.Row.{IsRow, IsRefusal}
-use Rattle.mdb_msgs.specs.declared.command.Device.{Device}
-use Rattle.mdb_msgs.specs.declared.command.Device.TheVariants as devices
-use Rattle.mdb_bus.specs.declared.act.Act.{Act}
 use Rattle.mdb_bus.specs.declared.fault.LinkFault.{LinkFault}
-use Rattle.mdb_bus.specs.declared.fault.Rule.{Rule}
-use Rattle.mdb_bus.specs.ActLists.{Piece, Whole, ArePieces, HasActList, acts_of, events_of}
+use Rattle.mdb_bus.specs.ActLists.{Piece, Whole, ArePieces, HasActList, events_of}
 use Rattle.mdb_bus.specs.LinkFaults.{IsLinkFault}
 use Rattle.mdb_follow.specs.declared.follower.TheConstants.{ROWS_MAX}
 use Rattle.mdb_follow.specs.declared.offence.Offence.{Offence}
-use Rattle.mdb_follow.specs.Offences.{BreaksLink, BreaksMachine, IsOffence, NoStep, rule_of}
+use Rattle.mdb_follow.specs.Offences.{BreaksLink, BreaksMachine, IsOffence}
 use Rattle.mdb_follow.specs.Runs.{IsReached}
 use Rattle.mdb_check.specs.declared.outcome.Outcome.{Outcome}
 use Rattle.mdb_check.specs.declared.outcome.Outcome.TheVariants.{Yes, No}
@@ -24,16 +20,6 @@ use Rattle.mdb_check.specs.ShownFault.{IsMachineRule, IsNoUpTo}
 use Rattle.mdb_check.specs.Verdict.{IsAnswer, IsBadRow, IsImpossible, IsOwnAnswer, IsTooLong}
 use Rattle.mdb_check.proofs.OneAnswer.{GoesOn, compared, row_not_refused, row_one}
 use Rattle.mdb_check.proofs.OneShowing.{BusLaws}
-
--- a machine that has no step has a rule of its own
-of_device : (device : Device) → IsMachineRule (rule_of device)
-of_device devices.Changer = inl refl
-of_device devices.Bill = inr (inl refl)
-of_device devices.Cashless = inr (inr refl)
-of_device devices.Cashless2 = inr (inr refl)
-
-of_machine : (broken : Rule) (act : Act) (before : List Act) → NoStep broken act before → IsMachineRule broken
-of_machine broken act before stops = subst IsMachineRule (sym stops.rule) (of_device stops.device)
 
 -- rows and one more that have an act list have one up to that row
 up_to : BusLaws → (rows longer more : List Event) (row event : Event) → event ≡ row → longer ≡ rows ++ event ∷ more → HasActList longer → HasActList (rows ++ row ∷ [])
@@ -50,7 +36,7 @@ earlier_row laws rows row offence list why_not = by_why why_not.why
     by_why (inl link) =
         let P : List Event → Type 0 = λ es. HasActList (es ++ row ∷ []) in
         absurd (laws.stops link.pieces row offence.rule link.act_list.in_order link.fault.rule.breaks (subst P (sym link.act_list.whole) list))
-    by_why (inr machine) = of_machine offence.rule machine.act (acts_of machine.earlier) machine.no_step
+    by_why (inr machine) = (machine.no_step.device, machine.no_step.rule)
 
 -- at the row of a fault, an offence has its rule and its blame
 at_the_row : BusLaws → (pieces : List Piece) (row : Event) (fault : LinkFault) (offence : Offence) → ArePieces pieces → IsLinkFault pieces row fault.rule fault.blame
@@ -79,7 +65,7 @@ same_row fields others rest left row event same told heard =
 none_beyond : BusLaws → (records : List (List (List ℕ))) (fault : LinkFault) (text : List ℕ) (shown : IsShownToFault records fault text) (rows : List Event)
     → GoesOn (events_of shown.pieces) rows (shown.fields ∷ shown.rest) → HasActList rows → ⊥
 none_beyond laws records fault text shown rows on list =
-    let same : on.event ≡ shown.row = same_row shown.fields on.fields shown.rest on.behind shown.row on.event on.record_is shown.row_told on.row in
+    let same : on.event ≡ shown.row = same_row shown.fields on.fields shown.rest on.after shown.row on.event on.record_is shown.row_told on.row in
     laws.stops shown.pieces shown.row fault.rule shown.shown.in_order shown.is.rule.breaks (up_to laws (events_of shown.pieces) rows on.more shown.row on.event same on.longer_is list)
 
 nothing_there : (fields : List (List ℕ)) (rest : List (List (List ℕ))) → [] ≡ fields ∷ rest → ⊥
@@ -89,7 +75,7 @@ nothing_there fields rest same = cc same
 no_yes : BusLaws → (records : List (List (List ℕ))) (fault : LinkFault) (text : List ℕ) → (shown : IsShownToFault records fault text) → (rows : List Event) → IsReached rows
     → ((rows ≡ events_of shown.pieces) × ([] ≡ shown.fields ∷ shown.rest)) ⊎ (GoesOn rows (events_of shown.pieces) [] ⊎ GoesOn (events_of shown.pieces) rows (shown.fields ∷ shown.rest)) → ⊥
 no_yes laws records fault text shown rows reached (inl same) = nothing_there shown.fields shown.rest same.1
-no_yes laws records fault text shown rows reached (inr (inl on)) = nothing_there on.fields on.behind on.record_is
+no_yes laws records fault text shown rows reached (inr (inl on)) = nothing_there on.fields on.after on.record_is
 no_yes laws records fault text shown rows reached (inr (inr on)) = none_beyond laws records fault text shown rows on (reached.1.pieces, reached.1.act_list)
 
 -- a no is that fault, or comes before it
@@ -99,13 +85,13 @@ no_up_to : BusLaws → (records : List (List (List ℕ))) (fault : LinkFault) (t
     → IsNoUpTo (length (events_of shown.pieces) + 1) fault (Ok (No offence))
 no_up_to laws records fault text shown offence is (inl same) =
     let event : shown.row ≡ is.row = same_row is.fields shown.fields is.stops.rest shown.rest is.row shown.row same.1 is.told shown.row_told in
-    let Behind : List Event → Type 0 = λ es. IsOffence es is.row offence in
+    let After : List Event → Type 0 = λ es. IsOffence es is.row offence in
     let OfRow : Event → Type 0 = λ e. IsOffence (events_of shown.pieces) e offence in
-    let here : IsOffence (events_of shown.pieces) shown.row offence = subst OfRow (sym event) (subst Behind same.0 is.is) in
+    let here : IsOffence (events_of shown.pieces) shown.row offence = subst OfRow (sym event) (subst After same.0 is.is) in
     let both : (offence.rule ≡ fault.rule) × (offence.blame ≡ fault.blame) = at_the_row laws shown.pieces shown.row fault offence shown.shown.in_order shown.is here in
     inr (here.number, both.0, both.1)
 no_up_to laws records fault text shown offence is (inr (inl on)) =
-    let event : on.event ≡ is.row = same_row is.fields on.fields is.stops.rest on.behind is.row on.event on.record_is is.told on.row in
+    let event : on.event ≡ is.row = same_row is.fields on.fields is.stops.rest on.after is.row on.event on.record_is is.told on.row in
     let list : HasActList (is.rows ++ is.row ∷ []) = up_to laws is.rows (events_of shown.pieces) on.more is.row on.event event on.longer_is (shown.pieces, record { in_order = shown.shown.in_order; whole = refl }) in
     let long : length (events_of shown.pieces) ≡ length is.rows + length (on.event ∷ on.more) = ap length on.longer_is ∙ length-append is.rows (on.event ∷ on.more) in
     inl (omega (arith, long, is.is.number), earlier_row laws is.rows is.row offence list is.is)
@@ -123,7 +109,7 @@ no_bad_row : BusLaws → (records : List (List (List ℕ))) (fault : LinkFault) 
     → ((is.rows ≡ events_of shown.pieces) × (is.fields ∷ is.stops.rest ≡ shown.fields ∷ shown.rest))
     ⊎ (GoesOn is.rows (events_of shown.pieces) (is.fields ∷ is.stops.rest) ⊎ GoesOn (events_of shown.pieces) is.rows (shown.fields ∷ shown.rest)) → ⊥
 no_bad_row laws records fault text shown row why is (inl same) = no_refusal is.fields shown.fields is.stops.rest shown.rest shown.row why same.1 is.refused shown.row_told
-no_bad_row laws records fault text shown row why is (inr (inl on)) = no_refusal is.fields on.fields is.stops.rest on.behind on.event why on.record_is is.refused on.row
+no_bad_row laws records fault text shown row why is (inr (inl on)) = no_refusal is.fields on.fields is.stops.rest on.after on.event why on.record_is is.refused on.row
 no_bad_row laws records fault text shown row why is (inr (inr on)) =
     none_beyond laws records fault text shown is.rows on (is.stops.possible.1.pieces, is.stops.possible.1.act_list)
 

@@ -1,6 +1,6 @@
 -- How far the lines of some rows have come.
 use Rattle.std.proofs.Common.{arith, refl, ap, sym, subst, inl, inr, ◌∙◌, ◌≡◌, ◌+◌, ◌<◌, ◌≤◌, ℕ, List, [], ◌∷◌, ◌++◌, Option, Some, None, Result, Ok, Err, length, length-append, append_assoc, take, drop, get_or, add-one, take-append-drop}
-use Rattle.std.proofs.lemmas.List.{append-nil, take_all, take_more}
+use Rattle.std.proofs.lemmas.List.{append-nil, take_more}
 use Rattle.std.proofs.Math.Seq.{drop-cons}
 use Rattle.std.specs.Prelude.{IsErrAnd}
 use Rattle.mdb_words.specs.declared.event.Event.{Event}
@@ -21,7 +21,7 @@ use Rattle.mdb_check.proofs.Outputs.{break_both, put_both}
 
 -- The lines of some rows.
 
--- behind the old lines those of so many rows are added
+-- after the old lines those of so many rows are added
 pub record Adds (old lines : Lines) (was now : Output) (rows : List Event) (count : ℕ) : Type 0 where
   pub stands : HasPieces lines.bus
   pub few : lines.shown ≤ lines.rows
@@ -35,13 +35,6 @@ adds_none lines now stands few = record {
   counted = omega (arith);
   shown = λ before earlier has. let P : List Event → Type 0 = λ l. HasShown lines before now l in subst P (sym (append-nil earlier)) has;
 }
-
--- all rows are added
-pub adds_all : (old lines : Lines) (was now : Output) (rows : List Event) (i : ℕ) → length rows ≤ i → Adds old lines was now (take i rows) i
-    → (before : Output) (earlier : List Event) → HasShown old before was earlier → HasShown lines before now (earlier ++ rows)
-adds_all old lines was now rows i end adds before earlier has =
-    let P : List Event → Type 0 = λ l. HasShown lines before now (earlier ++ l) in
-    subst P (take_all i rows end) (adds.shown before earlier has)
 
 -- a row that ends no act is shown
 row_shown : (old new : Lines) (before now : Output) (rows : List Event) (event : Event) → HasShown old before now rows → new.rows ≡ old.rows + 1 → new.shown ≡ old.shown
@@ -159,7 +152,7 @@ to_fault lines before now earlier events i event default row fault within is num
     record {
       pieces = has.pieces;
       row = event;
-      behind = drop (i + 1) events;
+      after = drop (i + 1) events;
       lead = lead_into lines before now earlier events i has;
       next = drop_one events i default within ∙ ap (λ e. e ∷ drop (i + 1) events) (sym is);
       is = faults has.pieces has.stands;
@@ -178,7 +171,7 @@ fault_added old lines was now later events i event default row fault within is a
       put_both before now later (show_text (closed_pieces has.pieces)) (fault_line row fault) has.written line,
     )
 
--- a text isn't put behind the lines so far
+-- a text isn't put after the lines so far
 line_untaken : (lines left : Lines) (before now later : Output) (earlier events : List Event) (i : ℕ) (text : List ℕ) → (has : HasShown lines before now (earlier ++ take i events))
     → IsAdded earlier events (show_text (closed_pieces has.pieces) ++ text) → (fault : RunFault) → IsNotTaken fault now later text → HasAdded left before later earlier events (Err fault)
 line_untaken lines left before now later earlier events i text has added (BadRow row fault) not_taken = absurd not_taken

@@ -51,7 +51,7 @@ pub had_room : {T E : Type 0} (answer : Result T E) (new old more text : List �
 had_room (Ok done) new old more text is same = is ∙ ap (λ l. old ++ l) (sym same)
 had_room (Err e) new old more text is same = tt
 
--- the same behind others
+-- the same after others
 pub had_more : {T E : Type 0} (answer : Result T E) (new between old first more text : List ℕ) → new ≡ (if is_ok answer then between ++ more else between) → between ≡ old ++ first
     → text ≡ first ++ more → OnOk answer (new ≡ old ++ text)
 had_more (Ok done) new between old first more text is before same =

@@ -173,11 +173,11 @@ fault_showing : (all : List (List (List ℕ))) (earlier later : List Event) (res
     → (fault : LinkFault) (text : List ℕ) → IsAddedToFault earlier later fault text → IsShownToFault all fault text
 fault_showing all earlier later rest read few fault text added =
     let lead : LeadInto earlier later added.pieces = added.lead in
-    let parts : earlier ++ later ≡ (earlier ++ lead.front) ++ added.row ∷ added.behind =
-    ap (λ l. earlier ++ l) (lead.parts ∙ ap (λ l. lead.front ++ l) added.next) ∙ sym (append_assoc earlier lead.front (added.row ∷ added.behind)) in
+    let parts : earlier ++ later ≡ (earlier ++ lead.front) ++ added.row ∷ added.after =
+    ap (λ l. earlier ++ l) (lead.parts ∙ ap (λ l. lead.front ++ l) added.next) ∙ sym (append_assoc earlier lead.front (added.row ∷ added.after)) in
     let P : List Event → Type 0 = λ l. AreRead IsRow all l rest in
-    let up_to : IsReadUpTo IsRow all (earlier ++ lead.front) added.row = read_up_to IsRow all (earlier ++ lead.front) added.row added.behind rest (subst P parts read) in
-    let counted : length (earlier ++ later) ≡ length (earlier ++ lead.front) + length (added.row ∷ added.behind) = ap length parts ∙ length-append (earlier ++ lead.front) (added.row ∷ added.behind) in
+    let up_to : IsReadUpTo IsRow all (earlier ++ lead.front) added.row = read_up_to IsRow all (earlier ++ lead.front) added.row added.after rest (subst P parts read) in
+    let counted : length (earlier ++ later) ≡ length (earlier ++ lead.front) + length (added.row ∷ added.after) = ap length parts ∙ length-append (earlier ++ lead.front) (added.row ∷ added.after) in
     let Q : List Event → Type 0 = λ l. AreRows up_to.read.done l in
     record {
       pieces = added.pieces;

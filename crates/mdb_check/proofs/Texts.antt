@@ -24,7 +24,7 @@ pub taken_more : (text done rest now : List ℕ) (n : ℕ) → text ≡ done ++ 
 taken_more text done rest now n parts is =
     parts ∙ (ap (λ l. done ++ l) (sym (take-append-drop n rest)) ∙ (sym (append_assoc done (take n rest) (drop n rest)) ∙ ap (λ l. (done ++ take n rest) ++ l) (sym (is ∙ take_rest rest n))))
 
--- a part behind what was written, where it was
+-- a part after what was written, where it was
 pub on_ok : {T E : Type 0} (r : Result T E) (P Q : Type 0) → (P → Q) → OnOk r P → OnOk r Q
 on_ok (Ok x) P Q weaker h = weaker h
 on_ok (Err e) P Q weaker h = tt

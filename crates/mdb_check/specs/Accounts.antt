@@ -11,19 +11,19 @@ pub data AccountSide : Type 0 where
   OfController : AccountSide
   OfDifference : AccountSide
 
--- the word of a side
+-- its word in a report
 abbrev pub side_word : AccountSide → List ℕ
 side_word OfDevice = codes "device"
 side_word OfController = codes "controller"
 side_word OfDifference = codes "difference"
 
--- the range of a side
+-- what a report has of an account on it
 abbrev pub range_of : AccountSide → Account → Range
 range_of OfDevice account = account.device
 range_of OfController account = account.controller
 range_of OfDifference account = account.difference
 
--- what a side has come to
+-- what an account has come to on it in a run
 abbrev pub value_of : AccountSide → AccountSums → ℤ
 value_of OfDevice sums = pos sums.device
 value_of OfController sums = pos sums.controller

@@ -7,7 +7,7 @@
 -- (`first_row`).
 --
 -- An explanation is a run (`Run` of `mdb_follow`): an act list with the words and their times, a
--- loss, and a way of changer, validator and both readers, each with the controller, through it.
+-- loss, and a way of each device with the controller through it.
 use Rattle.std.specs.Prelude.{◌≡◌, ◌↔◌, ◌<◌, ◌≤◌, ℕ, List, [], ◌∷◌, ◌++◌, length, take, ⊤}
 use Rattle.mdb_words.specs.declared.event.Event.{Event}
 use Rattle.mdb_follow.specs.declared.account_name.AccountName.{AccountName}

@@ -29,7 +29,7 @@ pub record IsShownWhole (records : List (List (List ℕ))) (text : List ℕ) : T
   pub few : length (events_of pieces) ≤ ROWS_MAX
   pub lines : text ≡ show_text pieces
 
--- A record is a row that breaks a rule of the link, behind rows of an act list. The text is the
+-- A record is a row that breaks a rule of the link, after rows of an act list. The text is the
 -- lines of these, without one for a tail that is still open, and the line of the fault.
 pub record IsShownToFault (records : List (List (List ℕ))) (fault : LinkFault)
     (text : List ℕ) : Type 0 where
@@ -44,7 +44,7 @@ pub record IsShownToFault (records : List (List (List ℕ))) (fault : LinkFault)
   pub lines : text ≡ show_text (closed_pieces pieces)
       ++ fault_line (length (events_of pieces) + 1) fault
 
--- A record is no row, behind rows of an act list. The text is the lines of these, without one for a
+-- A record is no row, after rows of an act list. The text is the lines of these, without one for a
 -- tail that is still open.
 pub record IsShownToBadRow (records : List (List (List ℕ))) (row : ℕ) (fault : RowFault)
     (text : List ℕ) : Type 0 where
@@ -57,7 +57,7 @@ pub record IsShownToBadRow (records : List (List (List ℕ))) (row : ℕ) (fault
   pub refused : IsRefusal fields fault
   pub lines : text ≡ show_text (closed_pieces pieces)
 
--- There is a record behind as many rows as there may be, which are of an act list. The text is the
+-- There is a record after as many rows as there may be, which are of an act list. The text is the
 -- lines of these, without one for a tail that is still open.
 pub record IsShownTooLong (records : List (List (List ℕ))) (text : List ℕ) : Type 0 where
   pub pieces : List Piece
@@ -76,7 +76,7 @@ pub record IsShownInPart (records : List (List (List ℕ))) (text : List ℕ) : 
   pub lines : text ≡ show_text (closed_pieces pieces)
 
 -- The answer to the records of a text, and the text that is written of them. A refused read or
--- memory may come behind any row. That the writer failed is none of these answers.
+-- memory may come after any row. That the writer failed is none of these answers.
 abbrev pub IsShowing : List (List (List ℕ)) → Result (Option LinkFault) RunFault → List ℕ → Type 0
 IsShowing records (Ok None) text = IsShownWhole records text
 IsShowing records (Ok (Some fault)) text = IsShownToFault records fault text

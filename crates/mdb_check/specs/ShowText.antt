@@ -5,12 +5,14 @@ use Rattle.std.specs.Fmt.{decimal, digit_glyph}
 use Rattle.mdb_blocks.specs.Block.{block_of}
 use Rattle.mdb_msgs.specs.declared.command.Command.{Command}
 use Rattle.mdb_msgs.specs.Commands.{command_bytes, device_of}
+use Rattle.mdb_msgs.specs.Devices.{device_word}
 use Rattle.mdb_msgs.specs.Replies.{reply_bytes}
 use Rattle.mdb_bus.specs.declared.act.Act.{Act}
 use Rattle.mdb_bus.specs.declared.act.Act.TheVariants as acts
 use Rattle.mdb_bus.specs.declared.fault.LinkFault.{LinkFault}
+use Rattle.mdb_bus.specs.FaultWords.{blame_word, rule_word}
 use Rattle.mdb_bus.specs.ActLists.{Piece, Whole, AskTail, ReplyTail, RepeatTail, events_of, piece_events}
-use Rattle.mdb_check.specs.Text.{blame_word, device_word, line, rule_word}
+use Rattle.mdb_check.specs.Text.{line}
 
 -- the bytes of a block, each as a space and two hexadecimal digits
 abbrev pub bytes_text : List ℕ → List ℕ
@@ -49,7 +51,7 @@ piece_text (RepeatTail command reply words events) = codes "cut"
 abbrev pub rows_text : ℕ → ℕ → List ℕ
 rows_text first last = decimal first ++ codes "-" ++ decimal last ++ codes " "
 
--- the line that tells of them, with these words behind
+-- the line that tells of them, with these words after them
 abbrev pub rows_line : ℕ → ℕ → List ℕ → List ℕ
 rows_line first last words = line (rows_text first last ++ words)
 

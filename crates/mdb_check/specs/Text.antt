@@ -3,11 +3,8 @@ use Rattle.std.specs.Prelude.{ℕ, List, [], ◌∷◌, ◌++◌, Option, Some, 
 use Rattle.std.specs.Fmt.{decimal, signed_decimal}
 use Rattle.std.specs.List.{flat_map}
 use Rattle.mdb_msgs.specs.declared.command.Device.{Device}
-use Rattle.mdb_bus.specs.declared.fault.Rule.{Rule}
-use Rattle.mdb_bus.specs.declared.fault.Rule.TheVariants as rule
-use Rattle.mdb_bus.specs.declared.fault.Blame.{Blame}
-use Rattle.mdb_bus.specs.declared.fault.Blame.TheVariants as blame
-use Rattle.mdb_bus.specs.LinkFaults.{blame_on}
+use Rattle.mdb_msgs.specs.Devices.{device_word}
+use Rattle.mdb_bus.specs.FaultWords.{blame_word, rule_word}
 use Rattle.mdb_follow.specs.declared.account_name.AccountName.{AccountName}
 use Rattle.mdb_follow.specs.declared.account_name.TheConstants.AccountName.{ALL}
 use Rattle.mdb_follow.specs.declared.cell.Account.{Account}
@@ -22,38 +19,6 @@ use Rattle.mdb_check.specs.Accounts.{OfController, OfDevice, OfDifference, range
 use Rattle.mdb_check.specs.Verdict.{IsAnswer}
 use Rattle.mdb_check.specs.Written.{HasTaken}
 
--- the word of a rule
-abbrev pub rule_word : Rule → List ℕ
-rule_word rule.Order = codes "Order"
-rule_word rule.Speaker = codes "Speaker"
-rule_word rule.Mode = codes "Mode"
-rule_word rule.Early = codes "Early"
-rule_word rule.Late = codes "Late"
-rule_word rule.Spacing = codes "Spacing"
-rule_word rule.Length = codes "Length"
-rule_word rule.Sum = codes "Sum"
-rule_word rule.Break = codes "Break"
-rule_word rule.Answer = codes "Answer"
-rule_word rule.Message = codes "Message"
-rule_word rule.Same = codes "Same"
-rule_word rule.Profile = codes "Profile"
-rule_word rule.Changer = codes "Changer"
-rule_word rule.Bill = codes "Bill"
-rule_word rule.Cashless = codes "Cashless"
-
--- the word of who is to blame
-abbrev pub blame_word : Blame → List ℕ
-blame_word blame.Controller = codes "controller"
-blame_word blame.Changer = codes "changer"
-blame_word blame.Bill = codes "bill"
-blame_word blame.Cashless = codes "cashless"
-blame_word blame.Cashless2 = codes "cashless-2"
-blame_word blame.Other = codes "other"
-
--- the word of a device: that of the blame for what it says
-abbrev pub device_word : Device → List ℕ
-device_word device = blame_word (blame_on (Some device))
-
 -- a line of a text
 abbrev pub line : List ℕ → List ℕ
 line words = words ++ 10 ∷ []
@@ -64,7 +29,7 @@ places_text device (Some places) =
     codes " " ++ device_word device ++ codes " " ++ decimal places
 places_text device None = codes " " ++ device_word device ++ codes " -"
 
--- the line of the decimals
+-- how many decimal places each device told of
 abbrev pub decimals_line : Report → List ℕ
 decimals_line report =
     line (codes "decimals"
@@ -74,7 +39,7 @@ decimals_line report =
 abbrev pub count_text : Device → ℕ → List ℕ
 count_text device count = codes " " ++ device_word device ++ codes " " ++ decimal count
 
--- the line of the silences
+-- how many silences each device had
 abbrev pub silences_line : Report → List ℕ
 silences_line report =
     line (codes "silences"
@@ -86,14 +51,14 @@ side_text word range =
     codes " " ++ word ++ codes " " ++ signed_decimal range.least ++ codes ".."
     ++ signed_decimal range.greatest
 
--- the line of an account
+-- what an account comes to on each side, after its word
 abbrev pub account_line : AccountName → Account → List ℕ
 account_line name account =
     line (account_word name ++ side_text (side_word OfDevice) (range_of OfDevice account)
     ++ side_text (side_word OfController) (range_of OfController account)
     ++ side_text (side_word OfDifference) (range_of OfDifference account))
 
--- the lines of all accounts of a report
+-- a line for each account of a report
 abbrev pub accounts_text : Report → List ℕ
 accounts_text report = flat_map (λ name. account_line name (account_of name report)) ALL
 

@@ -55,7 +55,7 @@ pub record IsImpossible (limit : ℕ) (records : List (List (List ℕ)))
   pub few : length rows < limit
   pub is : IsOffence rows row offence
 
--- The first record that is no row, behind rows that can be.
+-- The first record that is no row, after rows that can be.
 pub record IsBadRow (limit : ℕ) (records : List (List (List ℕ))) (row : ℕ)
     (fault : RowFault) : Type 0 where
   pub rows : List Event

@@ -17,7 +17,7 @@ pub(crate) const BATCH: usize = 128;
 /// So many bytes have a whole row, where it is written as recorders write it.
 const ROW_BYTES: u64 = 64;
 
-/// What comes behind the rows of a batch.
+/// What comes after the rows of a batch.
 #[derive(Clone, Copy, PartialEq, Eq, Debug)]
 pub(crate) enum Next {
     /// What the next batch tells: this one is full, or the text has to be waited for.
@@ -88,11 +88,11 @@ impl<T: FromRecord> Batch<T> {
         &self.rows[..self.count]
     }
 
-    /// Reads the next rows in place of these, at most `room`, and answers what comes behind them.
+    /// Reads the next rows in place of these, at most `room`, and answers what comes after them.
     ///
-    /// It ends behind a row where less of the text was read ahead than a row may have. So no row
+    /// It ends after a row where less of the text was read ahead than a row may have. So no row
     /// waits to be followed while the next one is awaited, unless that is written in more bytes
-    /// than recorders take, or behind many blank lines.
+    /// than recorders take, or after many blank lines.
     // Not inlined, so that its loop has the processor's registers to itself.
     #[inline(never)]
     pub(crate) fn refill<R: Read + Drop>(&mut self, records: &mut Records<R>, room: u64) -> Next

@@ -91,7 +91,7 @@ fn push_front(text: &mut Vec<u8>, bytes: &[u8]) -> Result<bool, AllocError> {
     Ok(true)
 }
 
-/// Appends a byte as it stands between quotes: `"` and `\` behind a `\`, and one that isn't printed
+/// Appends a byte as it stands between quotes: `"` and `\` after a `\`, and one that isn't printed
 /// as `\x` and two digits.
 fn push_escaped(text: &mut Vec<u8>, byte: u8) -> Result<(), AllocError> {
     match byte {

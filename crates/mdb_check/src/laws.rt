@@ -21,7 +21,7 @@ use mdb_follow::laws;
 ///
 /// It is yes where all records are rows that have a run, and only there. No run of them has a sale
 /// without its approval, and the report's bounds are as tight as they can be: some run comes to
-/// each, and none goes beyond. Behind a no, the rows have a run up to the one before the row that
+/// each, and none goes beyond. After a no, the rows have a run up to the one before the row that
 /// it names, and no further.
 pub fn verdicts_say_the_headline()
     ensures { (limit : ℕ) (records : List (List (List ℕ))) (outcome : Outcome)

@@ -1,5 +1,8 @@
 //! The checker: reads a transcript, and answers whether the controller and its peripherals can have
 //! said these words at these times, and what the money can have come to then.
+//!
+//! [`check`] gives the verdict, [`show`] the acts line by line, and [`run`] does either, as the
+//! words of a command line ask.
 #![tactic(auto)]
 
 mod batch;

@@ -2,7 +2,7 @@
 
 ghost use Rattle.std.specs.Prelude.{◌≡◌, ◌+◌, ◌^◌, ◌<◌, ◌≤◌, ◌≢◌, List, ℕ, [], IfErr, IfOk, IfSome, IsErr, IsErrOf, None, Ok, Option, length};
 ghost use Rattle.mdb_records.specs.ToCome.{IsOverLimit, ToCome, fault_of};
-ghost use Rattle.mdb_check.specs.inner.Ending.{EndsBehind, HasEnded, HasTaken, IsHeard, IsStop, IsToldEnd, goes_on_by};
+ghost use Rattle.mdb_check.specs.inner.Ending.{EndsAfter, HasEnded, HasTaken, IsHeard, IsStop, IsToldEnd, goes_on_by};
 ghost use Rattle.mdb_check.specs.Verdict.{run_fault_of};
 
 use super::batch::{Batch, Next};
@@ -30,7 +30,7 @@ pub(crate) trait TakeRows<O> {
     /// and is in the second.
     ghost has: { Self → O → O → List Self.Row → Type 0 };
 
-    /// Behind the earlier rows it has stopped at one of the later ones.
+    /// After the earlier rows it has stopped at one of the later ones.
     ghost stops: { Self → O → O → List Self.Row → List Self.Row → Self.Stop → Type 0 };
 
     /// How many rows it has taken.
@@ -39,7 +39,8 @@ pub(crate) trait TakeRows<O> {
 
     /// Takes the next rows, or tells why it stops at one of them.
     fn take_all(&mut self, out: &mut O, rows: &[Self::Row]) -> Option<Self::Stop>
-        requires begun { (before : O) × (earlier : List Self.Row) × has self.old before out.old earlier }
+        requires begun { (before : O) × (earlier : List Self.Row)
+            × has self.old before out.old earlier }
         requires room { count self.old + length rows.now ≤ most }
         ensures { (before : O) (earlier : List Self.Row) → has self.old before out.old earlier
             → HasTaken (has self.new before out.new) (stops self.new before out.new) earlier
@@ -50,8 +51,8 @@ pub(crate) trait TakeRows<O> {
         → has taker before after rows → count taker ≡ length rows };
 }
 
-/// Reads the rows that are still to come, at most so many, into a batch, and has them taken. Answers
-/// why that stopped at a row, or nothing at the end of the text.
+/// Reads the rows that are still to come, at most so many, into a batch, and has them taken.
+/// Answers why that stopped at a row, or nothing at the end of the text.
 ///
 /// # Errors
 ///
@@ -88,11 +89,11 @@ pub(crate) fn read_rows<R: Read + Drop, O, T: TakeRows<O>>(
             return Ok(None);
         }
     }
-    end_behind(records, batch)?;
+    expect_end(records, batch)?;
     Ok(None)
 }
 
-/// Whether rows may come behind so many of them, of which the last is followed by this.
+/// Whether rows may come after so many of them, of which the last is followed by this.
 fn goes_on(next: Next, rows: u64) -> Result<bool, RunFault>
     requires { rows < 2 ^ 63 }
     ensures { result ≡ goes_on_by next rows }
@@ -108,13 +109,13 @@ fn goes_on(next: Next, rows: u64) -> Result<bool, RunFault>
     }
 }
 
-/// Refuses a record behind as many rows as there may be, whatever it holds.
-fn end_behind<R: Read + Drop, T: FromRecord>(
+/// Refuses a record after as many rows as there may be, whatever it holds.
+fn expect_end<R: Read + Drop, T: FromRecord>(
     records: &mut Records<R>,
     batch: &mut Batch<T>,
 ) -> Result<(), RunFault>
     ensures ends { (rest : List (List (List ℕ))) → ToCome R.remaining records.old rest
-        → EndsBehind rest result }
+        → EndsAfter rest result }
     ensures over { IsOverLimit R.remaining records.old → IsErr result }
     ensures heard { IfErr result (IsHeard (fault_of records.new)) }
     ensures met { fault_of records.old ≡ None → IfSome (fault_of records.new)

@@ -10,7 +10,6 @@ ghost use Rattle.mdb_msgs.specs.Replies.{reply_bytes};
 ghost use Rattle.mdb_check.specs.ShowText.{act_text, bytes_text, deed_text, fault_line, rows_line, rows_text};
 ghost use Rattle.mdb_check.specs.inner.ShowSteps.{cut_text, ended_text};
 
-use super::text::{word_of_blame, word_of_device, word_of_rule};
 use mdb_bus::{Act, LinkFault};
 use mdb_msgs::{Command, Reply, write_command, write_reply};
 use std::alloc::AllocError;
@@ -57,9 +56,9 @@ pub(crate) fn push_fault(text: &mut Vec<u8>, row: u64, fault: LinkFault) -> Resu
     text.extend_from_slice(b"fault ")?;
     push_decimal(text, row)?;
     text.extend_from_slice(b" ")?;
-    text.extend_from_slice(word_of_rule(fault.rule).as_bytes())?;
+    text.extend_from_slice(fault.rule.word().as_bytes())?;
     text.extend_from_slice(b" ")?;
-    text.extend_from_slice(word_of_blame(fault.blame).as_bytes())?;
+    text.extend_from_slice(fault.blame.word().as_bytes())?;
     text.extend_from_slice(b"\n")
 }
 
@@ -143,7 +142,7 @@ fn push_deed(text: &mut Vec<u8>, deed: &[u8], command: &Command) -> Result<(), A
     ensures { OnOk result (text.new.items ≡ text.old.items ++ deed_text deed.now command.now) }
 {
     text.extend_from_slice(deed)?;
-    text.extend_from_slice(word_of_device(command.device()).as_bytes())
+    text.extend_from_slice(command.device().word().as_bytes())
 }
 
 /// Appends the bytes of a block.

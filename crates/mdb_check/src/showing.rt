@@ -70,7 +70,7 @@ pub(crate) fn show_records<R: Read + Drop, W: Write>(
     answer
 }
 
-/// Shows the records that are still to come, behind none.
+/// Shows the records that are still to come, after none.
 fn show_rows<R: Read + Drop, W: Write>(
     records: &mut Records<R>,
     showing: &mut Showing,
@@ -154,7 +154,7 @@ impl<W: Write> TakeRows<W> for Showing {
 struct Lines {
     bus: Bus,
     rows: u64,
-    /// So many rows have their lines. Those behind them are a tail.
+    /// So many rows have their lines. Those after them are a tail.
     shown: u64,
     /// Room for the act that a row ends. Between rows what is in it is of no matter.
     act: Act,
@@ -181,7 +181,7 @@ impl Lines {
     }
 
     /// Adds the lines of the next rows. The first of them that breaks a rule of the link has a line
-    /// too, and is answered: of those behind it nothing is said.
+    /// too, and is answered: of those after it nothing is said.
     fn add_all<W: Write>(
         &mut self,
         events: &[Event],

@@ -2,62 +2,17 @@
 
 ghost use Rattle.std.specs.Prelude.{◌≡◌, IfOk, OnOk};
 ghost use Rattle.std.specs.Io.KnownBytes.{Appends};
-ghost use Rattle.mdb_check.specs.Text.{account_line, accounts_text, blame_word, count_text, decimals_line, device_word, head_text, places_text, report_text, rule_word, side_text, silences_line};
+ghost use Rattle.mdb_check.specs.Text.{account_line, accounts_text, count_text, decimals_line, head_text, places_text, report_text, side_text, silences_line};
 
 use super::outcome::Outcome;
-use mdb_bus::{Blame, Rule};
 use mdb_follow::{Account, AccountName, Offence, Range, Report};
 use mdb_msgs::Device;
 use std::alloc::Global;
 use std::io;
 use std::io::Write;
 
-/// The word of a rule.
-pub(crate) fn word_of_rule(rule: Rule) -> &'static str
-    ensures { result.now ≡ rule_word rule }
-{
-    match rule {
-        Rule::Order => "Order",
-        Rule::Speaker => "Speaker",
-        Rule::Mode => "Mode",
-        Rule::Early => "Early",
-        Rule::Late => "Late",
-        Rule::Spacing => "Spacing",
-        Rule::Length => "Length",
-        Rule::Sum => "Sum",
-        Rule::Break => "Break",
-        Rule::Answer => "Answer",
-        Rule::Message => "Message",
-        Rule::Same => "Same",
-        Rule::Profile => "Profile",
-        Rule::Changer => "Changer",
-        Rule::Bill => "Bill",
-        Rule::Cashless => "Cashless",
-    }
-}
-
-/// The word of who is to blame.
-pub(crate) fn word_of_blame(blame: Blame) -> &'static str
-    ensures { result.now ≡ blame_word blame }
-{
-    match blame {
-        Blame::Controller => "controller",
-        Blame::Changer => "changer",
-        Blame::Bill => "bill",
-        Blame::Cashless => "cashless",
-        Blame::Cashless2 => "cashless-2",
-        Blame::Other => "other",
-    }
-}
-
-/// The word of a device: that of the blame for what it says.
-pub(crate) fn word_of_device(device: Device) -> &'static str
-    ensures { result.now ≡ device_word device }
-{
-    word_of_blame(Blame::on(Some(device)))
-}
-
-/// The text of an outcome as bytes: what `check` writes of it. Only want of memory is an error here.
+/// The text of an outcome as bytes: what `check` writes of it. Only want of memory is an error
+/// here.
 pub fn text_of(alloc: Global, outcome: &Outcome) -> io::Result<Vec<u8>>
     ensures { IfOk result (λ text. text.items ≡ report_text outcome.now) }
 {
@@ -97,7 +52,7 @@ fn write_head<W: Write>(writer: &mut W, rows: u64) -> io::Result<()>
     write!(writer, "verdict yes\nrows {rows}\n")
 }
 
-/// Writes the line of the decimals.
+/// Writes how many decimal places each device told of.
 fn write_decimals<W: Write>(writer: &mut W, report: &Report) -> io::Result<()>
     ensures { OnOk result
         (Appends (W.contents writer.old)
@@ -116,14 +71,13 @@ fn write_places<W: Write>(writer: &mut W, device: Device, places: Option<u8>) ->
         (Appends (W.contents writer.old)
         (W.contents writer.new) (places_text device places)) }
 {
-    let word = word_of_device(device);
     match places {
-        Some(places) => write!(writer, " {word} {places}"),
-        None => write!(writer, " {word} -"),
+        Some(places) => write!(writer, " {device} {places}"),
+        None => write!(writer, " {device} -"),
     }
 }
 
-/// Writes the lines of all accounts.
+/// Writes a line for each account.
 fn write_accounts<W: Write>(writer: &mut W, report: &Report) -> io::Result<()>
     ensures { OnOk result
         (Appends (W.contents writer.old)
@@ -135,7 +89,7 @@ fn write_accounts<W: Write>(writer: &mut W, report: &Report) -> io::Result<()>
     Ok(())
 }
 
-/// Writes the line of an account.
+/// Writes what an account comes to on each side, after its word.
 fn write_account<W: Write>(writer: &mut W, name: AccountName, account: &Account) -> io::Result<()>
     ensures { OnOk result
         (Appends (W.contents writer.old)
@@ -148,7 +102,7 @@ fn write_account<W: Write>(writer: &mut W, name: AccountName, account: &Account)
     write!(writer, "\n")
 }
 
-/// Writes what an account comes to on one side, behind its word.
+/// Writes what an account comes to on one side, after its word.
 fn write_side<W: Write>(writer: &mut W, word: &str, range: Range) -> io::Result<()>
     ensures { OnOk result
         (Appends (W.contents writer.old)
@@ -158,7 +112,7 @@ fn write_side<W: Write>(writer: &mut W, word: &str, range: Range) -> io::Result<
     write!(writer, " {word} {least}..{greatest}")
 }
 
-/// Writes the line of the silences.
+/// Writes how many silences each device had.
 fn write_silences<W: Write>(writer: &mut W, report: &Report) -> io::Result<()>
     ensures { OnOk result
         (Appends (W.contents writer.old)
@@ -177,8 +131,7 @@ fn write_count<W: Write>(writer: &mut W, device: Device, count: u64) -> io::Resu
         (Appends (W.contents writer.old)
         (W.contents writer.new) (count_text device count)) }
 {
-    let word = word_of_device(device);
-    write!(writer, " {word} {count}")
+    write!(writer, " {device} {count}")
 }
 
 /// Writes the four lines of a no.
@@ -187,9 +140,7 @@ fn write_offence<W: Write>(writer: &mut W, offence: &Offence) -> io::Result<()>
         (Appends (W.contents writer.old)
         (W.contents writer.new) (report_text (Outcome.No offence.now))) }
 {
-    let row = offence.row;
-    let rule = word_of_rule(offence.rule);
-    let blame = word_of_blame(offence.blame);
+    let Offence { row, rule, blame } = *offence;
     write!(
         writer,
         "verdict no\nrow {row}\nrule {rule}\nblame {blame}\n"

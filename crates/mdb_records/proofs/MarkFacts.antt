@@ -60,7 +60,7 @@ unfolding marked
 marked-at-limit b rest zero e = refl
 marked-at-limit b rest (suc left) e = absurd (omega arith)
 
--- the byte that is held is put back behind the mark
+-- the byte that is held is put back after the mark
 keeps-held : (old new : Option (List ℕ)) (left : ℕ) (held : Option ℕ) (b : ℕ) → is_some held ≡ false → left ≡ 0
     → Consumes old new (b ∷ []) → Keeps (given_of old left held) (prepend_known (mark ∷ b ∷ []) new)
 keeps-held old new left (Some c) b unheld e h = cc

@@ -94,7 +94,7 @@ marked-over limit [] h = absurd (omega arith)
 marked-over zero (b ∷ text) h = ([], b ∷ text, refl)
 marked-over (suc limit) (b ∷ text) h = let m = marked-over limit text (omega arith) in (b ∷ m.0, m.1, ap (λ r. b ∷ r) m.2)
 
--- the mark behind the third byte
+-- the mark after the third byte
 over-bom : (a b c limit : ℕ) (rest : List ℕ) → limit < length rest → (bom : Bool)
     → (before after : List ℕ) × ((if bom then marked limit rest else a ∷ b ∷ c ∷ marked limit rest) ≡ before ++ mark ∷ after)
 over-bom a b c limit rest h true = marked-over limit rest h

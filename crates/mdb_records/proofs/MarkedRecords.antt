@@ -134,7 +134,7 @@ marked-some s fields field (c ∷ before) after p plain e h =
           (more.0, more.1, rw q.0 more.2)
     ]
 
--- behind bytes above ASCII alone every record holds the mark
+-- after bytes above ASCII alone every record holds the mark
 pub cut-some : (s : State) (fields : List (List ℕ)) (field before after : List ℕ) (p : Read) → is_plain s ≡ true → All (λ b. 128 ≤ b) before
     → next_record default_config s fields field (before ++ mark ∷ after) ≡ Some p → AreBytes p.0 → ⊥
 cut-some s fields field [] after p plain high e h = mark-spoils s fields field after p plain e h

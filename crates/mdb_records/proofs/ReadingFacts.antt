@@ -86,7 +86,7 @@ goes-on remaining old new true rows read going bytes h =
       step.rest,
       step.first,
       record {
-        text = step.behind;
+        text = step.left;
         given = more.0;
         going = going;
         plain = read.2 ∙ h.plain;
@@ -123,7 +123,7 @@ pub new-within : {R : Type 0} (remaining : R → Option (List ℕ)) (value : Rec
 new-within remaining value limit None source = tt
 new-within remaining value limit (Some text) source = λ fits. record { source = source ∙ ap (λ t. Some (strip_bom t)) (marked-within limit text fits) }
 
--- a read of a text that goes on behind the limit finds a record before it
+-- a read of a text that goes on past the limit finds a record before it
 pub over-goes-on : {R : Type 0} (remaining : R → Option (List ℕ)) (old new : Records R) (found : Bool)
     → ReadRecord (limited_remaining remaining) old.reader new.reader found (fields_of new.row) → new.fault ≡ None → AreBytes (fields_of new.row)
     → IsOverLimit remaining old → (found ≡ true) × IsOverLimit remaining new

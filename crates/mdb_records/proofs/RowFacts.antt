@@ -8,7 +8,7 @@ use Rattle.mdb_records.specs.ToCome.{Gives}
 use Rattle.mdb_records.proofs.MarkedRecords.{AreBytes, chosen, cut-some, marked-none, marked-some}
 use Rattle.mdb_records.proofs.StepFacts.{plain-between, step-steps, is_plain}
 
--- behind a record no other has begun
+-- after a record no other has begun
 pub between-after : (s : State) (fields : List (List ℕ)) (field xs : List ℕ) (p : Read) → is_plain s ≡ true
     → next_record default_config s fields field xs ≡ Some p → ends_at_end p.1 ≡ false
 unfolding next_record
@@ -96,11 +96,11 @@ no-record s text (row ∷ rest) e h = cc (h.2.1)
 -- what the next record of a text leaves, where a part of the text was given
 pub record Follows (s : State) (text given : List ℕ) (p : Read) (rows : List (List (List ℕ))) : Type 0 where
   pub rest : List (List (List ℕ))
-  pub behind : List ℕ
+  pub left : List ℕ
   pub first : rows ≡ p.0 ∷ rest
-  pub gives : Gives behind p.2
+  pub gives : Gives left p.2
   pub between : ends_at_end p.1 ≡ false
-  pub all : AreRecords default_config p.1 behind rest
+  pub all : AreRecords default_config p.1 left rest
 
 -- a record of bytes that was read from what is given is the first of the records to come
 pub gives-some : (s : State) (text given : List ℕ) (p : Read) (rows : List (List (List ℕ))) → Gives text given → ends_at_end s ≡ false → AreBytes p.0
@@ -111,11 +111,11 @@ gives-some s text given p rows h between bytes e all =
     elim h [
       | inl same ↦
           let step = first-record s text p rows (rw same at e) all in
-          record { rest = step.0; behind = p.2; first = step.1; gives = inl refl; between = after; all = step.2 }
+          record { rest = step.0; left = p.2; first = step.1; gives = inl refl; between = after; all = step.2 }
       | inr (inl m) ↦
           let found = marked-some s [] [] m.0 m.1 p plain (rw m.3 at e) bytes in
           let step = first-record s text (p.0, p.1, found.0 ++ m.1) rows (rw m.2 found.2) all in
-          record { rest = step.0; behind = found.0 ++ m.1; first = step.1; gives = inr (inl (found.0, m.1, refl, found.1)); between = after; all = step.2 }
+          record { rest = step.0; left = found.0 ++ m.1; first = step.1; gives = inr (inl (found.0, m.1, refl, found.1)); between = after; all = step.2 }
       | inr (inr m) ↦ absurd (cut-some s [] [] m.0 m.1 p plain m.2 (rw m.3 at e) bytes)
     ]
 

@@ -111,7 +111,7 @@ step-copy s c h e =
 abbrev pub Steps : Bool → State → Action → Type 0
 Steps inside s a = (is_plain s ≡ true) × (is_end a ≡ false → inside ≡ true → is_inside s ≡ true) × (is_end a ≡ true → ends_at_end s ≡ false)
 
--- behind a line's end no record has begun
+-- after a line's end no record has begun
 after-end : (inside : Bool) (c : ℕ) → Steps inside (after_end term.CRLF c) act.EndRecord
 after-end inside c = by (c == 13)
   where

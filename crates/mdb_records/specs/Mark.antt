@@ -12,8 +12,8 @@ marked left [] = []
 marked zero (b ∷ text) = mark ∷ b ∷ text
 marked (suc left) (b ∷ text) = b ∷ marked left text
 
--- what a limited reader has left, where the bytes `known` are behind it: once it holds the first
--- byte past the limit it gives nothing more
+-- what a limited reader has left, where the reader below it has the bytes `known`: once it holds
+-- the first byte past the limit it gives nothing more
 abbrev pub given_of : Option (List ℕ) → ℕ → Option ℕ → Option (List ℕ)
 given_of known left None = option_map (marked left) known
 given_of known left (Some held) = prepend_known (mark ∷ held ∷ []) known

@@ -40,7 +40,7 @@ pub record ToCome {R : Type 0} (remaining : R → Option (List ℕ)) (value : Re
   pub gives : Gives text given
   pub all : AreRecords default_config (reader_state value.reader) text rows
 
--- the text that is left goes on behind the limit
+-- the text that is left goes on past the limit
 pub record IsOverLimit {R : Type 0} (remaining : R → Option (List ℕ)) (value : Records R)
     : Type 0 where
   pub before : List ℕ
@@ -71,7 +71,7 @@ limit_of value = (reader_source value.reader).limit
 abbrev pub given_by : {R : Type 0} → Records R → ℕ
 given_by value = (reader_source value.reader).limit - (reader_source value.reader).left
 
--- a byte of the text behind the limit was read
+-- a byte of the text past the limit was read
 abbrev pub IsPastLimit : {R : Type 0} → Records R → Type 0
 IsPastLimit value = IsSome (reader_source value.reader).held
 

@@ -28,7 +28,7 @@ const ROW_FIELDS: usize = 4;
 /// Why the next record could not be read.
 #[derive(Clone, Copy, PartialEq, Eq, Debug)]
 pub enum ReadFault {
-    /// The reader failed, or its text goes on behind the limit.
+    /// The reader failed, or its text goes on past the limit.
     Read,
     /// Memory ran out.
     Memory,
@@ -41,7 +41,7 @@ pub enum ReadCause {
     Failed,
     /// The reader has no byte yet, and doesn't wait for one.
     WouldBlock,
-    /// The text goes on behind the limit.
+    /// The text goes on past the limit.
     OverLimit,
 }
 
@@ -97,7 +97,7 @@ impl<R: Read + Drop> Records<R> {
         ensures next { IfOk result (λ found. (rows : List (List (List ℕ))) →
             ToCome R.remaining self.old rows → Advances R.remaining self.new found rows) }
 
-        // Where the text goes on behind the limit, no end is told.
+        // Where the text goes on past the limit, no end is told.
         ensures endless { IfOk result (λ found.
             IsOverLimit R.remaining self.old → (found ≡ true) × IsOverLimit R.remaining self.new) }
 
@@ -126,7 +126,7 @@ impl<R: Read + Drop> Records<R> {
     }
 
     /// Why the reading ended, where it ended by [`ReadFault::Read`]: the limit exactly where a byte
-    /// behind it was read. Nothing is said of it elsewhere.
+    /// past it was read. Nothing is said of it elsewhere.
     pub fn cause(&self) -> ReadCause
         ensures over { result ≡ ReadCause.OverLimit ↔ IsPastLimit self.now }
     {
@@ -141,7 +141,7 @@ impl<R: Read + Drop> Records<R> {
     }
 
     /// How many bytes were taken of the reader, whatever reader it is: at most as many as the limit
-    /// to which it is held, and one more exactly where the text was seen to go on behind it
+    /// to which it is held, and one more exactly where the text was seen to go on past it
     /// (2^64 - 1 stands for 2^64 too).
     pub fn taken(&self) -> u64
         ensures most { result ≤ limit_of self.now + 1 }

@@ -7,7 +7,7 @@ ghost use Rattle.std.specs.IoError.{error_kind};
 
 use std::io::{Error, ErrorKind, Read, Result};
 
-/// The bytes of a reader up to a limit. Behind it every read fails, so the limit is no end of the
+/// The bytes of a reader up to a limit. Past it every read fails, so the limit is no end of the
 /// text.
 #[derive(Drop)]
 pub(crate) struct Limited<R> {
@@ -54,7 +54,7 @@ impl<R> Limited<R> {
     }
 }
 
-// The error of a text that goes on behind the limit.
+// The error of a text that goes on past the limit.
 fn past_the_limit() -> Error
     ensures { error_kind result ≡ ErrorKind.InvalidData }
 {
@@ -75,7 +75,7 @@ impl<R: Read> Read for Limited<R> {
         // What is given is counted, and nothing else is.
         ensures given { IfOk result (λ count. self.old.left ≡ self.new.left + count) }
         ensures failed { OnErr result (self.new.left ≡ self.old.left) }
-        // Behind the limit a read fails for that alone.
+        // Past the limit a read fails for that alone.
         ensures past { IsSome self.new.held → IfErr result
             (λ e. error_kind e ≡ ErrorKind.InvalidData) }
     {

@@ -1,6 +1,6 @@
-//! What no contract says of the libraries: that a call can answer at all, worked cases from outside,
-//! the faults of readers and writers, and the program's words. All tests stand in this one crate,
-//! since a crate that has tests is proved a second time for them.
+//! The tests, of what no contract says of the libraries: that a call can answer at all, worked
+//! cases from outside, the faults of readers and writers, and the program's words. All stand in
+//! this one crate, since a crate that has tests is proved a second time for them.
 #![tactic(auto)]
 
 #[cfg(test)]

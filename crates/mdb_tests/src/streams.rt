@@ -34,13 +34,13 @@ pub(crate) const POLLS: u64 = 50_000;
 /// More reads and writes than `check` and `show` make of a short recording in small pieces.
 pub(crate) const CALLS: u64 = 1_000;
 
-/// Gives a text in pieces, and behind it what comes again and again without an end, if anything
+/// Gives a text in pieces, and after it what comes again and again without an end, if anything
 /// does. It counts what it gives, and fails at one of its reads alone.
 #[derive(Drop)]
 pub(crate) struct Pieces<'a> {
     // What is given next.
     next: &'a [u8],
-    // What is given again and again behind that; nothing: the text ends.
+    // What is given again and again after that; nothing: the text ends.
     again: &'a [u8],
     // The most bytes that a read gives.
     most: usize,
@@ -73,7 +73,7 @@ impl<'a> Pieces<'a> {
         }
     }
 
-    /// A front, and behind it the same bytes without an end, as many as a read asks for.
+    /// A front, and after it the same bytes without an end, as many as a read asks for.
     pub(crate) fn endless(front: &'a [u8], again: &'a [u8]) -> Pieces<'a> {
         Pieces {
             next: front,

@@ -17,18 +17,18 @@ AreAll Is (fields ∷ records) (row ∷ rows) = Is fields row × AreAll Is recor
 AreAll Is [] (row ∷ rows) = ⊥
 AreAll Is (fields ∷ records) [] = ⊥
 
--- Behind the rows of a batch comes the rest of the records: all of it is to come, or there is none,
+-- After the rows of a batch comes the rest of the records: all of it is to come, or there is none,
 -- or it begins with a record that is no row. Of a refused read nothing is said.
-abbrev pub IsBehind : {R : Type 0} → (List (List ℕ) → RowFault → Type 0)
+abbrev pub ComesAfter : {R : Type 0} → (List (List ℕ) → RowFault → Type 0)
     → (R → Option (List ℕ)) → Records R → List (List (List ℕ)) → Next → Type 0
-IsBehind Refuses remaining records rest More = ToCome remaining records rest
-IsBehind Refuses remaining records rest End = rest ≡ []
-IsBehind Refuses remaining records rest (BadRow fault) =
+ComesAfter Refuses remaining records rest More = ToCome remaining records rest
+ComesAfter Refuses remaining records rest End = rest ≡ []
+ComesAfter Refuses remaining records rest (BadRow fault) =
     (fields : List (List ℕ)) × (after : List (List (List ℕ))) × (rest ≡ fields ∷ after)
     × Refuses fields fault
-IsBehind Refuses remaining records rest (Failed fault) = ⊤
+ComesAfter Refuses remaining records rest (Failed fault) = ⊤
 
--- The first of the records are the rows of a batch, and this is what comes behind them.
+-- The first of the records are the rows of a batch, and this is what comes after them.
 pub record HasRead {R Row : Type 0} (Is : List (List ℕ) → Row → Type 0)
     (Refuses : List (List ℕ) → RowFault → Type 0) (remaining : R → Option (List ℕ))
     (all : List (List (List ℕ))) (records : Records R) (rows : List Row) (next : Next)
@@ -37,9 +37,9 @@ pub record HasRead {R Row : Type 0} (Is : List (List ℕ) → Row → Type 0)
   pub rest : List (List (List ℕ))
   pub split : all ≡ done ++ rest
   pub told : AreAll Is done rows
-  pub behind : IsBehind Refuses remaining records rest next
+  pub after : ComesAfter Refuses remaining records rest next
 
--- the text goes on behind its limit, and no end was told
+-- the text goes on past its limit, and no end was told
 abbrev pub GoesOnOver : {R : Type 0} → (R → Option (List ℕ)) → Records R → Next → Type 0
 GoesOnOver remaining records More = IsOverLimit remaining records
 GoesOnOver remaining records End = ⊥

@@ -1,5 +1,5 @@
--- The command line of the program, as `clap` takes it. This file serves private functions: no public
--- clause cites it.
+-- The command line of the program, as `clap` takes it. This file serves private functions: no
+-- public clause cites it.
 use Rattle.std.specs.Prelude.{ℕ, List, codes, true}
 use Rattle.clap.specs.Words.{App, new_app, with_subcommand}
 use Rattle.mdb_check.specs.Program.{NamesTask}

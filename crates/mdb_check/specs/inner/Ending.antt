@@ -1,7 +1,7 @@
 -- How a reading of rows ends. This file serves private functions.
 --
 -- `Is` says which fields are which row, `Refuses` why they are none. `Has` says which rows were
--- taken, `Stops` that one of some rows behind earlier ones was stopped at.
+-- taken, `Stops` that one of some rows after earlier ones was stopped at.
 use Rattle.std.specs.Prelude.{◌≡◌, ◌+◌, ◌<◌, ◌≤◌, ℕ, List, [], ◌∷◌, ◌++◌, length, ⊤, Bool, true, false, Option, Some, None, Result, Ok, Err}
 use Rattle.mdb_words.specs.declared.event.Event.{Event}
 use Rattle.mdb_words.specs.declared.row.RowFault.{RowFault}
@@ -16,7 +16,7 @@ use Rattle.mdb_check.specs.declared.outcome.RunFault.TheVariants.{BadRow, TooLon
 use Rattle.mdb_check.specs.inner.Batch.{AreAll}
 use Rattle.mdb_check.specs.Verdict.{run_fault_of}
 
--- the later rows were taken behind the earlier ones, or one of them was stopped at
+-- the later rows were taken after the earlier ones, or one of them was stopped at
 abbrev pub HasTaken : {Row Stop : Type 0} → (List Row → Type 0)
     → (List Row → List Row → Stop → Type 0) → List Row → List Row → Option Stop → Type 0
 HasTaken Has Stops earlier later None = Has (earlier ++ later)
@@ -31,7 +31,7 @@ pub record HasFollowed (follower : Follower) (rows : List Event) : Type 0 where
   pub stands : StandsFor follower rows
   pub counted : rows_of follower ≡ length rows
 
--- The first of the records are these rows, and the rest stands behind them.
+-- The first of the records are these rows, and the rest stands after them.
 pub record AreRead {Row : Type 0} (Is : List (List ℕ) → Row → Type 0)
     (records : List (List (List ℕ))) (rows : List Row) (rest : List (List (List ℕ)))
     : Type 0 where
@@ -58,7 +58,7 @@ pub record IsStopped {Row : Type 0} (Is : List (List ℕ) → Row → Type 0)
   pub few : length (earlier ++ later) ≤ limit
   pub stops : Stops earlier later
 
--- The record behind the rows that were taken is no row.
+-- The record after the rows that were taken is no row.
 pub record IsTakenToBadRow {Row : Type 0} (Is : List (List ℕ) → Row → Type 0)
     (Refuses : List (List ℕ) → RowFault → Type 0) (Has : List Row → Type 0) (limit : ℕ)
     (records : List (List (List ℕ))) (row : ℕ) (fault : RowFault) : Type 0 where
@@ -71,7 +71,7 @@ pub record IsTakenToBadRow {Row : Type 0} (Is : List (List ℕ) → Row → Type
   pub refused : Refuses fields fault
   pub has : Has rows
 
--- There is a record behind as many rows as there may be, which were taken.
+-- There is a record after as many rows as there may be, which were taken.
 pub record IsTakenToLimit {Row : Type 0} (Is : List (List ℕ) → Row → Type 0)
     (Has : List Row → Type 0) (limit : ℕ) (records : List (List (List ℕ))) : Type 0 where
   pub rows : List Row
@@ -119,7 +119,7 @@ IsToldEnd met (Ok None) = ⊥
 IsToldEnd met (Ok (Some stop)) = ⊤
 IsToldEnd met (Err fault) = fault ≡ run_fault_of met
 
--- whether rows may come behind so many of them and this, or which fault it is
+-- whether rows may come after so many of them and this, or which fault it is
 abbrev pub goes_on_by : Next → ℕ → Result Bool RunFault
 goes_on_by next.More rows = Ok true
 goes_on_by next.End rows = Ok false
@@ -132,11 +132,11 @@ pub record HasFirst (records : List (List (List ℕ))) : Type 0 where
   pub rest : List (List (List ℕ))
   pub is : records ≡ fields ∷ rest
 
--- no record may stand behind the last row: there is none, there is one, or it can't be read
-abbrev pub EndsBehind : List (List (List ℕ)) → Result Unit RunFault → Type 0
-EndsBehind rest (Ok done) = rest ≡ []
-EndsBehind rest (Err (BadRow row fault)) = ⊥
-EndsBehind rest (Err TooLong) = HasFirst rest
-EndsBehind rest (Err Read) = ⊤
-EndsBehind rest (Err Memory) = ⊤
-EndsBehind rest (Err Write) = ⊥
+-- no record may stand after the last row: there is none, there is one, or it can't be read
+abbrev pub EndsAfter : List (List (List ℕ)) → Result Unit RunFault → Type 0
+EndsAfter rest (Ok done) = rest ≡ []
+EndsAfter rest (Err (BadRow row fault)) = ⊥
+EndsAfter rest (Err TooLong) = HasFirst rest
+EndsAfter rest (Err Read) = ⊤
+EndsAfter rest (Err Memory) = ⊤
+EndsAfter rest (Err Write) = ⊥

@@ -43,8 +43,8 @@ output contents page = record { held = contents; waiting = page.lines.items }
 abbrev pub begun : Option (List ℕ) → Output
 begun contents = record { held = contents; waiting = [] }
 
--- A text came behind the bytes that waited. Of these and the text the writer took the first, and the
--- others wait.
+-- A text came after the bytes that waited. Of these and the text the writer took the first, and
+-- the others wait.
 pub record Puts (before after : Output) (text : List ℕ) : Type 0 where
   pub taken : List ℕ
   pub parts : before.waiting ++ text ≡ taken ++ after.waiting
@@ -98,9 +98,9 @@ pub record IsAddedToFault (earlier rows : List Event) (fault : LinkFault)
     (text : List ℕ) : Type 0 where
   pub pieces : List Piece
   pub row : Event
-  pub behind : List Event
+  pub after : List Event
   pub lead : LeadInto earlier rows pieces
-  pub next : lead.rest ≡ row ∷ behind
+  pub next : lead.rest ≡ row ∷ after
   pub is : IsLinkFault pieces row fault.rule fault.blame
   pub lines : text ≡ show_text (closed_pieces pieces)
       ++ fault_line (length (events_of pieces) + 1) fault
@@ -111,7 +111,7 @@ IsAdded earlier rows text =
     IsAddedInPart earlier rows text
     ⊎ ((fault : LinkFault) × IsAddedToFault earlier rows fault text)
 
--- what the adding of the lines of some rows behind earlier ones comes to
+-- what the adding of the lines of some rows after earlier ones comes to
 abbrev pub HasAdded : Lines → Output → Output → List Event → List Event
     → Result (Option LinkFault) RunFault → Type 0
 HasAdded lines before after earlier rows (Ok None) = HasShown lines before after (earlier ++ rows)

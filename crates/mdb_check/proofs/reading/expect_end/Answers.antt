@@ -1,5 +1,5 @@
 use Rattle.mdb_check.proofs.Endings.{first_found, none_left}
-use Rattle.mdb_check.proofs.reading.end_behind.Goals as goal
+use Rattle.mdb_check.proofs.reading.expect_end.Goals as goal
 
 pub returns-in-End-clause-ends : goal.returns-in-End-clause-ends
 returns-in-End-clause-ends g c rest to_come =
