@@ -114,10 +114,10 @@ limit-is devices.Changer sides acts on = refl
 limit-is devices.Bill sides acts on = refl
 limit-is devices.Cashless sides acts on =
     ap (λ facts. reader_limit (option_map (λ config. config.response) facts.config))
-    (sym on.cashless.facts)
+    (sym (on devices.Cashless).facts)
 limit-is devices.Cashless2 sides acts on =
     ap (λ facts. reader_limit (option_map (λ config. config.response) facts.config))
-    (sym on.cashless2.facts)
+    (sym (on devices.Cashless2).facts)
 
 -- an act, and the lists go on by it
 pub asks-go-on : (device : Device) (pieces : List Piece) (row : Event) (act : Act)

@@ -110,10 +110,7 @@ some-in table = record { state = table.some.0; sums = table.some.1; way = table.
 -- the tables of a follower have some way of each device
 pub some-ways : (follower : Follower) (events : List Event) (on : StandsFor follower events)
     → SomeArrive (acts_of on.pieces)
-some-ways follower events on devices.Changer = some-in on.sides.changer.table
-some-ways follower events on devices.Bill = some-in on.sides.bill.table
-some-ways follower events on devices.Cashless = some-in on.sides.cashless.table
-some-ways follower events on devices.Cashless2 = some-in on.sides.cashless2.table
+some-ways follower events on device = some-in (on.sides device).table
 
 -- so its rows are reached
 pub reached-by : Joins → (follower : Follower) (events : List Event)
@@ -167,8 +164,10 @@ pub stands-on : (old mid new : Follower) (events : List Event) (row : Event) (ac
     → mid.offence ≡ old.offence → (at : ℕ) → at ≡ start_of row → HasFollowed mid act at new
     → StandsFor new (events ++ row ∷ [])
 stands-on old mid new events row act on goes same_sides same_silences same_rows same at start has =
-    let sides : AreSides new.sides (act ∷ acts_of on.pieces) = has.sides (acts_of on.pieces)
-    (subst (λ sides. AreSides sides (acts_of on.pieces)) (sym same_sides) on.sides) in record {
+    let sides : AreSides new.sides (act ∷ acts_of on.pieces) =
+    λ device. (has.sides device).stands (acts_of on.pieces)
+    (subst (λ sides. AreSides sides (acts_of on.pieces)) (sym same_sides) on.sides device) in
+    record {
       pieces = goes.longer;
       on_bus = subst (λ b. link.StandsFor b goes.longer) (sym has.on_bus) goes.stands;
       whole = goes.rows ∙ ap (λ rows. rows ++ row ∷ []) on.whole;
@@ -229,8 +228,13 @@ pub machine-offence : OneActList → Joins → (old mid new : Follower) (events 
 machine-offence one joins old mid new events row act offence on goes same_sides same_rows has =
     let list : IsActList goes.longer (events ++ row ∷ []) =
     list-on mid.bus events row on.pieces (Some act) on.whole goes in
-    let none : NoStep offence.rule act (acts_of on.pieces) = has.none (acts_of on.pieces)
-    (subst (λ sides. AreSides sides (acts_of on.pieces)) (sym same_sides) on.sides) in
+    let none : NoStep offence.rule act (acts_of on.pieces) = record {
+      device = has.none.0;
+      rule = has.none.1.rule;
+      none = has.none.1.none (acts_of on.pieces)
+          (subst (λ sides. AreSides sides (acts_of on.pieces)) (sym same_sides) on.sides
+          has.none.0);
+    } in
     let grown = goes.grown in
     let are : goes.longer ≡ Whole act (grown.begun ++ row ∷ []) ∷ grown.earlier =
     grown.are ∙ ap (λ p. p ∷ grown.earlier) (whole-piece grown.newest act

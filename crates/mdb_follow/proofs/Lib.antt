@@ -1,5 +1,6 @@
 pub mod Alone
 pub mod Asks
+pub mod ByDevice
 pub mod Choosing
 pub mod Cuts
 pub mod Ends

@@ -16,6 +16,7 @@ use Rattle.mdb_follow.specs.declared.range.Range.{Range}
 use Rattle.mdb_follow.specs.declared.report.Report.{Report}
 use Rattle.mdb_follow.specs.declared.report.TheConstants.Report.{DEVICES}
 use Rattle.mdb_follow.specs.AccountNames.{account_place, sums_of}
+use Rattle.mdb_follow.specs.Devices.{device_place}
 use Rattle.mdb_follow.specs.Ranges.{IsAccount}
 use Rattle.mdb_follow.specs.Runs.{AllSums, IsReached, Run}
 use Rattle.mdb_follow.specs.Silences.{silences}
@@ -47,13 +48,6 @@ decimals_of devices.Cashless acts =
     option_map (λ config. config.decimals) (reader_facts.facts_of First acts).config
 decimals_of devices.Cashless2 acts =
     option_map (λ config. config.decimals) (reader_facts.facts_of Second acts).config
-
--- the place of a device in a report, from 0
-abbrev pub device_place : Device → ℕ
-device_place devices.Changer = 0
-device_place devices.Bill = 1
-device_place devices.Cashless = 2
-device_place devices.Cashless2 = 3
 
 -- the decimal places that a report has of a device
 abbrev pub device_decimals : Device → Report → Option ℕ

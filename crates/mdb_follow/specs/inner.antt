@@ -1,5 +1,1 @@
-pub mod Cells
-pub mod Entries
-pub mod FollowerSteps
-pub mod Limits
-pub mod Owners
+pub mod ByDevice

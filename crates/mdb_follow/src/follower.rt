@@ -6,7 +6,7 @@ ghost use Rattle.std.specs.Option.{ForNone, ForSome, IfNone};
 ghost use Rattle.mdb_words.specs.declared.event.Event.{Event};
 ghost use Rattle.mdb_bus.specs.declared.act.Act.{Act};
 ghost use Rattle.mdb_follow.specs.Senders as spec;
-ghost use Rattle.mdb_follow.specs.Sides.{AreWithin};
+ghost use Rattle.mdb_follow.specs.inner.SideSteps.{AreWithin};
 ghost use Rattle.mdb_follow.specs.SilencesKept.{AreFew};
 
 use crate::sides::{Cashless, Cashless2, Sides};

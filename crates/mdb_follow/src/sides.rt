@@ -1,9 +1,10 @@
 //! The sides of a recording: each device and the controller.
 
-ghost use Rattle.std.specs.Prelude.{◌+◌, ◌^◌, ℕ, List, [], ◌∷◌, IfOk, IfErr};
-ghost use Rattle.mdb_bus.specs.declared.act.Act.{Act};
-ghost use Rattle.mdb_follow.specs.Sides.{AreSides, AreWithin, SidesFollow, SidesStop};
+ghost use Rattle.std.specs.Prelude.{◌^◌, [], IfOk, IfErr};
+ghost use Rattle.mdb_follow.specs.Sides.{AreSides};
+ghost use Rattle.mdb_follow.specs.inner.SideSteps.{AreWithin, IsWithin, OneFollows, SidesFollow, SidesStop, Stops};
 
+use crate::Report;
 use crate::owner::{Owner, owner_of};
 use crate::side::{self, Side};
 use mdb_bus::{Act, Rule};
@@ -51,20 +52,9 @@ impl Sides {
         requires { AreWithin (2 ^ 62) self.old }
         ensures followed { IfOk result (λ _. SidesFollow self.old act.now self.new) }
         ensures stopped { IfErr result (SidesStop self.old act.now) }
-        ensures within { IfOk result (λ _. (limit : ℕ) → AreWithin limit self.old
-            → AreWithin (limit + 2 ^ 32) self.new) }
     {
         match owner_of(act) {
-            Owner::One(Device::Changer) => {
-                side::follow::<Changer, _>(&mut self.changer, act, Rule::Changer)
-            }
-            Owner::One(Device::Bill) => side::follow::<Bill, _>(&mut self.bill, act, Rule::Bill),
-            Owner::One(Device::Cashless) => {
-                side::follow::<Cashless, _>(&mut self.cashless, act, Rule::Cashless)
-            }
-            Owner::One(Device::Cashless2) => {
-                side::follow::<Cashless2, _>(&mut self.cashless2, act, Rule::Cashless)
-            }
+            Owner::One(device) => self.lead_one(device, act),
             Owner::All => self.lead_all(act),
             Owner::Nobody => Ok(()),
         }
@@ -80,13 +70,33 @@ impl Sides {
         requires { AreWithin (2 ^ 62) self.old }
         ensures followed { IfOk result (λ _. SidesFollow self.old act.now self.new) }
         ensures stopped { IfErr result (SidesStop self.old act.now) }
-        ensures within { IfOk result (λ _. (limit : ℕ) → AreWithin limit self.old
-            → AreWithin (limit + 2 ^ 32) self.new) }
     {
-        side::follow::<Changer, _>(&mut self.changer, act, Rule::Changer)?;
-        side::follow::<Bill, _>(&mut self.bill, act, Rule::Bill)?;
-        side::follow::<Cashless, _>(&mut self.cashless, act, Rule::Cashless)?;
-        side::follow::<Cashless2, _>(&mut self.cashless2, act, Rule::Cashless)?;
+        for device in &Report::DEVICES {
+            self.lead_one(*device, act)?;
+        }
         Ok(())
+    }
+
+    /// Leads the side of a device over an act, and leaves the others.
+    ///
+    /// # Errors
+    ///
+    /// The rule of the device, where its side has no step by it.
+    #[inline(always)]
+    fn lead_one(&mut self, device: Device, act: &Act) -> Result<(), Rule>
+        requires { IsWithin device (2 ^ 62) self.old }
+        ensures followed { IfOk result (λ _. OneFollows device self.old act.now self.new) }
+        ensures stopped { IfErr result (Stops device self.old act.now) }
+    {
+        match device {
+            Device::Changer => side::follow::<Changer, _>(&mut self.changer, act, Rule::Changer),
+            Device::Bill => side::follow::<Bill, _>(&mut self.bill, act, Rule::Bill),
+            Device::Cashless => {
+                side::follow::<Cashless, _>(&mut self.cashless, act, Rule::Cashless)
+            }
+            Device::Cashless2 => {
+                side::follow::<Cashless2, _>(&mut self.cashless2, act, Rule::Cashless)
+            }
+        }
     }
 }

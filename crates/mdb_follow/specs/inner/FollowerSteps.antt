@@ -4,7 +4,7 @@ use Rattle.mdb_bus.specs.declared.act.Act.{Act}
 use Rattle.mdb_follow.specs.declared.follower.Follower.{Follower}
 use Rattle.mdb_follow.specs.declared.offence.Offence.{Offence}
 use Rattle.mdb_follow.specs.Senders.{sender_of}
-use Rattle.mdb_follow.specs.Sides.{SidesFollow, SidesStop}
+use Rattle.mdb_follow.specs.inner.SideSteps.{SidesFollow, SidesStop}
 use Rattle.mdb_follow.specs.SilencesKept.{SilencesFollow}
 
 -- A follower has followed an act whose last word started at a time.
