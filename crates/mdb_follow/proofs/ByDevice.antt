@@ -8,6 +8,14 @@ use Rattle.mdb_follow.specs.declared.report.TheConstants.Report.{DEVICES}
 use Rattle.mdb_follow.specs.Devices.{device_place}
 use Rattle.mdb_follow.specs.inner.ByDevice.{OneGoes}
 
+-- what is of each device
+pub each : (Of : Device → Type 0) → Of devices.Changer → Of devices.Bill → Of devices.Cashless
+    → Of devices.Cashless2 → (device : Device) → Of device
+each Of changer bill cashless cashless2 devices.Changer = changer
+each Of changer bill cashless cashless2 devices.Bill = bill
+each Of changer bill cashless cashless2 devices.Cashless = cashless
+each Of changer bill cashless cashless2 devices.Cashless2 = cashless2
+
 -- the device of a place
 device_at : ℕ → Device
 device_at place = get_or DEVICES place devices.Changer
@@ -19,14 +27,14 @@ at_place devices.Bill = refl
 at_place devices.Cashless = refl
 at_place devices.Cashless2 = refl
 
-below : (device : Device) → device_place device < 4
+pub below : (device : Device) → device_place device < 4
 below devices.Changer = omega arith
 below devices.Bill = omega arith
 below devices.Cashless = omega arith
 below devices.Cashless2 = omega arith
 
 -- devices of one place are one
-one_place : (one other : Device) → device_place one ≡ device_place other → one ≡ other
+pub one_place : (one other : Device) → device_place one ≡ device_place other → one ≡ other
 one_place one other same = sym (at_place one) ∙ (ap device_at same ∙ at_place other)
 
 -- two devices are one, or they aren't

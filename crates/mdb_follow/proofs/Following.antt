@@ -39,8 +39,9 @@ use Rattle.mdb_follow.specs.Machines.{machine_of}
 use Rattle.mdb_follow.specs.Offences.{NoStep}
 use Rattle.mdb_follow.specs.Sides.{AreSides}
 use Rattle.mdb_follow.specs.Silences.{asks_of}
-use Rattle.mdb_follow.specs.SilencesKept.{AllStandForAsks, SilencesFollow}
-use Rattle.mdb_follow.proofs.Asks.{asks-go-on, asks-stay, same-silences}
+use Rattle.mdb_follow.specs.SilencesKept.{StandsForAsks, silence_in}
+use Rattle.mdb_follow.specs.inner.SilenceSteps.{SilencesFollow}
+use Rattle.mdb_follow.proofs.Asks.{asks-go-on, asks-stay}
 use Rattle.mdb_follow.proofs.Machines.{with_one, with_one-same}
 use Rattle.mdb_follow.proofs.Reaching.{Joins, SomeArrive, SomeWay, run_of}
 use Rattle.mdb_follow.proofs.Joining.{split}
@@ -150,11 +151,10 @@ stands-still old new bus events row on goes same_bus same_sides same_silences mo
   going = same ∙ on.going;
   sides = subst (AreSides new.sides) (sym goes.acts)
       (subst (λ sides. AreSides sides (acts_of on.pieces)) (sym same_sides) on.sides);
-  silences = same-silences new.silences (λ device. asks_of device on.pieces)
-      (λ device. asks_of device goes.longer)
-      (λ device. sym (asks-stay device on.pieces row goes.longer goes.grown))
-      (subst (λ silences. AllStandForAsks silences (λ device. asks_of device on.pieces))
-      (sym same_silences) on.silences);
+  silences = λ device. subst (StandsForAsks (silence_in new.silences device))
+      (sym (asks-stay device on.pieces row goes.longer goes.grown))
+      (subst (λ silences. StandsForAsks (silence_in silences device) (asks_of device on.pieces))
+      (sym same_silences) (on.silences device));
 }
 
 -- an act was followed
@@ -167,6 +167,8 @@ stands-on old mid new events row act on goes same_sides same_silences same_rows 
     let sides : AreSides new.sides (act ∷ acts_of on.pieces) =
     λ device. (has.sides device).stands (acts_of on.pieces)
     (subst (λ sides. AreSides sides (acts_of on.pieces)) (sym same_sides) on.sides device) in
+    let follows : SilencesFollow mid.silences act (start_of row) new.sides new.silences =
+    subst (λ at. SilencesFollow mid.silences act at new.sides new.silences) start has.silences in
     record {
       pieces = goes.longer;
       on_bus = subst (λ b. link.StandsFor b goes.longer) (sym has.on_bus) goes.stands;
@@ -175,12 +177,11 @@ stands-on old mid new events row act on goes same_sides same_silences same_rows 
           ∙ sym (length-append events (row ∷ []));
       going = has.going ∙ same ∙ on.going;
       sides = subst (AreSides new.sides) (sym goes.acts) sides;
-      silences = same-silences new.silences _ (λ device. asks_of device goes.longer)
-          (λ device. asks-go-on device on.pieces row act goes.longer new.sides goes.grown sides)
-          (subst (λ at. SilencesFollow mid.silences act at new.sides new.silences) start has.silences
-          (λ device. asks_of device on.pieces)
-          (subst (λ silences. AllStandForAsks silences (λ device. asks_of device on.pieces))
-          (sym same_silences) on.silences));
+      silences = λ device. subst (StandsForAsks (silence_in new.silences device))
+          (asks-go-on device on.pieces row act goes.longer new.sides goes.grown sides)
+          ((follows device).stands (asks_of device on.pieces)
+          (subst (λ silences. StandsForAsks (silence_in silences device) (asks_of device on.pieces))
+          (sym same_silences) (on.silences device)));
     }
 
 -- a row breaks a rule of the link

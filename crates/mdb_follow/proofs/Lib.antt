@@ -6,6 +6,7 @@ pub mod Cuts
 pub mod Ends
 pub mod Following
 pub mod Joining
+pub mod Kept
 pub mod Led
 pub mod Limits
 pub mod Listed

@@ -15,6 +15,7 @@ use Rattle.mdb_bus.specs.declared.act.Act.{Act}
 use Rattle.mdb_bus.specs.declared.act.Act.TheVariants as acts
 use Rattle.mdb_bus.specs.ActLists.{Piece, Whole, acts_of, last_of}
 use Rattle.mdb_cashless.specs.ReaderFacts as reader_facts
+use Rattle.mdb_follow.specs.Devices.{same_device}
 use Rattle.mdb_follow.specs.declared.silence.TheConstants.{CHANGER_SILENCE_MAX, BILL_SILENCE_MAX, READER_SILENCE_MAX, MICROS_PER_SECOND}
 
 -- how long a reader may be silent, by the response time (Z7, in seconds) that it has told
@@ -33,14 +34,6 @@ limit_of devices.Changer acts = CHANGER_SILENCE_MAX
 limit_of devices.Bill acts = BILL_SILENCE_MAX
 limit_of devices.Cashless acts = reader_limit (response_time_of First acts)
 limit_of devices.Cashless2 acts = reader_limit (response_time_of Second acts)
-
--- whether two devices are one
-abbrev pub same_device : Device → Device → Bool
-same_device devices.Changer devices.Changer = true
-same_device devices.Bill devices.Bill = true
-same_device devices.Cashless devices.Cashless = true
-same_device devices.Cashless2 devices.Cashless2 = true
-same_device _ _ = false
 
 -- whether an act asks a device
 abbrev pub asks : Device → Act → Bool

@@ -7,7 +7,7 @@ ghost use Rattle.mdb_words.specs.declared.event.Event.{Event};
 ghost use Rattle.mdb_bus.specs.declared.act.Act.{Act};
 ghost use Rattle.mdb_follow.specs.Senders as spec;
 ghost use Rattle.mdb_follow.specs.inner.SideSteps.{AreWithin};
-ghost use Rattle.mdb_follow.specs.SilencesKept.{AreFew};
+ghost use Rattle.mdb_follow.specs.inner.SilenceSteps.{AreFew};
 
 use crate::sides::{Cashless, Cashless2, Sides};
 use crate::silence::Silences;

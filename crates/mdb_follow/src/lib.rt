@@ -3,6 +3,7 @@
 
 mod account_name;
 mod cell;
+mod devices;
 mod entries;
 mod follower;
 pub mod laws;

@@ -1,6 +1,8 @@
 //! The sides of a recording: each device and the controller.
 
-ghost use Rattle.std.specs.Prelude.{◌^◌, [], IfOk, IfErr};
+ghost use Rattle.std.specs.Prelude.{◌≡◌, ◌^◌, List, [], IfOk, IfErr};
+ghost use Rattle.mdb_bus.specs.declared.act.Act.{Act};
+ghost use Rattle.mdb_follow.specs.Report.{decimals_of};
 ghost use Rattle.mdb_follow.specs.Sides.{AreSides};
 ghost use Rattle.mdb_follow.specs.inner.SideSteps.{AreWithin, IsWithin, OneFollows, SidesFollow, SidesStop, Stops};
 
@@ -97,6 +99,18 @@ impl Sides {
             Device::Cashless2 => {
                 side::follow::<Cashless2, _>(&mut self.cashless2, act, Rule::Cashless)
             }
+        }
+    }
+
+    /// The decimal places that a device has told last; `None` where it has told none.
+    pub(crate) fn decimals(&self, device: Device) -> Option<u8>
+        ensures { (acts : List Act) → AreSides self.now acts → result ≡ decimals_of device acts }
+    {
+        match device {
+            Device::Changer => self.changer.facts.decimals(),
+            Device::Bill => self.bill.facts.decimals(),
+            Device::Cashless => self.cashless.facts.decimals(),
+            Device::Cashless2 => self.cashless2.facts.decimals(),
         }
     }
 }
