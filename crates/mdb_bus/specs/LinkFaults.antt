@@ -12,6 +12,7 @@ use Rattle.mdb_blocks.specs.declared.answer.Answer.TheVariants as answers
 use Rattle.mdb_msgs.specs.declared.command.Command.{Command}
 use Rattle.mdb_msgs.specs.declared.command.Device.{Device}
 use Rattle.mdb_msgs.specs.declared.command.Device.TheVariants as device
+use Rattle.mdb_msgs.specs.declared.command.ReaderUnit.TheVariants.{First, Second}
 use Rattle.mdb_msgs.specs.declared.fault.MsgFault.TheVariants as reading
 use Rattle.mdb_msgs.specs.declared.need.Need.TheVariants as need
 use Rattle.mdb_msgs.specs.declared.reply.Reply.{Reply}
@@ -247,8 +248,8 @@ abbrev pub blame_on : Option Device → Blame
 blame_on None = blame.Other
 blame_on (Some device.Changer) = blame.Changer
 blame_on (Some device.Bill) = blame.Bill
-blame_on (Some device.Cashless) = blame.Cashless
-blame_on (Some device.Cashless2) = blame.Cashless2
+blame_on (Some (device.Reader First)) = blame.Cashless
+blame_on (Some (device.Reader Second)) = blame.Cashless2
 
 -- who is to blame for a row of the controller
 abbrev pub vmc_blame : Position → Option Device → Rule → Blame

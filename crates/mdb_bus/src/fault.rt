@@ -3,7 +3,7 @@
 ghost use Rattle.std.specs.Prelude.{◌≡◌};
 ghost use Rattle.mdb_bus.specs.LinkFaults.{blame_on};
 
-use mdb_msgs::Device;
+use mdb_msgs::{Device, ReaderUnit};
 
 /// The rule that an impossible row breaks. Of several, the first of this order is told.
 ///
@@ -72,8 +72,8 @@ impl Blame {
             None => Blame::Other,
             Some(Device::Changer) => Blame::Changer,
             Some(Device::Bill) => Blame::Bill,
-            Some(Device::Cashless) => Blame::Cashless,
-            Some(Device::Cashless2) => Blame::Cashless2,
+            Some(Device::Reader(ReaderUnit::First)) => Blame::Cashless,
+            Some(Device::Reader(ReaderUnit::Second)) => Blame::Cashless2,
         }
     }
 }

@@ -2,8 +2,6 @@
 use Rattle.std.specs.Prelude.{ℕ, ◌==◌, Option, Some, None, if◌then◌else◌}
 use Rattle.mdb_msgs.specs.declared.command.Command.{Command}
 use Rattle.mdb_msgs.specs.declared.command.Command.TheVariants.{Reader}
-use Rattle.mdb_msgs.specs.declared.command.Device.{Device}
-use Rattle.mdb_msgs.specs.declared.command.Device.TheVariants as devices
 use Rattle.mdb_msgs.specs.declared.command.ReaderCommand.{ReaderCommand}
 use Rattle.mdb_msgs.specs.declared.command.ReaderUnit.{ReaderUnit}
 use Rattle.mdb_msgs.specs.declared.command.ReaderUnit.TheVariants.{First, Second}
@@ -11,11 +9,6 @@ use Rattle.mdb_msgs.specs.declared.command.ReaderUnit.TheVariants.{First, Second
 -- the reader of a number: 0 is the first, and any other number the second
 abbrev pub unit_of : ℕ → ReaderUnit
 unit_of number = if number == 0 then First else Second
-
--- the device that it is
-abbrev pub device_of_unit : ReaderUnit → Device
-device_of_unit First = devices.Cashless
-device_of_unit Second = devices.Cashless2
 
 -- the command to this reader that a command is
 abbrev pub own : ReaderUnit → Command → Option ReaderCommand

@@ -1,6 +1,7 @@
 //! A cashless reader and the controller.
 
 ghost use Rattle.std.specs.Prelude.{◌≡◌, ◌<◌, List, [], ◌∷◌};
+ghost use Rattle.mdb_msgs.specs.declared.command.Device.TheVariants as devices;
 ghost use Rattle.mdb_bus.specs.declared.act.Act.{Act};
 ghost use Rattle.mdb_cashless.specs.Reader as spec;
 ghost use Rattle.mdb_cashless.specs.inner.ReaderCodes as codes;
@@ -27,7 +28,7 @@ use mdb_cash::{Choice, Gains, Pair};
 use mdb_msgs::Device;
 use state::ReaderState;
 use steps::{concerns, heeds_choice, rests, step};
-use unit::{device_of, unit_of};
+use unit::unit_of;
 
 /// A cashless reader and the controller's dealings with it (MDB/ICP 4.3, cashless device). `UNIT`
 /// says which: 0 is the reader at 10H, and any other number that at 60H. Its accounts are approved
@@ -43,7 +44,7 @@ impl<const UNIT: usize> Pair for Reader<UNIT> {
 
     type State = ReaderState;
 
-    ghost device = { units.device_of_unit (units.unit_of UNIT) };
+    ghost device = { devices.Reader (units.unit_of UNIT) };
 
     ghost code_of = { codes.code_of };
 
@@ -52,7 +53,7 @@ impl<const UNIT: usize> Pair for Reader<UNIT> {
     ghost machine = { spec.machine (units.unit_of UNIT) };
 
     fn device() -> Device {
-        device_of(unit_of(UNIT))
+        Device::Reader(unit_of(UNIT))
     }
 
     fn start() -> usize {

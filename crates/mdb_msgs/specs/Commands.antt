@@ -20,15 +20,13 @@ use Rattle.mdb_msgs.specs.TwoBytes.{two_bytes}
 abbrev pub device_of : Command → Device
 device_of (Changer command) = device.Changer
 device_of (Bill command) = device.Bill
-device_of (Reader First command) = device.Cashless
-device_of (Reader Second command) = device.Cashless2
+device_of (Reader unit command) = device.Reader unit
 
 -- the POLL of a device
 abbrev pub poll_of : Device → Command
 poll_of device.Changer = Changer changer.Poll
 poll_of device.Bill = Bill bill.Poll
-poll_of device.Cashless = Reader First reader.Poll
-poll_of device.Cashless2 = Reader Second reader.Poll
+poll_of (device.Reader unit) = Reader unit reader.Poll
 
 -- to the coin changer, 08
 abbrev pub changer_bytes : ChangerCommand → List ℕ

@@ -11,10 +11,8 @@ pub enum Device {
     Changer,
     /// The bill validator, 30H.
     Bill,
-    /// The first cashless reader, 10H.
-    Cashless,
-    /// The second cashless reader, 60H.
-    Cashless2,
+    /// A cashless reader, 10H or 60H.
+    Reader(ReaderUnit),
 }
 
 impl Device {
@@ -27,8 +25,8 @@ impl Device {
         let number = match self {
             Device::Changer => 0,
             Device::Bill => 1,
-            Device::Cashless => 2,
-            Device::Cashless2 => 3,
+            Device::Reader(ReaderUnit::First) => 2,
+            Device::Reader(ReaderUnit::Second) => 3,
         };
         POLLS[number]
     }
@@ -84,8 +82,7 @@ impl Command {
         match *self {
             Command::Changer(_) => Device::Changer,
             Command::Bill(_) => Device::Bill,
-            Command::Reader(ReaderUnit::First, _) => Device::Cashless,
-            Command::Reader(ReaderUnit::Second, _) => Device::Cashless2,
+            Command::Reader(unit, _) => Device::Reader(unit),
         }
     }
 

@@ -51,9 +51,9 @@ pub fn polled(content: &[u8]) -> Option<Device>
 {
     match content {
         [0x0B] => Some(Device::Changer),
-        [0x12] => Some(Device::Cashless),
+        [0x12] => Some(Device::Reader(ReaderUnit::First)),
         [0x33] => Some(Device::Bill),
-        [0x62] => Some(Device::Cashless2),
+        [0x62] => Some(Device::Reader(ReaderUnit::Second)),
         _ => None,
     }
 }

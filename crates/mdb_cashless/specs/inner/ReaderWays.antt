@@ -4,6 +4,7 @@ use Rattle.std.specs.Prelude.{◌≡◌, ◌↔◌, Bool, true, false, ◌||◌,
 use Rattle.std.proofs.Common.{ap, sym, ◌∙◌}
 use Rattle.mdb_msgs.specs.declared.command.Command.{Command}
 use Rattle.mdb_msgs.specs.declared.command.Command.TheVariants as commands
+use Rattle.mdb_msgs.specs.declared.command.Device.TheVariants as devices
 use Rattle.mdb_msgs.specs.declared.command.ReaderCommand.{ReaderCommand}
 use Rattle.mdb_msgs.specs.declared.command.ReaderUnit.{ReaderUnit}
 use Rattle.mdb_msgs.specs.declared.command.ReaderUnit.TheVariants.{First, Second}
@@ -27,11 +28,11 @@ use Rattle.mdb_cashless.specs.declared.reader.transaction.Transaction.{Transacti
 use Rattle.mdb_cashless.specs.inner.PlainReader.{as_plain}
 use Rattle.mdb_cashless.specs.ReaderFacts.{Facts, amount_by, asked_by, config_by, effect_of, effect_of_own, facts_of, last_taken, messages_by, own_of, own_transaction, parts_by, transaction_taken_by}
 use Rattle.mdb_cashless.specs.ReaderMessages.{amount_in, begin_session, config_in, last_said, messages_of, part_of}
-use Rattle.mdb_cashless.specs.Units.{device_of_unit, own}
+use Rattle.mdb_cashless.specs.Units.{own}
 
 -- a command to another device is none to this reader
 no_own : (unit : ReaderUnit) (command : Command)
-    → (device_of command ≡ device_of_unit unit → ⊥) → own unit command ≡ None
+    → (device_of command ≡ devices.Reader unit → ⊥) → own unit command ≡ None
 no_own First (commands.Changer c) other = refl
 no_own First (commands.Bill c) other = refl
 no_own First (commands.Reader First c) other = absurd (other refl)
@@ -51,7 +52,7 @@ still (Some c) Step before after gains none = absurd cc
 
 pub elsewhere : (unit : ReaderUnit) (facts : Facts) (act : Act) (choice : Choice)
     (before after : ReaderState) (gains : Gains)
-    → (IsActOf (device_of_unit unit) act → ⊥)
+    → (IsActOf (devices.Reader unit) act → ⊥)
     → ReaderStep unit facts act choice before after gains
     ↔ (after ≡ before) × (gains ≡ no_gains)
 elsewhere unit facts (acts.Ask c) choice before after gains other =
@@ -75,7 +76,7 @@ elsewhere unit facts acts.Foreign choice before after gains other =
 elsewhere unit facts (acts.Break n) choice before after gains other = absurd (other tt)
 
 -- the machine is one of the device
-pub is_machine : (unit : ReaderUnit) → IsMachineOf (device_of_unit unit) (machine unit)
+pub is_machine : (unit : ReaderUnit) → IsMachineOf (devices.Reader unit) (machine unit)
 is_machine unit = record {
   elsewhere = λ acts. elsewhere unit (facts_of unit acts);
   breaks = λ acts length choice before. (power_on, no_gains, (refl, refl));
@@ -125,7 +126,7 @@ answered_none unit command reply none = either (tells_out_of_sequence reply)
     either false = ap own_transaction none
 
 facts_still : (unit : ReaderUnit) (before : List Act) (act : Act)
-    → (IsActOf (device_of_unit unit) act → ⊥) → facts_of unit before ≡ facts_of unit (act ∷ before)
+    → (IsActOf (devices.Reader unit) act → ⊥) → facts_of unit before ≡ facts_of unit (act ∷ before)
 facts_still unit before (acts.Ask c) other =
     let none = no_own unit c other in
     still_known unit (acts.Ask c) before refl (ap own_transaction none) refl refl refl
@@ -155,6 +156,6 @@ facts_still unit before acts.Foreign other =
 facts_still unit before (acts.Break n) other = absurd (other tt)
 
 pub unmoved : (unit : ReaderUnit) (known : Facts) (before : List Act) (act : Act)
-    → (IsActOf (device_of_unit unit) act → ⊥) → known ≡ facts_of unit before
+    → (IsActOf (devices.Reader unit) act → ⊥) → known ≡ facts_of unit before
     → known ≡ facts_of unit (act ∷ before)
 unmoved unit known before act other is = is ∙ facts_still unit before act other

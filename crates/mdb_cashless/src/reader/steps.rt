@@ -2,6 +2,7 @@
 
 ghost use Rattle.std.specs.Prelude.{◌≡◌, ◌≤◌, ◌↔◌, IfSome};
 ghost use Rattle.std.specs.Bool.{OnFalse, OnTrue};
+ghost use Rattle.mdb_msgs.specs.declared.command.Device.TheVariants as devices;
 ghost use Rattle.mdb_msgs.specs.declared.command.ReaderUnit.{ReaderUnit};
 ghost use Rattle.mdb_cash.specs.declared.choice.Choice.{Choice};
 ghost use Rattle.mdb_cash.specs.declared.choice.Choice.TheVariants.{Plain};
@@ -11,7 +12,6 @@ ghost use Rattle.mdb_cash.specs.Gains.{IsSmall, no_gains};
 ghost use Rattle.mdb_cash.specs.Pair.{IsActOf, IsOutcome};
 ghost use Rattle.mdb_cashless.specs.declared.reader.state.ReaderState.{ReaderState};
 ghost use Rattle.mdb_cashless.specs.ReaderFacts.{Facts};
-ghost use Rattle.mdb_cashless.specs.Units.{device_of_unit};
 ghost use Rattle.mdb_cashless.specs.Reader as spec;
 ghost use Rattle.mdb_cashless.specs.ReaderValues.{changes_view, facts_in};
 
@@ -138,7 +138,7 @@ fn ack(
 /// Whether an act may change a state or a sum of this reader.
 #[inline(always)]
 pub(crate) fn concerns(unit: ReaderUnit, act: &Act) -> bool
-    ensures own { OnTrue result (IsActOf (device_of_unit unit) act.now) }
+    ensures own { OnTrue result (IsActOf (devices.Reader unit) act.now) }
     ensures still { OnFalse result ((facts : Facts) (choice : Choice)
         (before after : ReaderState) (gains : Gains)
         → spec.ReaderStep unit facts act.now choice before after gains

@@ -3,7 +3,7 @@
 ghost use Rattle.std.specs.Prelude.{◌≡◌};
 ghost use Rattle.mdb_cashless.specs.Units as spec;
 
-use mdb_msgs::{Command, Device, ReaderCommand, ReaderUnit};
+use mdb_msgs::{Command, ReaderCommand, ReaderUnit};
 
 /// The reader of a number: 0 is the first, and any other number the second.
 #[inline(always)]
@@ -14,16 +14,6 @@ pub(crate) fn unit_of(number: usize) -> ReaderUnit
         ReaderUnit::First
     } else {
         ReaderUnit::Second
-    }
-}
-
-/// The device that a reader is.
-pub(crate) fn device_of(unit: ReaderUnit) -> Device
-    ensures { result ≡ spec.device_of_unit unit }
-{
-    match unit {
-        ReaderUnit::First => Device::Cashless,
-        ReaderUnit::Second => Device::Cashless2,
     }
 }
 
