@@ -94,8 +94,7 @@ same-limit : (device : Device) (act : Act) (acts : List Act) (at : ℕ) (lists :
     ≡ asks_after device act (record { at = at; limit = limit_of device (act ∷ acts) }) lists
 same-limit devices.Changer act acts at lists = refl
 same-limit devices.Bill act acts at lists = refl
-same-limit devices.Cashless (acts.Ask command) acts at lists = refl
-same-limit devices.Cashless2 (acts.Ask command) acts at lists = refl
+same-limit (devices.Reader unit) (acts.Ask command) acts at lists = refl
 same-limit device (acts.Ack command) acts at lists = refl
 same-limit device (acts.Nak command) acts at lists = refl
 same-limit device (acts.Reply command reply) acts at lists = refl
@@ -111,12 +110,9 @@ limit-is : (device : Device) (sides : Sides) (acts : List Act) → AreSides side
     → limit_of device acts ≡ limit_in sides device
 limit-is devices.Changer sides acts on = refl
 limit-is devices.Bill sides acts on = refl
-limit-is devices.Cashless sides acts on =
+limit-is (devices.Reader unit) sides acts on =
     ap (λ facts. reader_limit (option_map (λ config. config.response) facts.config))
-    (sym (on devices.Cashless).facts)
-limit-is devices.Cashless2 sides acts on =
-    ap (λ facts. reader_limit (option_map (λ config. config.response) facts.config))
-    (sym (on devices.Cashless2).facts)
+    (sym (on (devices.Reader unit)).facts)
 
 -- an act, and the lists go on by it
 pub asks-go-on : (device : Device) (pieces : List Piece) (row : Event) (act : Act)

@@ -4,17 +4,18 @@ use Rattle.std.proofs.Common.{refl, ap, subst, sym, inl, inr, ◌∙◌, ◌≡�
 use Rattle.std.proofs.lemmas.Bool.{cases_eq}
 use Rattle.mdb_msgs.specs.declared.command.Device.{Device}
 use Rattle.mdb_msgs.specs.declared.command.Device.TheVariants as devices
+use Rattle.mdb_msgs.specs.declared.command.ReaderUnit.TheVariants.{First, Second}
 use Rattle.mdb_follow.specs.declared.report.TheConstants.Report.{DEVICES}
 use Rattle.mdb_follow.specs.Devices.{device_place}
 use Rattle.mdb_follow.specs.inner.ByDevice.{OneGoes}
 
 -- what is of each device
-pub each : (Of : Device → Type 0) → Of devices.Changer → Of devices.Bill → Of devices.Cashless
-    → Of devices.Cashless2 → (device : Device) → Of device
-each Of changer bill cashless cashless2 devices.Changer = changer
-each Of changer bill cashless cashless2 devices.Bill = bill
-each Of changer bill cashless cashless2 devices.Cashless = cashless
-each Of changer bill cashless cashless2 devices.Cashless2 = cashless2
+pub each : (Of : Device → Type 0) → Of devices.Changer → Of devices.Bill
+    → Of (devices.Reader First) → Of (devices.Reader Second) → (device : Device) → Of device
+each Of changer bill first second devices.Changer = changer
+each Of changer bill first second devices.Bill = bill
+each Of changer bill first second (devices.Reader First) = first
+each Of changer bill first second (devices.Reader Second) = second
 
 -- the device of a place
 device_at : ℕ → Device
@@ -24,14 +25,14 @@ at_place : (device : Device) → device_at (device_place device) ≡ device
 unfolding device_at
 at_place devices.Changer = refl
 at_place devices.Bill = refl
-at_place devices.Cashless = refl
-at_place devices.Cashless2 = refl
+at_place (devices.Reader First) = refl
+at_place (devices.Reader Second) = refl
 
 pub below : (device : Device) → device_place device < 4
 below devices.Changer = omega arith
 below devices.Bill = omega arith
-below devices.Cashless = omega arith
-below devices.Cashless2 = omega arith
+below (devices.Reader First) = omega arith
+below (devices.Reader Second) = omega arith
 
 -- devices of one place are one
 pub one_place : (one other : Device) → device_place one ≡ device_place other → one ≡ other

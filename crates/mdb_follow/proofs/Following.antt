@@ -8,7 +8,6 @@ use Rattle.mdb_words.specs.declared.event.Event.{Event}
 use Rattle.mdb_words.specs.Event.{start_of}
 use Rattle.mdb_msgs.specs.declared.command.Device.{Device}
 use Rattle.mdb_msgs.specs.declared.command.Device.TheVariants as devices
-use Rattle.mdb_msgs.specs.declared.command.ReaderUnit.TheVariants.{First, Second}
 use Rattle.mdb_bus.specs.declared.act.Act.{Act}
 use Rattle.mdb_bus.specs.declared.bus.Bus.{Bus}
 use Rattle.mdb_bus.specs.declared.fault.LinkFault.{LinkFault}
@@ -314,15 +313,13 @@ device-is one joins rows pieces list some device = record {
   };
 }
 
--- the accounts of the sides
-abbrev pub accounts_in : Cell → Cell → Cell → Cell → AccountName → Account
-accounts_in changer bill cashless cashless2 CoinsIn = changer.first
-accounts_in changer bill cashless cashless2 BillsIn = bill.first
-accounts_in changer bill cashless cashless2 PaidOut = changer.second
-accounts_in changer bill cashless cashless2 (Approved First) = cashless.first
-accounts_in changer bill cashless cashless2 (Sold First) = cashless.second
-accounts_in changer bill cashless cashless2 (Approved Second) = cashless2.first
-accounts_in changer bill cashless cashless2 (Sold Second) = cashless2.second
+-- the accounts of the devices
+abbrev pub accounts_in : (Device → Cell) → AccountName → Account
+accounts_in cells CoinsIn = (cells devices.Changer).first
+accounts_in cells BillsIn = (cells devices.Bill).first
+accounts_in cells PaidOut = (cells devices.Changer).second
+accounts_in cells (Approved unit) = (cells (devices.Reader unit)).first
+accounts_in cells (Sold unit) = (cells (devices.Reader unit)).second
 
 -- a cell has the ranges of the sums that a device has in runs
 abbrev pub IsCellOf : List Event → (AllSums → Sums) → Cell → Type 0
@@ -338,47 +335,33 @@ cell-of-runs rows Kind of are cell is = (
 )
 
 -- so the accounts are those of the runs
-accounts-of-cells : (rows : List Event) (changer bill cashless cashless2 : Cell)
-    → IsCellOf rows (λ sums. sums devices.Changer) changer → IsCellOf rows (λ sums. sums devices.Bill) bill
-    → IsCellOf rows (λ sums. sums devices.Cashless) cashless
-    → IsCellOf rows (λ sums. sums devices.Cashless2) cashless2
-    → AreAccounts (Run rows) (accounts_in changer bill cashless cashless2)
-accounts-of-cells rows changer bill cashless cashless2 p q r s CoinsIn = p.0
-accounts-of-cells rows changer bill cashless cashless2 p q r s BillsIn = q.0
-accounts-of-cells rows changer bill cashless cashless2 p q r s PaidOut = p.1
-accounts-of-cells rows changer bill cashless cashless2 p q r s (Approved First) = r.0
-accounts-of-cells rows changer bill cashless cashless2 p q r s (Sold First) = r.1
-accounts-of-cells rows changer bill cashless cashless2 p q r s (Approved Second) = s.0
-accounts-of-cells rows changer bill cashless cashless2 p q r s (Sold Second) = s.1
+accounts-of-cells : (rows : List Event) (cells : Device → Cell)
+    → ((device : Device) → IsCellOf rows (λ sums. sums device) (cells device))
+    → AreAccounts (Run rows) (accounts_in cells)
+accounts-of-cells rows cells are CoinsIn = (are devices.Changer).0
+accounts-of-cells rows cells are BillsIn = (are devices.Bill).0
+accounts-of-cells rows cells are PaidOut = (are devices.Changer).1
+accounts-of-cells rows cells are (Approved unit) = (are (devices.Reader unit)).0
+accounts-of-cells rows cells are (Sold unit) = (are (devices.Reader unit)).1
 
 -- what a follower reports
 pub reported : OneActList → Joins → (follower : Follower) (events : List Event)
-    (report : Report) (changer bill cashless cashless2 : Cell) (on : StandsFor follower events)
-    → IsCell (ArrivesAnywhere (Arrives (machine_of devices.Changer) (acts_of on.pieces))) changer
-    → IsCell (ArrivesAnywhere (Arrives (machine_of devices.Bill) (acts_of on.pieces))) bill
-    → IsCell (ArrivesAnywhere (Arrives (machine_of devices.Cashless) (acts_of on.pieces))) cashless
-    → IsCell (ArrivesAnywhere (Arrives (machine_of devices.Cashless2) (acts_of on.pieces))) cashless2
-    → report ≡ report_of follower.rows on.pieces (accounts_in changer bill cashless cashless2)
-    → IsReport events report
-reported one joins follower events report changer bill cashless cashless2 on of_changer of_bill
-    of_cashless of_cashless2 telling =
+    (report : Report) (cells : Device → Cell) (on : StandsFor follower events)
+    → ((device : Device)
+    → IsCell (ArrivesAnywhere (Arrives (machine_of device) (acts_of on.pieces))) (cells device))
+    → report ≡ report_of follower.rows on.pieces (accounts_in cells) → IsReport events report
+reported one joins follower events report cells on are telling =
     let list = list-of follower events on in
     let some = some-ways follower events on in
     record {
       reached = reached-by joins follower events on;
       pieces = on.pieces;
       act_list = list;
-      accounts = accounts_in changer bill cashless cashless2;
-      of_runs = accounts-of-cells events changer bill cashless cashless2
-          (cell-of-runs events _ _ (device-is one joins events on.pieces list some devices.Changer) changer
-          of_changer)
-          (cell-of-runs events _ _ (device-is one joins events on.pieces list some devices.Bill) bill of_bill)
-          (cell-of-runs events _ _ (device-is one joins events on.pieces list some devices.Cashless) cashless
-          of_cashless)
-          (cell-of-runs events _ _ (device-is one joins events on.pieces list some devices.Cashless2) cashless2
-          of_cashless2);
-      telling = telling ∙ ap (λ rows. report_of rows on.pieces
-          (accounts_in changer bill cashless cashless2)) on.rows;
+      accounts = accounts_in cells;
+      of_runs = accounts-of-cells events cells (λ device.
+          cell-of-runs events _ _ (device-is one joins events on.pieces list some device)
+          (cells device) (are device));
+      telling = telling ∙ ap (λ rows. report_of rows on.pieces (accounts_in cells)) on.rows;
     }
 
 -- a follower has taken so many events, and met no offence

@@ -26,16 +26,15 @@ use Rattle.mdb_follow.proofs.ByDevice.{same_or_not}
 pub is_machine_of : (device : Device) → IsMachineOf device (machine_of device)
 is_machine_of devices.Changer = changer_ways.is_machine
 is_machine_of devices.Bill = bill_ways.is_machine
-is_machine_of devices.Cashless = reader_ways.is_machine First
-is_machine_of devices.Cashless2 = reader_ways.is_machine Second
+is_machine_of (devices.Reader unit) = reader_ways.is_machine unit
 
 -- something of each device: of one this, and of the others what they have
 pub with_one : (P : Device → Type 0) (device : Device) → P device → ((other : Device) → P other)
     → (other : Device) → P other
 with_one P devices.Changer one others devices.Changer = one
 with_one P devices.Bill one others devices.Bill = one
-with_one P devices.Cashless one others devices.Cashless = one
-with_one P devices.Cashless2 one others devices.Cashless2 = one
+with_one P (devices.Reader First) one others (devices.Reader First) = one
+with_one P (devices.Reader Second) one others (devices.Reader Second) = one
 with_one P device one others other = others other
 
 pub with_one-same : (P : Device → Type 0) (device : Device) (one : P device)
@@ -43,8 +42,8 @@ pub with_one-same : (P : Device → Type 0) (device : Device) (one : P device)
 unfolding with_one
 with_one-same P devices.Changer one others = refl
 with_one-same P devices.Bill one others = refl
-with_one-same P devices.Cashless one others = refl
-with_one-same P devices.Cashless2 one others = refl
+with_one-same P (devices.Reader First) one others = refl
+with_one-same P (devices.Reader Second) one others = refl
 
 -- an act is a device's, or it isn't
 of_or_not : (device : Device) (act : Act) → IsActOf device act ⊎ (IsActOf device act → ⊥)

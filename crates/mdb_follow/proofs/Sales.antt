@@ -7,7 +7,6 @@ use Rattle.mdb_msgs.specs.declared.command.Command.TheVariants as commands
 use Rattle.mdb_msgs.specs.declared.command.Device.TheVariants as devices
 use Rattle.mdb_msgs.specs.declared.command.ReaderCommand.TheVariants as readers
 use Rattle.mdb_msgs.specs.declared.command.ReaderUnit.{ReaderUnit}
-use Rattle.mdb_msgs.specs.declared.command.ReaderUnit.TheVariants.{First, Second}
 use Rattle.mdb_msgs.specs.declared.reply.Reply.{Reply}
 use Rattle.mdb_bus.specs.declared.act.Act.{Act}
 use Rattle.mdb_bus.specs.declared.act.Act.TheVariants as acts
@@ -139,13 +138,9 @@ all_sold laws unit (act ∷ so_far) state sums fit way =
           earlier.1,
     )
 
-in_run : ViewLaws → (rows : List Event) (sums : AllSums) (run : Run rows sums) (unit : ReaderUnit) → SalesAreApproved unit (acts_of run.pieces)
-in_run laws rows sums run First =
-    let ways = split run.loss run.pieces run.states sums run.way in
-    (all_sold laws First (acts_of run.pieces) (run.states devices.Cashless) (sums devices.Cashless) (acks_fit run.pieces run.act_list.in_order) (ways devices.Cashless)).1
-in_run laws rows sums run Second =
-    let ways = split run.loss run.pieces run.states sums run.way in
-    (all_sold laws Second (acts_of run.pieces) (run.states devices.Cashless2) (sums devices.Cashless2) (acks_fit run.pieces run.act_list.in_order) (ways devices.Cashless2)).1
-
 pub sales_follow : ViewLaws → (rows : List Event) → SalesFollowApprovals rows
-sales_follow laws rows sums run unit = in_run laws rows sums run unit
+sales_follow laws rows sums run unit =
+    let ways = split run.loss run.pieces run.states sums run.way in
+    let device = devices.Reader unit in
+    (all_sold laws unit (acts_of run.pieces) (run.states device) (sums device)
+    (acks_fit run.pieces run.act_list.in_order) (ways device)).1

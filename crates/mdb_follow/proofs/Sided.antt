@@ -1,6 +1,6 @@
 -- Sides go on by an act: the side of one device, those of all, and those that have no part in it.
-use Rattle.std.proofs.Common.{◌≡◌, ◌⊎◌, inl, inr, ◌+◌, ◌^◌, ◌<◌, ℕ, List, arith, get_or, refl, subst, sym, Ok, Err, Result, ◌∷◌}
-use Rattle.std.specs.Prelude.{IfErr, IfOk, OnErr}
+use Rattle.std.proofs.Common.{◌≡◌, ◌⊎◌, inl, inr, ◌+◌, ◌^◌, ◌<◌, ◌∙◌, ℕ, List, Option, ap, arith, get_or, refl, subst, sym, Ok, Err, Result, ◌∷◌}
+use Rattle.std.specs.Prelude.{IfErr, IfOk, OnErr, option_map}
 use Rattle.mdb_msgs.specs.declared.command.Device.{Device}
 use Rattle.mdb_msgs.specs.declared.command.Device.TheVariants as devices
 use Rattle.mdb_msgs.specs.declared.command.ReaderUnit.TheVariants.{First, Second}
@@ -13,11 +13,16 @@ use Rattle.mdb_cash.specs.inner.BillWays as bill_ways
 use Rattle.mdb_cash.specs.inner.ChangerWays as changer_ways
 use Rattle.mdb_cashless.specs.ReaderValues as reader_values
 use Rattle.mdb_cashless.specs.inner.ReaderWays as reader_ways
+use Rattle.mdb_follow.specs.declared.cell.Cell.{Cell}
 use Rattle.mdb_follow.specs.declared.report.TheConstants.Report.{DEVICES}
 use Rattle.mdb_follow.specs.declared.sides.Sides.{Sides}
+use Rattle.mdb_follow.specs.Arrivals.{Arrives}
 use Rattle.mdb_follow.specs.Machines.{machine_of}
 use Rattle.mdb_follow.specs.Offences.{HasNoStep, rule_of}
-use Rattle.mdb_follow.specs.Sides.{FactsOf, IsSideOf, SideOf, code_of, side_in, stands_for}
+use Rattle.mdb_follow.specs.Ranges.{IsCell}
+use Rattle.mdb_follow.specs.Report.{decimals_of}
+use Rattle.mdb_follow.specs.Sides.{AreSides, FactsOf, IsSideOf, SideOf, code_of, side_in, stands_for}
+use Rattle.mdb_follow.specs.Tables.{ArrivesAnywhere}
 use Rattle.mdb_follow.specs.inner.Limits.{IsTableWithin}
 use Rattle.mdb_follow.specs.inner.SideSteps.{AreWithin, FollowsOf, IsWithin, OneFollows, SidesFollow, SidesStop, Stops}
 use Rattle.mdb_follow.proofs.ByDevice.{Front, front-next, same_or_not}
@@ -31,8 +36,7 @@ unmoved : (device : Device) (facts : FactsOf device) (acts : List Act) (act : Ac
     → stands_for device facts (act ∷ acts)
 unmoved devices.Changer facts = changer_ways.unmoved (changer_values.facts_in facts)
 unmoved devices.Bill facts = bill_ways.unmoved (bill_values.facts_in facts)
-unmoved devices.Cashless facts = reader_ways.unmoved First (reader_values.facts_in facts)
-unmoved devices.Cashless2 facts = reader_ways.unmoved Second (reader_values.facts_in facts)
+unmoved (devices.Reader unit) facts = reader_ways.unmoved unit (reader_values.facts_in facts)
 
 -- and its side
 still : (device : Device) (side : SideOf device) (act : Act) → (IsActOf device act → ⊥)
@@ -51,22 +55,22 @@ still device side act other = record {
 abbrev pub with_side : (device : Device) → SideOf device → Sides → Sides
 with_side devices.Changer side sides = record sides { changer = side }
 with_side devices.Bill side sides = record sides { bill = side }
-with_side devices.Cashless side sides = record sides { cashless = side }
-with_side devices.Cashless2 side sides = record sides { cashless2 = side }
+with_side (devices.Reader First) side sides = record sides { first_reader = side }
+with_side (devices.Reader Second) side sides = record sides { second_reader = side }
 
 its : (device : Device) (side : SideOf device) (sides : Sides)
     → side ≡ side_in (with_side device side sides) device
 its devices.Changer side sides = refl
 its devices.Bill side sides = refl
-its devices.Cashless side sides = refl
-its devices.Cashless2 side sides = refl
+its (devices.Reader First) side sides = refl
+its (devices.Reader Second) side sides = refl
 
 others : (device : Device) (side : SideOf device) (sides : Sides) (other : Device)
     → (other ≡ device → ⊥) → side_in (with_side device side sides) other ≡ side_in sides other
 others devices.Changer side sides devices.Changer not = absurd (not refl)
 others devices.Bill side sides devices.Bill not = absurd (not refl)
-others devices.Cashless side sides devices.Cashless not = absurd (not refl)
-others devices.Cashless2 side sides devices.Cashless2 not = absurd (not refl)
+others (devices.Reader First) side sides (devices.Reader First) not = absurd (not refl)
+others (devices.Reader Second) side sides (devices.Reader Second) not = absurd (not refl)
 others _ side sides _ not = refl
 
 -- The side of the device that an arm is of goes on.
@@ -144,3 +148,37 @@ front-fits count old act mid d limit within front on =
     subst (λ (s : SideOf device). IsTableWithin limit s.table)
     (sym (front-next SideOf (FollowsOf act) count (side_in old) (side_in mid) d within front))
     (on device)
+
+-- the decimal places that the facts of a device have
+abbrev pub decimals_in : (device : Device) → FactsOf device → Option ℕ
+decimals_in devices.Changer facts =
+    option_map (λ setup. setup.decimals) (changer_values.facts_in facts).setup
+decimals_in devices.Bill facts =
+    option_map (λ setup. setup.decimals) (bill_values.facts_in facts).setup
+decimals_in (devices.Reader unit) facts =
+    option_map (λ config. config.decimals) (reader_values.facts_in facts).config
+
+decimals-are : (device : Device) (facts : FactsOf device) (acts : List Act)
+    → stands_for device facts acts → decimals_in device facts ≡ decimals_of device acts
+decimals-are devices.Changer facts acts =
+    ap (λ known. option_map (λ setup. setup.decimals) known.setup)
+decimals-are devices.Bill facts acts =
+    ap (λ known. option_map (λ setup. setup.decimals) known.setup)
+decimals-are (devices.Reader unit) facts acts =
+    ap (λ known. option_map (λ config. config.decimals) known.config)
+
+-- what is told of the device that an arm is of: its decimal places, and the ranges of its sums
+pub decimals-at : (device which : Device) (sides : Sides) (found : Option ℕ) → device ≡ which
+    → found ≡ decimals_in which (side_in sides which).facts → (acts : List Act)
+    → AreSides sides acts → found ≡ decimals_of device acts
+decimals-at device which sides found is known acts on =
+    known ∙ decimals-are which (side_in sides which).facts acts (on which).facts
+    ∙ ap (λ d. decimals_of d acts) (sym is)
+
+pub ranges-at : (device which : Device) (sides : Sides) (cell : Cell) → device ≡ which
+    → ((acts : List Act) → IsSideOf which (side_in sides which) acts
+    → IsCell (ArrivesAnywhere (Arrives (machine_of which) acts)) cell) → (acts : List Act)
+    → AreSides sides acts → IsCell (ArrivesAnywhere (Arrives (machine_of device) acts)) cell
+ranges-at device which sides cell is known acts on =
+    subst (λ d. IsCell (ArrivesAnywhere (Arrives (machine_of d) acts)) cell) (sym is)
+    (known acts (on which))

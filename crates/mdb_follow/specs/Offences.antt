@@ -39,8 +39,7 @@ HasNoStep {State} machine act before =
 abbrev pub rule_of : Device → Rule
 rule_of devices.Changer = rules.Changer
 rule_of devices.Bill = rules.Bill
-rule_of devices.Cashless = rules.Cashless
-rule_of devices.Cashless2 = rules.Cashless
+rule_of (devices.Reader unit) = rules.Cashless
 
 -- The machine of a device that a rule is of has no step by an act.
 pub record NoStep (broken : Rule) (act : Act) (before : List Act) : Type 0 where

@@ -32,30 +32,25 @@ pub record IsSide {Facts State : Type 0} {N : ℕ} (stands_for : Facts → List 
 abbrev pub FactsOf : Device → Type 0
 FactsOf devices.Changer = changer_values.Value
 FactsOf devices.Bill = bill_values.Value
-FactsOf devices.Cashless = ReaderFacts
-FactsOf devices.Cashless2 = ReaderFacts
+FactsOf (devices.Reader unit) = ReaderFacts
 
 abbrev pub stands_for : (device : Device) → FactsOf device → List Act → Type 0
 stands_for devices.Changer facts acts =
     changer_values.facts_in facts ≡ changer_facts.facts_of acts
 stands_for devices.Bill facts acts = bill_values.facts_in facts ≡ bill_facts.facts_of acts
-stands_for devices.Cashless facts acts =
-    reader_values.facts_in facts ≡ reader_facts.facts_of First acts
-stands_for devices.Cashless2 facts acts =
-    reader_values.facts_in facts ≡ reader_facts.facts_of Second acts
+stands_for (devices.Reader unit) facts acts =
+    reader_values.facts_in facts ≡ reader_facts.facts_of unit acts
 
 -- how many states its machine has, and their codes
 abbrev pub codes_of : Device → ℕ
 codes_of devices.Changer = 4
 codes_of devices.Bill = 66
-codes_of devices.Cashless = 176
-codes_of devices.Cashless2 = 176
+codes_of (devices.Reader unit) = 176
 
 abbrev pub code_of : (device : Device) → StateOf device → ℕ
 code_of devices.Changer = changer_codes.code_of
 code_of devices.Bill = bill_codes.code_of
-code_of devices.Cashless = reader_codes.code_of
-code_of devices.Cashless2 = reader_codes.code_of
+code_of (devices.Reader unit) = reader_codes.code_of
 
 -- what a follower keeps of a device, and that it stands for acts
 abbrev pub SideOf : Device → Type 0
@@ -69,8 +64,8 @@ IsSideOf device side acts =
 abbrev pub side_in : Sides → (device : Device) → SideOf device
 side_in sides devices.Changer = sides.changer
 side_in sides devices.Bill = sides.bill
-side_in sides devices.Cashless = sides.cashless
-side_in sides devices.Cashless2 = sides.cashless2
+side_in sides (devices.Reader First) = sides.first_reader
+side_in sides (devices.Reader Second) = sides.second_reader
 
 -- each side stands for acts
 abbrev pub AreSides : Sides → List Act → Type 0

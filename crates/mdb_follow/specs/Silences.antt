@@ -9,7 +9,6 @@ use Rattle.mdb_words.specs.Event.{start_of}
 use Rattle.mdb_msgs.specs.declared.command.Device.{Device}
 use Rattle.mdb_msgs.specs.declared.command.Device.TheVariants as devices
 use Rattle.mdb_msgs.specs.declared.command.ReaderUnit.{ReaderUnit}
-use Rattle.mdb_msgs.specs.declared.command.ReaderUnit.TheVariants.{First, Second}
 use Rattle.mdb_msgs.specs.Commands.{device_of}
 use Rattle.mdb_bus.specs.declared.act.Act.{Act}
 use Rattle.mdb_bus.specs.declared.act.Act.TheVariants as acts
@@ -32,8 +31,7 @@ response_time_of unit acts =
 abbrev pub limit_of : Device → List Act → ℕ
 limit_of devices.Changer acts = CHANGER_SILENCE_MAX
 limit_of devices.Bill acts = BILL_SILENCE_MAX
-limit_of devices.Cashless acts = reader_limit (response_time_of First acts)
-limit_of devices.Cashless2 acts = reader_limit (response_time_of Second acts)
+limit_of (devices.Reader unit) acts = reader_limit (response_time_of unit acts)
 
 -- whether an act asks a device
 abbrev pub asks : Device → Act → Bool

@@ -3,7 +3,7 @@
 ghost use Rattle.std.specs.Prelude.{◌≡◌, ◌<◌};
 ghost use Rattle.mdb_follow.specs.Devices as spec;
 
-use mdb_msgs::Device;
+use mdb_msgs::{Device, ReaderUnit};
 
 /// The place of a device in `Report::DEVICES`, from 0.
 pub(crate) fn device_place(device: Device) -> usize
@@ -13,7 +13,7 @@ pub(crate) fn device_place(device: Device) -> usize
     match device {
         Device::Changer => 0,
         Device::Bill => 1,
-        Device::Cashless => 2,
-        Device::Cashless2 => 3,
+        Device::Reader(ReaderUnit::First) => 2,
+        Device::Reader(ReaderUnit::Second) => 3,
     }
 }

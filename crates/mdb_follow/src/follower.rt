@@ -9,11 +9,11 @@ ghost use Rattle.mdb_follow.specs.Senders as spec;
 ghost use Rattle.mdb_follow.specs.inner.SideSteps.{AreWithin};
 ghost use Rattle.mdb_follow.specs.inner.SilenceSteps.{AreFew};
 
-use crate::sides::{Cashless, Cashless2, Sides};
+use crate::sides::Sides;
 use crate::silence::Silences;
-use crate::{Offence, Report, laws, side};
+use crate::{Offence, Report, laws};
 use mdb_bus::{Act, Blame, Bus, LinkFault, laws as bus_laws};
-use mdb_cash::{Bill, Changer};
+use mdb_msgs::{Device, ReaderUnit};
 use mdb_words::{Event, Time};
 
 /// The most rows of a recording (this profile).
@@ -227,18 +227,18 @@ impl Follower {
         match self.offence {
             Some(offence) => Err(offence),
             None => {
-                let changer = side::ranges::<Changer, _>(&self.sides.changer);
-                let bill = side::ranges::<Bill, _>(&self.sides.bill);
-                let cashless = side::ranges::<Cashless, _>(&self.sides.cashless);
-                let cashless2 = side::ranges::<Cashless2, _>(&self.sides.cashless2);
+                let changer = self.sides.ranges(Device::Changer);
+                let bill = self.sides.ranges(Device::Bill);
+                let first_reader = self.sides.ranges(Device::Reader(ReaderUnit::First));
+                let second_reader = self.sides.ranges(Device::Reader(ReaderUnit::Second));
                 let accounts = [
                     changer.first,
                     bill.first,
                     changer.second,
-                    cashless.first,
-                    cashless.second,
-                    cashless2.first,
-                    cashless2.second,
+                    first_reader.first,
+                    first_reader.second,
+                    second_reader.first,
+                    second_reader.second,
                 ];
                 Ok(Report::of(self.rows, accounts, &self.sides, &self.silences))
             }

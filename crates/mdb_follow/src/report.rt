@@ -4,7 +4,7 @@ use crate::devices::device_place;
 use crate::sides::Sides;
 use crate::silence::Silences;
 use crate::{Account, AccountName};
-use mdb_msgs::Device;
+use mdb_msgs::{Device, ReaderUnit};
 
 /// What rows that can have been tell.
 #[derive(Clone, Copy, PartialEq, Eq, Debug)]
@@ -36,8 +36,8 @@ impl Report {
     pub const DEVICES: [Device; 4] = [
         Device::Changer,
         Device::Bill,
-        Device::Cashless,
-        Device::Cashless2,
+        Device::Reader(ReaderUnit::First),
+        Device::Reader(ReaderUnit::Second),
     ];
 
     /// The report of so many rows, with what the accounts come to, in the order of

@@ -2,32 +2,36 @@
 
 ghost use Rattle.std.specs.Prelude.{◌≡◌, ◌^◌, List, [], IfOk, IfErr};
 ghost use Rattle.mdb_bus.specs.declared.act.Act.{Act};
+ghost use Rattle.mdb_follow.specs.Arrivals.{Arrives};
+ghost use Rattle.mdb_follow.specs.Machines.{machine_of};
+ghost use Rattle.mdb_follow.specs.Ranges.{IsCell};
 ghost use Rattle.mdb_follow.specs.Report.{decimals_of};
+ghost use Rattle.mdb_follow.specs.Tables.{ArrivesAnywhere};
 ghost use Rattle.mdb_follow.specs.Sides.{AreSides};
 ghost use Rattle.mdb_follow.specs.inner.SideSteps.{AreWithin, IsWithin, OneFollows, SidesFollow, SidesStop, Stops};
 
-use crate::Report;
+use crate::{Cell, Report};
 use crate::owner::{Owner, owner_of};
 use crate::side::{self, Side};
 use mdb_bus::{Act, Rule};
 use mdb_cash::{Bill, BillFacts, Changer, ChangerFacts};
 use mdb_cashless::{Reader, ReaderFacts};
-use mdb_msgs::Device;
+use mdb_msgs::{Device, ReaderUnit};
 
 /// The reader at 10H.
-pub(crate) type Cashless = Reader<0>;
+type FirstReader = Reader<0>;
 
 /// The reader at 60H.
-pub(crate) type Cashless2 = Reader<1>;
+type SecondReader = Reader<1>;
 
 /// The sides that are followed, each a device and the controller. The size of each is the number of
 /// states.
 #[derive(Drop)]
 pub(crate) struct Sides {
-    pub(crate) changer: Side<ChangerFacts, 4>,
-    pub(crate) bill: Side<BillFacts, 66>,
-    pub(crate) cashless: Side<ReaderFacts, 176>,
-    pub(crate) cashless2: Side<ReaderFacts, 176>,
+    changer: Side<ChangerFacts, 4>,
+    bill: Side<BillFacts, 66>,
+    pub(crate) first_reader: Side<ReaderFacts, 176>,
+    pub(crate) second_reader: Side<ReaderFacts, 176>,
 }
 
 impl Sides {
@@ -39,8 +43,8 @@ impl Sides {
         Sides {
             changer: side::start::<Changer, _>(),
             bill: side::start::<Bill, _>(),
-            cashless: side::start::<Cashless, _>(),
-            cashless2: side::start::<Cashless2, _>(),
+            first_reader: side::start::<FirstReader, _>(),
+            second_reader: side::start::<SecondReader, _>(),
         }
     }
 
@@ -93,12 +97,14 @@ impl Sides {
         match device {
             Device::Changer => side::follow::<Changer, _>(&mut self.changer, act, Rule::Changer),
             Device::Bill => side::follow::<Bill, _>(&mut self.bill, act, Rule::Bill),
-            Device::Cashless => {
-                side::follow::<Cashless, _>(&mut self.cashless, act, Rule::Cashless)
-            }
-            Device::Cashless2 => {
-                side::follow::<Cashless2, _>(&mut self.cashless2, act, Rule::Cashless)
-            }
+            Device::Reader(unit) => match unit {
+                ReaderUnit::First => {
+                    side::follow::<FirstReader, _>(&mut self.first_reader, act, Rule::Cashless)
+                }
+                ReaderUnit::Second => {
+                    side::follow::<SecondReader, _>(&mut self.second_reader, act, Rule::Cashless)
+                }
+            },
         }
     }
 
@@ -109,8 +115,25 @@ impl Sides {
         match device {
             Device::Changer => self.changer.facts.decimals(),
             Device::Bill => self.bill.facts.decimals(),
-            Device::Cashless => self.cashless.facts.decimals(),
-            Device::Cashless2 => self.cashless2.facts.decimals(),
+            Device::Reader(unit) => match unit {
+                ReaderUnit::First => self.first_reader.facts.decimals(),
+                ReaderUnit::Second => self.second_reader.facts.decimals(),
+            },
+        }
+    }
+
+    /// What the sums of a device's accounts may be, whatever its state is.
+    pub(crate) fn ranges(&self, device: Device) -> Cell
+        ensures { (acts : List Act) → AreSides self.now acts
+            → IsCell (ArrivesAnywhere (Arrives (machine_of device) acts)) result }
+    {
+        match device {
+            Device::Changer => side::ranges::<Changer, _>(&self.changer),
+            Device::Bill => side::ranges::<Bill, _>(&self.bill),
+            Device::Reader(unit) => match unit {
+                ReaderUnit::First => side::ranges::<FirstReader, _>(&self.first_reader),
+                ReaderUnit::Second => side::ranges::<SecondReader, _>(&self.second_reader),
+            },
         }
     }
 }

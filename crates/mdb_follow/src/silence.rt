@@ -14,7 +14,7 @@ use crate::devices::device_place;
 use crate::sides::Sides;
 use mdb_bus::Act;
 use mdb_cashless::ReaderFacts;
-use mdb_msgs::Device;
+use mdb_msgs::{Device, ReaderUnit};
 use mdb_words::Time;
 
 /// Longest time that the changer may be silent (MDB/ICP 4.3, coin changer: non-response time).
@@ -155,8 +155,10 @@ fn limit_in(sides: &Sides, device: Device) -> u64
     match device {
         Device::Changer => CHANGER_SILENCE_MAX,
         Device::Bill => BILL_SILENCE_MAX,
-        Device::Cashless => reader_limit(&sides.cashless.facts),
-        Device::Cashless2 => reader_limit(&sides.cashless2.facts),
+        Device::Reader(unit) => match unit {
+            ReaderUnit::First => reader_limit(&sides.first_reader.facts),
+            ReaderUnit::Second => reader_limit(&sides.second_reader.facts),
+        },
     }
 }
 

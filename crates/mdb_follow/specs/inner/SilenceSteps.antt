@@ -9,6 +9,7 @@ use Rattle.mdb_follow.specs.declared.sides.Sides.{Sides}
 use Rattle.mdb_follow.specs.declared.silence.Silence.{Silence}
 use Rattle.mdb_follow.specs.declared.silence.Silences.{Silences}
 use Rattle.mdb_follow.specs.declared.silence.TheConstants.{CHANGER_SILENCE_MAX, BILL_SILENCE_MAX}
+use Rattle.mdb_follow.specs.Sides.{side_in}
 use Rattle.mdb_follow.specs.Silences.{TimedAsk, asks, ends_asking, reader_limit, with_ask}
 use Rattle.mdb_follow.specs.SilencesKept.{StandsForAsks, silence_in}
 use Rattle.mdb_follow.specs.inner.ByDevice.{OneGoes}
@@ -21,8 +22,7 @@ limit_by facts =
 abbrev pub limit_in : Sides → Device → ℕ
 limit_in sides devices.Changer = CHANGER_SILENCE_MAX
 limit_in sides devices.Bill = BILL_SILENCE_MAX
-limit_in sides devices.Cashless = limit_by sides.cashless.facts
-limit_in sides devices.Cashless2 = limit_by sides.cashless2.facts
+limit_in sides (devices.Reader unit) = limit_by (side_in sides (devices.Reader unit)).facts
 
 -- the ask of a device, of whose words the last started at a time
 abbrev pub ask_in : Sides → ℕ → Device → TimedAsk
