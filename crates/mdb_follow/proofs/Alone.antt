@@ -66,7 +66,7 @@ alone-within limit number codes cell one other after size one_below other_below 
     (within-with_moves limit [] cell led.0 kept.1 is
     (All-nil (λ entry. IsCellWithin (limit + 2 ^ 32) entry.1)))
 
--- what arrives behind one act more is what the steps from the only entry lead to
+-- what arrives after one act more is what the steps from the only entry lead to
 pub alone-led : {State : Type 0} (device : Device) (code_of : State → ℕ)
     (machine : Machine State)
     (act : Act) (acts : List Act) (number codes : ℕ)

@@ -66,7 +66,7 @@ last-is [] row = refl
 last-is (event ∷ []) row = refl
 last-is (event ∷ next ∷ events) row = last-is (next ∷ events) row
 
--- the lists behind a whole act
+-- the lists after a whole act
 whole-asks : (device : Device) (newest : Piece) (earlier : List Piece) (begun : List Event)
     (row : Event) (act : Act) → piece_events newest ≡ begun ++ row ∷ []
     → act_in newest ≡ Some act → asks_of device (newest ∷ earlier)
@@ -122,14 +122,14 @@ pub asks-go-on : (device : Device) (pieces : List Piece) (row : Event) (act : Ac
     (asks_of device pieces) ≡ asks_of device longer
 asks-go-on device pieces row act longer sides grown on =
     let at = start_of row in
-    let behind : ℕ → List (List TimedAsk) → List (List TimedAsk) = λ limit lists.
+    let later : ℕ → List (List TimedAsk) → List (List TimedAsk) = λ limit lists.
     asks_after device act (record { at = at; limit = limit }) lists in
-    ap (λ limit. behind limit (asks_of device pieces))
+    ap (λ limit. later limit (asks_of device pieces))
     (sym (limit-is device sides (act ∷ acts_of pieces) on))
     ∙ sym (same-limit device act (acts_of pieces) at (asks_of device pieces))
-    ∙ ap (λ acts. behind (limit_of device acts) (asks_of device pieces))
+    ∙ ap (λ acts. later (limit_of device acts) (asks_of device pieces))
     (sym (earlier-acts pieces row (Some act) longer grown))
-    ∙ ap (behind (limit_of device (acts_of grown.earlier)))
+    ∙ ap (later (limit_of device (acts_of grown.earlier)))
     (sym (earlier-asks device pieces row (Some act) longer grown))
     ∙ sym (whole-asks device grown.newest grown.earlier grown.begun row act grown.events
     grown.ends)

@@ -216,7 +216,7 @@ whole-piece (AskTail bytes rows) act events ends same = absurd (cc ends)
 whole-piece (ReplyTail command bytes rows) act events ends same = absurd (cc ends)
 whole-piece (RepeatTail command reply words rows) act events ends same = absurd (cc ends)
 
--- the acts behind the same act
+-- the acts after the same act
 last-alike : (act : Act) (acts more : List Act) → act ∷ acts ≡ act ∷ more → acts ≡ more
 last-alike act acts more same = cc same
 

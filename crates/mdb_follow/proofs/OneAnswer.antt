@@ -111,7 +111,7 @@ pub record BusLaws : Type 0 where
       → HasActList (events_of pieces ++ row ∷ []) → ⊥
   pub goes : GoOnRowByRow
 
--- behind acts of reached rows, and before an act of the next, each device has some way
+-- after acts of reached rows, and before an act of the next, each device has some way
 cut : (more : Option Act) (acts : List Act) (act : Act) (before : List Act)
     → with_act more acts ≡ act ∷ before → SomeArrive acts → SomeArrive before
 cut None acts act before same some = before_last act before (subst SomeArrive same some)

@@ -91,7 +91,7 @@ placed-push entries after places code place cell placed lacks within at made =
             ap (λ e. get_or (slice_set places code place) e.0 0) old
             ∙ get_or-set_other places code (get_or entries k d).0 place 0 other
             ∙ placed.at k d before)
-        | inr behind ↦
+        | inr later ↦
             (let more = length-append entries ((code, cell) ∷ []) in
             let is : k ≡ length entries = omega arith in
             ap (λ n. get_or (slice_set places code place)

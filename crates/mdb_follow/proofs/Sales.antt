@@ -82,7 +82,7 @@ ends_in command reply (ReplyTail c bytes events ∷ pieces) are (inr e) = absurd
 ends_in command reply (RepeatTail c r words events ∷ pieces) are (inl e) = absurd cc
 ends_in command reply (RepeatTail c r words events ∷ pieces) are (inr e) = absurd cc
 
--- each ACK of the controller stands behind the reply that it acknowledges
+-- each ACK of the controller stands after the reply that it acknowledges
 abbrev AcksFit : List Act → Type 0
 AcksFit [] = Unit {0}
 AcksFit (act ∷ so_far) = AcksLastReply act so_far × AcksFit so_far

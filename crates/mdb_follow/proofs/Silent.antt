@@ -14,7 +14,7 @@ first-of : (ask : TimedAsk) (list : List TimedAsk)
 first-of ask [] = (ask, refl)
 first-of ask (earlier ∷ list) = first-of earlier list
 
--- one ask more makes a silence of a list that has asks where it comes behind the deadline
+-- one ask more makes a silence of a list that has asks where it comes after the deadline
 more : (ask : TimedAsk) (list : List TimedAsk) → list ≢ []
     → is_silence (ask ∷ list) ≡ (nat_lt (deadline_of list) ask.at || is_silence list)
 more ask [] some = absurd (some refl)
@@ -106,7 +106,7 @@ in-time silence lists ask time is early on =
       count = on.count ∙ sym (count-same ask lists was.0 (no ∙ sym was.2));
     }
 
--- one that comes behind the deadline makes a silence
+-- one that comes after the deadline makes a silence
 pub too-late : (silence new : Silence) (lists : List (List TimedAsk)) (ask : TimedAsk) (time : ℕ)
     → silence.unanswered ≡ Until time → time < ask.at → new.unanswered ≡ Counted
     → new.count ≡ silence.count + 1 → StandsForAsks silence lists

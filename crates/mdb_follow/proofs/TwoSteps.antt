@@ -42,7 +42,7 @@ two-moves one other move = (
   ],
 )
 
--- the cells of one step are taken in behind those of the other
+-- the cells of one step are taken in after those of the other
 pub with-two : (before middle after : List (ℕ × Cell)) (cell : Cell)
     (one other : Option (ℕ × Gains)) → middle ≡ with_moves before cell (moves_of one)
     → after ≡ with_moves middle cell (moves_of other)

@@ -25,7 +25,7 @@ use Rattle.mdb_follow.proofs.Ends.{cell-joined, cell-same}
 use Rattle.mdb_follow.proofs.Led.{Led}
 use Rattle.mdb_follow.proofs.Listed.{bounds-same, contains-cases, contains-here, contains-none, contains-there}
 
--- The steps from the entries of a table lead to what arrives behind one act more.
+-- The steps from the entries of a table lead to what arrives after one act more.
 pub table-led : {State : Type 0} (code_of : State → ℕ)
     (machine : Machine State)
     (act : Act) (acts : List Act) (from into : List (ℕ × Cell))
@@ -208,7 +208,7 @@ account-start Kind account ranges none only nothing is = record {
       (ap (λ a. pos a.device -ℤ pos a.controller) nothing) (ap (λ r. r.difference) is);
 }
 
--- The table behind no act: the one code of the states in which the machine may start, with no sums.
+-- The table after no act: the one code of the states in which the machine may start, with no sums.
 pub table-start : {State : Type 0} (code_of : State → ℕ) (machine : Machine State) (code : ℕ)
     (cell : Cell) → cell.first ≡ no_account → cell.second ≡ no_account
     → ((state : State) → machine.Starts state ↔ (code_of state ≡ code))

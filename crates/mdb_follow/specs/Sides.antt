@@ -20,7 +20,7 @@ use Rattle.mdb_follow.specs.declared.sides.Sides.{Sides}
 use Rattle.mdb_follow.specs.Machines.{StateOf, machine_of}
 use Rattle.mdb_follow.specs.Tables.{IsTable}
 
--- A side stands for acts, the newest first: its facts are those behind them, and its table has the
+-- A side stands for acts, the newest first: its facts are those after them, and its table has the
 -- states that the ways through them lead to.
 pub record IsSide {Facts State : Type 0} {N : ℕ} (stands_for : Facts → List Act → Type 0)
     (code_of : State → ℕ) (machine : Machine State) (side : Side Facts N)
@@ -28,7 +28,7 @@ pub record IsSide {Facts State : Type 0} {N : ℕ} (stands_for : Facts → List 
   pub facts : stands_for side.facts acts
   pub table : IsTable code_of machine acts side.table
 
--- what is kept of the facts of a device, and that they are those behind acts
+-- what is kept of the facts of a device, and that they are those after acts
 abbrev pub FactsOf : Device → Type 0
 FactsOf devices.Changer = changer_values.Value
 FactsOf devices.Bill = bill_values.Value

@@ -56,7 +56,7 @@ pub record TimedAsk : Type 0 where
   pub at : ℕ
   pub limit : ℕ
 
--- an ask of these words to a device, behind pieces
+-- an ask of these words to a device, after pieces
 abbrev pub timed_ask : Device → List Event → List Piece → TimedAsk
 timed_ask device events pieces =
     record { at = last_start events; limit = limit_of device (acts_of pieces) }

@@ -19,10 +19,10 @@ use mdb_words::{Event, Time};
 /// The most rows of a recording (this profile).
 pub const ROWS_MAX: u64 = 100_000_000;
 
-/// What all that may have happened behind the rows so far comes to.
+/// What all that may have happened in the rows so far comes to.
 ///
 /// It keeps the bus, and of each device the facts, a table of its possible states, and what counts
-/// of its silences; no rows. Behind an offence nothing but the offence is of any matter.
+/// of its silences; no rows. After an offence nothing but the offence is of any matter.
 #[derive(Drop)]
 pub struct Follower {
     bus: Bus,
@@ -145,7 +145,7 @@ impl Follower {
         Ok(())
     }
 
-    /// Takes the next row, behind rows that can be. Answers whether it can be too: where it can't,
+    /// Takes the next row, after rows that can be. Answers whether it can be too: where it can't,
     /// its offence is noted.
     #[inline(always)]
     fn take(&mut self, event: Event) -> bool
@@ -246,7 +246,7 @@ impl Follower {
     }
 }
 
-/// Notes the offence of the row behind so many rows.
+/// Notes the offence of the row after so many rows.
 fn stop(noted: &mut Option<Offence>, rows: u64, fault: LinkFault)
     requires { rows < ROWS_MAX }
     ensures { noted.new ≡ Some (record {

@@ -1,4 +1,5 @@
-//! What all that may have happened comes to.
+//! The follower of a recording: every possible state of each device and the controller, and exact
+//! bounds of what the accounts come to.
 #![tactic(auto)]
 
 mod account_name;
@@ -7,7 +8,6 @@ mod devices;
 mod entries;
 mod follower;
 pub mod laws;
-mod list;
 mod offence;
 mod owner;
 mod range;

@@ -14,7 +14,7 @@ use crate::{Cell, Table};
 use mdb_bus::{Act, Rule};
 use mdb_cash::Pair;
 
-/// A device and the controller, as a follower follows them: what is known behind the acts so far,
+/// A device and the controller, as a follower follows them: what is known after the acts so far,
 /// and the states that are possible now.
 #[derive(Drop)]
 pub(crate) struct Side<F: Drop, const N: usize> {
@@ -22,7 +22,7 @@ pub(crate) struct Side<F: Drop, const N: usize> {
     table: Table<N>,
 }
 
-/// The side behind no act.
+/// The side after no act.
 pub(crate) fn start<P: Pair, const N: usize>() -> Side<P::Facts, N>
     requires { N ≡ P.CODES }
     ensures stands { IsSide P.stands_for P.code_of P.machine result [] }

@@ -10,9 +10,9 @@ ghost use Rattle.mdb_follow.specs.Tables.{ArrivesAnywhere};
 ghost use Rattle.mdb_follow.specs.Sides.{AreSides};
 ghost use Rattle.mdb_follow.specs.inner.SideSteps.{AreWithin, IsWithin, OneFollows, SidesFollow, SidesStop, Stops};
 
-use crate::{Cell, Report};
 use crate::owner::{Owner, owner_of};
 use crate::side::{self, Side};
+use crate::{Cell, Report};
 use mdb_bus::{Act, Rule};
 use mdb_cash::{Bill, BillFacts, Changer, ChangerFacts};
 use mdb_cashless::{Reader, ReaderFacts};
@@ -35,7 +35,7 @@ pub(crate) struct Sides {
 }
 
 impl Sides {
-    /// The sides behind no act.
+    /// The sides after no act.
     pub(crate) fn start() -> Sides
         ensures stands { AreSides result [] }
         ensures within { AreWithin 0 result }

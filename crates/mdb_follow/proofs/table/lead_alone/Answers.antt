@@ -19,7 +19,7 @@ code-is : (entries : List (ℕ × Cell)) (entry d : ℕ × Cell) → entries ≡
     → (get_or entries 0 d).0 ≡ entry.0
 code-is entries entry d only = ap (λ (s : List (ℕ × Cell)). (get_or s 0 d).0) only
 
--- what arrives behind the act
+-- what arrives after the act
 arrives : (g : given.Over) (c : goal.After-lead_only g) (acts : List Act)
     (entry : ℕ × Cell) (after : List (ℕ × Cell)) → g.P.Pair.stands_for c.args.facts.now acts
     → IsTable g.P.Pair.code_of g.P.Pair.machine acts c.args.entries.now
