@@ -1,5 +1,6 @@
 -- What is kept of silences goes on as the lists of asks do: of one device, and of each.
-use Rattle.std.proofs.Common.{refl, ap, subst, sym, inl, inr, ◌∙◌, ◌≡◌, ◌+◌, ◌≤◌, ℕ, Bool, List, arith, length, set, get_or}
+use Rattle.std.proofs.Common.{refl, ap, subst, sym, inl, inr, ◌∙◌, ◌≡◌, ◌+◌, ◌≤◌, ℕ, Bool, List}
+use Rattle.std.proofs.Common.{arith, length, set, get_or}
 use Rattle.std.specs.Prelude.{if◌then◌else◌}
 use Rattle.std.proofs.lemmas.Bool.{eq-eqb, ne_eqb}
 use Rattle.std.proofs.lemmas.Grind.{get_or-set_at}

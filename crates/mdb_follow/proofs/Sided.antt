@@ -1,5 +1,6 @@
 -- Sides go on by an act: the side of one device, those of all, and those that have no part in it.
-use Rattle.std.proofs.Common.{◌≡◌, ◌⊎◌, inl, inr, ◌+◌, ◌^◌, ◌<◌, ◌∙◌, ℕ, List, Option, ap, arith, get_or, refl, subst, sym, Ok, Err, Result, ◌∷◌}
+use Rattle.std.proofs.Common.{◌≡◌, ◌⊎◌, inl, inr, ◌+◌, ◌^◌, ◌<◌, ◌∙◌, ℕ, List, Option, ap, arith}
+use Rattle.std.proofs.Common.{get_or, refl, subst, sym, Ok, Err, Result, ◌∷◌}
 use Rattle.std.specs.Prelude.{IfErr, IfOk, OnErr, option_map}
 use Rattle.mdb_msgs.specs.declared.command.Device.{Device}
 use Rattle.mdb_msgs.specs.declared.command.Device.TheVariants as devices
@@ -21,10 +22,12 @@ use Rattle.mdb_follow.specs.Machines.{machine_of}
 use Rattle.mdb_follow.specs.Offences.{HasNoStep, rule_of}
 use Rattle.mdb_follow.specs.Ranges.{IsCell}
 use Rattle.mdb_follow.specs.Report.{decimals_of}
-use Rattle.mdb_follow.specs.Sides.{AreSides, FactsOf, IsSideOf, SideOf, code_of, side_in, stands_for}
+use Rattle.mdb_follow.specs.Sides.{AreSides, FactsOf, IsSideOf, SideOf, code_of, side_in}
+use Rattle.mdb_follow.specs.Sides.{stands_for}
 use Rattle.mdb_follow.specs.Tables.{ArrivesAnywhere}
 use Rattle.mdb_follow.specs.inner.Limits.{IsTableWithin}
-use Rattle.mdb_follow.specs.inner.SideSteps.{AreWithin, FollowsOf, IsWithin, OneFollows, SidesFollow, SidesStop, Stops}
+use Rattle.mdb_follow.specs.inner.SideSteps.{AreWithin, FollowsOf, IsWithin, OneFollows}
+use Rattle.mdb_follow.specs.inner.SideSteps.{SidesFollow, SidesStop, Stops}
 use Rattle.mdb_follow.proofs.ByDevice.{Front, front-next, same_or_not}
 use Rattle.mdb_follow.proofs.Limits.{table-within-weaker}
 use Rattle.mdb_follow.proofs.Machines.{is_machine_of}

@@ -1,5 +1,6 @@
 -- What is kept of silences goes on with an ask that finds one unanswered.
-use Rattle.std.proofs.Common.{refl, ap, sym, subst, ◌∙◌, ◌≡◌, ◌≢◌, ◌<◌, ◌≤◌, ◌+◌, ℕ, Bool, true, false, nat_lt, ◌||◌, cond, List, [], ◌∷◌, Option, Some, None, arith}
+use Rattle.std.proofs.Common.{refl, ap, sym, subst, ◌∙◌, ◌≡◌, ◌≢◌, ◌<◌, ◌≤◌, ◌+◌, ℕ, Bool, true}
+use Rattle.std.proofs.Common.{false, nat_lt, ◌||◌, cond, List, [], ◌∷◌, Option, Some, None, arith}
 use Rattle.std.proofs.lemmas.Bool.{lt-ltb, le-ltb}
 use Rattle.std.proofs.lemmas.List.Sums.{sum_by-cons}
 use Rattle.std.specs.List.{count_by, list_any}
@@ -101,8 +102,11 @@ in-time silence lists ask time is early on =
     ∙ ap (λ b. b || false) (le-ltb time ask.at early) in
     record {
       unanswered = subst (λ u. IsUnanswered u (newest_list (with_ask ask lists))) (sym is)
-          (subst (λ list. IsUnanswered (Until time) list) (sym (newest-with ask lists))
-          (some-ask ask (newest_list lists), was.1 ∙ sym (same-deadline ask (newest_list lists) was.0), no));
+          (subst (λ list. IsUnanswered (Until time) list) (sym (newest-with ask lists)) (
+            some-ask ask (newest_list lists),
+            was.1 ∙ sym (same-deadline ask (newest_list lists) was.0),
+            no,
+          ));
       count = on.count ∙ sym (count-same ask lists was.0 (no ∙ sym was.2));
     }
 

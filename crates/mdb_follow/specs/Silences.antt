@@ -2,7 +2,8 @@
 -- a later ask shows it: a device that is asked once and never again isn't counted (limits, MDB/ICP
 -- 4.3; what counts, this profile). Pieces stand newest first, and so do lists of asks and the asks
 -- in a list.
-use Rattle.std.specs.Prelude.{ℕ, ◌+◌, ◌*◌, max, nat_lt, count_by, option_map, Bool, true, false, List, [], ◌∷◌, Option, Some, None, if◌then◌else◌}
+use Rattle.std.specs.Prelude.{ℕ, ◌+◌, ◌*◌, max, nat_lt, count_by, option_map, Bool, true, false}
+use Rattle.std.specs.Prelude.{List, [], ◌∷◌, Option, Some, None, if◌then◌else◌}
 use Rattle.std.specs.List.{list_any}
 use Rattle.mdb_words.specs.declared.event.Event.{Event}
 use Rattle.mdb_words.specs.Event.{start_of}
@@ -15,7 +16,8 @@ use Rattle.mdb_bus.specs.declared.act.Act.TheVariants as acts
 use Rattle.mdb_bus.specs.ActLists.{Piece, Whole, acts_of, last_of}
 use Rattle.mdb_cashless.specs.ReaderFacts as reader_facts
 use Rattle.mdb_follow.specs.Devices.{same_device}
-use Rattle.mdb_follow.specs.declared.silence.TheConstants.{CHANGER_SILENCE_MAX, BILL_SILENCE_MAX, READER_SILENCE_MAX, MICROS_PER_SECOND}
+use Rattle.mdb_follow.specs.declared.silence.TheConstants.{CHANGER_SILENCE_MAX, BILL_SILENCE_MAX}
+use Rattle.mdb_follow.specs.declared.silence.TheConstants.{READER_SILENCE_MAX, MICROS_PER_SECOND}
 
 -- how long a reader may be silent, by the response time (Z7, in seconds) that it has told
 abbrev pub reader_limit : Option ℕ → ℕ

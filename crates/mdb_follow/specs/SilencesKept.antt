@@ -1,5 +1,6 @@
 -- What is kept of silences: of the asks of a device, what counts for those to come.
-use Rattle.std.specs.Prelude.{◌≡◌, ◌≢◌, ◌+◌, ℕ, count_by, true, false, List, [], ◌∷◌, Some, None, get_or}
+use Rattle.std.specs.Prelude.{◌≡◌, ◌≢◌, ◌+◌, ℕ, count_by, true, false, List, [], ◌∷◌, Some, None}
+use Rattle.std.specs.Prelude.{get_or}
 use Rattle.mdb_msgs.specs.declared.command.Device.{Device}
 use Rattle.mdb_follow.specs.declared.silence.Silence.{Silence}
 use Rattle.mdb_follow.specs.declared.silence.Silences.{Silences}

@@ -1,6 +1,8 @@
 //! The follower of a recording: every possible state of each device and the controller.
 
-ghost use Rattle.std.specs.Prelude.{◌≡◌, ◌<◌, ◌≤◌, ◌+◌, ◌*◌, ◌^◌, List, [], ◌∷◌, ◌++◌, ℕ, length, Some, None, Err, IfSome, IfOk, IfErr, IsOk, IsSome, IsSomeAnd, OnErr};
+ghost use Rattle.std.specs.Prelude.{◌≡◌, ◌<◌, ◌≤◌, ◌+◌, ◌*◌, ◌^◌, List, [], ◌∷◌, ◌++◌, ℕ, length};
+ghost use Rattle.std.specs.Prelude.{Some, None, Err, IfSome, IfOk, IfErr, IsOk, IsSome, IsSomeAnd};
+ghost use Rattle.std.specs.Prelude.{OnErr};
 ghost use Rattle.std.specs.Bool.{OnFalse, OnTrue};
 ghost use Rattle.std.specs.Option.{ForNone, ForSome, IfNone};
 ghost use Rattle.mdb_words.specs.declared.event.Event.{Event};

@@ -27,7 +27,8 @@ impl Report {
     ghost use Rattle.mdb_follow.specs.declared.account_name.AccountName.{AccountName};
     ghost use Rattle.mdb_follow.specs.declared.account_name.TheConstants.AccountName.{ALL};
     ghost use Rattle.mdb_follow.specs.declared.cell.Account.{Account};
-    ghost use Rattle.mdb_follow.specs.Report.{account_of, device_decimals, device_silences, report_of};
+    ghost use Rattle.mdb_follow.specs.Report.{account_of, device_decimals, device_silences};
+    ghost use Rattle.mdb_follow.specs.Report.{report_of};
     ghost use Rattle.mdb_follow.specs.Sides.{AreSides};
     ghost use Rattle.mdb_follow.specs.Silences.{asks_of};
     ghost use Rattle.mdb_follow.specs.SilencesKept.{AllStandForAsks};

@@ -8,7 +8,8 @@ ghost use Rattle.mdb_follow.specs.Ranges.{IsCell};
 ghost use Rattle.mdb_follow.specs.Report.{decimals_of};
 ghost use Rattle.mdb_follow.specs.Tables.{ArrivesAnywhere};
 ghost use Rattle.mdb_follow.specs.Sides.{AreSides};
-ghost use Rattle.mdb_follow.specs.inner.SideSteps.{AreWithin, IsWithin, OneFollows, SidesFollow, SidesStop, Stops};
+ghost use Rattle.mdb_follow.specs.inner.SideSteps.{AreWithin, IsWithin, OneFollows, SidesFollow};
+ghost use Rattle.mdb_follow.specs.inner.SideSteps.{SidesStop, Stops};
 
 use crate::owner::{Owner, owner_of};
 use crate::side::{self, Side};

@@ -7,7 +7,8 @@ ghost use Rattle.std.specs.Prelude.{◌≡◌, ◌<◌, ◌≤◌, ◌+◌, ◌^
 ghost use Rattle.mdb_follow.specs.Silences.{TimedAsk, with_ask};
 ghost use Rattle.mdb_follow.specs.SilencesKept.{StandsForAsks, silence_in};
 ghost use Rattle.mdb_follow.specs.inner.SilenceSteps as spec;
-ghost use Rattle.mdb_follow.specs.inner.SilenceSteps.{AllGoOn, AreFew, OneGoesOn, SilencesFollow, ask_in, ended, limit_by};
+ghost use Rattle.mdb_follow.specs.inner.SilenceSteps.{AllGoOn, AreFew, OneGoesOn, SilencesFollow};
+ghost use Rattle.mdb_follow.specs.inner.SilenceSteps.{ask_in, ended, limit_by};
 
 use crate::Report;
 use crate::devices::device_place;

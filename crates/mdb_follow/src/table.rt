@@ -1,6 +1,7 @@
 //! The states that are possible now, with what the sums may be.
 
-ghost use Rattle.std.specs.Prelude.{◌≡◌, ◌<◌, ◌+◌, ◌^◌, ◌↔◌, ◌⊎◌, ℕ, List, [], ◌∷◌, All, None, Some, IfSome, length};
+ghost use Rattle.std.specs.Prelude.{◌≡◌, ◌<◌, ◌+◌, ◌^◌, ◌↔◌, ◌⊎◌, ℕ, List, [], ◌∷◌, All, None};
+ghost use Rattle.std.specs.Prelude.{Some, IfSome, length};
 ghost use Rattle.std.specs.Bool.{OnFalse, OnTrue};
 ghost use Rattle.mdb_bus.specs.declared.act.Act.{Act};
 ghost use Rattle.mdb_cash.specs.declared.choice.Choice.TheVariants.{Plain};

@@ -1,6 +1,7 @@
 -- The entries of a table. `AreBelow` stands in what a public `Table` is: its codes are those of
 -- states. The rest, how entries are made, serves private functions.
-use Rattle.std.specs.Prelude.{◌≡◌, ◌==◌, ◌<◌, ◌⊎◌, ◌↔◌, ℕ, List, [], ◌∷◌, All, Contains, Option, Some, None, fold, if◌then◌else◌}
+use Rattle.std.specs.Prelude.{◌≡◌, ◌==◌, ◌<◌, ◌⊎◌, ◌↔◌, ℕ, List, [], ◌∷◌, All, Contains, Option}
+use Rattle.std.specs.Prelude.{Some, None, fold, if◌then◌else◌}
 use Rattle.std.specs.Prelude.{length, slice_index, slice_index_or}
 use Rattle.mdb_bus.specs.declared.act.Act.{Act}
 use Rattle.mdb_cash.specs.declared.choice.Choice.{Choice}
