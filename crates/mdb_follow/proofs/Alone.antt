@@ -1,5 +1,6 @@
 -- A table of one entry, which is led over an act where it stands.
-use Rattle.std.proofs.Common.{◌≡◌, ◌⊎◌, ◌+◌, ◌<◌, ◌^◌, ℕ, Bool, false, true, refl, sym, subst, arith, List, [], ◌∷◌, length, Option, Some, None}
+use Rattle.std.proofs.Common.{◌≡◌, ◌⊎◌, ◌+◌, ◌<◌, ◌^◌, ℕ, Bool, false, true, refl, sym, subst}
+use Rattle.std.proofs.Common.{arith, List, [], ◌∷◌, length, Option, Some, None}
 use Rattle.std.specs.Bool.{OnFalse, OnTrue}
 use Rattle.std.specs.Prelude.{All, Contains, IfSome, ◌↔◌}
 use Rattle.std.proofs.lemmas.List.Elements.{All-nil}
@@ -16,7 +17,8 @@ use Rattle.mdb_follow.specs.Arrivals.{Arrives}
 use Rattle.mdb_follow.specs.inner.Limits.{IsCellWithin, IsTableWithin}
 use Rattle.mdb_follow.specs.Tables.{ArrivesAt, Bounds, IsTable}
 use Rattle.mdb_follow.specs.inner.Entries.{AreBelow, AreMoves, IsKeyed, LeadTo, with_moves}
-use Rattle.mdb_follow.proofs.Led.{Led, keyed-with_moves, led-more, led-none, moves-below, moves-small, within-with_moves}
+use Rattle.mdb_follow.proofs.Led.{Led, keyed-with_moves, led-more, led-none, moves-below}
+use Rattle.mdb_follow.proofs.Led.{moves-small, within-with_moves}
 use Rattle.mdb_follow.proofs.Listed.{contains-here}
 use Rattle.mdb_follow.proofs.TwoSteps.{either-moves, two-moves}
 use Rattle.mdb_follow.proofs.Ways.{table-led}
@@ -66,7 +68,7 @@ alone-within limit number codes cell one other after size one_below other_below 
     (within-with_moves limit [] cell led.0 kept.1 is
     (All-nil (λ entry. IsCellWithin (limit + 2 ^ 32) entry.1)))
 
--- what arrives behind one act more is what the steps from the only entry lead to
+-- what arrives after one act more is what the steps from the only entry lead to
 pub alone-led : {State : Type 0} (device : Device) (code_of : State → ℕ)
     (machine : Machine State)
     (act : Act) (acts : List Act) (number codes : ℕ)
@@ -93,7 +95,8 @@ alone-led {State} device code_of machine act acts number codes entries entry cod
     ↔ IsMove act code_of (machine.Step acts act) entry.0 next gains =
     subst (λ c. (next : ℕ) (gains : Gains) → Contains led.0 (next, gains)
     ↔ IsMove act code_of (machine.Step acts act) c next gains) at
-    (either-moves device act code_of (machine.Step acts act) code one other led.0 one_is sound whole led.1) in
+    (either-moves device act code_of (machine.Step acts act) code one other led.0
+    one_is sound whole led.1) in
     table-led code_of machine act acts (entry ∷ []) after apart table'
     (subst (Bounds (Led (ArrivesAt code_of (Arrives machine acts))
     (IsMove act code_of (machine.Step acts act)) (entry ∷ []))) (sym led.2)
@@ -101,7 +104,8 @@ alone-led {State} device code_of machine act acts number codes entries entry cod
     (IsMove act code_of (machine.Step acts act)) [] entry led.0 []
     (table'.bounds.exact entry.0 entry.1 (contains-here entry [] entry refl)) steps kept.0
     (keyed-none number)
-    (led-none (ArrivesAt code_of (Arrives machine acts)) (IsMove act code_of (machine.Step acts act)))))
+    (led-none (ArrivesAt code_of (Arrives machine acts))
+    (IsMove act code_of (machine.Step acts act)))))
 
 -- no step leads to no entry
 pub lead-none : (cell : Cell) (one other : Option (ℕ × Gains)) → one ≡ None → other ≡ None

@@ -1,5 +1,6 @@
 -- How the lists of asks go on with the pieces, and silences with them.
-use Rattle.std.proofs.Common.{refl, ap, sym, subst, ◌∙◌, ◌≡◌, inl, inr, ℕ, List, [], ◌∷◌, ◌++◌, Option, Some, None}
+use Rattle.std.proofs.Common.{refl, ap, sym, subst, ◌∙◌, ◌≡◌, inl, inr, ℕ, List, [], ◌∷◌, ◌++◌}
+use Rattle.std.proofs.Common.{Option, Some, None}
 use Rattle.std.specs.Prelude.{option_map}
 use Rattle.mdb_words.specs.declared.event.Event.{Event}
 use Rattle.mdb_words.specs.Event.{start_of}
@@ -7,13 +8,13 @@ use Rattle.mdb_msgs.specs.declared.command.Device.{Device}
 use Rattle.mdb_msgs.specs.declared.command.Device.TheVariants as devices
 use Rattle.mdb_bus.specs.declared.act.Act.{Act}
 use Rattle.mdb_bus.specs.declared.act.Act.TheVariants as acts
-use Rattle.mdb_bus.specs.ActLists.{AskTail, IsTail, Piece, RepeatTail, ReplyTail, Whole, act_in, acts_of, last_of, piece_events}
+use Rattle.mdb_bus.specs.ActLists.{AskTail, IsTail, Piece, RepeatTail, ReplyTail, Whole, act_in}
+use Rattle.mdb_bus.specs.ActLists.{acts_of, last_of, piece_events}
 use Rattle.mdb_bus.specs.Bus.{Grown}
 use Rattle.mdb_follow.specs.declared.sides.Sides.{Sides}
-use Rattle.mdb_follow.specs.declared.silence.Silences.{Silences}
 use Rattle.mdb_follow.specs.Sides.{AreSides}
 use Rattle.mdb_follow.specs.Silences.{TimedAsk, asks_of, last_start, limit_of, reader_limit}
-use Rattle.mdb_follow.specs.SilencesKept.{AllStandForAsks, StandsForAsks, asks_behind, limit_in}
+use Rattle.mdb_follow.specs.inner.SilenceSteps.{asks_after, limit_in}
 
 -- tails ask nothing
 tail-asks : (device : Device) (tail : Piece) (pieces : List Piece) → IsTail tail
@@ -67,11 +68,11 @@ last-is [] row = refl
 last-is (event ∷ []) row = refl
 last-is (event ∷ next ∷ events) row = last-is (next ∷ events) row
 
--- the lists behind a whole act
+-- the lists after a whole act
 whole-asks : (device : Device) (newest : Piece) (earlier : List Piece) (begun : List Event)
     (row : Event) (act : Act) → piece_events newest ≡ begun ++ row ∷ []
     → act_in newest ≡ Some act → asks_of device (newest ∷ earlier)
-    ≡ asks_behind device act
+    ≡ asks_after device act
     (record { at = start_of row; limit = limit_of device (acts_of earlier) })
     (asks_of device earlier)
 whole-asks device (Whole one events) earlier begun row act are is =
@@ -79,9 +80,9 @@ whole-asks device (Whole one events) earlier begun row act are is =
     let start : last_start events ≡ start_of row =
     ap last_start are ∙ ap (λ found. elim found [ Some event ↦ start_of event | None ↦ 0 ])
     (last-is begun row) in
-    ap (λ at. asks_behind device one
+    ap (λ at. asks_after device one
     (record { at = at; limit = limit_of device (acts_of earlier) }) (asks_of device earlier)) start
-    ∙ ap (λ one. asks_behind device one
+    ∙ ap (λ one. asks_after device one
     (record { at = start_of row; limit = limit_of device (acts_of earlier) })
     (asks_of device earlier)) same
 whole-asks device (AskTail bytes events) earlier begun row act are is = absurd (cc is)
@@ -91,12 +92,11 @@ whole-asks device (RepeatTail command reply bytes events) earlier begun row act 
 
 -- an ask leaves the limit
 same-limit : (device : Device) (act : Act) (acts : List Act) (at : ℕ) (lists : List (List TimedAsk))
-    → asks_behind device act (record { at = at; limit = limit_of device acts }) lists
-    ≡ asks_behind device act (record { at = at; limit = limit_of device (act ∷ acts) }) lists
+    → asks_after device act (record { at = at; limit = limit_of device acts }) lists
+    ≡ asks_after device act (record { at = at; limit = limit_of device (act ∷ acts) }) lists
 same-limit devices.Changer act acts at lists = refl
 same-limit devices.Bill act acts at lists = refl
-same-limit devices.Cashless (acts.Ask command) acts at lists = refl
-same-limit devices.Cashless2 (acts.Ask command) acts at lists = refl
+same-limit (devices.Reader unit) (acts.Ask command) acts at lists = refl
 same-limit device (acts.Ack command) acts at lists = refl
 same-limit device (acts.Nak command) acts at lists = refl
 same-limit device (acts.Reply command reply) acts at lists = refl
@@ -109,44 +109,30 @@ same-limit device (acts.Break length) acts at lists = refl
 
 -- sides have the limits of their acts
 limit-is : (device : Device) (sides : Sides) (acts : List Act) → AreSides sides acts
-    → limit_of device acts ≡ limit_in device sides
+    → limit_of device acts ≡ limit_in sides device
 limit-is devices.Changer sides acts on = refl
 limit-is devices.Bill sides acts on = refl
-limit-is devices.Cashless sides acts on =
+limit-is (devices.Reader unit) sides acts on =
     ap (λ facts. reader_limit (option_map (λ config. config.response) facts.config))
-    (sym on.cashless.facts)
-limit-is devices.Cashless2 sides acts on =
-    ap (λ facts. reader_limit (option_map (λ config. config.response) facts.config))
-    (sym on.cashless2.facts)
+    (sym (on (devices.Reader unit)).facts)
 
 -- an act, and the lists go on by it
 pub asks-go-on : (device : Device) (pieces : List Piece) (row : Event) (act : Act)
     (longer : List Piece) (sides : Sides) → Grown pieces row (Some act) longer
     → AreSides sides (act ∷ acts_of pieces)
-    → asks_behind device act (record { at = start_of row; limit = limit_in device sides })
+    → asks_after device act (record { at = start_of row; limit = limit_in sides device })
     (asks_of device pieces) ≡ asks_of device longer
 asks-go-on device pieces row act longer sides grown on =
     let at = start_of row in
-    let behind : ℕ → List (List TimedAsk) → List (List TimedAsk) = λ limit lists.
-    asks_behind device act (record { at = at; limit = limit }) lists in
-    ap (λ limit. behind limit (asks_of device pieces))
+    let later : ℕ → List (List TimedAsk) → List (List TimedAsk) = λ limit lists.
+    asks_after device act (record { at = at; limit = limit }) lists in
+    ap (λ limit. later limit (asks_of device pieces))
     (sym (limit-is device sides (act ∷ acts_of pieces) on))
     ∙ sym (same-limit device act (acts_of pieces) at (asks_of device pieces))
-    ∙ ap (λ acts. behind (limit_of device acts) (asks_of device pieces))
+    ∙ ap (λ acts. later (limit_of device acts) (asks_of device pieces))
     (sym (earlier-acts pieces row (Some act) longer grown))
-    ∙ ap (behind (limit_of device (acts_of grown.earlier)))
+    ∙ ap (later (limit_of device (acts_of grown.earlier)))
     (sym (earlier-asks device pieces row (Some act) longer grown))
     ∙ sym (whole-asks device grown.newest grown.earlier grown.begun row act grown.events
     grown.ends)
     ∙ ap (asks_of device) (sym grown.are)
-
--- silences of some lists are those of lists that are the same
-pub same-silences : (silences : Silences) (one other : Device → List (List TimedAsk))
-    → ((device : Device) → one device ≡ other device) → AllStandForAsks silences one
-    → AllStandForAsks silences other
-same-silences silences one other same are = record {
-  changer = subst (StandsForAsks silences.changer) (same devices.Changer) are.changer;
-  bill = subst (StandsForAsks silences.bill) (same devices.Bill) are.bill;
-  cashless = subst (StandsForAsks silences.cashless) (same devices.Cashless) are.cashless;
-  cashless2 = subst (StandsForAsks silences.cashless2) (same devices.Cashless2) are.cashless2;
-}

@@ -112,7 +112,8 @@ in-slices fronts earlier [] (Err offence) told =
     not_empty told.front told.row told.rest told.parts
 in-slices fronts earlier (slice ∷ slices) (Ok report) told =
     let longer : IsReport ((earlier ++ slice) ++ joined slices) report
-    = subst (λ rows. IsReport rows report) (sym (append_assoc earlier slice (joined slices))) told in (
+    = subst (λ rows. IsReport rows report)
+    (sym (append_assoc earlier slice (joined slices))) told in (
       fronts (earlier ++ slice) (joined slices) longer.reached,
       in-slices fronts (earlier ++ slice) slices (Ok report) longer,
     )

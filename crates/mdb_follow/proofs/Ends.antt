@@ -1,5 +1,6 @@
 -- Ranges of sums of one kind and another, and of sums that a step added to.
-use Rattle.std.proofs.Common.{◌≡◌, ◌⊎◌, inl, inr, ℕ, ◌+◌, ◌≤◌, ◌<◌, ◌^◌, refl, sym, ◌∙◌, ap, arith, cond, true, false}
+use Rattle.std.proofs.Common.{◌≡◌, ◌⊎◌, inl, inr, ℕ, ◌+◌, ◌≤◌, ◌<◌, ◌^◌, refl, sym, ◌∙◌, ap, arith}
+use Rattle.std.proofs.Common.{cond, true, false}
 use Rattle.std.specs.Prelude.{ℤ, pos, neg_ℤ, ◌+ℤ◌, ◌≤ℤ◌}
 use Rattle.std.specs.Int.{int_max, int_min}
 use Rattle.std.specs.Int.RustNames.{int_lt}
@@ -9,7 +10,8 @@ use Rattle.mdb_cash.specs.Gains.{IsSmall}
 use Rattle.mdb_follow.specs.declared.range.Range.{Range}
 use Rattle.mdb_follow.specs.declared.cell.Account.{Account}
 use Rattle.mdb_follow.specs.declared.cell.Cell.{Cell}
-use Rattle.mdb_follow.specs.inner.Cells.{joined_account, joined_cell, joined_range, moved_account, moved_cell, moved_range}
+use Rattle.mdb_follow.specs.inner.Cells.{joined_account, joined_cell, joined_range, moved_account}
+use Rattle.mdb_follow.specs.inner.Cells.{moved_cell, moved_range}
 use Rattle.mdb_follow.specs.inner.Limits.{IsAccountWithin, IsCellWithin, IsRangeWithin}
 use Rattle.mdb_follow.specs.Ranges.{IsAccount, IsCell, IsRange}
 use Rattle.mdb_follow.specs.Sums.{AccountSums, Sums, added}

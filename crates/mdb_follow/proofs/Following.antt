@@ -1,5 +1,7 @@
 -- What a follower that stands for events goes on to, and what it answers.
-use Rattle.std.proofs.Common.{refl, sym, ap, subst, ◌∙◌, ◌≡◌, inl, inr, ℕ, ℤ, pos, ◌-ℤ◌, ◌+◌, List, [], ◌∷◌, ◌++◌, length, length-append, ◌<◌, ◌≤◌, take, drop, get_or, append_assoc, append-nil, add-one, arith, Option, Some, None}
+use Rattle.std.proofs.Common.{refl, sym, ap, subst, ◌∙◌, ◌≡◌, inl, inr, ℕ, ℤ, pos, ◌-ℤ◌, ◌+◌, List}
+use Rattle.std.proofs.Common.{[], ◌∷◌, ◌++◌, length, length-append, ◌<◌, ◌≤◌, take, drop, get_or}
+use Rattle.std.proofs.Common.{append_assoc, append-nil, add-one, arith, Option, Some, None}
 use Rattle.std.proofs.lemmas.List.{take_all, take_more}
 use Rattle.std.proofs.Math.Seq.{split_at}
 use Rattle.std.specs.Bool.{OnFalse, OnTrue}
@@ -8,18 +10,19 @@ use Rattle.mdb_words.specs.declared.event.Event.{Event}
 use Rattle.mdb_words.specs.Event.{start_of}
 use Rattle.mdb_msgs.specs.declared.command.Device.{Device}
 use Rattle.mdb_msgs.specs.declared.command.Device.TheVariants as devices
-use Rattle.mdb_msgs.specs.declared.command.ReaderUnit.TheVariants.{First, Second}
 use Rattle.mdb_bus.specs.declared.act.Act.{Act}
 use Rattle.mdb_bus.specs.declared.bus.Bus.{Bus}
 use Rattle.mdb_bus.specs.declared.fault.LinkFault.{LinkFault}
 use Rattle.mdb_bus.specs.declared.fault.Rule.{Rule}
-use Rattle.mdb_bus.specs.ActLists.{HasActList, IsActList, Piece, Whole, AskTail, ReplyTail, RepeatTail, act_in, acts_of, events_of, piece_events}
+use Rattle.mdb_bus.specs.ActLists.{HasActList, IsActList, Piece, Whole, AskTail, ReplyTail}
+use Rattle.mdb_bus.specs.ActLists.{RepeatTail, act_in, acts_of, events_of, piece_events}
 use Rattle.mdb_bus.specs.Bus as link
 use Rattle.mdb_bus.specs.Bus.{GoesOn}
 use Rattle.mdb_bus.specs.LinkFaults.{IsLinkFault}
 use Rattle.mdb_cash.specs.Machine.{Machine}
 use Rattle.mdb_follow.specs.declared.account_name.AccountName.{AccountName}
-use Rattle.mdb_follow.specs.declared.account_name.AccountName.TheVariants.{CoinsIn, BillsIn, PaidOut, Approved, Sold}
+use Rattle.mdb_follow.specs.declared.account_name.AccountName.TheVariants.{CoinsIn, BillsIn}
+use Rattle.mdb_follow.specs.declared.account_name.AccountName.TheVariants.{PaidOut, Approved, Sold}
 use Rattle.mdb_follow.specs.declared.cell.Cell.{Cell}
 use Rattle.mdb_follow.specs.declared.follower.Follower.{Follower}
 use Rattle.mdb_follow.specs.declared.offence.Offence.{Offence}
@@ -39,8 +42,9 @@ use Rattle.mdb_follow.specs.Machines.{machine_of}
 use Rattle.mdb_follow.specs.Offences.{NoStep}
 use Rattle.mdb_follow.specs.Sides.{AreSides}
 use Rattle.mdb_follow.specs.Silences.{asks_of}
-use Rattle.mdb_follow.specs.SilencesKept.{AllStandForAsks, SilencesFollow}
-use Rattle.mdb_follow.proofs.Asks.{asks-go-on, asks-stay, same-silences}
+use Rattle.mdb_follow.specs.SilencesKept.{StandsForAsks, silence_in}
+use Rattle.mdb_follow.specs.inner.SilenceSteps.{SilencesFollow}
+use Rattle.mdb_follow.proofs.Asks.{asks-go-on, asks-stay}
 use Rattle.mdb_follow.proofs.Machines.{with_one, with_one-same}
 use Rattle.mdb_follow.proofs.Reaching.{Joins, SomeArrive, SomeWay, run_of}
 use Rattle.mdb_follow.proofs.Joining.{split}
@@ -110,10 +114,7 @@ some-in table = record { state = table.some.0; sums = table.some.1; way = table.
 -- the tables of a follower have some way of each device
 pub some-ways : (follower : Follower) (events : List Event) (on : StandsFor follower events)
     → SomeArrive (acts_of on.pieces)
-some-ways follower events on devices.Changer = some-in on.sides.changer.table
-some-ways follower events on devices.Bill = some-in on.sides.bill.table
-some-ways follower events on devices.Cashless = some-in on.sides.cashless.table
-some-ways follower events on devices.Cashless2 = some-in on.sides.cashless2.table
+some-ways follower events on device = some-in (on.sides device).table
 
 -- so its rows are reached
 pub reached-by : Joins → (follower : Follower) (events : List Event)
@@ -130,8 +131,8 @@ stuck : (rule : Rule) (act : Act) (before : List Act) → NoStep rule act before
     → (states : States) (sums : AllSums) → EachArrives (act ∷ before) states sums → ⊥
 stuck rule act before stops states sums ways =
     let way = ways stops.device in
-    stops.none way.before way.sums_before way.way way.choice way.stands (states stops.device) way.gains
-    way.step
+    stops.none way.before way.sums_before way.way way.choice way.stands
+    (states stops.device) way.gains way.step
 
 -- and rows with such acts aren't reached
 unreached : OneActList → (rows : List Event) (pieces : List Piece) → IsActList pieces rows
@@ -153,11 +154,10 @@ stands-still old new bus events row on goes same_bus same_sides same_silences mo
   going = same ∙ on.going;
   sides = subst (AreSides new.sides) (sym goes.acts)
       (subst (λ sides. AreSides sides (acts_of on.pieces)) (sym same_sides) on.sides);
-  silences = same-silences new.silences (λ device. asks_of device on.pieces)
-      (λ device. asks_of device goes.longer)
-      (λ device. sym (asks-stay device on.pieces row goes.longer goes.grown))
-      (subst (λ silences. AllStandForAsks silences (λ device. asks_of device on.pieces))
-      (sym same_silences) on.silences);
+  silences = λ device. subst (StandsForAsks (silence_in new.silences device))
+      (sym (asks-stay device on.pieces row goes.longer goes.grown))
+      (subst (λ silences. StandsForAsks (silence_in silences device) (asks_of device on.pieces))
+      (sym same_silences) (on.silences device));
 }
 
 -- an act was followed
@@ -167,8 +167,12 @@ pub stands-on : (old mid new : Follower) (events : List Event) (row : Event) (ac
     → mid.offence ≡ old.offence → (at : ℕ) → at ≡ start_of row → HasFollowed mid act at new
     → StandsFor new (events ++ row ∷ [])
 stands-on old mid new events row act on goes same_sides same_silences same_rows same at start has =
-    let sides : AreSides new.sides (act ∷ acts_of on.pieces) = has.sides (acts_of on.pieces)
-    (subst (λ sides. AreSides sides (acts_of on.pieces)) (sym same_sides) on.sides) in record {
+    let sides : AreSides new.sides (act ∷ acts_of on.pieces) =
+    λ device. (has.sides device).stands (acts_of on.pieces)
+    (subst (λ sides. AreSides sides (acts_of on.pieces)) (sym same_sides) on.sides device) in
+    let follows : SilencesFollow mid.silences act (start_of row) new.sides new.silences =
+    subst (λ at. SilencesFollow mid.silences act at new.sides new.silences) start has.silences in
+    record {
       pieces = goes.longer;
       on_bus = subst (λ b. link.StandsFor b goes.longer) (sym has.on_bus) goes.stands;
       whole = goes.rows ∙ ap (λ rows. rows ++ row ∷ []) on.whole;
@@ -176,12 +180,11 @@ stands-on old mid new events row act on goes same_sides same_silences same_rows 
           ∙ sym (length-append events (row ∷ []));
       going = has.going ∙ same ∙ on.going;
       sides = subst (AreSides new.sides) (sym goes.acts) sides;
-      silences = same-silences new.silences _ (λ device. asks_of device goes.longer)
-          (λ device. asks-go-on device on.pieces row act goes.longer new.sides goes.grown sides)
-          (subst (λ at. SilencesFollow mid.silences act at new.sides new.silences) start has.silences
-          (λ device. asks_of device on.pieces)
-          (subst (λ silences. AllStandForAsks silences (λ device. asks_of device on.pieces))
-          (sym same_silences) on.silences));
+      silences = λ device. subst (StandsForAsks (silence_in new.silences device))
+          (asks-go-on device on.pieces row act goes.longer new.sides goes.grown sides)
+          ((follows device).stands (asks_of device on.pieces)
+          (subst (λ silences. StandsForAsks (silence_in silences device) (asks_of device on.pieces))
+          (sym same_silences) (on.silences device)));
     }
 
 -- a row breaks a rule of the link
@@ -217,7 +220,7 @@ whole-piece (AskTail bytes rows) act events ends same = absurd (cc ends)
 whole-piece (ReplyTail command bytes rows) act events ends same = absurd (cc ends)
 whole-piece (RepeatTail command reply words rows) act events ends same = absurd (cc ends)
 
--- the acts behind the same act
+-- the acts after the same act
 last-alike : (act : Act) (acts more : List Act) → act ∷ acts ≡ act ∷ more → acts ≡ more
 last-alike act acts more same = cc same
 
@@ -229,8 +232,13 @@ pub machine-offence : OneActList → Joins → (old mid new : Follower) (events 
 machine-offence one joins old mid new events row act offence on goes same_sides same_rows has =
     let list : IsActList goes.longer (events ++ row ∷ []) =
     list-on mid.bus events row on.pieces (Some act) on.whole goes in
-    let none : NoStep offence.rule act (acts_of on.pieces) = has.none (acts_of on.pieces)
-    (subst (λ sides. AreSides sides (acts_of on.pieces)) (sym same_sides) on.sides) in
+    let none : NoStep offence.rule act (acts_of on.pieces) = record {
+      device = has.none.0;
+      rule = has.none.1.rule;
+      none = has.none.1.none (acts_of on.pieces)
+          (subst (λ sides. AreSides sides (acts_of on.pieces)) (sym same_sides) on.sides
+          has.none.0);
+    } in
     let grown = goes.grown in
     let are : goes.longer ≡ Whole act (grown.begun ++ row ∷ []) ∷ grown.earlier =
     grown.are ∙ ap (λ p. p ∷ grown.earlier) (whole-piece grown.newest act
@@ -309,15 +317,13 @@ device-is one joins rows pieces list some device = record {
   };
 }
 
--- the accounts of the sides
-abbrev pub accounts_in : Cell → Cell → Cell → Cell → AccountName → Account
-accounts_in changer bill cashless cashless2 CoinsIn = changer.first
-accounts_in changer bill cashless cashless2 BillsIn = bill.first
-accounts_in changer bill cashless cashless2 PaidOut = changer.second
-accounts_in changer bill cashless cashless2 (Approved First) = cashless.first
-accounts_in changer bill cashless cashless2 (Sold First) = cashless.second
-accounts_in changer bill cashless cashless2 (Approved Second) = cashless2.first
-accounts_in changer bill cashless cashless2 (Sold Second) = cashless2.second
+-- the accounts of the devices
+abbrev pub accounts_in : (Device → Cell) → AccountName → Account
+accounts_in cells CoinsIn = (cells devices.Changer).first
+accounts_in cells BillsIn = (cells devices.Bill).first
+accounts_in cells PaidOut = (cells devices.Changer).second
+accounts_in cells (Approved unit) = (cells (devices.Reader unit)).first
+accounts_in cells (Sold unit) = (cells (devices.Reader unit)).second
 
 -- a cell has the ranges of the sums that a device has in runs
 abbrev pub IsCellOf : List Event → (AllSums → Sums) → Cell → Type 0
@@ -333,47 +339,33 @@ cell-of-runs rows Kind of are cell is = (
 )
 
 -- so the accounts are those of the runs
-accounts-of-cells : (rows : List Event) (changer bill cashless cashless2 : Cell)
-    → IsCellOf rows (λ sums. sums devices.Changer) changer → IsCellOf rows (λ sums. sums devices.Bill) bill
-    → IsCellOf rows (λ sums. sums devices.Cashless) cashless
-    → IsCellOf rows (λ sums. sums devices.Cashless2) cashless2
-    → AreAccounts (Run rows) (accounts_in changer bill cashless cashless2)
-accounts-of-cells rows changer bill cashless cashless2 p q r s CoinsIn = p.0
-accounts-of-cells rows changer bill cashless cashless2 p q r s BillsIn = q.0
-accounts-of-cells rows changer bill cashless cashless2 p q r s PaidOut = p.1
-accounts-of-cells rows changer bill cashless cashless2 p q r s (Approved First) = r.0
-accounts-of-cells rows changer bill cashless cashless2 p q r s (Sold First) = r.1
-accounts-of-cells rows changer bill cashless cashless2 p q r s (Approved Second) = s.0
-accounts-of-cells rows changer bill cashless cashless2 p q r s (Sold Second) = s.1
+accounts-of-cells : (rows : List Event) (cells : Device → Cell)
+    → ((device : Device) → IsCellOf rows (λ sums. sums device) (cells device))
+    → AreAccounts (Run rows) (accounts_in cells)
+accounts-of-cells rows cells are CoinsIn = (are devices.Changer).0
+accounts-of-cells rows cells are BillsIn = (are devices.Bill).0
+accounts-of-cells rows cells are PaidOut = (are devices.Changer).1
+accounts-of-cells rows cells are (Approved unit) = (are (devices.Reader unit)).0
+accounts-of-cells rows cells are (Sold unit) = (are (devices.Reader unit)).1
 
 -- what a follower reports
 pub reported : OneActList → Joins → (follower : Follower) (events : List Event)
-    (report : Report) (changer bill cashless cashless2 : Cell) (on : StandsFor follower events)
-    → IsCell (ArrivesAnywhere (Arrives (machine_of devices.Changer) (acts_of on.pieces))) changer
-    → IsCell (ArrivesAnywhere (Arrives (machine_of devices.Bill) (acts_of on.pieces))) bill
-    → IsCell (ArrivesAnywhere (Arrives (machine_of devices.Cashless) (acts_of on.pieces))) cashless
-    → IsCell (ArrivesAnywhere (Arrives (machine_of devices.Cashless2) (acts_of on.pieces))) cashless2
-    → report ≡ report_of follower.rows on.pieces (accounts_in changer bill cashless cashless2)
-    → IsReport events report
-reported one joins follower events report changer bill cashless cashless2 on of_changer of_bill
-    of_cashless of_cashless2 telling =
+    (report : Report) (cells : Device → Cell) (on : StandsFor follower events)
+    → ((device : Device)
+    → IsCell (ArrivesAnywhere (Arrives (machine_of device) (acts_of on.pieces))) (cells device))
+    → report ≡ report_of follower.rows on.pieces (accounts_in cells) → IsReport events report
+reported one joins follower events report cells on are telling =
     let list = list-of follower events on in
     let some = some-ways follower events on in
     record {
       reached = reached-by joins follower events on;
       pieces = on.pieces;
       act_list = list;
-      accounts = accounts_in changer bill cashless cashless2;
-      of_runs = accounts-of-cells events changer bill cashless cashless2
-          (cell-of-runs events _ _ (device-is one joins events on.pieces list some devices.Changer) changer
-          of_changer)
-          (cell-of-runs events _ _ (device-is one joins events on.pieces list some devices.Bill) bill of_bill)
-          (cell-of-runs events _ _ (device-is one joins events on.pieces list some devices.Cashless) cashless
-          of_cashless)
-          (cell-of-runs events _ _ (device-is one joins events on.pieces list some devices.Cashless2) cashless2
-          of_cashless2);
-      telling = telling ∙ ap (λ rows. report_of rows on.pieces
-          (accounts_in changer bill cashless cashless2)) on.rows;
+      accounts = accounts_in cells;
+      of_runs = accounts-of-cells events cells (λ device.
+          cell-of-runs events _ _ (device-is one joins events on.pieces list some device)
+          (cells device) (are device));
+      telling = telling ∙ ap (λ rows. report_of rows on.pieces (accounts_in cells)) on.rows;
     }
 
 -- a follower has taken so many events, and met no offence

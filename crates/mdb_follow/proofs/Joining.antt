@@ -1,9 +1,11 @@
 -- Ways of each device, and of all.
-use Rattle.std.proofs.Common.{arith, refl, sym, ap, ◌∙◌, ◌≡◌, ◌↔◌, ◌<◌, ◌+◌, cond, nat_eq, ℕ, suc, Bool, true, false, List, [], ◌∷◌, ◌++◌, length, length-append}
+use Rattle.std.proofs.Common.{arith, refl, sym, ap, ◌∙◌, ◌≡◌, ◌↔◌, ◌<◌, ◌+◌, cond, nat_eq, ℕ, suc}
+use Rattle.std.proofs.Common.{Bool, true, false, List, [], ◌∷◌, ◌++◌, length, length-append}
 use Rattle.std.proofs.lemmas.Bool.Decides.{nat_tests}
 use Rattle.mdb_msgs.specs.declared.command.Device.{Device}
 use Rattle.mdb_bus.specs.declared.act.Act.{Act}
-use Rattle.mdb_bus.specs.ActLists.{ArePieces, Piece, Whole, AskTail, ReplyTail, RepeatTail, acts_of, events_of}
+use Rattle.mdb_bus.specs.ActLists.{ArePieces, Piece, Whole, AskTail, ReplyTail, RepeatTail, acts_of}
+use Rattle.mdb_bus.specs.ActLists.{events_of}
 use Rattle.mdb_bus.specs.Acts.{IsAck}
 use Rattle.mdb_bus.specs.Wish.{HearsAsWished}
 use Rattle.mdb_bus.specs.Loss.{IsHeard, Loss, LossFits}
@@ -16,7 +18,8 @@ use Rattle.mdb_follow.specs.Arrivals.{Arrives, EachArrives}
 use Rattle.mdb_follow.specs.Sums.{Sums}
 use Rattle.mdb_follow.specs.Machines.{machine_of}
 use Rattle.mdb_follow.specs.Runs.{AllSums, Goes, HearSameAcks, IsWay, States}
-use Rattle.mdb_follow.proofs.Choosing.{Choices, Follows, FollowsBy, chosen, follows_as, merged, merged_agrees}
+use Rattle.mdb_follow.proofs.Choosing.{Choices, Follows, FollowsBy, chosen, follows_as, merged}
+use Rattle.mdb_follow.proofs.Choosing.{merged_agrees}
 use Rattle.mdb_follow.proofs.Machines.{is_machine_of}
 
 -- a way of a device goes on by a step
@@ -73,7 +76,8 @@ is_heard Restart = true
 chosen_at : (pieces : List Piece) → Choices (acts_of pieces) → ℕ → Bool
 chosen_at [] choices before = true
 chosen_at (Whole act events ∷ pieces) choices before =
-    pick before (length (events_of pieces)) (is_heard choices.choice) (chosen_at pieces choices.before before)
+    pick before (length (events_of pieces)) (is_heard choices.choice)
+    (chosen_at pieces choices.before before)
 chosen_at (AskTail bytes events ∷ pieces) choices before = chosen_at pieces choices before
 chosen_at (ReplyTail command bytes events ∷ pieces) choices before = chosen_at pieces choices before
 chosen_at (RepeatTail command reply words events ∷ pieces) choices before =
@@ -100,7 +104,8 @@ Agrees loss (AskTail bytes events ∷ pieces) choices = Agrees loss pieces choic
 Agrees loss (ReplyTail command bytes events ∷ pieces) choices = Agrees loss pieces choices
 Agrees loss (RepeatTail command reply words events ∷ pieces) choices = Agrees loss pieces choices
 
-agrees : (choice : ℕ → Bool) (loss : Loss) (pieces : List Piece) (choices : Choices (acts_of pieces))
+agrees : (choice : ℕ → Bool) (loss : Loss) (pieces : List Piece)
+    (choices : Choices (acts_of pieces))
     → ArePieces pieces
     → ((before : ℕ) → before < length (events_of pieces)
     → choice before ≡ chosen_at pieces choices before)
@@ -223,14 +228,19 @@ heard_alike one other (ReplyTail command bytes events ∷ pieces) states sums sa
 heard_alike one other (RepeatTail command reply words events ∷ pieces) states sums same way =
     heard_alike one other pieces states sums same way
 
-same_back : (one other : Loss) (pieces : List Piece) → HearSameAcks one other pieces → HearSameAcks other one pieces
+same_back : (one other : Loss) (pieces : List Piece) → HearSameAcks one other pieces
+    → HearSameAcks other one pieces
 same_back one other [] same = tt
-same_back one other (Whole act events ∷ pieces) same = ((λ ack. ((same.0 ack).1, (same.0 ack).0)), same_back one other pieces same.1)
+same_back one other (Whole act events ∷ pieces) same =
+    ((λ ack. ((same.0 ack).1, (same.0 ack).0)), same_back one other pieces same.1)
 same_back one other (AskTail bytes events ∷ pieces) same = same_back one other pieces same
 same_back one other (ReplyTail command bytes events ∷ pieces) same = same_back one other pieces same
-same_back one other (RepeatTail command reply words events ∷ pieces) same = same_back one other pieces same
+same_back one other (RepeatTail command reply words events ∷ pieces) same =
+    same_back one other pieces same
 
-pub ways_alike : (one other : Loss) (pieces : List Piece) → HearSameAcks one other pieces → (states : States) (sums : AllSums) → IsWay one pieces states sums ↔ IsWay other pieces states sums
+pub ways_alike : (one other : Loss) (pieces : List Piece) → HearSameAcks one other pieces
+    → (states : States) (sums : AllSums)
+    → IsWay one pieces states sums ↔ IsWay other pieces states sums
 ways_alike one other pieces same states sums = (
   heard_alike one other pieces states sums same,
   heard_alike other one pieces states sums (same_back one other pieces same),

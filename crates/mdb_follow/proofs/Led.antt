@@ -1,7 +1,9 @@
 -- What the steps from all entries lead to.
-use Rattle.std.proofs.Common.{◌≡◌, ◌⊎◌, inl, inr, ℕ, ◌+◌, ◌<◌, ◌^◌, sym, ap, subst, List, [], ◌∷◌, ◌++◌, length, get_or, take}
+use Rattle.std.proofs.Common.{◌≡◌, ◌⊎◌, inl, inr, ℕ, ◌+◌, ◌<◌, ◌^◌, sym, ap, subst, List, [], ◌∷◌}
+use Rattle.std.proofs.Common.{◌++◌, length, get_or, take}
 use Rattle.std.specs.Prelude.{Contains, All, ◌↔◌}
-use Rattle.std.proofs.lemmas.List.Elements.{All-head, All-tail, Contains-append_left, Contains-get_or, Contains-push, Contains-push_cases}
+use Rattle.std.proofs.lemmas.List.Elements.{All-head, All-tail, Contains-append_left}
+use Rattle.std.proofs.lemmas.List.Elements.{Contains-get_or, Contains-push, Contains-push_cases}
 use Rattle.std.proofs.lemmas.List.{take_more}
 use Rattle.mdb_cash.specs.declared.gains.Gains.{Gains}
 use Rattle.mdb_cash.specs.Gains.{IsSmall}
@@ -13,7 +15,9 @@ use Rattle.mdb_follow.specs.Sums.{Sums}
 use Rattle.mdb_follow.specs.Tables.{Bounds}
 use Rattle.mdb_follow.specs.inner.Entries.{IsKeyed, with_cell, with_moves}
 use Rattle.mdb_follow.proofs.Ends.{Moved, cell-moved, cell-moved-within}
-use Rattle.mdb_follow.proofs.Listed.{bounds-same, bounds-with_cell, contains-cases, contains-here, contains-none, contains-there, keyed-with_cell, within-with_cell}
+use Rattle.mdb_follow.proofs.Listed.{bounds-same, bounds-with_cell, contains-cases, contains-here}
+use Rattle.mdb_follow.proofs.Listed.{contains-none, contains-there, keyed-with_cell}
+use Rattle.mdb_follow.proofs.Listed.{within-with_cell}
 
 -- a step of a list leads to a code from sums of a kind
 pub record LedBy (Kind : Sums → Type 0) (moves : List (ℕ × Gains)) (next : ℕ)

@@ -1,10 +1,12 @@
 pub mod Alone
 pub mod Asks
+pub mod ByDevice
 pub mod Choosing
 pub mod Cuts
 pub mod Ends
 pub mod Following
 pub mod Joining
+pub mod Kept
 pub mod Led
 pub mod Limits
 pub mod Listed

@@ -1,6 +1,5 @@
 -- The machines that are followed: what joining needs of each.
-use Rattle.std.proofs.Common.{refl, sym, ap, subst, ◌∙◌, ◌≡◌, ◌⊎◌, inl, inr, ℕ, zero, suc, List}
-use Rattle.std.proofs.lemmas.Bool.{cases_eq}
+use Rattle.std.proofs.Common.{refl, sym, ap, subst, ◌∙◌, ◌≡◌, ◌⊎◌, inl, inr, ℕ, List}
 use Rattle.mdb_msgs.specs.Commands.{device_of}
 use Rattle.mdb_msgs.specs.declared.command.Device.{Device}
 use Rattle.mdb_msgs.specs.declared.command.Device.TheVariants as devices
@@ -21,21 +20,21 @@ use Rattle.mdb_follow.specs.Arrivals.{Arrives}
 use Rattle.mdb_follow.specs.Machines.{machine_of}
 use Rattle.mdb_follow.specs.Offences.{HasNoStep}
 use Rattle.mdb_follow.specs.Sums.{Sums}
+use Rattle.mdb_follow.proofs.ByDevice.{same_or_not}
 
 -- each device has a machine of its own
 pub is_machine_of : (device : Device) → IsMachineOf device (machine_of device)
 is_machine_of devices.Changer = changer_ways.is_machine
 is_machine_of devices.Bill = bill_ways.is_machine
-is_machine_of devices.Cashless = reader_ways.is_machine First
-is_machine_of devices.Cashless2 = reader_ways.is_machine Second
+is_machine_of (devices.Reader unit) = reader_ways.is_machine unit
 
 -- something of each device: of one this, and of the others what they have
 pub with_one : (P : Device → Type 0) (device : Device) → P device → ((other : Device) → P other)
     → (other : Device) → P other
 with_one P devices.Changer one others devices.Changer = one
 with_one P devices.Bill one others devices.Bill = one
-with_one P devices.Cashless one others devices.Cashless = one
-with_one P devices.Cashless2 one others devices.Cashless2 = one
+with_one P (devices.Reader First) one others (devices.Reader First) = one
+with_one P (devices.Reader Second) one others (devices.Reader Second) = one
 with_one P device one others other = others other
 
 pub with_one-same : (P : Device → Type 0) (device : Device) (one : P device)
@@ -43,46 +42,19 @@ pub with_one-same : (P : Device → Type 0) (device : Device) (one : P device)
 unfolding with_one
 with_one-same P devices.Changer one others = refl
 with_one-same P devices.Bill one others = refl
-with_one-same P devices.Cashless one others = refl
-with_one-same P devices.Cashless2 one others = refl
-
--- two devices are one, or they aren't
-number : Device → ℕ
-number devices.Changer = 0
-number devices.Bill = 1
-number devices.Cashless = 2
-number devices.Cashless2 = 3
-
-numbered : ℕ → Device
-numbered zero = devices.Changer
-numbered (suc zero) = devices.Bill
-numbered (suc (suc zero)) = devices.Cashless
-numbered (suc (suc (suc n))) = devices.Cashless2
-
-its_number : (device : Device) → numbered (number device) ≡ device
-unfolding number numbered
-its_number devices.Changer = refl
-its_number devices.Bill = refl
-its_number devices.Cashless = refl
-its_number devices.Cashless2 = refl
-
-same_device : (one other : Device) → (one ≡ other) ⊎ (one ≡ other → ⊥)
-same_device one other =
-    elim (cases_eq (number one) (number other)) [
-      | inl same ↦ inl (sym (its_number one) ∙ (ap numbered same ∙ its_number other))
-      | inr apart ↦ inr (λ same. apart (ap number same))
-    ]
+with_one-same P (devices.Reader First) one others = refl
+with_one-same P (devices.Reader Second) one others = refl
 
 -- an act is a device's, or it isn't
 of_or_not : (device : Device) (act : Act) → IsActOf device act ⊎ (IsActOf device act → ⊥)
-of_or_not device (kinds.Ask command) = same_device (device_of command) device
-of_or_not device (kinds.Ack command) = same_device (device_of command) device
-of_or_not device (kinds.Nak command) = same_device (device_of command) device
-of_or_not device (kinds.Reply command reply) = same_device (device_of command) device
-of_or_not device (kinds.VmcAck command reply) = same_device (device_of command) device
-of_or_not device (kinds.VmcNak command reply) = same_device (device_of command) device
-of_or_not device (kinds.VmcRet command reply) = same_device (device_of command) device
-of_or_not device (kinds.Repeat command reply) = same_device (device_of command) device
+of_or_not device (kinds.Ask command) = same_or_not (device_of command) device
+of_or_not device (kinds.Ack command) = same_or_not (device_of command) device
+of_or_not device (kinds.Nak command) = same_or_not (device_of command) device
+of_or_not device (kinds.Reply command reply) = same_or_not (device_of command) device
+of_or_not device (kinds.VmcAck command reply) = same_or_not (device_of command) device
+of_or_not device (kinds.VmcNak command reply) = same_or_not (device_of command) device
+of_or_not device (kinds.VmcRet command reply) = same_or_not (device_of command) device
+of_or_not device (kinds.Repeat command reply) = same_or_not (device_of command) device
 of_or_not device kinds.Foreign = inr (λ no. no)
 of_or_not device (kinds.Break length) = inl tt
 

@@ -1,15 +1,19 @@
 -- Rows have one report, and a row has one offence.
-use Rattle.std.proofs.Common.{ap, arith, refl, sym, subst, ◌∙◌, ◌≡◌, ◌⊎◌, inl, inr, ℕ, ℤ, ◌≤ℤ◌, List, [], ◌∷◌, ◌++◌, append_assoc, append-nil, length, map, Option, Some, None}
+use Rattle.std.proofs.Common.{ap, arith, refl, sym, subst, ◌∙◌, ◌≡◌, ◌⊎◌, inl, inr, ℕ, ℤ, ◌≤ℤ◌}
+use Rattle.std.proofs.Common.{List, [], ◌∷◌, ◌++◌, append_assoc, append-nil, length, map, Option}
+use Rattle.std.proofs.Common.{Some, None}
 use Rattle.std.proofs.lemmas.Int.{ints}
 use Rattle.mdb_words.specs.declared.event.Event.{Event}
 use Rattle.mdb_msgs.specs.declared.command.ReaderUnit.TheVariants.{First, Second}
 use Rattle.mdb_bus.specs.declared.act.Act.{Act}
 use Rattle.mdb_bus.specs.declared.fault.Blame.{Blame}
 use Rattle.mdb_bus.specs.declared.fault.Rule.{Rule}
-use Rattle.mdb_bus.specs.ActLists.{ArePieces, HasActList, IsActList, Piece, Whole, acts_of, events_of, with_act}
+use Rattle.mdb_bus.specs.ActLists.{ArePieces, HasActList, IsActList, Piece, Whole, acts_of}
+use Rattle.mdb_bus.specs.ActLists.{events_of, with_act}
 use Rattle.mdb_bus.specs.LinkFaults.{IsLinkFault, RowBreaks, situation_of}
 use Rattle.mdb_follow.specs.declared.account_name.AccountName.{AccountName}
-use Rattle.mdb_follow.specs.declared.account_name.AccountName.TheVariants.{CoinsIn, BillsIn, PaidOut, Approved, Sold}
+use Rattle.mdb_follow.specs.declared.account_name.AccountName.TheVariants.{CoinsIn, BillsIn}
+use Rattle.mdb_follow.specs.declared.account_name.AccountName.TheVariants.{PaidOut, Approved, Sold}
 use Rattle.mdb_follow.specs.declared.account_name.TheConstants.AccountName.{ALL}
 use Rattle.mdb_cashless.specs.inner.ReaderWays as reader_ways
 use Rattle.mdb_follow.specs.declared.cell.Account.{Account}
@@ -111,7 +115,7 @@ pub record BusLaws : Type 0 where
       → HasActList (events_of pieces ++ row ∷ []) → ⊥
   pub goes : GoOnRowByRow
 
--- behind acts of reached rows, and before an act of the next, each device has some way
+-- after acts of reached rows, and before an act of the next, each device has some way
 cut : (more : Option Act) (acts : List Act) (act : Act) (before : List Act)
     → with_act more acts ≡ act ∷ before → SomeArrive acts → SomeArrive before
 cut None acts act before same some = before_last act before (subst SomeArrive same some)
@@ -135,8 +139,8 @@ whose_rule : (broken : Rule) (act : Act) (before : List Act) → NoStep broken a
     → SomeArrive before → rule_of (whose act) ≡ broken
 whose_rule broken act before stops some =
     let way = some stops.device in
-    ap rule_of (whose_none stops.device (machine_of stops.device) (is_machine_of stops.device) act before
-    stops.none way.state way.sums way.way)
+    ap rule_of (whose_none stops.device (machine_of stops.device) (is_machine_of stops.device)
+    act before stops.none way.state way.sums way.way)
     ∙ sym stops.rule
 
 -- the act list up to a row that ends an act by which a machine has no step

@@ -1,8 +1,10 @@
 -- The places of entries, noted under their codes.
-use Rattle.std.proofs.Common.{◌≡◌, inl, inr, ℕ, zero, suc, ◌<◌, ◌≢◌, refl, sym, ◌∙◌, ap, subst, arith, List, [], ◌∷◌, ◌++◌, length, get_or, take}
+use Rattle.std.proofs.Common.{◌≡◌, inl, inr, ℕ, zero, suc, ◌<◌, ◌≢◌, refl, sym, ◌∙◌, ap, subst}
+use Rattle.std.proofs.Common.{arith, List, [], ◌∷◌, ◌++◌, length, get_or, take}
 use Rattle.std.specs.Prelude.{slice_set}
 use Rattle.std.proofs.lemmas.Bool.{cases_lt}
-use Rattle.std.proofs.lemmas.List.{get_or_append_left, get_or-set_other, get_or-set_same, length-append, length-set}
+use Rattle.std.proofs.lemmas.List.{get_or_append_left, get_or-set_other, get_or-set_same}
+use Rattle.std.proofs.lemmas.List.{length-append, length-set}
 use Rattle.std.proofs.Math.Seq.{get_or-append_seam}
 use Rattle.mdb_follow.specs.declared.cell.Cell.{Cell}
 use Rattle.mdb_follow.specs.inner.Entries.{HasAt, IsPlaced, Lacks}
@@ -91,7 +93,7 @@ placed-push entries after places code place cell placed lacks within at made =
             ap (λ e. get_or (slice_set places code place) e.0 0) old
             ∙ get_or-set_other places code (get_or entries k d).0 place 0 other
             ∙ placed.at k d before)
-        | inr behind ↦
+        | inr later ↦
             (let more = length-append entries ((code, cell) ∷ []) in
             let is : k ≡ length entries = omega arith in
             ap (λ n. get_or (slice_set places code place)

@@ -7,11 +7,11 @@ use Rattle.mdb_msgs.specs.declared.command.Command.TheVariants as commands
 use Rattle.mdb_msgs.specs.declared.command.Device.TheVariants as devices
 use Rattle.mdb_msgs.specs.declared.command.ReaderCommand.TheVariants as readers
 use Rattle.mdb_msgs.specs.declared.command.ReaderUnit.{ReaderUnit}
-use Rattle.mdb_msgs.specs.declared.command.ReaderUnit.TheVariants.{First, Second}
 use Rattle.mdb_msgs.specs.declared.reply.Reply.{Reply}
 use Rattle.mdb_bus.specs.declared.act.Act.{Act}
 use Rattle.mdb_bus.specs.declared.act.Act.TheVariants as acts
-use Rattle.mdb_bus.specs.ActLists.{ArePieces, Piece, Position, Whole, AskTail, ReplyTail, RepeatTail, Replied, Returned, acts_of, position_of}
+use Rattle.mdb_bus.specs.ActLists.{ArePieces, Piece, Position, Whole, AskTail, ReplyTail}
+use Rattle.mdb_bus.specs.ActLists.{RepeatTail, Replied, Returned, acts_of, position_of}
 use Rattle.mdb_cash.specs.declared.gains.Gains.{Gains}
 use Rattle.mdb_cash.specs.declared.choice.Choice.{Choice}
 use Rattle.mdb_cashless.specs.declared.reader.state.ReaderState.{ReaderState}
@@ -32,10 +32,13 @@ IsOfReply command reply act = (act ≡ acts.VmcRet command reply) ⊎ (act ≡ a
 
 -- what is open where a reply is, or where it was asked for again
 abbrev IsOpen : Command → Reply → Position → Type 0
-IsOpen command reply position = (position ≡ Replied command reply) ⊎ (position ≡ Returned command reply)
+IsOpen command reply position =
+    (position ≡ Replied command reply) ⊎ (position ≡ Returned command reply)
 
 -- one act more
-again : (command : Command) (reply : Reply) (act : Act) (so_far : List Act) → IsOfReply command reply act → EndsInReply command reply so_far → EndsInReply command reply (act ∷ so_far)
+again : (command : Command) (reply : Reply) (act : Act) (so_far : List Act)
+    → IsOfReply command reply act → EndsInReply command reply so_far
+    → EndsInReply command reply (act ∷ so_far)
 again command reply act so_far of ends = record {
   again = act ∷ ends.again;
   before = ends.before;
@@ -44,21 +47,26 @@ again command reply act so_far of ends = record {
 }
 
 -- pieces where a reply is open end in it
-ends_in : (command : Command) (reply : Reply) (pieces : List Piece) → ArePieces pieces → IsOpen command reply (position_of pieces) → EndsInReply command reply (acts_of pieces)
+ends_in : (command : Command) (reply : Reply) (pieces : List Piece) → ArePieces pieces
+    → IsOpen command reply (position_of pieces) → EndsInReply command reply (acts_of pieces)
 ends_in command reply [] are (inl e) = absurd cc
 ends_in command reply [] are (inr e) = absurd cc
 ends_in command reply (Whole (acts.Reply c r) events ∷ pieces) are (inl e) = record {
   again = [];
   before = acts_of pieces;
-  order = let same : acts.Reply c r ≡ acts.Reply command reply = cc in ap (λ (a : Act). a ∷ acts_of pieces) same;
+  order =
+      let same : acts.Reply c r ≡ acts.Reply command reply = cc in
+      ap (λ (a : Act). a ∷ acts_of pieces) same;
   repeats = All-nil (IsOfReply command reply);
 }
 ends_in command reply (Whole (acts.Repeat c r) events ∷ pieces) are (inl e) =
     let before = are.1.comes.0 in
-    again command reply (acts.Repeat c r) (acts_of pieces) (inr cc) (ends_in command reply pieces are.2 (inr cc))
+    again command reply (acts.Repeat c r) (acts_of pieces) (inr cc)
+    (ends_in command reply pieces are.2 (inr cc))
 ends_in command reply (Whole (acts.VmcRet c r) events ∷ pieces) are (inr e) =
     let before = are.1.comes.0 in
-    again command reply (acts.VmcRet c r) (acts_of pieces) (inl cc) (ends_in command reply pieces are.2 (inl cc))
+    again command reply (acts.VmcRet c r) (acts_of pieces) (inl cc)
+    (ends_in command reply pieces are.2 (inl cc))
 ends_in command reply (Whole (acts.Reply c r) events ∷ pieces) are (inr e) = absurd cc
 ends_in command reply (Whole (acts.Repeat c r) events ∷ pieces) are (inr e) = absurd cc
 ends_in command reply (Whole (acts.VmcRet c r) events ∷ pieces) are (inl e) = absurd cc
@@ -83,7 +91,7 @@ ends_in command reply (ReplyTail c bytes events ∷ pieces) are (inr e) = absurd
 ends_in command reply (RepeatTail c r words events ∷ pieces) are (inl e) = absurd cc
 ends_in command reply (RepeatTail c r words events ∷ pieces) are (inr e) = absurd cc
 
--- each ACK of the controller stands behind the reply that it acknowledges
+-- each ACK of the controller stands after the reply that it acknowledges
 abbrev AcksFit : List Act → Type 0
 AcksFit [] = Unit {0}
 AcksFit (act ∷ so_far) = AcksLastReply act so_far × AcksFit so_far
@@ -94,7 +102,8 @@ acks_fit (Whole (acts.Ask c) events ∷ pieces) are = (tt, acks_fit pieces are.2
 acks_fit (Whole (acts.Ack c) events ∷ pieces) are = (tt, acks_fit pieces are.2)
 acks_fit (Whole (acts.Nak c) events ∷ pieces) are = (tt, acks_fit pieces are.2)
 acks_fit (Whole (acts.Reply c r) events ∷ pieces) are = (tt, acks_fit pieces are.2)
-acks_fit (Whole (acts.VmcAck c r) events ∷ pieces) are = (ends_in c r pieces are.2 (inl are.1.comes.0), acks_fit pieces are.2)
+acks_fit (Whole (acts.VmcAck c r) events ∷ pieces) are =
+    (ends_in c r pieces are.2 (inl are.1.comes.0), acks_fit pieces are.2)
 acks_fit (Whole (acts.VmcNak c r) events ∷ pieces) are = (tt, acks_fit pieces are.2)
 acks_fit (Whole (acts.VmcRet c r) events ∷ pieces) are = (tt, acks_fit pieces are.2)
 acks_fit (Whole (acts.Repeat c r) events ∷ pieces) are = (tt, acks_fit pieces are.2)
@@ -106,25 +115,38 @@ acks_fit (RepeatTail c r words events ∷ pieces) are = acks_fit pieces are.2
 
 -- the laws of the views
 pub record ViewLaws : Type 0 where
-  pub tells : (unit : ReaderUnit) (so_far : List Act) (act : Act) (choice : Choice) (before after : ReaderState) (gains : Gains) → AcksLastReply act so_far → TellsOfSale unit before.view so_far
-      → ReaderStep unit (facts_of unit so_far) act choice before after gains → TellsOfSale unit after.view (act ∷ so_far)
-  pub approved : (unit : ReaderUnit) (so_far : List Act) (item : ℕ) (choice : Choice) (before after : ReaderState) (gains : Gains) → TellsOfSale unit before.view so_far
-      → ReaderStep unit (facts_of unit so_far) (acts.Ask (commands.Reader unit (readers.VendSuccess item))) choice before after gains → IsApproved unit item so_far
+  pub tells : (unit : ReaderUnit) (so_far : List Act) (act : Act) (choice : Choice)
+      (before after : ReaderState) (gains : Gains) → AcksLastReply act so_far
+      → TellsOfSale unit before.view so_far
+      → ReaderStep unit (facts_of unit so_far) act choice before after gains
+      → TellsOfSale unit after.view (act ∷ so_far)
+  pub approved : (unit : ReaderUnit) (so_far : List Act) (item : ℕ) (choice : Choice)
+      (before after : ReaderState) (gains : Gains) → TellsOfSale unit before.view so_far
+      → ReaderStep unit (facts_of unit so_far)
+      (acts.Ask (commands.Reader unit (readers.VendSuccess item))) choice before after gains
+      → IsApproved unit item so_far
 
 -- before the first act there is no sale
-none_sold : (unit : ReaderUnit) (item : ℕ) (later before : List Act) → [] ≡ later ++ (acts.Ask (commands.Reader unit (readers.VendSuccess item)) ∷ before) → IsApproved unit item before
+none_sold : (unit : ReaderUnit) (item : ℕ) (later before : List Act)
+    → [] ≡ later ++ (acts.Ask (commands.Reader unit (readers.VendSuccess item)) ∷ before)
+    → IsApproved unit item before
 none_sold unit item [] before order = absurd cc
 none_sold unit item (act ∷ later) before order = absurd cc
 
 -- one act more: a sale is the last act, or stands before it
-one_more : (unit : ReaderUnit) (act : Act) (so_far : List Act) → ((item : ℕ) → act ≡ acts.Ask (commands.Reader unit (readers.VendSuccess item)) → IsApproved unit item so_far)
+one_more : (unit : ReaderUnit) (act : Act) (so_far : List Act)
+    → ((item : ℕ) → act ≡ acts.Ask (commands.Reader unit (readers.VendSuccess item))
+    → IsApproved unit item so_far)
     → SalesAreApproved unit so_far → SalesAreApproved unit (act ∷ so_far)
 one_more unit act so_far last earlier [] before item order =
     let same : so_far ≡ before = cc in subst (IsApproved unit item) same (last item cc)
-one_more unit act so_far last earlier (other ∷ later) before item order = earlier later before item cc
+one_more unit act so_far last earlier (other ∷ later) before item order =
+    earlier later before item cc
 
--- a way of a reader through acts: the view where it leads tells of the sale, and each sale is approved
-all_sold : ViewLaws → (unit : ReaderUnit) (so_far : List Act) (state : ReaderState) (sums : Sums) → AcksFit so_far → Arrives (reader.machine unit) so_far state sums
+-- a way of a reader through acts: the view where it leads tells of the sale, and each sale is
+-- approved
+all_sold : ViewLaws → (unit : ReaderUnit) (so_far : List Act) (state : ReaderState) (sums : Sums)
+    → AcksFit so_far → Arrives (reader.machine unit) so_far state sums
     → TellsOfSale unit state.view so_far × SalesAreApproved unit so_far
 all_sold laws unit [] state sums fit way = (
   subst (λ (s : ReaderState). TellsOfSale unit s.view []) (sym way.0) tt,
@@ -135,17 +157,14 @@ all_sold laws unit (act ∷ so_far) state sums fit way =
       laws.tells unit so_far act way.choice way.before state way.gains fit.0 earlier.0 way.step,
       one_more unit act so_far
           (λ item is. laws.approved unit so_far item way.choice way.before state way.gains earlier.0
-          (subst (λ (a : Act). ReaderStep unit (facts_of unit so_far) a way.choice way.before state way.gains) is way.step))
+          (subst (λ (a : Act). ReaderStep unit (facts_of unit so_far) a way.choice
+          way.before state way.gains) is way.step))
           earlier.1,
     )
 
-in_run : ViewLaws → (rows : List Event) (sums : AllSums) (run : Run rows sums) (unit : ReaderUnit) → SalesAreApproved unit (acts_of run.pieces)
-in_run laws rows sums run First =
-    let ways = split run.loss run.pieces run.states sums run.way in
-    (all_sold laws First (acts_of run.pieces) (run.states devices.Cashless) (sums devices.Cashless) (acks_fit run.pieces run.act_list.in_order) (ways devices.Cashless)).1
-in_run laws rows sums run Second =
-    let ways = split run.loss run.pieces run.states sums run.way in
-    (all_sold laws Second (acts_of run.pieces) (run.states devices.Cashless2) (sums devices.Cashless2) (acks_fit run.pieces run.act_list.in_order) (ways devices.Cashless2)).1
-
 pub sales_follow : ViewLaws → (rows : List Event) → SalesFollowApprovals rows
-sales_follow laws rows sums run unit = in_run laws rows sums run unit
+sales_follow laws rows sums run unit =
+    let ways = split run.loss run.pieces run.states sums run.way in
+    let device = devices.Reader unit in
+    (all_sold laws unit (acts_of run.pieces) (run.states device) (sums device)
+    (acks_fit run.pieces run.act_list.in_order) (ways device)).1

@@ -1,195 +1,187 @@
--- A side goes on by an act in which its device has no part.
-use Rattle.std.proofs.Common.{◌≡◌, ◌↔◌, ◌+◌, ◌^◌, ℕ, List, ◌∷◌, arith, subst, sym, Ok, Err, Result}
-use Rattle.std.specs.Prelude.{IfErr, OnErr}
+-- Sides go on by an act: the side of one device, those of all, and those that have no part in it.
+use Rattle.std.proofs.Common.{◌≡◌, ◌⊎◌, inl, inr, ◌+◌, ◌^◌, ◌<◌, ◌∙◌, ℕ, List, Option, ap, arith}
+use Rattle.std.proofs.Common.{get_or, refl, subst, sym, Ok, Err, Result, ◌∷◌}
+use Rattle.std.specs.Prelude.{IfErr, IfOk, OnErr, option_map}
 use Rattle.mdb_msgs.specs.declared.command.Device.{Device}
 use Rattle.mdb_msgs.specs.declared.command.Device.TheVariants as devices
-use Rattle.mdb_msgs.specs.declared.command.ReaderUnit.{ReaderUnit}
 use Rattle.mdb_msgs.specs.declared.command.ReaderUnit.TheVariants.{First, Second}
 use Rattle.mdb_bus.specs.declared.act.Act.{Act}
 use Rattle.mdb_bus.specs.declared.fault.Rule.{Rule}
-use Rattle.mdb_cash.specs.declared.gains.Gains.{Gains}
-use Rattle.mdb_cash.specs.declared.choice.Choice.{Choice}
-use Rattle.mdb_cash.specs.BillFacts as bill_facts
 use Rattle.mdb_cash.specs.BillValues as bill_values
-use Rattle.mdb_cash.specs.inner.BillWays as bill_ways
-use Rattle.mdb_cash.specs.ChangerFacts as changer_facts
 use Rattle.mdb_cash.specs.ChangerValues as changer_values
-use Rattle.mdb_cash.specs.inner.ChangerWays as changer_ways
-use Rattle.mdb_cash.specs.Gains.{no_gains}
 use Rattle.mdb_cash.specs.Pair.{IsActOf}
-use Rattle.mdb_cashless.specs.declared.reader.facts.ReaderFacts.{ReaderFacts}
-use Rattle.mdb_cashless.specs.ReaderFacts as reader_facts
+use Rattle.mdb_cash.specs.inner.BillWays as bill_ways
+use Rattle.mdb_cash.specs.inner.ChangerWays as changer_ways
 use Rattle.mdb_cashless.specs.ReaderValues as reader_values
 use Rattle.mdb_cashless.specs.inner.ReaderWays as reader_ways
-use Rattle.mdb_cashless.specs.Units.{device_of_unit}
-use Rattle.mdb_cash.specs.Machine.{Machine}
 use Rattle.mdb_follow.specs.declared.cell.Cell.{Cell}
-use Rattle.mdb_follow.specs.declared.side.Side.{Side}
+use Rattle.mdb_follow.specs.declared.report.TheConstants.Report.{DEVICES}
 use Rattle.mdb_follow.specs.declared.sides.Sides.{Sides}
+use Rattle.mdb_follow.specs.Arrivals.{Arrives}
+use Rattle.mdb_follow.specs.Machines.{machine_of}
+use Rattle.mdb_follow.specs.Offences.{HasNoStep, rule_of}
+use Rattle.mdb_follow.specs.Ranges.{IsCell}
+use Rattle.mdb_follow.specs.Report.{decimals_of}
+use Rattle.mdb_follow.specs.Sides.{AreSides, FactsOf, IsSideOf, SideOf, code_of, side_in}
+use Rattle.mdb_follow.specs.Sides.{stands_for}
+use Rattle.mdb_follow.specs.Tables.{ArrivesAnywhere}
 use Rattle.mdb_follow.specs.inner.Limits.{IsTableWithin}
-use Rattle.mdb_follow.specs.Sides.{AreWithin, IsBillSide, IsChangerSide, IsReaderSide, IsSide, SidesFollow}
+use Rattle.mdb_follow.specs.inner.SideSteps.{AreWithin, FollowsOf, IsWithin, OneFollows}
+use Rattle.mdb_follow.specs.inner.SideSteps.{SidesFollow, SidesStop, Stops}
+use Rattle.mdb_follow.proofs.ByDevice.{Front, front-next, same_or_not}
 use Rattle.mdb_follow.proofs.Limits.{table-within-weaker}
+use Rattle.mdb_follow.proofs.Machines.{is_machine_of}
 use Rattle.mdb_follow.proofs.Ways.{table-same}
 
-side-still : {Facts State : Type 0} {N : ℕ} (stands_for : Facts → List Act → Type 0)
-    (code_of : State → ℕ) (machine : Machine State) (side : Side Facts N) (act : Act) (acts : List Act)
-    → (stands_for side.facts acts → stands_for side.facts (act ∷ acts))
-    → ((acts : List Act) (choice : Choice) (before after : State) (gains : Gains)
-    → machine.Step acts act choice before after gains ↔ (after ≡ before) × (gains ≡ no_gains))
-    → IsSide stands_for code_of machine side acts
-    → IsSide stands_for code_of machine side (act ∷ acts)
-side-still stands_for code_of machine side act acts unmoved elsewhere on = record {
-  facts = unmoved on.facts;
-  table = table-same code_of machine act acts side.table elsewhere on.table;
+-- an act in which a device has no part leaves its facts
+unmoved : (device : Device) (facts : FactsOf device) (acts : List Act) (act : Act)
+    → (IsActOf device act → ⊥) → stands_for device facts acts
+    → stands_for device facts (act ∷ acts)
+unmoved devices.Changer facts = changer_ways.unmoved (changer_values.facts_in facts)
+unmoved devices.Bill facts = bill_ways.unmoved (bill_values.facts_in facts)
+unmoved (devices.Reader unit) facts = reader_ways.unmoved unit (reader_values.facts_in facts)
+
+-- and its side
+still : (device : Device) (side : SideOf device) (act : Act) → (IsActOf device act → ⊥)
+    → FollowsOf act device side side
+still device side act other = record {
+  stands = λ acts on. record {
+    facts = unmoved device side.facts acts act other on.facts;
+    table = table-same (code_of device) (machine_of device) act acts side.table
+        (λ acts choice before after gains.
+        (is_machine_of device).elsewhere acts act choice before after gains other) on.table;
+  };
+  within = λ limit. table-within-weaker limit (limit + 2 ^ 32) side.table (omega arith);
 }
 
-pub changer-still : {N : ℕ} (side : Side changer_values.Value N) (act : Act) (acts : List Act)
-    → (IsActOf devices.Changer act → ⊥) → IsChangerSide side acts → IsChangerSide side (act ∷ acts)
-changer-still side act acts other =
-    side-still _ _ _ side act acts
-    (changer_ways.unmoved (changer_values.facts_in side.facts) acts act other)
-    (λ acts choice before after gains.
-    changer_ways.elsewhere (changer_facts.facts_of acts) act choice before after gains other)
+-- sides with one in place of a device's
+abbrev pub with_side : (device : Device) → SideOf device → Sides → Sides
+with_side devices.Changer side sides = record sides { changer = side }
+with_side devices.Bill side sides = record sides { bill = side }
+with_side (devices.Reader First) side sides = record sides { first_reader = side }
+with_side (devices.Reader Second) side sides = record sides { second_reader = side }
 
-pub bill-still : {N : ℕ} (side : Side bill_values.Value N) (act : Act) (acts : List Act)
-    → (IsActOf devices.Bill act → ⊥) → IsBillSide side acts → IsBillSide side (act ∷ acts)
-bill-still side act acts other =
-    side-still _ _ _ side act acts
-    (bill_ways.unmoved (bill_values.facts_in side.facts) acts act other)
-    (λ acts choice before after gains.
-    bill_ways.elsewhere (bill_facts.facts_of acts) act choice before after gains other)
+its : (device : Device) (side : SideOf device) (sides : Sides)
+    → side ≡ side_in (with_side device side sides) device
+its devices.Changer side sides = refl
+its devices.Bill side sides = refl
+its (devices.Reader First) side sides = refl
+its (devices.Reader Second) side sides = refl
 
-pub reader-still : {N : ℕ} (unit : ReaderUnit) (side : Side ReaderFacts N) (act : Act)
-    (acts : List Act) → (IsActOf (device_of_unit unit) act → ⊥)
-    → IsReaderSide unit side acts → IsReaderSide unit side (act ∷ acts)
-reader-still unit side act acts other =
-    side-still _ _ _ side act acts
-    (reader_ways.unmoved unit (reader_values.facts_in side.facts) acts act other)
-    (λ acts choice before after gains.
-    reader_ways.elsewhere unit (reader_facts.facts_of unit acts) act choice before after gains
-    other)
+others : (device : Device) (side : SideOf device) (sides : Sides) (other : Device)
+    → (other ≡ device → ⊥) → side_in (with_side device side sides) other ≡ side_in sides other
+others devices.Changer side sides devices.Changer not = absurd (not refl)
+others devices.Bill side sides devices.Bill not = absurd (not refl)
+others (devices.Reader First) side sides (devices.Reader First) not = absurd (not refl)
+others (devices.Reader Second) side sides (devices.Reader Second) not = absurd (not refl)
+others _ side sides _ not = refl
 
-weaker : (limit : ℕ) (entries : List (ℕ × Cell)) → IsTableWithin limit entries
-    → IsTableWithin (limit + 2 ^ 32) entries
-weaker limit entries = table-within-weaker limit (limit + 2 ^ 32) entries (omega arith)
+-- The side of the device that an arm is of goes on.
+pub one-follows : {T E : Type 0} (r : Result T E) (device which : Device) (sides : Sides)
+    (side : SideOf which) (act : Act) → device ≡ which
+    → IfOk r (λ _. FollowsOf act which (side_in sides which) side)
+    → IfOk r (λ _. OneFollows device sides act (with_side which side sides))
+one-follows (Ok x) device which sides side act is goes =
+    subst (λ d. OneFollows d sides act (with_side which side sides)) (sym is) (record {
+      own = subst (FollowsOf act which (side_in sides which)) (its which side sides) goes;
+      others = others which side sides;
+    })
+one-follows (Err e) device which sides side act is goes = tt
 
--- The changer's side goes on by an act that is of no other device.
-pub led-changer : (sides : Sides) (changer : Side changer_values.Value 4) (act : Act)
-    → ((other : Device) → IsActOf other act → other ≡ devices.Changer)
-    → ((acts : List Act) → IsChangerSide sides.changer acts → IsChangerSide changer (act ∷ acts))
-    → SidesFollow sides act (record sides { changer = changer })
-led-changer sides changer act only goes acts on = record {
-  changer = goes acts on.changer;
-  bill = bill-still sides.bill act acts (λ of. cc (only devices.Bill of)) on.bill;
-  cashless = reader-still First sides.cashless act acts (λ of. cc (only devices.Cashless of)) on.cashless;
-  cashless2 = reader-still Second sides.cashless2 act acts (λ of. cc (only devices.Cashless2 of)) on.cashless2;
-}
+-- It has no step.
+pub one-stops : {T : Type 0} (r : Result T Rule) (device which : Device) (sides : Sides)
+    (act : Act) → device ≡ which
+    → OnErr r ((acts : List Act) → IsSideOf which (side_in sides which) acts
+    → HasNoStep (machine_of which) act acts)
+    → IfErr r (λ broken. broken ≡ rule_of which)
+    → IfErr r (Stops device sides act)
+one-stops (Ok x) device which sides act is none its = tt
+one-stops (Err broken) device which sides act is none its =
+    subst (λ d. Stops d sides act broken) (sym is) (record { rule = its; none = none })
 
-pub within-changer : (sides : Sides) (changer : Side changer_values.Value 4)
-    → ((limit : ℕ) → IsTableWithin limit sides.changer.table
-    → IsTableWithin (limit + 2 ^ 32) changer.table)
-    → (limit : ℕ) → AreWithin limit sides
-    → AreWithin (limit + 2 ^ 32) (record sides { changer = changer })
-within-changer sides changer goes limit on = record {
-  changer = goes limit on.changer;
-  bill = weaker limit sides.bill.table on.bill;
-  cashless = weaker limit sides.cashless.table on.cashless;
-  cashless2 = weaker limit sides.cashless2.table on.cashless2;
-}
+-- its table is as far from 0 as that of the device
+pub within-at : (device which : Device) (limit : ℕ) (sides : Sides) → device ≡ which
+    → IsWithin device limit sides → IsWithin which limit sides
+within-at device which limit sides is = subst (λ d. IsWithin d limit sides) is
 
--- The validator's side goes on by an act that is of no other device.
-pub led-bill : (sides : Sides) (bill : Side bill_values.Value 66) (act : Act)
-    → ((other : Device) → IsActOf other act → other ≡ devices.Bill)
-    → ((acts : List Act) → IsBillSide sides.bill acts → IsBillSide bill (act ∷ acts))
-    → SidesFollow sides act (record sides { bill = bill })
-led-bill sides bill act only goes acts on = record {
-  changer = changer-still sides.changer act acts (λ of. cc (only devices.Changer of)) on.changer;
-  bill = goes acts on.bill;
-  cashless = reader-still First sides.cashless act acts (λ of. cc (only devices.Cashless of)) on.cashless;
-  cashless2 = reader-still Second sides.cashless2 act acts (λ of. cc (only devices.Cashless2 of)) on.cashless2;
-}
-
-pub within-bill : (sides : Sides) (bill : Side bill_values.Value 66)
-    → ((limit : ℕ) → IsTableWithin limit sides.bill.table
-    → IsTableWithin (limit + 2 ^ 32) bill.table)
-    → (limit : ℕ) → AreWithin limit sides
-    → AreWithin (limit + 2 ^ 32) (record sides { bill = bill })
-within-bill sides bill goes limit on = record {
-  changer = weaker limit sides.changer.table on.changer;
-  bill = goes limit on.bill;
-  cashless = weaker limit sides.cashless.table on.cashless;
-  cashless2 = weaker limit sides.cashless2.table on.cashless2;
-}
-
--- The reader at 10H's side goes on by an act that is of no other device.
-pub led-cashless : (sides : Sides) (cashless : Side ReaderFacts 176) (act : Act)
-    → ((other : Device) → IsActOf other act → other ≡ devices.Cashless)
-    → ((acts : List Act) → IsReaderSide First sides.cashless acts → IsReaderSide First cashless (act ∷ acts))
-    → SidesFollow sides act (record sides { cashless = cashless })
-led-cashless sides cashless act only goes acts on = record {
-  changer = changer-still sides.changer act acts (λ of. cc (only devices.Changer of)) on.changer;
-  bill = bill-still sides.bill act acts (λ of. cc (only devices.Bill of)) on.bill;
-  cashless = goes acts on.cashless;
-  cashless2 = reader-still Second sides.cashless2 act acts (λ of. cc (only devices.Cashless2 of)) on.cashless2;
-}
-
-pub within-cashless : (sides : Sides) (cashless : Side ReaderFacts 176)
-    → ((limit : ℕ) → IsTableWithin limit sides.cashless.table
-    → IsTableWithin (limit + 2 ^ 32) cashless.table)
-    → (limit : ℕ) → AreWithin limit sides
-    → AreWithin (limit + 2 ^ 32) (record sides { cashless = cashless })
-within-cashless sides cashless goes limit on = record {
-  changer = weaker limit sides.changer.table on.changer;
-  bill = weaker limit sides.bill.table on.bill;
-  cashless = goes limit on.cashless;
-  cashless2 = weaker limit sides.cashless2.table on.cashless2;
-}
-
--- The reader at 60H's side goes on by an act that is of no other device.
-pub led-cashless2 : (sides : Sides) (cashless2 : Side ReaderFacts 176) (act : Act)
-    → ((other : Device) → IsActOf other act → other ≡ devices.Cashless2)
-    → ((acts : List Act) → IsReaderSide Second sides.cashless2 acts → IsReaderSide Second cashless2 (act ∷ acts))
-    → SidesFollow sides act (record sides { cashless2 = cashless2 })
-led-cashless2 sides cashless2 act only goes acts on = record {
-  changer = changer-still sides.changer act acts (λ of. cc (only devices.Changer of)) on.changer;
-  bill = bill-still sides.bill act acts (λ of. cc (only devices.Bill of)) on.bill;
-  cashless = reader-still First sides.cashless act acts (λ of. cc (only devices.Cashless of)) on.cashless;
-  cashless2 = goes acts on.cashless2;
-}
-
-pub within-cashless2 : (sides : Sides) (cashless2 : Side ReaderFacts 176)
-    → ((limit : ℕ) → IsTableWithin limit sides.cashless2.table
-    → IsTableWithin (limit + 2 ^ 32) cashless2.table)
-    → (limit : ℕ) → AreWithin limit sides
-    → AreWithin (limit + 2 ^ 32) (record sides { cashless2 = cashless2 })
-within-cashless2 sides cashless2 goes limit on = record {
-  changer = weaker limit sides.changer.table on.changer;
-  bill = weaker limit sides.bill.table on.bill;
-  cashless = weaker limit sides.cashless.table on.cashless;
-  cashless2 = goes limit on.cashless2;
-}
+-- All go on by an act that is of no other device than one that goes on.
+pub all-follow : (device : Device) (old new : Sides) (act : Act)
+    → ((other : Device) → IsActOf other act → other ≡ device)
+    → OneFollows device old act new → SidesFollow old act new
+all-follow device old new act only follows other =
+    elim (same_or_not other device) [
+      | inl same ↦ subst (λ d. FollowsOf act d (side_in old d) (side_in new d)) (sym same)
+          follows.own
+      | inr apart ↦ subst (FollowsOf act other (side_in old other))
+          (sym (follows.others other apart))
+          (still other (side_in old other) act (λ of. apart (only other of)))
+    ]
 
 -- All stay where the act is no device's.
-pub led-none : (sides : Sides) (act : Act) → ((other : Device) → IsActOf other act → ⊥)
+pub none-follows : (sides : Sides) (act : Act) → ((other : Device) → IsActOf other act → ⊥)
     → SidesFollow sides act sides
-led-none sides act other acts on = record {
-  changer = changer-still sides.changer act acts (other devices.Changer) on.changer;
-  bill = bill-still sides.bill act acts (other devices.Bill) on.bill;
-  cashless = reader-still First sides.cashless act acts (other devices.Cashless) on.cashless;
-  cashless2 = reader-still Second sides.cashless2 act acts (other devices.Cashless2) on.cashless2;
-}
+none-follows sides act none device = still device (side_in sides device) act (none device)
 
-pub within-none : (sides : Sides) (limit : ℕ) → AreWithin limit sides
-    → AreWithin (limit + 2 ^ 32) sides
-within-none sides limit on = record {
-  changer = weaker limit sides.changer.table on.changer;
-  bill = weaker limit sides.bill.table on.bill;
-  cashless = weaker limit sides.cashless.table on.cashless;
-  cashless2 = weaker limit sides.cashless2.table on.cashless2;
-}
+-- the devices before a place have followed
+abbrev pub FrontFollows : ℕ → Sides → Act → Sides → Type 0
+FrontFollows count old act new = Front SideOf (FollowsOf act) count (side_in old) (side_in new)
 
--- The offence has the rule that was given.
-pub stopped-by : {T : Type 0} (r : Result T Rule) (rule : Rule) (P : Type 0) (Q : Rule → Type 0)
-    → (P → Q rule) → OnErr r P → IfErr r (λ broken. broken ≡ rule) → IfErr r Q
-stopped-by (Ok x) rule P Q so none is = tt
-stopped-by (Err e) rule P Q so none is = subst Q (sym is) (so none)
+-- the next side has no step where it had none before
+pub front-stops : (count : ℕ) (old : Sides) (act : Act) (mid : Sides) (d : Device) (broken : Rule)
+    → count < 4 → FrontFollows count old act mid → Stops (get_or DEVICES count d) mid act broken
+    → SidesStop old act broken
+front-stops count old act mid d broken within front stops =
+    let device : Device = get_or DEVICES count d in (
+      device,
+      record {
+        rule = stops.rule;
+        none = subst (λ (s : SideOf device). (acts : List Act) → IsSideOf device s acts
+            → HasNoStep (machine_of device) act acts)
+            (front-next SideOf (FollowsOf act) count (side_in old) (side_in mid) d within front)
+            stops.none;
+      },
+    )
+
+-- and is as far from 0 as it was
+pub front-fits : (count : ℕ) (old : Sides) (act : Act) (mid : Sides) (d : Device) (limit : ℕ)
+    → count < 4 → FrontFollows count old act mid → AreWithin limit old
+    → IsWithin (get_or DEVICES count d) limit mid
+front-fits count old act mid d limit within front on =
+    let device : Device = get_or DEVICES count d in
+    subst (λ (s : SideOf device). IsTableWithin limit s.table)
+    (sym (front-next SideOf (FollowsOf act) count (side_in old) (side_in mid) d within front))
+    (on device)
+
+-- the decimal places that the facts of a device have
+abbrev pub decimals_in : (device : Device) → FactsOf device → Option ℕ
+decimals_in devices.Changer facts =
+    option_map (λ setup. setup.decimals) (changer_values.facts_in facts).setup
+decimals_in devices.Bill facts =
+    option_map (λ setup. setup.decimals) (bill_values.facts_in facts).setup
+decimals_in (devices.Reader unit) facts =
+    option_map (λ config. config.decimals) (reader_values.facts_in facts).config
+
+decimals-are : (device : Device) (facts : FactsOf device) (acts : List Act)
+    → stands_for device facts acts → decimals_in device facts ≡ decimals_of device acts
+decimals-are devices.Changer facts acts =
+    ap (λ known. option_map (λ setup. setup.decimals) known.setup)
+decimals-are devices.Bill facts acts =
+    ap (λ known. option_map (λ setup. setup.decimals) known.setup)
+decimals-are (devices.Reader unit) facts acts =
+    ap (λ known. option_map (λ config. config.decimals) known.config)
+
+-- what is told of the device that an arm is of: its decimal places, and the ranges of its sums
+pub decimals-at : (device which : Device) (sides : Sides) (found : Option ℕ) → device ≡ which
+    → found ≡ decimals_in which (side_in sides which).facts → (acts : List Act)
+    → AreSides sides acts → found ≡ decimals_of device acts
+decimals-at device which sides found is known acts on =
+    known ∙ decimals-are which (side_in sides which).facts acts (on which).facts
+    ∙ ap (λ d. decimals_of d acts) (sym is)
+
+pub ranges-at : (device which : Device) (sides : Sides) (cell : Cell) → device ≡ which
+    → ((acts : List Act) → IsSideOf which (side_in sides which) acts
+    → IsCell (ArrivesAnywhere (Arrives (machine_of which) acts)) cell) → (acts : List Act)
+    → AreSides sides acts → IsCell (ArrivesAnywhere (Arrives (machine_of device) acts)) cell
+ranges-at device which sides cell is known acts on =
+    subst (λ d. IsCell (ArrivesAnywhere (Arrives (machine_of d) acts)) cell) (sym is)
+    (known acts (on which))

@@ -1,5 +1,6 @@
 -- What is kept of silences goes on with an ask that finds one unanswered.
-use Rattle.std.proofs.Common.{refl, ap, sym, subst, ◌∙◌, ◌≡◌, ◌≢◌, ◌<◌, ◌≤◌, ◌+◌, ℕ, Bool, true, false, nat_lt, ◌||◌, cond, List, [], ◌∷◌, Option, Some, None, arith}
+use Rattle.std.proofs.Common.{refl, ap, sym, subst, ◌∙◌, ◌≡◌, ◌≢◌, ◌<◌, ◌≤◌, ◌+◌, ℕ, Bool, true}
+use Rattle.std.proofs.Common.{false, nat_lt, ◌||◌, cond, List, [], ◌∷◌, Option, Some, None, arith}
 use Rattle.std.proofs.lemmas.Bool.{lt-ltb, le-ltb}
 use Rattle.std.proofs.lemmas.List.Sums.{sum_by-cons}
 use Rattle.std.specs.List.{count_by, list_any}
@@ -14,7 +15,7 @@ first-of : (ask : TimedAsk) (list : List TimedAsk)
 first-of ask [] = (ask, refl)
 first-of ask (earlier ∷ list) = first-of earlier list
 
--- one ask more makes a silence of a list that has asks where it comes behind the deadline
+-- one ask more makes a silence of a list that has asks where it comes after the deadline
 more : (ask : TimedAsk) (list : List TimedAsk) → list ≢ []
     → is_silence (ask ∷ list) ≡ (nat_lt (deadline_of list) ask.at || is_silence list)
 more ask [] some = absurd (some refl)
@@ -101,12 +102,15 @@ in-time silence lists ask time is early on =
     ∙ ap (λ b. b || false) (le-ltb time ask.at early) in
     record {
       unanswered = subst (λ u. IsUnanswered u (newest_list (with_ask ask lists))) (sym is)
-          (subst (λ list. IsUnanswered (Until time) list) (sym (newest-with ask lists))
-          (some-ask ask (newest_list lists), was.1 ∙ sym (same-deadline ask (newest_list lists) was.0), no));
+          (subst (λ list. IsUnanswered (Until time) list) (sym (newest-with ask lists)) (
+            some-ask ask (newest_list lists),
+            was.1 ∙ sym (same-deadline ask (newest_list lists) was.0),
+            no,
+          ));
       count = on.count ∙ sym (count-same ask lists was.0 (no ∙ sym was.2));
     }
 
--- one that comes behind the deadline makes a silence
+-- one that comes after the deadline makes a silence
 pub too-late : (silence new : Silence) (lists : List (List TimedAsk)) (ask : TimedAsk) (time : ℕ)
     → silence.unanswered ≡ Until time → time < ask.at → new.unanswered ≡ Counted
     → new.count ≡ silence.count + 1 → StandsForAsks silence lists

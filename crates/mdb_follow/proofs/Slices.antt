@@ -6,7 +6,7 @@ use Rattle.mdb_follow.specs.declared.offence.Offence.{Offence}
 use Rattle.mdb_follow.specs.Offences.{HasOffence, IsOffence}
 use Rattle.mdb_follow.specs.Runs.{IsReached}
 
--- a list that goes on behind a front and a row of another
+-- a list that goes on after a front and a row of another
 pub record Longer (front : List Event) (row : Event) (other : List Event) : Type 0 where
   pub more : List Event
   pub is : other ≡ front ++ row ∷ more
@@ -24,8 +24,8 @@ places (x ∷ one) [] row last rest tail same =
     inr (inr (record { more = one; is = ap (λ y. y ∷ one) first }))
 places (x ∷ one) (y ∷ other) row last rest tail same =
     let first : x ≡ y = cc same in
-    let behind : one ++ row ∷ rest ≡ other ++ last ∷ tail = cc same in
-    elim (places one other row last rest tail behind) [
+    let parts : one ++ row ∷ rest ≡ other ++ last ∷ tail = cc same in
+    elim (places one other row last rest tail parts) [
       | inl both ↦ (let fronts : one ≡ other = both.0 in inl (cc (first, fronts), both.1))
       | inr (inl longer) ↦ (let its : other ≡ one ++ row ∷ longer.more = longer.is in
           inr (inl (record { more = longer.more; is = cc (first, its) })))
@@ -36,7 +36,7 @@ places (x ∷ one) (y ∷ other) row last rest tail same =
 abbrev pub Fronts : Type 0
 Fronts = (rows more : List Event) → IsReached (rows ++ more) → IsReached rows
 
--- rows behind a row that isn't reached aren't either
+-- rows after a row that isn't reached aren't either
 pub later : Fronts → (earlier front other : List Event) (row : Event) → Longer front row other
     → (IsReached ((earlier ++ front) ++ row ∷ []) → ⊥) → IsReached (earlier ++ other) → ⊥
 later fronts earlier front other row longer not_reached reached =

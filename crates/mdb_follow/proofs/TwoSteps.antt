@@ -1,7 +1,9 @@
 -- The moves that two steps are.
-use Rattle.std.proofs.Common.{◌≡◌, ◌⊎◌, inl, inr, ℕ, ◌∙◌, sym, ap, subst, List, [], ◌∷◌, ◌++◌, Option, Some, None}
+use Rattle.std.proofs.Common.{◌≡◌, ◌⊎◌, inl, inr, ℕ, ◌∙◌, sym, ap, subst, List, [], ◌∷◌, ◌++◌}
+use Rattle.std.proofs.Common.{Option, Some, None}
 use Rattle.std.specs.Prelude.{Contains, ◌↔◌}
-use Rattle.std.proofs.lemmas.List.Elements.{Contains-append_cases, Contains-append_left, Contains-append_right}
+use Rattle.std.proofs.lemmas.List.Elements.{Contains-append_cases, Contains-append_left}
+use Rattle.std.proofs.lemmas.List.Elements.{Contains-append_right}
 use Rattle.std.proofs.lemmas.Option.{none-some, same_Some}
 use Rattle.mdb_msgs.specs.declared.command.Device.{Device}
 use Rattle.mdb_bus.specs.declared.act.Act.{Act}
@@ -29,7 +31,8 @@ move-is (Some one) move = (
   λ is. contains-here one [] move (same_Some one move is),
 )
 
-pub two-moves : (one other : Option (ℕ × Gains)) → AreMoves (moves_of one ++ moves_of other) one other
+pub two-moves : (one other : Option (ℕ × Gains))
+    → AreMoves (moves_of one ++ moves_of other) one other
 two-moves one other move = (
   λ has. elim (Contains-append_cases (moves_of one) (moves_of other) move has) [
     | inl first ↦ inl ((move-is one move).0 first)
@@ -42,7 +45,7 @@ two-moves one other move = (
   ],
 )
 
--- the cells of one step are taken in behind those of the other
+-- the cells of one step are taken in after those of the other
 pub with-two : (before middle after : List (ℕ × Cell)) (cell : Cell)
     (one other : Option (ℕ × Gains)) → middle ≡ with_moves before cell (moves_of one)
     → after ≡ with_moves middle cell (moves_of other)
@@ -91,7 +94,8 @@ lead-both cell one other move second after is so made =
     (subst (λ o. LeadTo cell (Some move) o after) (sym so)
     (move ∷ second ∷ [], two-moves (Some move) (Some second), made))
 
--- the moves by an act: its plain step, and that by its other choice where that isn't a plain one too
+-- the moves by an act: its plain step, and that by its other choice where that isn't a plain one
+-- too
 pub either-moves : {State : Type 0} (device : Device) (act : Act) (code_of : State → ℕ)
     (Step : Choice → State → State → Gains → Type 0) (code : ℕ)
     (plain other : Option (ℕ × Gains)) (moves : List (ℕ × Gains))

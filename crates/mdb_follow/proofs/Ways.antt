@@ -1,5 +1,6 @@
 -- Ways through one act more.
-use Rattle.std.proofs.Common.{arith, ℤ, pos, ◌-ℤ◌, ◌<◌, ◌+◌, length, take, ◌≡◌, ◌⊎◌, inl, inr, ℕ, refl, sym, ◌∙◌, ap, subst, add-zero, List, [], ◌∷◌}
+use Rattle.std.proofs.Common.{arith, ℤ, pos, ◌-ℤ◌, ◌<◌, ◌+◌, length, take, ◌≡◌, ◌⊎◌, inl, inr, ℕ}
+use Rattle.std.proofs.Common.{refl, sym, ◌∙◌, ap, subst, add-zero, List, [], ◌∷◌}
 use Rattle.std.specs.Prelude.{All, Contains, slice_index_or, ◌↔◌}
 use Rattle.mdb_bus.specs.declared.act.Act.{Act}
 use Rattle.mdb_cash.specs.declared.choice.Choice.{Choice}
@@ -23,9 +24,10 @@ use Rattle.std.proofs.lemmas.List.Elements.{All-append, All-cons, All-contains, 
 use Rattle.mdb_follow.specs.inner.Entries.{AllRest, RestsAt, joined_cells}
 use Rattle.mdb_follow.proofs.Ends.{cell-joined, cell-same}
 use Rattle.mdb_follow.proofs.Led.{Led}
-use Rattle.mdb_follow.proofs.Listed.{bounds-same, contains-cases, contains-here, contains-none, contains-there}
+use Rattle.mdb_follow.proofs.Listed.{bounds-same, contains-cases, contains-here, contains-none}
+use Rattle.mdb_follow.proofs.Listed.{contains-there}
 
--- The steps from the entries of a table lead to what arrives behind one act more.
+-- The steps from the entries of a table lead to what arrives after one act more.
 pub table-led : {State : Type 0} (code_of : State → ℕ)
     (machine : Machine State)
     (act : Act) (acts : List Act) (from into : List (ℕ × Cell))
@@ -166,7 +168,8 @@ pub rests-more : {State : Type 0} (code_of : State → ℕ)
     → code_of state ≡ (slice_index_or entries i d).0
     → ((acts : List Act) (choice : Choice) (after : State) (gains : Gains)
     → machine.Step acts act choice state after gains ↔ (after ≡ state) × (gains ≡ no_gains))
-    → AllRest code_of machine act (take i entries) → AllRest code_of machine act (take (i + 1) entries)
+    → AllRest code_of machine act (take i entries)
+    → AllRest code_of machine act (take (i + 1) entries)
 rests-more {State} code_of machine act entries i d state within apart is here before =
     let Rests : ℕ × Cell → Type 0 = λ entry. RestsAt code_of machine act entry.0 in
     let one : RestsAt code_of machine act (slice_index_or entries i d).0 =
@@ -208,7 +211,7 @@ account-start Kind account ranges none only nothing is = record {
       (ap (λ a. pos a.device -ℤ pos a.controller) nothing) (ap (λ r. r.difference) is);
 }
 
--- The table behind no act: the one code of the states in which the machine may start, with no sums.
+-- The table after no act: the one code of the states in which the machine may start, with no sums.
 pub table-start : {State : Type 0} (code_of : State → ℕ) (machine : Machine State) (code : ℕ)
     (cell : Cell) → cell.first ≡ no_account → cell.second ≡ no_account
     → ((state : State) → machine.Starts state ↔ (code_of state ≡ code))

@@ -3,9 +3,9 @@ use Rattle.std.specs.Prelude.{ℕ, List, codes}
 use Rattle.mdb_msgs.specs.declared.command.Device.{Device}
 use Rattle.mdb_msgs.specs.declared.command.Device.TheVariants as devices
 use Rattle.mdb_msgs.specs.declared.command.ReaderUnit.TheVariants.{First, Second}
-use Rattle.mdb_cashless.specs.Units.{device_of_unit}
 use Rattle.mdb_follow.specs.declared.account_name.AccountName.{AccountName}
-use Rattle.mdb_follow.specs.declared.account_name.AccountName.TheVariants.{CoinsIn, BillsIn, PaidOut, Approved, Sold}
+use Rattle.mdb_follow.specs.declared.account_name.AccountName.TheVariants.{CoinsIn, BillsIn}
+use Rattle.mdb_follow.specs.declared.account_name.AccountName.TheVariants.{PaidOut, Approved, Sold}
 use Rattle.mdb_follow.specs.Runs.{AllSums}
 use Rattle.mdb_follow.specs.Sums.{AccountSums}
 
@@ -24,8 +24,8 @@ abbrev pub account_device : AccountName → Device
 account_device CoinsIn = devices.Changer
 account_device BillsIn = devices.Bill
 account_device PaidOut = devices.Changer
-account_device (Approved unit) = device_of_unit unit
-account_device (Sold unit) = device_of_unit unit
+account_device (Approved unit) = devices.Reader unit
+account_device (Sold unit) = devices.Reader unit
 
 -- its place in a report, from 0
 abbrev pub account_place : AccountName → ℕ
@@ -42,5 +42,5 @@ abbrev pub sums_of : AccountName → AllSums → AccountSums
 sums_of CoinsIn sums = (sums devices.Changer).first
 sums_of BillsIn sums = (sums devices.Bill).first
 sums_of PaidOut sums = (sums devices.Changer).second
-sums_of (Approved unit) sums = (sums (device_of_unit unit)).first
-sums_of (Sold unit) sums = (sums (device_of_unit unit)).second
+sums_of (Approved unit) sums = (sums (devices.Reader unit)).first
+sums_of (Sold unit) sums = (sums (devices.Reader unit)).second

@@ -1,5 +1,6 @@
 pub mod AccountNames
 pub mod Arrivals
+pub mod Devices
 pub mod Follower
 pub mod Machines
 pub mod Offences

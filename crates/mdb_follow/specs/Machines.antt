@@ -1,7 +1,6 @@
 -- The machine of each device: what the device and the controller may do.
 use Rattle.mdb_msgs.specs.declared.command.Device.{Device}
 use Rattle.mdb_msgs.specs.declared.command.Device.TheVariants as devices
-use Rattle.mdb_msgs.specs.declared.command.ReaderUnit.TheVariants.{First, Second}
 use Rattle.mdb_cash.specs.declared.bill.state.BillState.{BillState}
 use Rattle.mdb_cash.specs.declared.changer.state.ChangerState.{ChangerState}
 use Rattle.mdb_cash.specs.Bill as bill
@@ -14,12 +13,10 @@ use Rattle.mdb_cashless.specs.Reader as reader
 abbrev pub StateOf : Device → Type 0
 StateOf devices.Changer = ChangerState
 StateOf devices.Bill = BillState
-StateOf devices.Cashless = ReaderState
-StateOf devices.Cashless2 = ReaderState
+StateOf (devices.Reader unit) = ReaderState
 
--- the machine of the changer, of the validator, of the reader at 10H and of that at 60H
+-- the machine of the changer, of the validator and of each reader
 abbrev pub machine_of : (device : Device) → Machine (StateOf device)
 machine_of devices.Changer = changer.machine
 machine_of devices.Bill = bill.machine
-machine_of devices.Cashless = reader.machine First
-machine_of devices.Cashless2 = reader.machine Second
+machine_of (devices.Reader unit) = reader.machine unit

@@ -20,15 +20,15 @@ use Rattle.mdb_follow.specs.declared.offence.Offence.{Offence}
 use Rattle.mdb_follow.specs.Runs.{IsReached}
 use Rattle.mdb_follow.specs.Senders.{sender_of}
 
--- a row breaks a rule of the link, behind rows that have an act list
+-- a row breaks a rule of the link, after rows that have an act list
 pub record BreaksLink (events : List Event) (row : Event) (broken : Rule)
     (blamed : Blame) : Type 0 where
   pub pieces : List Piece
   pub act_list : IsActList pieces events
   pub fault : IsLinkFault pieces row broken blamed
 
--- From no state to which a way through the acts before leads is there a step by an act, however it
--- can be taken.
+-- From no state to which a way through the acts before leads is there a step by an act, whatever
+-- its rows leave open: whether an ACK was heard, and whether a reply tells of a restart.
 abbrev pub HasNoStep : {State : Type 0} → Machine State → Act → List Act → Type 0
 HasNoStep {State} machine act before =
     (state : State) (sums : Sums) → Arrives machine before state sums → (choice : Choice)
@@ -39,8 +39,7 @@ HasNoStep {State} machine act before =
 abbrev pub rule_of : Device → Rule
 rule_of devices.Changer = rules.Changer
 rule_of devices.Bill = rules.Bill
-rule_of devices.Cashless = rules.Cashless
-rule_of devices.Cashless2 = rules.Cashless
+rule_of (devices.Reader unit) = rules.Cashless
 
 -- The machine of a device that a rule is of has no step by an act.
 pub record NoStep (broken : Rule) (act : Act) (before : List Act) : Type 0 where
@@ -59,7 +58,7 @@ pub record BreaksMachine (events : List Event) (row : Event) (broken : Rule)
   pub no_step : NoStep broken act (acts_of earlier)
   pub blame : blamed ≡ sender_of act
 
--- the offence of a row behind rows that are reached: the row isn't
+-- the offence of a row after rows that are reached: the row isn't
 pub record IsOffence (events : List Event) (row : Event) (offence : Offence) : Type 0 where
   pub reached : IsReached events
   pub not_reached : IsReached (events ++ row ∷ []) → ⊥
@@ -67,7 +66,7 @@ pub record IsOffence (events : List Event) (row : Event) (offence : Offence) : T
   pub why : BreaksLink events row offence.rule offence.blame
       ⊎ BreaksMachine events row offence.rule offence.blame
 
--- the offence of some row of these events, behind the earlier ones and those before it
+-- the offence of some row of these events, after the earlier ones and those before it
 pub record HasOffence (earlier events : List Event) (offence : Offence) : Type 0 where
   pub front : List Event
   pub row : Event

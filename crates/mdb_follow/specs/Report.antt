@@ -3,7 +3,6 @@ use Rattle.std.specs.Prelude.{◌≡◌, ℕ, List, length, map, Option, None, g
 use Rattle.mdb_words.specs.declared.event.Event.{Event}
 use Rattle.mdb_msgs.specs.declared.command.Device.{Device}
 use Rattle.mdb_msgs.specs.declared.command.Device.TheVariants as devices
-use Rattle.mdb_msgs.specs.declared.command.ReaderUnit.TheVariants.{First, Second}
 use Rattle.mdb_bus.specs.declared.act.Act.{Act}
 use Rattle.mdb_bus.specs.ActLists.{IsActList, Piece, acts_of}
 use Rattle.mdb_cash.specs.BillFacts as bill_facts
@@ -16,6 +15,7 @@ use Rattle.mdb_follow.specs.declared.range.Range.{Range}
 use Rattle.mdb_follow.specs.declared.report.Report.{Report}
 use Rattle.mdb_follow.specs.declared.report.TheConstants.Report.{DEVICES}
 use Rattle.mdb_follow.specs.AccountNames.{account_place, sums_of}
+use Rattle.mdb_follow.specs.Devices.{device_place}
 use Rattle.mdb_follow.specs.Ranges.{IsAccount}
 use Rattle.mdb_follow.specs.Runs.{AllSums, IsReached, Run}
 use Rattle.mdb_follow.specs.Silences.{silences}
@@ -43,17 +43,8 @@ decimals_of devices.Changer acts =
     option_map (λ setup. setup.decimals) (changer_facts.facts_of acts).setup
 decimals_of devices.Bill acts =
     option_map (λ setup. setup.decimals) (bill_facts.facts_of acts).setup
-decimals_of devices.Cashless acts =
-    option_map (λ config. config.decimals) (reader_facts.facts_of First acts).config
-decimals_of devices.Cashless2 acts =
-    option_map (λ config. config.decimals) (reader_facts.facts_of Second acts).config
-
--- the place of a device in a report, from 0
-abbrev pub device_place : Device → ℕ
-device_place devices.Changer = 0
-device_place devices.Bill = 1
-device_place devices.Cashless = 2
-device_place devices.Cashless2 = 3
+decimals_of (devices.Reader unit) acts =
+    option_map (λ config. config.decimals) (reader_facts.facts_of unit acts).config
 
 -- the decimal places that a report has of a device
 abbrev pub device_decimals : Device → Report → Option ℕ

@@ -1,4 +1,4 @@
--- Runs: what the devices and the controller may have done behind the rows of a transcript, and the
+-- Runs: what the devices and the controller may have done by the rows of a transcript, and the
 -- money that moved by it (this profile). Pieces and acts stand newest first.
 use Rattle.std.specs.Prelude.{◌≡◌, ◌↔◌, ℕ, List, [], ◌∷◌, length}
 use Rattle.mdb_words.specs.declared.event.Event.{Event}

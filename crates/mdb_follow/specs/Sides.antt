@@ -1,30 +1,26 @@
 -- What a side of a follower stands for: a device and the controller.
-use Rattle.std.specs.Prelude.{◌≡◌, ℕ, List, ◌∷◌}
-use Rattle.mdb_msgs.specs.declared.command.ReaderUnit.{ReaderUnit}
+use Rattle.std.specs.Prelude.{◌≡◌, ℕ, List}
+use Rattle.mdb_msgs.specs.declared.command.Device.{Device}
+use Rattle.mdb_msgs.specs.declared.command.Device.TheVariants as devices
 use Rattle.mdb_msgs.specs.declared.command.ReaderUnit.TheVariants.{First, Second}
 use Rattle.mdb_bus.specs.declared.act.Act.{Act}
-use Rattle.mdb_bus.specs.declared.fault.Rule.{Rule}
-use Rattle.mdb_cash.specs.Bill as bill
-use Rattle.mdb_cash.specs.inner.BillCodes as bill_codes
 use Rattle.mdb_cash.specs.BillFacts as bill_facts
 use Rattle.mdb_cash.specs.BillValues as bill_values
-use Rattle.mdb_cash.specs.Changer as changer
-use Rattle.mdb_cash.specs.inner.ChangerCodes as changer_codes
 use Rattle.mdb_cash.specs.ChangerFacts as changer_facts
 use Rattle.mdb_cash.specs.ChangerValues as changer_values
 use Rattle.mdb_cash.specs.Machine.{Machine}
+use Rattle.mdb_cash.specs.inner.BillCodes as bill_codes
+use Rattle.mdb_cash.specs.inner.ChangerCodes as changer_codes
 use Rattle.mdb_cashless.specs.declared.reader.facts.ReaderFacts.{ReaderFacts}
-use Rattle.mdb_cashless.specs.Reader as reader
-use Rattle.mdb_cashless.specs.inner.ReaderCodes as reader_codes
 use Rattle.mdb_cashless.specs.ReaderFacts as reader_facts
 use Rattle.mdb_cashless.specs.ReaderValues as reader_values
+use Rattle.mdb_cashless.specs.inner.ReaderCodes as reader_codes
 use Rattle.mdb_follow.specs.declared.side.Side.{Side}
 use Rattle.mdb_follow.specs.declared.sides.Sides.{Sides}
-use Rattle.mdb_follow.specs.inner.Limits.{IsTableWithin}
-use Rattle.mdb_follow.specs.Offences.{NoStep}
+use Rattle.mdb_follow.specs.Machines.{StateOf, machine_of}
 use Rattle.mdb_follow.specs.Tables.{IsTable}
 
--- A side stands for acts, the newest first: its facts are those behind them, and its table has the
+-- A side stands for acts, the newest first: its facts are those after them, and its table has the
 -- states that the ways through them lead to.
 pub record IsSide {Facts State : Type 0} {N : ℕ} (stands_for : Facts → List Act → Type 0)
     (code_of : State → ℕ) (machine : Machine State) (side : Side Facts N)
@@ -32,42 +28,45 @@ pub record IsSide {Facts State : Type 0} {N : ℕ} (stands_for : Facts → List 
   pub facts : stands_for side.facts acts
   pub table : IsTable code_of machine acts side.table
 
--- the changer's
-abbrev pub IsChangerSide : {N : ℕ} → Side changer_values.Value N → List Act → Type 0
-IsChangerSide side acts =
-    IsSide (λ facts acts. changer_values.facts_in facts ≡ changer_facts.facts_of acts)
-    changer_codes.code_of changer.machine side acts
+-- what is kept of the facts of a device, and that they are those after acts
+abbrev pub FactsOf : Device → Type 0
+FactsOf devices.Changer = changer_values.Value
+FactsOf devices.Bill = bill_values.Value
+FactsOf (devices.Reader unit) = ReaderFacts
 
--- the validator's
-abbrev pub IsBillSide : {N : ℕ} → Side bill_values.Value N → List Act → Type 0
-IsBillSide side acts =
-    IsSide (λ facts acts. bill_values.facts_in facts ≡ bill_facts.facts_of acts)
-    bill_codes.code_of bill.machine side acts
+abbrev pub stands_for : (device : Device) → FactsOf device → List Act → Type 0
+stands_for devices.Changer facts acts =
+    changer_values.facts_in facts ≡ changer_facts.facts_of acts
+stands_for devices.Bill facts acts = bill_values.facts_in facts ≡ bill_facts.facts_of acts
+stands_for (devices.Reader unit) facts acts =
+    reader_values.facts_in facts ≡ reader_facts.facts_of unit acts
 
--- a reader's
-abbrev pub IsReaderSide : {N : ℕ} → ReaderUnit → Side ReaderFacts N → List Act → Type 0
-IsReaderSide unit side acts =
-    IsSide (λ facts acts. reader_values.facts_in facts ≡ reader_facts.facts_of unit acts)
-    reader_codes.code_of (reader.machine unit) side acts
+-- how many states its machine has, and their codes
+abbrev pub codes_of : Device → ℕ
+codes_of devices.Changer = 4
+codes_of devices.Bill = 66
+codes_of (devices.Reader unit) = 176
 
--- all sides stand for acts
-pub record AreSides (sides : Sides) (acts : List Act) : Type 0 where
-  pub changer : IsChangerSide sides.changer acts
-  pub bill : IsBillSide sides.bill acts
-  pub cashless : IsReaderSide First sides.cashless acts
-  pub cashless2 : IsReaderSide Second sides.cashless2 acts
+abbrev pub code_of : (device : Device) → StateOf device → ℕ
+code_of devices.Changer = changer_codes.code_of
+code_of devices.Bill = bill_codes.code_of
+code_of (devices.Reader unit) = reader_codes.code_of
 
--- All ends of all tables are at most so far from 0. This and what follows serve private functions.
-pub record AreWithin (limit : ℕ) (sides : Sides) : Type 0 where
-  pub changer : IsTableWithin limit sides.changer.table
-  pub bill : IsTableWithin limit sides.bill.table
-  pub cashless : IsTableWithin limit sides.cashless.table
-  pub cashless2 : IsTableWithin limit sides.cashless2.table
+-- what a follower keeps of a device, and that it stands for acts
+abbrev pub SideOf : Device → Type 0
+SideOf device = Side (FactsOf device) (codes_of device)
 
--- each side has followed an act
-abbrev pub SidesFollow : Sides → Act → Sides → Type 0
-SidesFollow sides act new = (acts : List Act) → AreSides sides acts → AreSides new (act ∷ acts)
+abbrev pub IsSideOf : (device : Device) → SideOf device → List Act → Type 0
+IsSideOf device side acts =
+    IsSide (stands_for device) (code_of device) (machine_of device) side acts
 
--- one of them has no step by it
-abbrev pub SidesStop : Sides → Act → Rule → Type 0
-SidesStop sides act rule = (acts : List Act) → AreSides sides acts → NoStep rule act acts
+-- the side of a device
+abbrev pub side_in : Sides → (device : Device) → SideOf device
+side_in sides devices.Changer = sides.changer
+side_in sides devices.Bill = sides.bill
+side_in sides (devices.Reader First) = sides.first_reader
+side_in sides (devices.Reader Second) = sides.second_reader
+
+-- each side stands for acts
+abbrev pub AreSides : Sides → List Act → Type 0
+AreSides sides acts = (device : Device) → IsSideOf device (side_in sides device) acts

@@ -2,20 +2,22 @@
 -- a later ask shows it: a device that is asked once and never again isn't counted (limits, MDB/ICP
 -- 4.3; what counts, this profile). Pieces stand newest first, and so do lists of asks and the asks
 -- in a list.
-use Rattle.std.specs.Prelude.{ℕ, ◌+◌, ◌*◌, max, nat_lt, count_by, option_map, Bool, true, false, List, [], ◌∷◌, Option, Some, None, if◌then◌else◌}
+use Rattle.std.specs.Prelude.{ℕ, ◌+◌, ◌*◌, max, nat_lt, count_by, option_map, Bool, true, false}
+use Rattle.std.specs.Prelude.{List, [], ◌∷◌, Option, Some, None, if◌then◌else◌}
 use Rattle.std.specs.List.{list_any}
 use Rattle.mdb_words.specs.declared.event.Event.{Event}
 use Rattle.mdb_words.specs.Event.{start_of}
 use Rattle.mdb_msgs.specs.declared.command.Device.{Device}
 use Rattle.mdb_msgs.specs.declared.command.Device.TheVariants as devices
 use Rattle.mdb_msgs.specs.declared.command.ReaderUnit.{ReaderUnit}
-use Rattle.mdb_msgs.specs.declared.command.ReaderUnit.TheVariants.{First, Second}
 use Rattle.mdb_msgs.specs.Commands.{device_of}
 use Rattle.mdb_bus.specs.declared.act.Act.{Act}
 use Rattle.mdb_bus.specs.declared.act.Act.TheVariants as acts
 use Rattle.mdb_bus.specs.ActLists.{Piece, Whole, acts_of, last_of}
 use Rattle.mdb_cashless.specs.ReaderFacts as reader_facts
-use Rattle.mdb_follow.specs.declared.silence.TheConstants.{CHANGER_SILENCE_MAX, BILL_SILENCE_MAX, READER_SILENCE_MAX, MICROS_PER_SECOND}
+use Rattle.mdb_follow.specs.Devices.{same_device}
+use Rattle.mdb_follow.specs.declared.silence.TheConstants.{CHANGER_SILENCE_MAX, BILL_SILENCE_MAX}
+use Rattle.mdb_follow.specs.declared.silence.TheConstants.{READER_SILENCE_MAX, MICROS_PER_SECOND}
 
 -- how long a reader may be silent, by the response time (Z7, in seconds) that it has told
 abbrev pub reader_limit : Option ℕ → ℕ
@@ -31,16 +33,7 @@ response_time_of unit acts =
 abbrev pub limit_of : Device → List Act → ℕ
 limit_of devices.Changer acts = CHANGER_SILENCE_MAX
 limit_of devices.Bill acts = BILL_SILENCE_MAX
-limit_of devices.Cashless acts = reader_limit (response_time_of First acts)
-limit_of devices.Cashless2 acts = reader_limit (response_time_of Second acts)
-
--- whether two devices are one
-abbrev pub same_device : Device → Device → Bool
-same_device devices.Changer devices.Changer = true
-same_device devices.Bill devices.Bill = true
-same_device devices.Cashless devices.Cashless = true
-same_device devices.Cashless2 devices.Cashless2 = true
-same_device _ _ = false
+limit_of (devices.Reader unit) acts = reader_limit (response_time_of unit acts)
 
 -- whether an act asks a device
 abbrev pub asks : Device → Act → Bool
@@ -65,7 +58,7 @@ pub record TimedAsk : Type 0 where
   pub at : ℕ
   pub limit : ℕ
 
--- an ask of these words to a device, behind pieces
+-- an ask of these words to a device, after pieces
 abbrev pub timed_ask : Device → List Event → List Piece → TimedAsk
 timed_ask device events pieces =
     record { at = last_start events; limit = limit_of device (acts_of pieces) }

@@ -27,7 +27,7 @@ pub record Bounds (Comes : ℕ → Sums → Type 0) (entries : List (ℕ × Cell
   pub whole : (code : ℕ) (sums : Sums) → Comes code sums
       → (cell : Cell) × Contains entries (code, cell)
 
--- A table is that behind acts, the newest first: some way leads through the acts, and the codes of
+-- A table is that after acts, the newest first: some way leads through the acts, and the codes of
 -- the table are those of the states that the ways lead to, each with the exact ranges of the sums
 -- there.
 pub record IsTable {State : Type 0} (code_of : State → ℕ) (machine : Machine State)

@@ -55,12 +55,7 @@ impl AccountName {
         match self {
             AccountName::CoinsIn | AccountName::PaidOut => Device::Changer,
             AccountName::BillsIn => Device::Bill,
-            AccountName::Approved(ReaderUnit::First) | AccountName::Sold(ReaderUnit::First) => {
-                Device::Cashless
-            }
-            AccountName::Approved(ReaderUnit::Second) | AccountName::Sold(ReaderUnit::Second) => {
-                Device::Cashless2
-            }
+            AccountName::Approved(unit) | AccountName::Sold(unit) => Device::Reader(unit),
         }
     }
 

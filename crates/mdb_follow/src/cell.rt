@@ -2,7 +2,8 @@
 
 ghost use Rattle.std.specs.Prelude.{◌≡◌, ◌<◌, ◌^◌};
 ghost use Rattle.mdb_cash.specs.Gains.{IsSmall};
-ghost use Rattle.mdb_follow.specs.inner.Cells.{joined_account, joined_cell, moved_account, moved_cell};
+ghost use Rattle.mdb_follow.specs.inner.Cells.{joined_account, joined_cell, moved_account};
+ghost use Rattle.mdb_follow.specs.inner.Cells.{moved_cell};
 ghost use Rattle.mdb_follow.specs.inner.Limits.{IsAccountWithin, IsCellWithin};
 
 use crate::Range;

@@ -1,28 +1,30 @@
 //! The follower of a recording: every possible state of each device and the controller.
 
-ghost use Rattle.std.specs.Prelude.{◌≡◌, ◌<◌, ◌≤◌, ◌+◌, ◌*◌, ◌^◌, List, [], ◌∷◌, ◌++◌, ℕ, length, Some, None, Err, IfSome, IfOk, IfErr, IsOk, IsSome, IsSomeAnd, OnErr};
+ghost use Rattle.std.specs.Prelude.{◌≡◌, ◌<◌, ◌≤◌, ◌+◌, ◌*◌, ◌^◌, List, [], ◌∷◌, ◌++◌, ℕ, length};
+ghost use Rattle.std.specs.Prelude.{Some, None, Err, IfSome, IfOk, IfErr, IsOk, IsSome, IsSomeAnd};
+ghost use Rattle.std.specs.Prelude.{OnErr};
 ghost use Rattle.std.specs.Bool.{OnFalse, OnTrue};
 ghost use Rattle.std.specs.Option.{ForNone, ForSome, IfNone};
 ghost use Rattle.mdb_words.specs.declared.event.Event.{Event};
 ghost use Rattle.mdb_bus.specs.declared.act.Act.{Act};
 ghost use Rattle.mdb_follow.specs.Senders as spec;
-ghost use Rattle.mdb_follow.specs.Sides.{AreWithin};
-ghost use Rattle.mdb_follow.specs.SilencesKept.{AreFew};
+ghost use Rattle.mdb_follow.specs.inner.SideSteps.{AreWithin};
+ghost use Rattle.mdb_follow.specs.inner.SilenceSteps.{AreFew};
 
-use crate::sides::{Cashless, Cashless2, Sides};
+use crate::sides::Sides;
 use crate::silence::Silences;
-use crate::{Offence, Report, laws, side};
+use crate::{Offence, Report, laws};
 use mdb_bus::{Act, Blame, Bus, LinkFault, laws as bus_laws};
-use mdb_cash::{Bill, Changer};
+use mdb_msgs::{Device, ReaderUnit};
 use mdb_words::{Event, Time};
 
 /// The most rows of a recording (this profile).
 pub const ROWS_MAX: u64 = 100_000_000;
 
-/// What all that may have happened behind the rows so far comes to.
+/// What all that may have happened in the rows so far comes to.
 ///
 /// It keeps the bus, and of each device the facts, a table of its possible states, and what counts
-/// of its silences; no rows. Behind an offence nothing but the offence is of any matter.
+/// of its silences; no rows. After an offence nothing but the offence is of any matter.
 #[derive(Drop)]
 pub struct Follower {
     bus: Bus,
@@ -145,7 +147,7 @@ impl Follower {
         Ok(())
     }
 
-    /// Takes the next row, behind rows that can be. Answers whether it can be too: where it can't,
+    /// Takes the next row, after rows that can be. Answers whether it can be too: where it can't,
     /// its offence is noted.
     #[inline(always)]
     fn take(&mut self, event: Event) -> bool
@@ -227,18 +229,18 @@ impl Follower {
         match self.offence {
             Some(offence) => Err(offence),
             None => {
-                let changer = side::ranges::<Changer, _>(&self.sides.changer);
-                let bill = side::ranges::<Bill, _>(&self.sides.bill);
-                let cashless = side::ranges::<Cashless, _>(&self.sides.cashless);
-                let cashless2 = side::ranges::<Cashless2, _>(&self.sides.cashless2);
+                let changer = self.sides.ranges(Device::Changer);
+                let bill = self.sides.ranges(Device::Bill);
+                let first_reader = self.sides.ranges(Device::Reader(ReaderUnit::First));
+                let second_reader = self.sides.ranges(Device::Reader(ReaderUnit::Second));
                 let accounts = [
                     changer.first,
                     bill.first,
                     changer.second,
-                    cashless.first,
-                    cashless.second,
-                    cashless2.first,
-                    cashless2.second,
+                    first_reader.first,
+                    first_reader.second,
+                    second_reader.first,
+                    second_reader.second,
                 ];
                 Ok(Report::of(self.rows, accounts, &self.sides, &self.silences))
             }
@@ -246,7 +248,7 @@ impl Follower {
     }
 }
 
-/// Notes the offence of the row behind so many rows.
+/// Notes the offence of the row after so many rows.
 fn stop(noted: &mut Option<Offence>, rows: u64, fault: LinkFault)
     requires { rows < ROWS_MAX }
     ensures { noted.new ≡ Some (record {

@@ -11,7 +11,10 @@ ghost use Rattle.mdb_follow.specs.declared.account_name.AccountName.{AccountName
 ghost use Rattle.mdb_follow.specs.declared.follower.Follower.{Follower};
 ghost use Rattle.mdb_follow.specs.declared.offence.Offence.{Offence};
 ghost use Rattle.mdb_follow.specs.declared.report.Report.{Report};
-ghost use Rattle.mdb_follow.specs.declared.silence.TheConstants.{BILL_SILENCE_MAX, CHANGER_SILENCE_MAX, MICROS_PER_SECOND, READER_SILENCE_MAX};
+ghost use Rattle.mdb_follow.specs.declared.silence.TheConstants.{BILL_SILENCE_MAX};
+ghost use Rattle.mdb_follow.specs.declared.silence.TheConstants.{CHANGER_SILENCE_MAX};
+ghost use Rattle.mdb_follow.specs.declared.silence.TheConstants.{MICROS_PER_SECOND};
+ghost use Rattle.mdb_follow.specs.declared.silence.TheConstants.{READER_SILENCE_MAX};
 ghost use Rattle.mdb_follow.specs.Offences.{HasOffence, IsOffence};
 ghost use Rattle.mdb_follow.specs.Ranges.{IsAccount};
 ghost use Rattle.mdb_follow.specs.Report.{IsReport, account_of};

@@ -1,12 +1,13 @@
-//! What all that may have happened comes to.
+//! The follower of a recording: every possible state of each device and the controller, and exact
+//! bounds of what the accounts come to.
 #![tactic(auto)]
 
 mod account_name;
 mod cell;
+mod devices;
 mod entries;
 mod follower;
 pub mod laws;
-mod list;
 mod offence;
 mod owner;
 mod range;

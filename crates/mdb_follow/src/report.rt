@@ -1,9 +1,10 @@
 //! What rows that can have been tell.
 
+use crate::devices::device_place;
 use crate::sides::Sides;
 use crate::silence::Silences;
 use crate::{Account, AccountName};
-use mdb_msgs::Device;
+use mdb_msgs::{Device, ReaderUnit};
 
 /// What rows that can have been tell.
 #[derive(Clone, Copy, PartialEq, Eq, Debug)]
@@ -26,7 +27,8 @@ impl Report {
     ghost use Rattle.mdb_follow.specs.declared.account_name.AccountName.{AccountName};
     ghost use Rattle.mdb_follow.specs.declared.account_name.TheConstants.AccountName.{ALL};
     ghost use Rattle.mdb_follow.specs.declared.cell.Account.{Account};
-    ghost use Rattle.mdb_follow.specs.Report.{account_of, device_decimals, device_place, device_silences, report_of};
+    ghost use Rattle.mdb_follow.specs.Report.{account_of, device_decimals, device_silences};
+    ghost use Rattle.mdb_follow.specs.Report.{report_of};
     ghost use Rattle.mdb_follow.specs.Sides.{AreSides};
     ghost use Rattle.mdb_follow.specs.Silences.{asks_of};
     ghost use Rattle.mdb_follow.specs.SilencesKept.{AllStandForAsks};
@@ -35,8 +37,8 @@ impl Report {
     pub const DEVICES: [Device; 4] = [
         Device::Changer,
         Device::Bill,
-        Device::Cashless,
-        Device::Cashless2,
+        Device::Reader(ReaderUnit::First),
+        Device::Reader(ReaderUnit::Second),
     ];
 
     /// The report of so many rows, with what the accounts come to, in the order of
@@ -55,19 +57,9 @@ impl Report {
     {
         Report {
             rows,
-            decimals: [
-                sides.changer.facts.decimals(),
-                sides.bill.facts.decimals(),
-                sides.cashless.facts.decimals(),
-                sides.cashless2.facts.decimals(),
-            ],
+            decimals: Report::DEVICES.map(|device| sides.decimals(device)),
             accounts,
-            silences: [
-                silences.changer.count,
-                silences.bill.count,
-                silences.cashless.count,
-                silences.cashless2.count,
-            ],
+            silences: Report::DEVICES.map(|device| silences.count(device)),
         }
     }
 
@@ -82,26 +74,13 @@ impl Report {
     pub fn device_decimals(&self, device: Device) -> Option<u8>
         ensures { result ≡ device_decimals device self.now }
     {
-        self.decimals[Report::device_place(device)]
+        self.decimals[device_place(device)]
     }
 
     /// How often a device left the controller's asks without an answer for too long.
     pub fn device_silences(&self, device: Device) -> u64
         ensures { result ≡ device_silences device self.now }
     {
-        self.silences[Report::device_place(device)]
-    }
-
-    /// The place of a device in a report, from 0.
-    fn device_place(device: Device) -> usize
-        ensures place { result ≡ device_place device }
-        ensures below { result < 4 }
-    {
-        match device {
-            Device::Changer => 0,
-            Device::Bill => 1,
-            Device::Cashless => 2,
-            Device::Cashless2 => 3,
-        }
+        self.silences[device_place(device)]
     }
 }

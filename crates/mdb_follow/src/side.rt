@@ -1,19 +1,20 @@
 //! A device and the controller, as a follower follows them.
 
-ghost use Rattle.std.specs.Prelude.{◌≡◌, ◌+◌, ◌^◌, ℕ, List, [], ◌∷◌, IfOk, IfErr, OnErr};
+ghost use Rattle.std.specs.Prelude.{◌≡◌, ◌^◌, List, [], IfOk, IfErr, OnErr};
 ghost use Rattle.mdb_bus.specs.declared.act.Act.{Act};
 ghost use Rattle.mdb_follow.specs.Arrivals.{Arrives};
 ghost use Rattle.mdb_follow.specs.inner.Limits.{IsTableWithin};
 ghost use Rattle.mdb_follow.specs.Offences.{HasNoStep};
 ghost use Rattle.mdb_follow.specs.Ranges.{IsCell};
 ghost use Rattle.mdb_follow.specs.Sides.{IsSide};
+ghost use Rattle.mdb_follow.specs.inner.SideSteps.{Follows};
 ghost use Rattle.mdb_follow.specs.Tables.{ArrivesAnywhere};
 
 use crate::{Cell, Table};
 use mdb_bus::{Act, Rule};
 use mdb_cash::Pair;
 
-/// A device and the controller, as a follower follows them: what is known behind the acts so far,
+/// A device and the controller, as a follower follows them: what is known after the acts so far,
 /// and the states that are possible now.
 #[derive(Drop)]
 pub(crate) struct Side<F: Drop, const N: usize> {
@@ -21,7 +22,7 @@ pub(crate) struct Side<F: Drop, const N: usize> {
     table: Table<N>,
 }
 
-/// The side behind no act.
+/// The side after no act.
 pub(crate) fn start<P: Pair, const N: usize>() -> Side<P::Facts, N>
     requires { N ≡ P.CODES }
     ensures stands { IsSide P.stands_for P.code_of P.machine result [] }
@@ -46,15 +47,12 @@ pub(crate) fn follow<P: Pair, const N: usize>(
 ) -> Result<(), Rule>
     requires size { N ≡ P.CODES }
     requires within { IsTableWithin (2 ^ 62) side.old.table }
-    ensures stands { IfOk result (λ _. (acts : List Act)
-        → IsSide P.stands_for P.code_of P.machine side.old acts
-        → IsSide P.stands_for P.code_of P.machine side.new (act.now ∷ acts)) }
+    ensures followed { IfOk result (λ _.
+        Follows P.stands_for P.code_of P.machine side.old act.now side.new) }
     ensures none { OnErr result ((acts : List Act)
         → IsSide P.stands_for P.code_of P.machine side.old acts
         → HasNoStep P.machine act.now acts) }
     ensures its { IfErr result (λ broken. broken ≡ rule) }
-    ensures within { (limit : ℕ) → IsTableWithin limit side.old.table
-        → IsTableWithin (limit + 2 ^ 32) side.new.table }
     ensures same { OnErr result (side.new ≡ side.old) }
 {
     if !side.table.advance::<P>(&side.facts, act) {

@@ -1,34 +1,42 @@
 //! The sides of a recording: each device and the controller.
 
-ghost use Rattle.std.specs.Prelude.{◌+◌, ◌^◌, ℕ, List, [], ◌∷◌, IfOk, IfErr};
+ghost use Rattle.std.specs.Prelude.{◌≡◌, ◌^◌, List, [], IfOk, IfErr};
 ghost use Rattle.mdb_bus.specs.declared.act.Act.{Act};
-ghost use Rattle.mdb_follow.specs.Sides.{AreSides, AreWithin, SidesFollow, SidesStop};
+ghost use Rattle.mdb_follow.specs.Arrivals.{Arrives};
+ghost use Rattle.mdb_follow.specs.Machines.{machine_of};
+ghost use Rattle.mdb_follow.specs.Ranges.{IsCell};
+ghost use Rattle.mdb_follow.specs.Report.{decimals_of};
+ghost use Rattle.mdb_follow.specs.Tables.{ArrivesAnywhere};
+ghost use Rattle.mdb_follow.specs.Sides.{AreSides};
+ghost use Rattle.mdb_follow.specs.inner.SideSteps.{AreWithin, IsWithin, OneFollows, SidesFollow};
+ghost use Rattle.mdb_follow.specs.inner.SideSteps.{SidesStop, Stops};
 
 use crate::owner::{Owner, owner_of};
 use crate::side::{self, Side};
+use crate::{Cell, Report};
 use mdb_bus::{Act, Rule};
 use mdb_cash::{Bill, BillFacts, Changer, ChangerFacts};
 use mdb_cashless::{Reader, ReaderFacts};
-use mdb_msgs::Device;
+use mdb_msgs::{Device, ReaderUnit};
 
 /// The reader at 10H.
-pub(crate) type Cashless = Reader<0>;
+type FirstReader = Reader<0>;
 
 /// The reader at 60H.
-pub(crate) type Cashless2 = Reader<1>;
+type SecondReader = Reader<1>;
 
 /// The sides that are followed, each a device and the controller. The size of each is the number of
 /// states.
 #[derive(Drop)]
 pub(crate) struct Sides {
-    pub(crate) changer: Side<ChangerFacts, 4>,
-    pub(crate) bill: Side<BillFacts, 66>,
-    pub(crate) cashless: Side<ReaderFacts, 176>,
-    pub(crate) cashless2: Side<ReaderFacts, 176>,
+    changer: Side<ChangerFacts, 4>,
+    bill: Side<BillFacts, 66>,
+    pub(crate) first_reader: Side<ReaderFacts, 176>,
+    pub(crate) second_reader: Side<ReaderFacts, 176>,
 }
 
 impl Sides {
-    /// The sides behind no act.
+    /// The sides after no act.
     pub(crate) fn start() -> Sides
         ensures stands { AreSides result [] }
         ensures within { AreWithin 0 result }
@@ -36,8 +44,8 @@ impl Sides {
         Sides {
             changer: side::start::<Changer, _>(),
             bill: side::start::<Bill, _>(),
-            cashless: side::start::<Cashless, _>(),
-            cashless2: side::start::<Cashless2, _>(),
+            first_reader: side::start::<FirstReader, _>(),
+            second_reader: side::start::<SecondReader, _>(),
         }
     }
 
@@ -51,20 +59,9 @@ impl Sides {
         requires { AreWithin (2 ^ 62) self.old }
         ensures followed { IfOk result (λ _. SidesFollow self.old act.now self.new) }
         ensures stopped { IfErr result (SidesStop self.old act.now) }
-        ensures within { IfOk result (λ _. (limit : ℕ) → AreWithin limit self.old
-            → AreWithin (limit + 2 ^ 32) self.new) }
     {
         match owner_of(act) {
-            Owner::One(Device::Changer) => {
-                side::follow::<Changer, _>(&mut self.changer, act, Rule::Changer)
-            }
-            Owner::One(Device::Bill) => side::follow::<Bill, _>(&mut self.bill, act, Rule::Bill),
-            Owner::One(Device::Cashless) => {
-                side::follow::<Cashless, _>(&mut self.cashless, act, Rule::Cashless)
-            }
-            Owner::One(Device::Cashless2) => {
-                side::follow::<Cashless2, _>(&mut self.cashless2, act, Rule::Cashless)
-            }
+            Owner::One(device) => self.lead_one(device, act),
             Owner::All => self.lead_all(act),
             Owner::Nobody => Ok(()),
         }
@@ -80,13 +77,64 @@ impl Sides {
         requires { AreWithin (2 ^ 62) self.old }
         ensures followed { IfOk result (λ _. SidesFollow self.old act.now self.new) }
         ensures stopped { IfErr result (SidesStop self.old act.now) }
-        ensures within { IfOk result (λ _. (limit : ℕ) → AreWithin limit self.old
-            → AreWithin (limit + 2 ^ 32) self.new) }
     {
-        side::follow::<Changer, _>(&mut self.changer, act, Rule::Changer)?;
-        side::follow::<Bill, _>(&mut self.bill, act, Rule::Bill)?;
-        side::follow::<Cashless, _>(&mut self.cashless, act, Rule::Cashless)?;
-        side::follow::<Cashless2, _>(&mut self.cashless2, act, Rule::Cashless)?;
+        for device in &Report::DEVICES {
+            self.lead_one(*device, act)?;
+        }
         Ok(())
+    }
+
+    /// Leads the side of a device over an act, and leaves the others.
+    ///
+    /// # Errors
+    ///
+    /// The rule of the device, where its side has no step by it.
+    #[inline(always)]
+    fn lead_one(&mut self, device: Device, act: &Act) -> Result<(), Rule>
+        requires { IsWithin device (2 ^ 62) self.old }
+        ensures followed { IfOk result (λ _. OneFollows device self.old act.now self.new) }
+        ensures stopped { IfErr result (Stops device self.old act.now) }
+    {
+        match device {
+            Device::Changer => side::follow::<Changer, _>(&mut self.changer, act, Rule::Changer),
+            Device::Bill => side::follow::<Bill, _>(&mut self.bill, act, Rule::Bill),
+            Device::Reader(unit) => match unit {
+                ReaderUnit::First => {
+                    side::follow::<FirstReader, _>(&mut self.first_reader, act, Rule::Cashless)
+                }
+                ReaderUnit::Second => {
+                    side::follow::<SecondReader, _>(&mut self.second_reader, act, Rule::Cashless)
+                }
+            },
+        }
+    }
+
+    /// The decimal places that a device has told last; `None` where it has told none.
+    pub(crate) fn decimals(&self, device: Device) -> Option<u8>
+        ensures { (acts : List Act) → AreSides self.now acts → result ≡ decimals_of device acts }
+    {
+        match device {
+            Device::Changer => self.changer.facts.decimals(),
+            Device::Bill => self.bill.facts.decimals(),
+            Device::Reader(unit) => match unit {
+                ReaderUnit::First => self.first_reader.facts.decimals(),
+                ReaderUnit::Second => self.second_reader.facts.decimals(),
+            },
+        }
+    }
+
+    /// What the sums of a device's accounts may be, whatever its state is.
+    pub(crate) fn ranges(&self, device: Device) -> Cell
+        ensures { (acts : List Act) → AreSides self.now acts
+            → IsCell (ArrivesAnywhere (Arrives (machine_of device) acts)) result }
+    {
+        match device {
+            Device::Changer => side::ranges::<Changer, _>(&self.changer),
+            Device::Bill => side::ranges::<Bill, _>(&self.bill),
+            Device::Reader(unit) => match unit {
+                ReaderUnit::First => side::ranges::<FirstReader, _>(&self.first_reader),
+                ReaderUnit::Second => side::ranges::<SecondReader, _>(&self.second_reader),
+            },
+        }
     }
 }

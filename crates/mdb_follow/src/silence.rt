@@ -3,19 +3,19 @@
 //! The limits are in microseconds, from the start of the last word of the first ask that is left
 //! without an answer to that of a later one.
 
-ghost use Rattle.std.specs.Prelude.{◌≡◌, ◌<◌, ◌≤◌, ◌+◌, ◌^◌, ℕ, List, [], ◌∷◌, if◌then◌else◌, option_map};
-ghost use Rattle.mdb_msgs.specs.declared.command.Device.{Device};
-ghost use Rattle.mdb_msgs.specs.Commands.{device_of};
-ghost use Rattle.mdb_bus.specs.declared.act.Act.TheVariants as acts;
-ghost use Rattle.mdb_cashless.specs.ReaderValues.{facts_in};
-ghost use Rattle.mdb_follow.specs.Silences as spec;
-ghost use Rattle.mdb_follow.specs.Silences.{TimedAsk, same_device, with_ask};
-ghost use Rattle.mdb_follow.specs.SilencesKept.{AreFew, AllStandForAsks, StandsForAsks, SilencesFollow};
+ghost use Rattle.std.specs.Prelude.{◌≡◌, ◌<◌, ◌≤◌, ◌+◌, ◌^◌, List};
+ghost use Rattle.mdb_follow.specs.Silences.{TimedAsk, with_ask};
+ghost use Rattle.mdb_follow.specs.SilencesKept.{StandsForAsks, silence_in};
+ghost use Rattle.mdb_follow.specs.inner.SilenceSteps as spec;
+ghost use Rattle.mdb_follow.specs.inner.SilenceSteps.{AllGoOn, AreFew, OneGoesOn, SilencesFollow};
+ghost use Rattle.mdb_follow.specs.inner.SilenceSteps.{ask_in, ended, limit_by};
 
+use crate::Report;
+use crate::devices::device_place;
 use crate::sides::Sides;
 use mdb_bus::Act;
 use mdb_cashless::ReaderFacts;
-use mdb_msgs::{Command, Device};
+use mdb_msgs::{Device, ReaderUnit};
 use mdb_words::Time;
 
 /// Longest time that the changer may be silent (MDB/ICP 4.3, coin changer: non-response time).
@@ -36,7 +36,7 @@ pub const MICROS_PER_SECOND: u64 = 1_000_000;
 enum Unanswered {
     /// There is none.
     Nothing,
-    /// There are some. The silence is too long once a further one comes behind this time.
+    /// There are some. The silence is too long once a further one comes after this time.
     Until(u64),
     /// There are some, and they have counted as a silence.
     Counted,
@@ -44,13 +44,13 @@ enum Unanswered {
 
 /// The silences of a device.
 #[derive(Clone, Copy, PartialEq, Eq, Debug)]
-pub(crate) struct Silence {
+struct Silence {
     unanswered: Unanswered,
-    pub(crate) count: u64,
+    count: u64,
 }
 
 impl Silence {
-    /// Behind no act.
+    /// After no act.
     const NONE: Silence = Silence {
         unanswered: Unanswered::Nothing,
         count: 0,
@@ -80,7 +80,7 @@ impl Silence {
     /// The device answers, or a break comes.
     fn end(&mut self)
         ensures stands { (lists : List (List TimedAsk)) → StandsForAsks self.old lists
-            → StandsForAsks self.new ([] ∷ lists) }
+            → StandsForAsks self.new (ended lists) }
         ensures same { self.new.count ≡ self.old.count }
     {
         self.unanswered = Unanswered::Nothing;
@@ -90,82 +90,82 @@ impl Silence {
 /// The silences of all devices.
 #[derive(Clone, Copy, PartialEq, Eq, Debug)]
 pub(crate) struct Silences {
-    pub(crate) changer: Silence,
-    pub(crate) bill: Silence,
-    pub(crate) cashless: Silence,
-    pub(crate) cashless2: Silence,
+    /// Those of each of `Report::DEVICES`.
+    of: [Silence; 4],
 }
 
 impl Silences {
-    /// The silences behind no act.
+    /// The silences after no act.
     pub(crate) const NONE: Silences = Silences {
-        changer: Silence::NONE,
-        bill: Silence::NONE,
-        cashless: Silence::NONE,
-        cashless2: Silence::NONE,
+        of: [Silence::NONE; 4],
     };
 
-    /// Follows an act whose last word started at a time. The sides are those behind it.
+    /// Follows an act whose last word started at a time. The sides are those after it.
     pub(crate) fn follow(&mut self, act: &Act, at: Time, sides: &Sides)
         requires { AreFew (2 ^ 62) self.old }
-        ensures stands { SilencesFollow self.old act.now at sides.now self.new }
-        ensures few { (rows : ℕ) → AreFew rows self.old → AreFew (rows + 1) self.new }
+        ensures { SilencesFollow self.old act.now at sides.now self.new }
     {
         match act {
-            Act::Ask(command) => self.ask(command, at, sides),
-            Act::Ack(command) | Act::Nak(command) | Act::Reply(command, _) => self.answer(command),
-            Act::Break(_) => self.end(),
+            Act::Ask(command) => self.ask(command.device(), at, sides),
+            Act::Ack(command) | Act::Nak(command) | Act::Reply(command, _) => {
+                self.end(command.device())
+            }
+            Act::Break(_) => self.end_all(),
             _ => {}
         }
     }
 
-    /// The controller asks. The sides are those behind that.
-    fn ask(&mut self, command: &Command, at: Time, sides: &Sides)
-        requires { AreFew (2 ^ 62) self.old }
-        ensures stands { SilencesFollow self.old (acts.Ask command.now) at sides.now self.new }
-        ensures few { (rows : ℕ) → AreFew rows self.old → AreFew (rows + 1) self.new }
+    /// How many silences of a device there were.
+    pub(crate) fn count(&self, device: Device) -> u64
+        ensures { result ≡ (silence_in self.now device).count }
     {
-        let at = at.value();
-        match command.device() {
-            Device::Changer => self.changer.ask(at, CHANGER_SILENCE_MAX),
-            Device::Bill => self.bill.ask(at, BILL_SILENCE_MAX),
-            Device::Cashless => self.cashless.ask(at, reader_limit(&sides.cashless.facts)),
-            Device::Cashless2 => self.cashless2.ask(at, reader_limit(&sides.cashless2.facts)),
-        }
+        self.of[device_place(device)].count
     }
 
-    /// The device of a command answers it.
-    fn answer(&mut self, command: &Command)
-        ensures stands { (lists : Device → List (List TimedAsk)) → AllStandForAsks self.old lists
-            → AllStandForAsks self.new (λ device. if same_device device (device_of command.now)
-            then [] ∷ lists device else lists device) }
-        ensures few { (rows : ℕ) → AreFew rows self.old → AreFew (rows + 1) self.new }
+    /// The controller asks a device. The sides are those after that.
+    fn ask(&mut self, device: Device, at: Time, sides: &Sides)
+        requires { AreFew (2 ^ 62) self.old }
+        ensures { OneGoesOn (λ other. with_ask (ask_in sides.now at other)) device
+            self.old self.new }
     {
-        match command.device() {
-            Device::Changer => self.changer.end(),
-            Device::Bill => self.bill.end(),
-            Device::Cashless => self.cashless.end(),
-            Device::Cashless2 => self.cashless2.end(),
-        }
+        self.of[device_place(device)].ask(at.value(), limit_in(sides, device));
+    }
+
+    /// A device answers, or a break comes.
+    fn end(&mut self, device: Device)
+        ensures { OneGoesOn (λ other. ended) device self.old self.new }
+    {
+        self.of[device_place(device)].end();
     }
 
     /// A break comes.
-    fn end(&mut self)
-        ensures stands { (lists : Device → List (List TimedAsk)) → AllStandForAsks self.old lists
-            → AllStandForAsks self.new (λ device. [] ∷ lists device) }
-        ensures few { (rows : ℕ) → AreFew rows self.old → AreFew (rows + 1) self.new }
+    fn end_all(&mut self)
+        ensures { AllGoOn (λ device. ended) self.old self.new }
     {
-        self.changer.end();
-        self.bill.end();
-        self.cashless.end();
-        self.cashless2.end();
+        for device in &Report::DEVICES {
+            self.end(*device);
+        }
+    }
+}
+
+/// How long a device may be silent, by what it has told.
+fn limit_in(sides: &Sides, device: Device) -> u64
+    ensures limit { result ≡ spec.limit_in sides.now device }
+    ensures small { result < 2 ^ 62 }
+{
+    match device {
+        Device::Changer => CHANGER_SILENCE_MAX,
+        Device::Bill => BILL_SILENCE_MAX,
+        Device::Reader(unit) => match unit {
+            ReaderUnit::First => reader_limit(&sides.first_reader.facts),
+            ReaderUnit::Second => reader_limit(&sides.second_reader.facts),
+        },
     }
 }
 
 /// How long a reader may be silent, by what it has told.
 fn reader_limit(facts: &ReaderFacts) -> u64
-    ensures limit { result ≡ spec.reader_limit
-        (option_map (λ config. config.response) (facts_in facts.now).config) }
+    ensures limit { result ≡ limit_by facts.now }
     ensures small { result < 2 ^ 62 }
 {
     match facts.response_time() {

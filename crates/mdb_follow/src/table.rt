@@ -1,6 +1,7 @@
 //! The states that are possible now, with what the sums may be.
 
-ghost use Rattle.std.specs.Prelude.{◌≡◌, ◌<◌, ◌+◌, ◌^◌, ◌↔◌, ◌⊎◌, ℕ, List, [], ◌∷◌, All, None, Some, IfSome, length};
+ghost use Rattle.std.specs.Prelude.{◌≡◌, ◌<◌, ◌+◌, ◌^◌, ◌↔◌, ◌⊎◌, ℕ, List, [], ◌∷◌, All, None};
+ghost use Rattle.std.specs.Prelude.{Some, IfSome, length};
 ghost use Rattle.std.specs.Bool.{OnFalse, OnTrue};
 ghost use Rattle.mdb_bus.specs.declared.act.Act.{Act};
 ghost use Rattle.mdb_cash.specs.declared.choice.Choice.TheVariants.{Plain};
@@ -15,8 +16,8 @@ ghost use Rattle.mdb_follow.specs.Tables.{ArrivesAnywhere, ArrivesAt, Bounds, Is
 ghost use Rattle.mdb_follow.specs.inner.Entries.{AllRest, AreBelow};
 
 use crate::Cell;
-use crate::entries::{add_steps, join_all, lead_only};
-use crate::list::Entries;
+use crate::entries::steps::{add_steps, lead_only};
+use crate::entries::{Entries, join_all};
 use mdb_bus::Act;
 use mdb_cash::{Choice, Gains, Pair};
 use std::marker::Model;
@@ -49,7 +50,7 @@ impl<const N: usize> Model for Table<N> {
 }
 
 impl<const N: usize> Table<N> {
-    /// The table behind no act: the first state, with all sums 0.
+    /// The table after no act: the first state, with all sums 0.
     pub fn start<P: Pair>() -> Table<N>
         requires { N ≡ P.CODES }
         ensures table { IsTable P.code_of P.machine [] result }
@@ -65,7 +66,7 @@ impl<const N: usize> Table<N> {
         }
     }
 
-    /// Leads the table over an act, with the facts behind the acts before it. Where no way through
+    /// Leads the table over an act, with the facts after the acts before it. Where no way through
     /// the acts leads over this one too, it answers `false`, and the table stays as it was.
     // Inlined, so that an act that is no matter of the pair costs little more than the look at it.
     #[inline(always)]
@@ -92,7 +93,7 @@ impl<const N: usize> Table<N> {
         self.replace::<P>(facts, act)
     }
 
-    /// Replaces the entries by those behind an act, as `advance` does.
+    /// Replaces the entries by those after an act, as `advance` does.
     #[inline(never)]
     fn replace<P: Pair>(&mut self, facts: &P::Facts, act: &Act) -> bool
         requires size { N ≡ P.CODES }
@@ -178,7 +179,7 @@ fn all_rest<P: Pair>(act: &Act, entries: &[(usize, Cell)]) -> bool
     true
 }
 
-/// Puts the entries behind an act in place of the only one before it. Where there is none it
+/// Puts the entries after an act in place of the only one before it. Where there is none it
 /// answers `false`, and the entry stays.
 fn lead_alone<P: Pair, const N: usize>(
     facts: &P::Facts,
@@ -207,7 +208,7 @@ fn lead_alone<P: Pair, const N: usize>(
     lead_only(entries, &plain, &second)
 }
 
-/// Makes the entries behind an act from those before it. What the places hold at first is no
+/// Makes the entries after an act from those before it. What the places hold at first is no
 /// matter.
 fn fill<P: Pair, const N: usize>(
     facts: &P::Facts,

@@ -1,6 +1,7 @@
 -- The entries of a table. `AreBelow` stands in what a public `Table` is: its codes are those of
 -- states. The rest, how entries are made, serves private functions.
-use Rattle.std.specs.Prelude.{◌≡◌, ◌==◌, ◌<◌, ◌⊎◌, ◌↔◌, ℕ, List, [], ◌∷◌, All, Contains, Option, Some, None, fold, if◌then◌else◌}
+use Rattle.std.specs.Prelude.{◌≡◌, ◌==◌, ◌<◌, ◌⊎◌, ◌↔◌, ℕ, List, [], ◌∷◌, All, Contains, Option}
+use Rattle.std.specs.Prelude.{Some, None, fold, if◌then◌else◌}
 use Rattle.std.specs.Prelude.{length, slice_index, slice_index_or}
 use Rattle.mdb_bus.specs.declared.act.Act.{Act}
 use Rattle.mdb_cash.specs.declared.choice.Choice.{Choice}
@@ -39,7 +40,7 @@ abbrev pub HasAt : List (ℕ × Cell) → ℕ → ℕ → Type 0
 HasAt entries place code = (place < length entries)
     × ((d : ℕ × Cell) → (slice_index_or entries place d).0 ≡ code)
 
--- the entries with a cell more: joined to that of its code, else behind all
+-- the entries with a cell more: joined to that of its code, else after all
 abbrev pub with_cell : List (ℕ × Cell) → ℕ → Cell → List (ℕ × Cell)
 with_cell [] code cell = (code, cell) ∷ []
 with_cell (entry ∷ entries) code cell =
@@ -71,8 +72,8 @@ LeadTo cell one other entries =
 abbrev pub joined_cells : Cell → List (ℕ × Cell) → Cell
 joined_cells cell entries = fold (λ all entry. joined_cell all entry.1) cell entries
 
--- An act leaves the states that have a code, and the sums, behind whatever acts and however it is
--- taken.
+-- An act leaves the states that have a code, and the sums, after whatever acts and under whatever
+-- choice.
 abbrev pub RestsAt : {State : Type 0} → (State → ℕ) → Machine State → Act → ℕ → Type 0
 RestsAt {State} code_of machine act code =
     (acts : List Act) (choice : Choice) (before after : State) (gains : Gains)

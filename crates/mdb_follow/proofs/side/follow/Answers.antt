@@ -15,8 +15,11 @@ returns-then-not-advance-clause-none c p acts on state sums way choice stands af
       adds = refl;
     })
 
-pub returns-clause-stands : goal.returns-clause-stands
-returns-clause-stands c p acts on = record {
-  facts = p.learn.ensures acts on.facts;
-  table = p.if-not-advance.ensures.table acts on.facts on.table;
+pub returns-clause-followed : goal.returns-clause-followed
+returns-clause-followed c p = record {
+  stands = λ acts on. record {
+    facts = p.learn.ensures acts on.facts;
+    table = p.if-not-advance.ensures.table acts on.facts on.table;
+  };
+  within = p.advance.ensures.within;
 }

@@ -1,4 +1,5 @@
-use Rattle.std.proofs.Common.{true, false, ◌≡◌, ◌+◌, ◌∷◌, ◌^◌, ◌∙◌, [], ap, arith, get_or, ℕ, List, refl, subst}
+use Rattle.std.proofs.Common.{true, false, ◌≡◌, ◌+◌, ◌∷◌, ◌^◌, ◌∙◌, [], ap, arith, get_or, ℕ, List}
+use Rattle.std.proofs.Common.{refl, subst}
 use Rattle.std.proofs.lemmas.Bool.{OnFalse_at, OnFalse_from, OnTrue_at, OnTrue_from}
 use Rattle.std.proofs.lemmas.List.Elements.{All-head}
 use Rattle.mdb_follow.specs.Sums.{Sums}
@@ -8,7 +9,8 @@ use Rattle.mdb_follow.specs.Arrivals.{Arrives}
 use Rattle.mdb_follow.specs.inner.Entries.{AreBelow, LeadTo}
 use Rattle.mdb_follow.specs.inner.Limits.{IsCellWithin, IsTableWithin}
 use Rattle.mdb_follow.specs.Tables.{ArrivesAt, Bounds, IsTable}
-use Rattle.mdb_follow.proofs.Alone.{alone-below, alone-either, alone-led, alone-within, lead-none, only-is, some-entry}
+use Rattle.mdb_follow.proofs.Alone.{alone-below, alone-either, alone-led, alone-within, lead-none}
+use Rattle.mdb_follow.proofs.Alone.{only-is, some-entry}
 use Rattle.mdb_follow.proofs.Limits.{table-within-weaker}
 use Rattle.mdb_follow.proofs.Ways.{nothing-arrives, table-some}
 use Rattle.mdb_follow.proofs.table.lead_alone.Given as given
@@ -19,7 +21,7 @@ code-is : (entries : List (ℕ × Cell)) (entry d : ℕ × Cell) → entries ≡
     → (get_or entries 0 d).0 ≡ entry.0
 code-is entries entry d only = ap (λ (s : List (ℕ × Cell)). (get_or s 0 d).0) only
 
--- what arrives behind the act
+-- what arrives after the act
 arrives : (g : given.Over) (c : goal.After-lead_only g) (acts : List Act)
     (entry : ℕ × Cell) (after : List (ℕ × Cell)) → g.P.Pair.stands_for c.args.facts.now acts
     → IsTable g.P.Pair.code_of g.P.Pair.machine acts c.args.entries.now

@@ -8,5 +8,5 @@ lead-requires c =
 
 pub invariant_of-self-clause-within : goal.invariant_of-self-clause-within
 invariant_of-self-clause-within c going =
-    sides-within-next c.args.self.now.rows c.args.self.now.sides c.lead.new.self
-    (c.args.self.now.within going) c.in-Ok.ensures.within
+    sides-within-next c.args.self.now.rows c.args.self.now.sides c.args.self.now.act
+    c.lead.new.self (c.args.self.now.within going) c.in-Ok.ensures.followed

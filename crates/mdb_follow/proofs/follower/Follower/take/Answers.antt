@@ -4,7 +4,8 @@ use Rattle.mdb_bus.specs.Bus.{GoesOn, ended_act}
 use Rattle.mdb_follow.specs.Follower.{StandsFor}
 use Rattle.mdb_follow.specs.Offences.{IsOffence}
 use Rattle.mdb_follow.proofs.Within.{sides-within-weaker}
-use Rattle.mdb_follow.proofs.Following.{link-offence, machine-offence, on-false-some, on-true, some-at, stands-on, stands-still}
+use Rattle.mdb_follow.proofs.Following.{link-offence, machine-offence, on-false-some, on-true}
+use Rattle.mdb_follow.proofs.Following.{some-at, stands-on, stands-still}
 use Rattle.mdb_follow.proofs.follower.Follower.take.Goals as goal
 
 pub invariant_of-self-in-Ok-false-clause-within : goal.invariant_of-self-in-Ok-false-clause-within

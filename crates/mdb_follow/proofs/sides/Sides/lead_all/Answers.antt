@@ -1,33 +1,31 @@
-use Rattle.std.proofs.Common.{refl, subst, sym}
-use Rattle.mdb_msgs.specs.declared.command.Device.TheVariants as devices
-use Rattle.mdb_follow.specs.Offences.{NoStep}
+use Rattle.std.proofs.Common.{◌^◌}
+use Rattle.mdb_follow.specs.Sides.{SideOf, side_in}
+use Rattle.mdb_follow.specs.inner.SideSteps.{FollowsOf}
+use Rattle.mdb_follow.proofs.ByDevice.{front-all, front-more}
 use Rattle.mdb_follow.proofs.Following.{if-err-is}
+use Rattle.mdb_follow.proofs.Sided.{front-fits, front-stops}
 use Rattle.mdb_follow.proofs.sides.Sides.lead_all.Goals as goal
 
-pub returns-in_err-follow-clause-stopped : goal.returns-in_err-follow-clause-stopped
-returns-in_err-follow-clause-stopped c =
-    let broken = c.in_err-follow.field-0.0 in
+pub lead_one-requires : goal.lead_one-requires
+lead_one-requires c =
+    front-fits c.loop-device.device-index c.args.self.now c.args.act.now c.loop-device.self _
+    (2 ^ 62) c.loop-device-test.true c.loop-device.invariant c.requires
+
+pub returns-in_err-lead_one-clause-stopped : goal.returns-in_err-lead_one-clause-stopped
+returns-in_err-lead_one-clause-stopped c =
+    let broken = c.in_err-lead_one.field-0.0 in
     if-err-is c.from_residual.result broken _ c.from_residual.ensures.1
-    (λ acts on. subst (λ rule. NoStep rule c.args.act.now acts) (sym c.in_err-follow.ensures.its)
-    (record { device = devices.Changer; rule = refl; none = (c.in_err-follow.ensures.none acts on.changer) }))
+    (front-stops c.loop-device.device-index c.args.self.now c.args.act.now c.loop-device.self _
+    broken c.loop-device-test.true c.loop-device.invariant c.in_err-lead_one.ensures.stopped)
 
-pub returns-in_err-follow-2-clause-stopped : goal.returns-in_err-follow-2-clause-stopped
-returns-in_err-follow-2-clause-stopped c =
-    let broken = c.in_err-follow-2.field-0.0 in
-    if-err-is c.from_residual-in_err-follow-2.result broken _ c.from_residual-in_err-follow-2.ensures.1
-    (λ acts on. subst (λ rule. NoStep rule c.args.act.now acts) (sym c.in_err-follow-2.ensures.its)
-    (record { device = devices.Bill; rule = refl; none = (c.in_err-follow-2.ensures.none acts on.bill) }))
+pub loop-device-preserved : goal.loop-device-preserved
+loop-device-preserved c =
+    front-more SideOf (FollowsOf c.args.act.now) c.loop-device.device-index
+    (side_in c.args.self.now) (side_in c.loop-device.self) (side_in c.lead_one.new.self) _
+    c.loop-device-test.true c.loop-device.invariant c.in_ok-lead_one.ensures.followed
 
-pub returns-in_err-follow-3-clause-stopped : goal.returns-in_err-follow-3-clause-stopped
-returns-in_err-follow-3-clause-stopped c =
-    let broken = c.in_err-follow-3.field-0.0 in
-    if-err-is c.from_residual-in_err-follow-3.result broken _ c.from_residual-in_err-follow-3.ensures.1
-    (λ acts on. subst (λ rule. NoStep rule c.args.act.now acts) (sym c.in_err-follow-3.ensures.its)
-    (record { device = devices.Cashless; rule = refl; none = (c.in_err-follow-3.ensures.none acts on.cashless) }))
-
-pub returns-in_err-follow-4-clause-stopped : goal.returns-in_err-follow-4-clause-stopped
-returns-in_err-follow-4-clause-stopped c =
-    let broken = c.in_err-follow-4.field-0.0 in
-    if-err-is c.from_residual-in_err-follow-4.result broken _ c.from_residual-in_err-follow-4.ensures.1
-    (λ acts on. subst (λ rule. NoStep rule c.args.act.now acts) (sym c.in_err-follow-4.ensures.its)
-    (record { device = devices.Cashless2; rule = refl; none = (c.in_err-follow-4.ensures.none acts on.cashless2) }))
+pub returns-clause-followed : goal.returns-clause-followed
+returns-clause-followed c =
+    front-all SideOf (FollowsOf c.args.act.now) c.loop-device.device-index
+    (side_in c.args.self.now) (side_in c.loop-device.self) c.loop-device-test.false
+    c.loop-device.invariant

@@ -7,7 +7,8 @@ use Rattle.mdb_follow.specs.declared.cell.Cell.{Cell}
 use Rattle.mdb_follow.specs.inner.Limits.{IsTableWithin}
 use Rattle.mdb_follow.specs.Tables.{IsTable}
 use Rattle.mdb_follow.proofs.Limits.{table-within-weaker}
-use Rattle.mdb_follow.proofs.Listed.{nil-told, seen-again, seen-one, seen-other, seen-still, some-told}
+use Rattle.mdb_follow.proofs.Listed.{nil-told, seen-again, seen-one, seen-other, seen-still}
+use Rattle.mdb_follow.proofs.Listed.{some-told}
 use Rattle.mdb_follow.proofs.Ways.{nothing-arrives, table-some}
 use Rattle.mdb_follow.proofs.table.Table.replace.Goals as goal
 

@@ -1,7 +1,7 @@
 use Rattle.std.proofs.Common.{◌++◌}
 use Rattle.mdb_follow.specs.inner.Entries.{moves_of}
 use Rattle.mdb_follow.proofs.TwoSteps.{two-moves, with-two}
-use Rattle.mdb_follow.proofs.entries.add_steps.Goals as goal
+use Rattle.mdb_follow.proofs.entries.steps.add_steps.Goals as goal
 
 pub returns-then-ne-clause-entries : goal.returns-then-ne-clause-entries
 returns-then-ne-clause-entries g c = (

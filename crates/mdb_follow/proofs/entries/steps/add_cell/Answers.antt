@@ -6,7 +6,7 @@ use Rattle.mdb_follow.specs.inner.Cells.{moved_cell}
 use Rattle.mdb_follow.specs.inner.Entries.{HasAt, IsKeyed, IsPlaced, Lacks, with_cell}
 use Rattle.mdb_follow.proofs.Listed.{keyed-room, keyed-with_cell, with_cell-push, with_cell-written}
 use Rattle.mdb_follow.proofs.Places.{placed-front, placed-lacks, placed-push, placed-written}
-use Rattle.mdb_follow.proofs.entries.add_cell.Goals as goal
+use Rattle.mdb_follow.proofs.entries.steps.add_cell.Goals as goal
 
 -- what the test tells of the entries themselves
 has-told : (entries slice : List (ℕ × Cell)) (place code : ℕ) → slice ≡ entries

@@ -2,7 +2,7 @@ use Rattle.std.proofs.Common.{◌≡◌, ◌<◌, ◌≤◌, ◌∙◌, ℕ, Lis
 use Rattle.std.specs.Prelude.{slice_set}
 use Rattle.std.proofs.lemmas.List.{length-take-le}
 use Rattle.std.proofs.Math.Seq.{take-set-lt}
-use Rattle.mdb_follow.proofs.list.Entries.set.Goals as goal
+use Rattle.mdb_follow.proofs.entries.Entries.set.Goals as goal
 
 -- an element of a list's front is written
 set-front : {X : Type 0} (n : ℕ) (xs front : List X) (i : ℕ) (x : X) → n ≤ length xs

@@ -1,0 +1,114 @@
+-- What is kept of each device, by the places of the devices: that of one goes on, and in a loop
+-- over the devices that of each.
+use Rattle.std.proofs.Common.{refl, ap, subst, sym, inl, inr, ◌∙◌, ◌≡◌, ◌⊎◌, ◌+◌, ◌<◌, ◌≤◌, ℕ, zero}
+use Rattle.std.proofs.Common.{suc, arith, get_or}
+use Rattle.std.proofs.lemmas.Bool.{cases_eq}
+use Rattle.mdb_msgs.specs.declared.command.Device.{Device}
+use Rattle.mdb_msgs.specs.declared.command.Device.TheVariants as devices
+use Rattle.mdb_msgs.specs.declared.command.ReaderUnit.TheVariants.{First, Second}
+use Rattle.mdb_follow.specs.declared.report.TheConstants.Report.{DEVICES}
+use Rattle.mdb_follow.specs.Devices.{device_place}
+use Rattle.mdb_follow.specs.inner.ByDevice.{OneGoes}
+
+-- what is of each device
+pub each : (Of : Device → Type 0) → Of devices.Changer → Of devices.Bill
+    → Of (devices.Reader First) → Of (devices.Reader Second) → (device : Device) → Of device
+each Of changer bill first second devices.Changer = changer
+each Of changer bill first second devices.Bill = bill
+each Of changer bill first second (devices.Reader First) = first
+each Of changer bill first second (devices.Reader Second) = second
+
+-- the device of a place
+device_at : ℕ → Device
+device_at place = get_or DEVICES place devices.Changer
+
+at_place : (device : Device) → device_at (device_place device) ≡ device
+unfolding device_at
+at_place devices.Changer = refl
+at_place devices.Bill = refl
+at_place (devices.Reader First) = refl
+at_place (devices.Reader Second) = refl
+
+pub below : (device : Device) → device_place device < 4
+below devices.Changer = omega arith
+below devices.Bill = omega arith
+below (devices.Reader First) = omega arith
+below (devices.Reader Second) = omega arith
+
+-- devices of one place are one
+pub one_place : (one other : Device) → device_place one ≡ device_place other → one ≡ other
+one_place one other same = sym (at_place one) ∙ (ap device_at same ∙ at_place other)
+
+-- two devices are one, or they aren't
+pub same_or_not : (one other : Device) → (one ≡ other) ⊎ (one ≡ other → ⊥)
+same_or_not one other =
+    elim (cases_eq (device_place one) (device_place other)) [
+      | inl same ↦ inl (one_place one other same)
+      | inr apart ↦ inr (λ same. apart (ap device_place same))
+    ]
+
+-- What is kept of the devices before a place has gone on, and of the others it is what it was.
+pub record Front (Of : Device → Type 0)
+    (Goes : (device : Device) → Of device → Of device → Type 0) (count : ℕ)
+    (old new : (device : Device) → Of device) : Type 0 where
+  pub gone : (device : Device) → device_place device < count → Goes device (old device) (new device)
+  pub kept : (device : Device) → count ≤ device_place device → new device ≡ old device
+
+pub front-none : (Of : Device → Type 0) (Goes : (device : Device) → Of device → Of device → Type 0)
+    (all : (device : Device) → Of device) → Front Of Goes 0 all all
+front-none Of Goes all = record {
+  gone = λ device none. absurd (omega (arith, none));
+  kept = λ device _. refl;
+}
+
+-- the place of the device that stands at a place
+placed : (place : ℕ) (d : Device) → place < 4 → device_place (get_or DEVICES place d) ≡ place
+placed zero d less = refl
+placed (suc zero) d less = refl
+placed (suc (suc zero)) d less = refl
+placed (suc (suc (suc zero))) d less = refl
+placed (suc (suc (suc (suc place)))) d less = absurd (omega (arith, less))
+
+-- what is kept of the next device is what it was
+pub front-next : (Of : Device → Type 0) (Goes : (device : Device) → Of device → Of device → Type 0)
+    (count : ℕ) (old mid : (device : Device) → Of device) (d : Device) → count < 4
+    → Front Of Goes count old mid → mid (get_or DEVICES count d) ≡ old (get_or DEVICES count d)
+front-next Of Goes count old mid d within front =
+    let at : device_place (get_or DEVICES count d) ≡ count = placed count d within in
+    front.kept (get_or DEVICES count d) (omega (arith, at))
+
+pub front-more : (Of : Device → Type 0) (Goes : (device : Device) → Of device → Of device → Type 0)
+    (count : ℕ) (old mid new : (device : Device) → Of device) (d : Device) → count < 4
+    → Front Of Goes count old mid → OneGoes Of Goes (get_or DEVICES count d) mid new
+    → Front Of Goes (count + 1) old new
+front-more Of Goes count old mid new d within front one =
+    let next : Device = get_or DEVICES count d in
+    let at : device_place next ≡ count = placed count d within in
+    record {
+      gone = λ device less. elim (same_or_not device next) [
+        | inl same ↦ subst (λ e. Goes e (old e) (new e)) (sym same)
+            (subst (λ before. Goes next before (new next))
+            (front-next Of Goes count old mid d within front) one.own)
+        | inr apart ↦ subst (Goes device (old device)) (sym (one.others device apart))
+            (front.gone device (before device less apart at))
+      ];
+      kept = λ device above.
+          one.others device (λ same.
+          let is : device_place device ≡ device_place next = ap device_place same in
+          omega (arith, above, at, is))
+          ∙ front.kept device (omega (arith, above));
+    }
+  where
+    before : {next : Device} (device : Device) → device_place device < count + 1
+        → (device ≡ next → ⊥) → device_place next ≡ count → device_place device < count
+    before {next} device less apart at =
+        elim (cases_eq (device_place device) (device_place next)) [
+          | inl same ↦ absurd (apart (one_place device next same))
+          | inr other ↦ omega (arith, less, at, other)
+        ]
+
+pub front-all : (Of : Device → Type 0) (Goes : (device : Device) → Of device → Of device → Type 0)
+    (count : ℕ) (old new : (device : Device) → Of device) → 4 ≤ count
+    → Front Of Goes count old new → (device : Device) → Goes device (old device) (new device)
+front-all Of Goes count old new all front device =
+    front.gone device (omega (arith, all, below device))

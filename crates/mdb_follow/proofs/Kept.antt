@@ -1,0 +1,69 @@
+-- What is kept of silences goes on as the lists of asks do: of one device, and of each.
+use Rattle.std.proofs.Common.{refl, ap, subst, sym, inl, inr, ◌∙◌, ◌≡◌, ◌+◌, ◌≤◌, ℕ, Bool, List}
+use Rattle.std.proofs.Common.{arith, length, set, get_or}
+use Rattle.std.specs.Prelude.{if◌then◌else◌}
+use Rattle.std.proofs.lemmas.Bool.{eq-eqb, ne_eqb}
+use Rattle.std.proofs.lemmas.Grind.{get_or-set_at}
+use Rattle.std.proofs.lemmas.List.{get_or-set_other}
+use Rattle.mdb_msgs.specs.declared.command.Device.{Device}
+use Rattle.mdb_follow.specs.declared.silence.Silence.{Silence}
+use Rattle.mdb_follow.specs.declared.silence.Silences.{Silences}
+use Rattle.mdb_follow.specs.Devices.{device_place, same_device}
+use Rattle.mdb_follow.specs.Silences.{TimedAsk}
+use Rattle.mdb_follow.specs.SilencesKept.{silence_in}
+use Rattle.mdb_follow.specs.inner.SilenceSteps.{AllGoOn, AreFew, GoesOn, OneGoesOn}
+use Rattle.mdb_follow.proofs.ByDevice.{below, one_place, same_or_not}
+
+-- what is kept of one device is put in its place
+pub one-goes-on : (further : Device → List (List TimedAsk) → List (List TimedAsk))
+    (device : Device) (old : Silences) (place : ℕ) (one : Silence) → place ≡ device_place device
+    → length old.of ≡ 4 → GoesOn (further device) (silence_in old device) one
+    → OneGoesOn further device old (record { of = set old.of place one })
+one-goes-on further device old place one at long goes = record {
+  own = subst (GoesOn (further device) (silence_in old device))
+      (sym (get_or-set_at old.of place (device_place device) one _ (sym at)
+      (let less = below device in omega (arith, at, long, less)))) goes;
+  others = λ other apart. get_or-set_other old.of place (device_place other) one _
+      (λ same. apart (one_place other device (same ∙ at)));
+}
+
+-- no list goes on
+stays : (silence : Silence) → GoesOn (λ lists. lists) silence silence
+stays silence = record { stands = λ lists on. on; few = omega arith }
+
+pub none-go-on : (silences : Silences) → AllGoOn (λ device lists. lists) silences silences
+none-go-on silences device = stays (silence_in silences device)
+
+-- those of one device do
+pub all-go-on : (further : Device → List (List TimedAsk) → List (List TimedAsk))
+    (which : Device) (old new : Silences) → OneGoesOn further which old new
+    → AllGoOn (λ device lists. if same_device device which then further device lists else lists)
+    old new
+all-go-on further which old new one device =
+    elim (same_or_not device which) [
+      | inl same ↦ subst If
+          (sym (eq-eqb (device_place device) (device_place which) (ap device_place same)))
+          (subst (λ d. GoesOn (further d) (silence_in old d) (silence_in new d)) (sym same) one.own)
+      | inr apart ↦ subst If
+          (sym (ne_eqb (device_place device) (device_place which)
+          (λ same. apart (one_place device which same))))
+          (subst (GoesOn (λ lists. lists) (silence_in old device)) (sym (one.others device apart))
+          (stays (silence_in old device)))
+    ]
+  where
+    If : Bool → Type 0
+    If same = GoesOn (λ lists. if same then further device lists else lists)
+        (silence_in old device) (silence_in new device)
+
+-- how many silences there are with those of one row more
+pub few-more : (further : Device → List (List TimedAsk) → List (List TimedAsk)) (rows : ℕ)
+    (old new : Silences) → AreFew rows old → AllGoOn further old new → AreFew (rows + 1) new
+few-more further rows old new few goes device =
+    let before = few device in
+    let more = (goes device).few in
+    omega (arith, before, more)
+
+pub few-weaker : (rows most : ℕ) (silences : Silences) → rows ≤ most → AreFew rows silences
+    → AreFew most silences
+few-weaker rows most silences le few device =
+    let before = few device in omega (arith, le, before)

@@ -1,0 +1,10 @@
+use Rattle.std.proofs.Common.{arith}
+use Rattle.mdb_follow.specs.inner.SilenceSteps.{ended}
+use Rattle.mdb_follow.proofs.Kept.{one-goes-on}
+use Rattle.mdb_follow.proofs.silence.Silences.end.Goals as goal
+
+pub returns : goal.returns
+returns c =
+    one-goes-on (λ other. ended) c.args.device c.args.self.now c.device_place.result
+    c.end.new.self c.device_place.ensures.place c.told-of
+    (record { stands = c.end.ensures.stands; few = omega (arith, c.end.ensures.same) })
