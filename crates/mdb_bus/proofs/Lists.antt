@@ -94,7 +94,7 @@ pub record ControllerEnd (bytes : List ℕ) (front : List Event) (event : Event)
 pub controller_last : (bytes : List ℕ) (front : List Event) (event : Event) → front ≢ []
     → Say Controller (controller_words bytes) (front ++ event ∷ [])
     → ControllerEnd bytes front event
-controller_last bytes [] event some says = absurd (behind refl)
+controller_last bytes [] event some says = absurd (some refl)
 controller_last [] (f ∷ front) event some says = cc
 controller_last (b ∷ bytes) (f ∷ front) event some says =
     let rest = say_last Controller bytes front event (cc) in
