@@ -23,18 +23,18 @@ abbrev pub holding_of : {Own Setup Asked M State : Type 0} → Conduct Own Setup
 holding_of conduct parts choice before = conduct.with_holds (holds_after (kept_of parts) (holds_read choice (conduct.holds before))) before
 
 -- it, as the code finds it
-pub holding : {Own Setup Asked M State : Type 0} {conduct : Conduct Own Setup Asked M State} {parts : List (Part M)} {kept : List M} {choice : Choice} {before state : State} {was holds still : Bool}
+pub holding : {Own Setup Asked M State : Type 0} (conduct : Conduct Own Setup Asked M State) (parts : List (Part M)) (choice : Choice) {kept : List M} {before state : State} {was holds still : Bool}
     → was ≡ conduct.holds before → holds ≡ holds_read choice was → kept ≡ kept_of parts → still ≡ holds_after kept holds → state ≡ conduct.with_holds still before
     → state ≡ holding_of conduct parts choice before
-holding was_is holds_is kept_is still_is state_is = rw (state_is, still_is, kept_is, holds_is, was_is) refl
+holding conduct parts choice was_is holds_is kept_is still_is state_is = rw (state_is, still_is, kept_is, holds_is, was_is) refl
 
 -- what a reply tells, as the code finds it
-pub telling : {Own Setup Asked M State : Type 0} {conduct : Conduct Own Setup Asked M State} {facts : Facts Setup Asked M} {poll polls was holds reset early : Bool} {parts : List (Part M)} {last held_now kept news : List M} {choice : Choice} {before : State}
+pub telling : {Own Setup Asked M State : Type 0} (conduct : Conduct Own Setup Asked M State) (facts : Facts Setup Asked M) {poll polls was holds reset early : Bool} {parts : List (Part M)} {last held_now kept news : List M} {choice : Choice} {before : State}
     → poll ≡ polls → was ≡ conduct.holds before → holds ≡ holds_read choice was → last ≡ facts.past.kept → held_now ≡ held holds last → IsSummary kept reset early parts
     → ((parts : List (Part M)) → IsSummary kept reset early parts → HasNews poll choice facts.past.reset_owed held_now parts news)
     → ((parts : List (Part M)) (other : List M) → IsSummary kept reset early parts → HasNews poll choice facts.past.reset_owed held_now parts other → other ≡ news)
     → HasNewsOnly polls choice facts.past.reset_owed (held (holds_read choice (conduct.holds before)) facts.past.kept) parts news
-telling poll_is was_is holds_is last_is held_is summary found only = only_news poll_is (rw (held_is, last_is, holds_is, was_is) refl) refl summary found only
+telling conduct facts poll_is was_is holds_is last_is held_is summary found only = only_news poll_is (rw (held_is, last_is, holds_is, was_is) refl) refl summary found only
 
 -- a reply that tells nothing that it could
 pub untold : {Own Setup Asked M State : Type 0} {conduct : Conduct Own Setup Asked M State} {facts : Facts Setup Asked M} {poll polls was holds reset early : Bool} {parts : List (Part M)} {last held_now kept : List M} {choice : Choice} {before : State}

@@ -13,16 +13,3 @@ returns-then-not-is_poll-clause-step g c =
     acknowledged (sym c.if-not-is_poll.true ∙ c.is_poll.ensures) c.summary_of-summary.ensures.reset_is (c.as_slice-kept.ensures.value ∙ c.summary_of-summary.ensures.kept_is)
     c.holds.ensures c.holds_acked.ensures c.with_holds-released.ensures refl c.none.ensures
 
-pub returns-then-summary-reset-clause-step : goal.returns-then-summary-reset-clause-step
-returns-then-summary-reset-clause-step g c =
-    let first_gain = g.K.Conduct.conduct.first_gain (facts_in c.args.facts.now) in
-    acknowledged (sym c.if-not-is_poll.false ∙ c.is_poll.ensures) (sym c.if-summary-reset.true ∙ c.summary_of-summary.ensures.reset_is) (c.as_slice-kept.ensures.value ∙ c.summary_of-summary.ensures.kept_is)
-    c.holds.ensures c.holds_acked.ensures c.with_holds-released.ensures c.heard_reset.ensures
-    (c.of_controller-gains.ensures ∙ (ap (λ f. controller_gains f c.worth.result.1) c.worth.ensures.first ∙ ap (controller_gains (sum_by first_gain c.as_slice-kept.result.now)) c.worth.ensures.second))
-
-pub returns-else-summary-reset-clause-step : goal.returns-else-summary-reset-clause-step
-returns-else-summary-reset-clause-step g c =
-    let first_gain = g.K.Conduct.conduct.first_gain (facts_in c.args.facts.now) in
-    acknowledged (sym c.if-not-is_poll.false ∙ c.is_poll.ensures) (sym c.if-summary-reset.false ∙ c.summary_of-summary.ensures.reset_is) (c.as_slice-kept.ensures.value ∙ c.summary_of-summary.ensures.kept_is)
-    c.holds.ensures c.holds_acked.ensures c.with_holds-released.ensures refl
-    (c.of_controller-gains.ensures ∙ (ap (λ f. controller_gains f c.worth.result.1) c.worth.ensures.first ∙ ap (controller_gains (sum_by first_gain c.as_slice-kept.result.now)) c.worth.ensures.second))
