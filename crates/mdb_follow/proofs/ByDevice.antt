@@ -11,7 +11,7 @@ use Rattle.mdb_follow.specs.Devices.{device_place}
 use Rattle.mdb_follow.specs.inner.ByDevice.{OneGoes}
 
 -- what is of each device
-pub each : (Of : Device → Type 0) → Of devices.Changer → Of devices.Bill
+abbrev pub each : (Of : Device → Type 0) → Of devices.Changer → Of devices.Bill
     → Of (devices.Reader First) → Of (devices.Reader Second) → (device : Device) → Of device
 each Of changer bill first second devices.Changer = changer
 each Of changer bill first second devices.Bill = bill

@@ -8,21 +8,27 @@ use Rattle.std.proofs.lemmas.List.{get_or-set_other}
 use Rattle.mdb_msgs.specs.declared.command.Device.{Device}
 use Rattle.mdb_follow.specs.declared.silence.Silence.{Silence}
 use Rattle.mdb_follow.specs.declared.silence.Silences.{Silences}
+use Rattle.mdb_follow.specs.declared.silence.Unanswered.TheVariants.{Nothing}
 use Rattle.mdb_follow.specs.Devices.{device_place, same_device}
 use Rattle.mdb_follow.specs.Silences.{TimedAsk}
 use Rattle.mdb_follow.specs.SilencesKept.{silence_in}
 use Rattle.mdb_follow.specs.inner.SilenceSteps.{AllGoOn, AreFew, GoesOn, OneGoesOn}
 use Rattle.mdb_follow.proofs.ByDevice.{below, one_place, same_or_not}
 
+-- what stands for that of a device that a list lacks; silences lack none
+abbrev pub no_silence : Silence
+no_silence = record { unanswered = Nothing; count = 0 }
+
 -- what is kept of one device is put in its place
 pub one-goes-on : (further : Device → List (List TimedAsk) → List (List TimedAsk))
     (device : Device) (old : Silences) (place : ℕ) (one : Silence) → place ≡ device_place device
-    → length old.of ≡ 4 → GoesOn (further device) (silence_in old device) one
+    → length old.of ≡ 4 → GoesOn (further device) (get_or old.of place no_silence) one
     → OneGoesOn further device old (record { of = set old.of place one })
 one-goes-on further device old place one at long goes = record {
   own = subst (GoesOn (further device) (silence_in old device))
       (sym (get_or-set_at old.of place (device_place device) one _ (sym at)
-      (let less = below device in omega (arith, at, long, less)))) goes;
+      (let less = below device in omega (arith, at, long, less))))
+      (subst (λ p. GoesOn (further device) (get_or old.of p no_silence) one) at goes);
   others = λ other apart. get_or-set_other old.of place (device_place other) one _
       (λ same. apart (one_place other device (same ∙ at)));
 }

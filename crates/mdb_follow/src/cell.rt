@@ -67,7 +67,7 @@ pub struct Cell {
 
 impl Cell {
     /// The cell with the gains of a step added.
-    #[tactic(auto, unfolding(crate::specs::Cells::moved_cell))]
+    #[tactic(auto, unfolding(crate::specs::inner::Cells::moved_cell))]
     pub(crate) fn moved(&self, gains: &Gains) -> Cell
         requires within { IsCellWithin (2 ^ 62) self.now }
         requires small { IsSmall gains.now }
@@ -80,7 +80,7 @@ impl Cell {
     }
 
     /// The cell of sums that are in one of two.
-    #[tactic(auto, unfolding(crate::specs::Cells::joined_cell))]
+    #[tactic(auto, unfolding(crate::specs::inner::Cells::joined_cell))]
     pub(crate) fn joined(&self, other: &Cell) -> Cell
         ensures { result ≡ joined_cell self.now other.now }
     {

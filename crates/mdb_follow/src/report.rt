@@ -55,11 +55,23 @@ impl Report {
             → accounts ≡ map named ALL
             → result ≡ report_of rows pieces named }
     {
+        let first = Device::Reader(ReaderUnit::First);
+        let second = Device::Reader(ReaderUnit::Second);
         Report {
             rows,
-            decimals: Report::DEVICES.map(|device| sides.decimals(device)),
+            decimals: [
+                sides.decimals(Device::Changer),
+                sides.decimals(Device::Bill),
+                sides.decimals(first),
+                sides.decimals(second),
+            ],
             accounts,
-            silences: Report::DEVICES.map(|device| silences.count(device)),
+            silences: [
+                silences.count(Device::Changer),
+                silences.count(Device::Bill),
+                silences.count(first),
+                silences.count(second),
+            ],
         }
     }
 

@@ -5,7 +5,7 @@ use Rattle.mdb_follow.proofs.sides.Sides.lead.Goals as goal
 pub returns-in-One-clause-followed : goal.returns-in-One-clause-followed
 returns-in-One-clause-followed c =
     if-ok c.lead_one.result _ _
-    (λ _. all-follow c.in-One.field-0 c.args.self.now c.lead_one.new.self c.args.act.now
+    (λ _. all-follow c.in-One.device c.args.self.now c.lead_one.new.self c.args.act.now
     c.in-One.ensures)
     c.lead_one.ensures.followed
 

@@ -1,7 +1,7 @@
-use Rattle.std.proofs.Common.{ap, ◌∙◌}
+use Rattle.std.proofs.Common.{ap, arith, refl, ◌∙◌, ◌^◌}
 use Rattle.mdb_msgs.specs.declared.command.Device.TheVariants as devices
 use Rattle.mdb_msgs.specs.declared.command.ReaderUnit.TheVariants.{First, Second}
-use Rattle.mdb_follow.proofs.Sided.{one-follows, one-stops}
+use Rattle.mdb_follow.proofs.Sided.{one-follows, one-stops, within-at}
 use Rattle.mdb_follow.proofs.sides.Sides.lead_one.Goals as goal
 
 pub returns-in-Changer-clause-followed : goal.returns-in-Changer-clause-followed
@@ -51,3 +51,23 @@ returns-in-Second-clause-stopped c =
     one-stops c.follow-in-Second.result c.args.device (devices.Reader Second) c.args.self.now
     c.args.act.now (c.in-Reader.is ∙ ap devices.Reader c.in-Second.is)
     c.follow-in-Second.ensures.none c.follow-in-Second.ensures.its
+
+pub follow-requires : goal.follow-requires
+follow-requires c =
+    (omega arith, (refl, within-at c.args.device devices.Changer (2 ^ 62) c.args.self.now
+    c.in-Changer.is c.requires))
+
+pub follow-requires-in-Bill : goal.follow-requires-in-Bill
+follow-requires-in-Bill c =
+    (omega arith, (refl, within-at c.args.device devices.Bill (2 ^ 62) c.args.self.now
+    c.in-Bill.is c.requires))
+
+pub follow-requires-in-First : goal.follow-requires-in-First
+follow-requires-in-First c =
+    (omega arith, (refl, within-at c.args.device (devices.Reader First) (2 ^ 62) c.args.self.now
+    (c.in-Reader.is ∙ ap devices.Reader c.in-First.is) c.requires))
+
+pub follow-requires-in-Second : goal.follow-requires-in-Second
+follow-requires-in-Second c =
+    (omega arith, (refl, within-at c.args.device (devices.Reader Second) (2 ^ 62) c.args.self.now
+    (c.in-Reader.is ∙ ap devices.Reader c.in-Second.is) c.requires))

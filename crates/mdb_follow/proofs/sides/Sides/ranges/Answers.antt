@@ -6,8 +6,8 @@ use Rattle.mdb_follow.proofs.sides.Sides.ranges.Goals as goal
 
 pub returns-in-Changer : goal.returns-in-Changer
 returns-in-Changer c =
-    ranges-at c.args.device devices.Changer c.args.self.now c.ranges.result
-    c.in-Changer.is c.ranges.ensures
+    ranges-at c.args.device devices.Changer c.args.self.now c.ranges-in-Changer.result
+    c.in-Changer.is c.ranges-in-Changer.ensures
 
 pub returns-in-Bill : goal.returns-in-Bill
 returns-in-Bill c =
