@@ -1,4 +1,4 @@
-use Rattle.std.proofs.Common.{◌≡◌, ◌∙◌, ◌↔◌, ℕ, Bool, true, false, List, [], ◌∷◌, Some, refl, ap, sym, subst, length, if◌then◌else◌, map, not, ◌==◌, arith}
+use Rattle.std.proofs.Common.{◌≡◌, ◌∙◌, ◌↔◌, ℕ, true, List, [], ◌∷◌, Some, refl, ap, sym, subst}
 use Rattle.mdb_cash.specs.declared.bill.activity.BillActivity.{BillActivity}
 use Rattle.mdb_cash.specs.declared.bill.activity.BillActivity.TheVariants as activity
 use Rattle.mdb_cash.specs.declared.bill.state.BillType.{BillType}
@@ -8,7 +8,6 @@ use Rattle.mdb_cash.specs.Bill.{MayReturn, MayStack, MovesBills, MovesBill}
 use Rattle.mdb_cash.specs.inner.BillCodes.{same_type}
 use Rattle.mdb_cash.specs.BillFacts.{Facts}
 use Rattle.mdb_cash.specs.Pair.{IsOnly}
-use Rattle.mdb_cash.proofs.KeptLists.{HasNewsOnly}
 
 -- a message that can be new
 pub stacks : (facts : Facts) {message : BillActivity} {escrow : Escrow} (bill : BillType) {number : ℕ} → message ≡ activity.Stacked number → bill.number ≡ number

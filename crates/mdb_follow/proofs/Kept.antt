@@ -1,5 +1,5 @@
 -- What is kept of silences goes on as the lists of asks do: of one device, and of each.
-use Rattle.std.proofs.Common.{refl, ap, subst, sym, inl, inr, ◌∙◌, ◌≡◌, ◌+◌, ◌≤◌, ℕ, Bool, List}
+use Rattle.std.proofs.Common.{ap, subst, sym, inl, inr, ◌∙◌, ◌≡◌, ◌+◌, ◌≤◌, ℕ, Bool, List}
 use Rattle.std.proofs.Common.{arith, length, set, get_or}
 use Rattle.std.specs.Prelude.{if◌then◌else◌}
 use Rattle.std.proofs.lemmas.Bool.{eq-eqb, ne_eqb}

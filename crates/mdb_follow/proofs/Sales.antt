@@ -21,7 +21,6 @@ use Rattle.mdb_cashless.specs.ReaderFacts.{facts_of}
 use Rattle.mdb_cashless.specs.inner.SaleViews.{AcksLastReply, TellsOfSale}
 use Rattle.mdb_cashless.specs.Sales.{EndsInReply, IsApproved, SalesAreApproved}
 use Rattle.mdb_follow.specs.Arrivals.{Arrives}
-use Rattle.mdb_follow.specs.Runs.{AllSums, Run}
 use Rattle.mdb_follow.specs.Sales.{SalesFollowApprovals}
 use Rattle.mdb_follow.specs.Sums.{Sums}
 use Rattle.mdb_follow.proofs.Joining.{split}

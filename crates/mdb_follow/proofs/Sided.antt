@@ -1,5 +1,5 @@
 -- Sides go on by an act: the side of one device, those of all, and those that have no part in it.
-use Rattle.std.proofs.Common.{◌≡◌, ◌⊎◌, inl, inr, ◌+◌, ◌^◌, ◌<◌, ◌∙◌, ℕ, List, Option, ap, arith}
+use Rattle.std.proofs.Common.{◌≡◌, inl, inr, ◌+◌, ◌^◌, ◌<◌, ◌∙◌, ℕ, List, Option, ap, arith}
 use Rattle.std.proofs.Common.{get_or, refl, subst, sym, Ok, Err, Result, ◌∷◌}
 use Rattle.std.specs.Prelude.{IfErr, IfOk, OnErr, option_map}
 use Rattle.mdb_msgs.specs.declared.command.Device.{Device}

@@ -1,6 +1,4 @@
-use Rattle.std.proofs.Common.{sym, ap, ◌∙◌, refl, sum_by}
-use Rattle.mdb_cash.specs.Gains.{controller_gains}
-use Rattle.mdb_cash.specs.KeeperValues.{facts_in}
+use Rattle.std.proofs.Common.{sym, ◌∙◌, refl}
 use Rattle.mdb_cash.proofs.KeeperSteps.{acknowledged}
 use Rattle.mdb_cash.proofs.Sizes.{summary_fits}
 use Rattle.mdb_cash.proofs.conduct.vmc_ack.Goals as goal
@@ -12,4 +10,3 @@ pub returns-then-not-is_poll-clause-step : goal.returns-then-not-is_poll-clause-
 returns-then-not-is_poll-clause-step g c =
     acknowledged (sym c.if-not-is_poll.true ∙ c.is_poll.ensures) c.summary_of-summary.ensures.reset_is (c.as_slice-kept.ensures.value ∙ c.summary_of-summary.ensures.kept_is)
     c.holds.ensures c.holds_acked.ensures c.with_holds-released.ensures refl c.none.ensures
-

@@ -8,8 +8,10 @@ pub returns : goal.returns
 returns c pieces named sides stand accounts =
     let acts = acts_of pieces in
     rw (
-      c.decimals.ensures acts sides, c.decimals-2.ensures acts sides,
-      c.decimals-3.ensures acts sides, c.decimals-4.ensures acts sides,
+      c.decimals.ensures acts sides,
+      c.decimals-2.ensures acts sides,
+      c.decimals-3.ensures acts sides,
+      c.decimals-4.ensures acts sides,
       c.count.ensures ∙ (stand devices.Changer).count,
       c.count-2.ensures ∙ (stand devices.Bill).count,
       c.count-3.ensures ∙ (stand (devices.Reader First)).count,

@@ -53,21 +53,41 @@ returns-in-Second-clause-stopped c =
     c.follow-in-Second.ensures.none c.follow-in-Second.ensures.its
 
 pub follow-requires : goal.follow-requires
-follow-requires c =
-    (omega arith, (refl, within-at c.args.device devices.Changer (2 ^ 62) c.args.self.now
-    c.in-Changer.is c.requires))
+follow-requires c = (
+  omega arith,
+  (
+    refl,
+    within-at c.args.device devices.Changer (2 ^ 62) c.args.self.now
+        c.in-Changer.is c.requires,
+  ),
+)
 
 pub follow-requires-in-Bill : goal.follow-requires-in-Bill
-follow-requires-in-Bill c =
-    (omega arith, (refl, within-at c.args.device devices.Bill (2 ^ 62) c.args.self.now
-    c.in-Bill.is c.requires))
+follow-requires-in-Bill c = (
+  omega arith,
+  (
+    refl,
+    within-at c.args.device devices.Bill (2 ^ 62) c.args.self.now
+        c.in-Bill.is c.requires,
+  ),
+)
 
 pub follow-requires-in-First : goal.follow-requires-in-First
-follow-requires-in-First c =
-    (omega arith, (refl, within-at c.args.device (devices.Reader First) (2 ^ 62) c.args.self.now
-    (c.in-Reader.is ∙ ap devices.Reader c.in-First.is) c.requires))
+follow-requires-in-First c = (
+  omega arith,
+  (
+    refl,
+    within-at c.args.device (devices.Reader First) (2 ^ 62) c.args.self.now
+        (c.in-Reader.is ∙ ap devices.Reader c.in-First.is) c.requires,
+  ),
+)
 
 pub follow-requires-in-Second : goal.follow-requires-in-Second
-follow-requires-in-Second c =
-    (omega arith, (refl, within-at c.args.device (devices.Reader Second) (2 ^ 62) c.args.self.now
-    (c.in-Reader.is ∙ ap devices.Reader c.in-Second.is) c.requires))
+follow-requires-in-Second c = (
+  omega arith,
+  (
+    refl,
+    within-at c.args.device (devices.Reader Second) (2 ^ 62) c.args.self.now
+        (c.in-Reader.is ∙ ap devices.Reader c.in-Second.is) c.requires,
+  ),
+)

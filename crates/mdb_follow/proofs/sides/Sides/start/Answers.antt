@@ -8,8 +8,10 @@ use Rattle.mdb_follow.proofs.sides.Sides.start.Goals as goal
 pub returns-clause-stands : goal.returns-clause-stands
 returns-clause-stands c =
     let sides : Sides = record {
-      changer = c.start.result; bill = c.start-2.result;
-      first_reader = c.start-3.result; second_reader = c.start-4.result;
+      changer = c.start.result;
+      bill = c.start-2.result;
+      first_reader = c.start-3.result;
+      second_reader = c.start-4.result;
     } in
     each (λ device. IsSideOf device (side_in sides device) []) c.start.ensures.stands
     c.start-2.ensures.stands c.start-3.ensures.stands c.start-4.ensures.stands
@@ -17,8 +19,10 @@ returns-clause-stands c =
 pub returns-clause-within : goal.returns-clause-within
 returns-clause-within c =
     let sides : Sides = record {
-      changer = c.start.result; bill = c.start-2.result;
-      first_reader = c.start-3.result; second_reader = c.start-4.result;
+      changer = c.start.result;
+      bill = c.start-2.result;
+      first_reader = c.start-3.result;
+      second_reader = c.start-4.result;
     } in
     each (λ device. IsWithin device 0 sides) c.start.ensures.within c.start-2.ensures.within
     c.start-3.ensures.within c.start-4.ensures.within

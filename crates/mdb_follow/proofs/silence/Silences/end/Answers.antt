@@ -6,5 +6,5 @@ use Rattle.mdb_follow.proofs.silence.Silences.end.Goals as goal
 pub returns : goal.returns
 returns c =
     one-goes-on (λ other. ended) c.args.device c.args.self.now c.device_place.result
-    c.end.new.self c.device_place.ensures.place c.told-self
+    c.end.new.self c.device_place.ensures.place (omega arith)
     (record { stands = c.end.ensures.stands; few = omega (arith, c.end.ensures.same) })

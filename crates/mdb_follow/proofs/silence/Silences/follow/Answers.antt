@@ -11,11 +11,11 @@ returns-in-Ack c =
     let old = c.args.self.now in
     let new = c.end.new.self in
     let go : AllGoOn (λ device lists. if same_device device (device_of c.in-Ack.command)
-        then ended lists else lists) old new =
-        subst (λ which. AllGoOn
-        (λ device lists. if same_device device which then ended lists else lists) old new)
-        c.device-in-Ack.ensures
-        (all-go-on (λ other. ended) c.device-in-Ack.result old new c.end.ensures) in
+    then ended lists else lists) old new =
+    subst (λ which. AllGoOn
+    (λ device lists. if same_device device which then ended lists else lists) old new)
+    c.device-in-Ack.ensures
+    (all-go-on (λ other. ended) c.device-in-Ack.result old new c.end.ensures) in
     elim c.in-Ack.is [
       | inl is ↦ subst (λ act. SilencesFollow old act c.args.at c.args.sides.now new) (sym is) go
       | inr more ↦ elim more [
