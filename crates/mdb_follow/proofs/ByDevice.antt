@@ -54,13 +54,6 @@ pub record Front (Of : Device → Type 0)
   pub gone : (device : Device) → device_place device < count → Goes device (old device) (new device)
   pub kept : (device : Device) → count ≤ device_place device → new device ≡ old device
 
-pub front-none : (Of : Device → Type 0) (Goes : (device : Device) → Of device → Of device → Type 0)
-    (all : (device : Device) → Of device) → Front Of Goes 0 all all
-front-none Of Goes all = record {
-  gone = λ device none. absurd (omega (arith, none));
-  kept = λ device _. refl;
-}
-
 -- the place of the device that stands at a place
 placed : (place : ℕ) (d : Device) → place < 4 → device_place (get_or DEVICES place d) ≡ place
 placed zero d less = refl

@@ -1,7 +1,7 @@
 -- What a follower that stands for events goes on to, and what it answers.
-use Rattle.std.proofs.Common.{refl, sym, ap, subst, ◌∙◌, ◌≡◌, inl, inr, ℕ, ℤ, pos, ◌-ℤ◌, ◌+◌, List}
+use Rattle.std.proofs.Common.{sym, ap, subst, ◌∙◌, ◌≡◌, inl, inr, ℕ, ℤ, pos, ◌-ℤ◌, ◌+◌, List}
 use Rattle.std.proofs.Common.{[], ◌∷◌, ◌++◌, length, length-append, ◌<◌, ◌≤◌, take, drop, get_or}
-use Rattle.std.proofs.Common.{append_assoc, append-nil, add-one, arith, Option, Some, None}
+use Rattle.std.proofs.Common.{append_assoc, add-one, arith, Option, Some, None}
 use Rattle.std.proofs.lemmas.List.{take_all, take_more}
 use Rattle.std.proofs.Math.Seq.{split_at}
 use Rattle.std.specs.Bool.{OnFalse, OnTrue}
@@ -374,14 +374,6 @@ pub record HasFed (old : Follower) (events : List Event) (count : ℕ) (new : Fo
   pub going : new.offence ≡ None
   pub still : count ≡ 0 → new ≡ old
   pub stands : (earlier : List Event) → StandsFor old earlier → StandsFor new (earlier ++ events)
-
-pub fed-none : (follower : Follower) → follower.offence ≡ None → HasFed follower [] 0 follower
-fed-none follower going = record {
-  rows = omega arith;
-  going = going;
-  still = λ none. refl;
-  stands = λ earlier on. subst (StandsFor follower) (sym (append-nil earlier)) on;
-}
 
 -- all events were taken
 pub fed-all : (old new : Follower) (events : List Event) (i : ℕ) → length events ≤ i

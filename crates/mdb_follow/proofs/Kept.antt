@@ -1,5 +1,5 @@
 -- What is kept of silences goes on as the lists of asks do: of one device, and of each.
-use Rattle.std.proofs.Common.{ap, subst, sym, inl, inr, ◌∙◌, ◌≡◌, ◌+◌, ◌≤◌, ℕ, Bool, List}
+use Rattle.std.proofs.Common.{ap, subst, sym, inl, inr, ◌∙◌, ◌≡◌, ℕ, Bool, List}
 use Rattle.std.proofs.Common.{arith, length, set, get_or}
 use Rattle.std.specs.Prelude.{if◌then◌else◌}
 use Rattle.std.proofs.lemmas.Bool.{eq-eqb, ne_eqb}
@@ -12,7 +12,7 @@ use Rattle.mdb_follow.specs.declared.silence.Unanswered.TheVariants.{Nothing}
 use Rattle.mdb_follow.specs.Devices.{device_place, same_device}
 use Rattle.mdb_follow.specs.Silences.{TimedAsk}
 use Rattle.mdb_follow.specs.SilencesKept.{silence_in}
-use Rattle.mdb_follow.specs.inner.SilenceSteps.{AllGoOn, AreFew, GoesOn, OneGoesOn}
+use Rattle.mdb_follow.specs.inner.SilenceSteps.{AllGoOn, GoesOn, OneGoesOn}
 use Rattle.mdb_follow.proofs.ByDevice.{below, one_place, same_or_not}
 
 -- what stands for that of a device that a list lacks; silences lack none
@@ -37,9 +37,6 @@ one-goes-on further device old place one at long goes = record {
 stays : (silence : Silence) → GoesOn (λ lists. lists) silence silence
 stays silence = record { stands = λ lists on. on; few = omega arith }
 
-pub none-go-on : (silences : Silences) → AllGoOn (λ device lists. lists) silences silences
-none-go-on silences device = stays (silence_in silences device)
-
 -- those of one device do
 pub all-go-on : (further : Device → List (List TimedAsk) → List (List TimedAsk))
     (which : Device) (old new : Silences) → OneGoesOn further which old new
@@ -60,16 +57,3 @@ all-go-on further which old new one device =
     If : Bool → Type 0
     If same = GoesOn (λ lists. if same then further device lists else lists)
         (silence_in old device) (silence_in new device)
-
--- how many silences there are with those of one row more
-pub few-more : (further : Device → List (List TimedAsk) → List (List TimedAsk)) (rows : ℕ)
-    (old new : Silences) → AreFew rows old → AllGoOn further old new → AreFew (rows + 1) new
-few-more further rows old new few goes device =
-    let before = few device in
-    let more = (goes device).few in
-    omega (arith, before, more)
-
-pub few-weaker : (rows most : ℕ) (silences : Silences) → rows ≤ most → AreFew rows silences
-    → AreFew most silences
-few-weaker rows most silences le few device =
-    let before = few device in omega (arith, le, before)
