@@ -585,7 +585,7 @@ pub judged_at : (place : Place) (other : Phase) (from : Option Event) (levels : 
     (row : Event)
     (result : Result Judged Rule) → place.phase ≡ other
     → IsJudged (record {
-      position = position_in other place.bytes place.command place.answer.reply;
+      position = position_in other place.bytes place.command place.last_reply.reply;
       last = from;
       levels = levels;
     }) row result
@@ -593,7 +593,7 @@ pub judged_at : (place : Place) (other : Phase) (from : Option Event) (levels : 
 judged_at place other from levels row result is judged =
     let P : Phase → Type 0 =
     λ p. IsJudged (record {
-      position = position_in p place.bytes place.command place.answer.reply;
+      position = position_in p place.bytes place.command place.last_reply.reply;
       last = from;
       levels = levels;
     }) row result in

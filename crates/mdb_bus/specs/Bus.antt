@@ -26,7 +26,7 @@ position_in phase.InForeign bytes command reply = InForeign
 
 -- the position that a place is
 abbrev pub position_at : Place → Position
-position_at place = position_in place.phase place.bytes place.command place.answer.reply
+position_at place = position_in place.phase place.bytes place.command place.last_reply.reply
 
 -- A bus stands for pieces: they are in order, and the bus is where they leave it.
 pub record StandsFor (bus : Bus) (pieces : List Piece) : Type 0 where

@@ -46,7 +46,7 @@ impl Bus {
                 phase: Phase::Quiet,
                 bytes: Begun::with(0),
                 command: Command::Changer(ChangerCommand::Poll),
-                answer: Spelled::none(),
+                last_reply: Spelled::placeholder(),
             },
             last: None,
             levels: Levels::NONE,

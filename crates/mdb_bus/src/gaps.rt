@@ -21,48 +21,48 @@ pub(crate) fn word_row(at: Time, line: Line, word: Word) -> Event
 }
 
 /// Whether a row doesn't start after the row before it.
-pub(crate) fn is_out_of_order(from: &Option<Event>, row: &Event) -> bool
-    ensures { IsTrue result ↔ OutOfOrder from.now row.now }
+pub(crate) fn is_out_of_order(last: &Option<Event>, row: &Event) -> bool
+    ensures { IsTrue result ↔ OutOfOrder last.now row.now }
 {
-    match from {
+    match last {
         None => false,
-        Some(from) => row.start() <= from.start(),
+        Some(before) => row.start() <= before.start(),
     }
 }
 
 /// Whether a row starts less than `least` after the row before it.
-pub(crate) fn is_before(from: &Option<Event>, row: &Event, least: u64) -> bool
+pub(crate) fn is_sooner_than(last: &Option<Event>, row: &Event, least: u64) -> bool
     requires { least < 2 ^ 32 }
-    ensures { IsTrue result ↔ IsBefore least from.now row.now }
+    ensures { IsTrue result ↔ IsBefore least last.now row.now }
 {
-    match from {
+    match last {
         None => false,
-        Some(from) => !is_at_least(from, row, least),
+        Some(before) => !is_at_least(before, row, least),
     }
 }
 
 /// Whether a row starts more than `most` after the row before it.
-pub(crate) fn is_after(from: &Option<Event>, row: &Event, most: u64) -> bool
+pub(crate) fn is_later_than(last: &Option<Event>, row: &Event, most: u64) -> bool
     requires { most < 2 ^ 32 }
-    ensures { IsTrue result ↔ IsAfter most from.now row.now }
+    ensures { IsTrue result ↔ IsAfter most last.now row.now }
 {
-    match from {
+    match last {
         None => false,
-        Some(from) => !is_at_most(from, row, most),
+        Some(before) => !is_at_most(before, row, most),
     }
 }
 
 /// Refuses a row that is no answer in its time: it comes too soon, or too late.
 #[inline(always)]
-pub(crate) fn in_answer_time(from: &Option<Event>, row: &Event) -> Result<(), Rule>
-    ensures timely { OnOk result (lists.InTime limits.ANSWER_GAP_MAX from.now row.now) }
+pub(crate) fn in_answer_time(last: &Option<Event>, row: &Event) -> Result<(), Rule>
+    ensures timely { OnOk result (lists.InTime limits.ANSWER_GAP_MAX last.now row.now) }
     ensures untimely { IfErr result
-        (IsUntimely rules.Late limits.ANSWER_GAP_MAX from.now row.now) }
+        (IsUntimely rules.Late limits.ANSWER_GAP_MAX last.now row.now) }
 {
-    if is_before(from, row, WORD_GAP_MIN) {
+    if is_sooner_than(last, row, WORD_GAP_MIN) {
         return Err(Rule::Early);
     }
-    if is_after(from, row, ANSWER_GAP_MAX) {
+    if is_later_than(last, row, ANSWER_GAP_MAX) {
         return Err(Rule::Late);
     }
     Ok(())
@@ -71,37 +71,37 @@ pub(crate) fn in_answer_time(from: &Option<Event>, row: &Event) -> Result<(), Ru
 /// Refuses a row that doesn't go on with a block in its time: it comes too soon, or too far from
 /// the word before it.
 #[inline(always)]
-pub(crate) fn in_block_time(from: &Option<Event>, row: &Event) -> Result<(), Rule>
-    ensures timely { OnOk result (lists.InTime limits.BLOCK_GAP_MAX from.now row.now) }
+pub(crate) fn in_block_time(last: &Option<Event>, row: &Event) -> Result<(), Rule>
+    ensures timely { OnOk result (lists.InTime limits.BLOCK_GAP_MAX last.now row.now) }
     ensures untimely { IfErr result
-        (IsUntimely rules.Spacing limits.BLOCK_GAP_MAX from.now row.now) }
+        (IsUntimely rules.Spacing limits.BLOCK_GAP_MAX last.now row.now) }
 {
-    if is_before(from, row, WORD_GAP_MIN) {
+    if is_sooner_than(last, row, WORD_GAP_MIN) {
         return Err(Rule::Early);
     }
-    if is_after(from, row, BLOCK_GAP_MAX) {
+    if is_later_than(last, row, BLOCK_GAP_MAX) {
         return Err(Rule::Spacing);
     }
     Ok(())
 }
 
 /// How long a block waits after a row that leaves nothing open.
-pub(crate) fn rest_before_block(from: &Option<Event>) -> u64
-    ensures value { result ≡ lists.rest_before_block from.now }
+pub(crate) fn rest_before_block(last: &Option<Event>) -> u64
+    ensures value { result ≡ lists.rest_before_block last.now }
     ensures small { result < 2 ^ 32 }
 {
-    match from {
+    match last {
         Some(Event::Break { .. }) => SETUP_GAP_MIN,
         _ => WORD_GAP_MIN,
     }
 }
 
 /// How long a break waits.
-pub(crate) fn rest_before_break(from: &Option<Event>) -> u64
-    ensures value { result ≡ lists.rest_before_break from.now }
+pub(crate) fn rest_before_break(last: &Option<Event>) -> u64
+    ensures value { result ≡ lists.rest_before_break last.now }
     ensures small { result < 2 ^ 32 }
 {
-    match from {
+    match last {
         Some(Event::Break { .. }) => 0,
         _ => WORD_GAP_MIN,
     }

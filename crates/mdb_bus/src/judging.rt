@@ -16,7 +16,9 @@ mod repeating;
 mod replying;
 
 use super::fault::Rule;
-use super::gaps::{is_before, is_out_of_order, rest_before_block, rest_before_break, word_row};
+use super::gaps::{
+    is_out_of_order, is_sooner_than, rest_before_block, rest_before_break, word_row,
+};
 use super::judged::Judged;
 use super::phase::Phase;
 use super::place::Place;
@@ -26,43 +28,43 @@ use mdb_words::{BREAK_LENGTH_MIN, Event, Line, NEW_BLOCK_GAP_MIN, Span, Time, WO
 use repeating::{begin_repeat, go_on_repeating};
 use replying::{cut_in, go_on_replying};
 
-/// What is made of a row, which comes after `from`.
+/// What is made of a row, which comes after `last`.
 #[inline(always)]
-pub(crate) fn judge(place: &Place, from: &Option<Event>, row: &Event) -> Result<Judged, Rule>
+pub(crate) fn judge(place: &Place, last: &Option<Event>, row: &Event) -> Result<Judged, Rule>
     ensures judged { (levels : Levels)
         → IsJudged (record {
           position = position_at place.now;
-          last = from.now;
+          last = last.now;
           levels = levels;
         }) row.now result }
     ensures belongs { IfOk result (Belongs place.now.phase place.now.bytes row.now) }
 {
-    if is_out_of_order(from, row) {
+    if is_out_of_order(last, row) {
         return Err(Rule::Order);
     }
     match *row {
-        Event::Break { at, length } => judge_break(from, at, length),
+        Event::Break { at, length } => judge_break(last, at, length),
         Event::Word { at, line, word } => match line {
-            Line::Controller => judge_controller(place, from, at, word),
-            Line::Peripheral => judge_peripheral(place, from, at, word),
+            Line::Controller => judge_controller(place, last, at, word),
+            Line::Peripheral => judge_peripheral(place, last, at, word),
         },
     }
 }
 
 /// A break: it may come everywhere.
-fn judge_break(from: &Option<Event>, at: Time, length: Span) -> Result<Judged, Rule>
-    requires { OutOfOrder from.now (Event.Break at length) → ⊥ }
+fn judge_break(last: &Option<Event>, at: Time, length: Span) -> Result<Judged, Rule>
+    requires { OutOfOrder last.now (Event.Break at length) → ⊥ }
     ensures judged { (position : lists.Position) (levels : Levels)
         → IsJudged (record {
           position = position;
-          last = from.now;
+          last = last.now;
           levels = levels;
         }) (Event.Break at length) result }
     ensures belongs { (here : Phase) (bytes : List ℕ)
         → IfOk result (Belongs here bytes (Event.Break at length)) }
 {
     let row = Event::Break { at, length };
-    if is_before(from, &row, rest_before_break(from)) {
+    if is_sooner_than(last, &row, rest_before_break(last)) {
         return Err(Rule::Early);
     }
     if length.value() < BREAK_LENGTH_MIN {
@@ -75,28 +77,28 @@ fn judge_break(from: &Option<Event>, at: Time, length: Span) -> Result<Judged, R
 #[inline(always)]
 fn judge_controller(
     place: &Place,
-    from: &Option<Event>,
+    last: &Option<Event>,
     at: Time,
     word: Word,
 ) -> Result<Judged, Rule>
-    requires { OutOfOrder from.now (Event.Word at Line.Controller word) → ⊥ }
+    requires { OutOfOrder last.now (Event.Word at Line.Controller word) → ⊥ }
     ensures judged { (levels : Levels)
-        → IsJudged (record { position = position_at place.now; last = from.now; levels = levels })
+        → IsJudged (record { position = position_at place.now; last = last.now; levels = levels })
         (Event.Word at Line.Controller word) result }
     ensures belongs { IfOk result (Belongs place.now.phase place.now.bytes
         (Event.Word at Line.Controller word)) }
 {
     match place.phase {
-        Phase::Quiet => begin_block(from, at, word, rest_before_block(from)),
-        Phase::InAsk => go_on_asking(&place.bytes, from, at, word),
-        Phase::Asked => begin_block(from, at, word, NEW_BLOCK_GAP_MIN),
-        Phase::InReply => cut_in(from, at, word),
-        Phase::Replied if word.marked() => begin_block(from, at, word, NEW_BLOCK_GAP_MIN),
-        Phase::Replied => answer_reply(from, at, word),
-        Phase::Returned => begin_block(from, at, word, NEW_BLOCK_GAP_MIN),
-        Phase::InRepeat(..) => cut_in(from, at, word),
-        Phase::InForeign if word.marked() => begin_block(from, at, word, WORD_GAP_MIN),
-        Phase::InForeign => go_on_foreign(from, at, Line::Controller, word),
+        Phase::Quiet => begin_block(last, at, word, rest_before_block(last)),
+        Phase::InAsk => go_on_asking(&place.bytes, last, at, word),
+        Phase::Asked => begin_block(last, at, word, NEW_BLOCK_GAP_MIN),
+        Phase::InReply => cut_in(last, at, word),
+        Phase::Replied if word.marked() => begin_block(last, at, word, NEW_BLOCK_GAP_MIN),
+        Phase::Replied => answer_reply(last, at, word),
+        Phase::Returned => begin_block(last, at, word, NEW_BLOCK_GAP_MIN),
+        Phase::InRepeat(..) => cut_in(last, at, word),
+        Phase::InForeign if word.marked() => begin_block(last, at, word, WORD_GAP_MIN),
+        Phase::InForeign => go_on_foreign(last, at, Line::Controller, word),
     }
 }
 
@@ -104,14 +106,14 @@ fn judge_controller(
 #[inline(always)]
 fn judge_peripheral(
     place: &Place,
-    from: &Option<Event>,
+    last: &Option<Event>,
     at: Time,
     word: Word,
 ) -> Result<Judged, Rule>
-    requires { OutOfOrder from.now (Event.Word at Line.Peripheral word) → ⊥ }
+    requires { OutOfOrder last.now (Event.Word at Line.Peripheral word) → ⊥ }
     ensures judged { (levels : Levels) → IsJudged (record {
       position = position_at place.now;
-      last = from.now;
+      last = last.now;
       levels = levels;
     })
         (Event.Word at Line.Peripheral word) result }
@@ -120,26 +122,26 @@ fn judge_peripheral(
 {
     match place.phase {
         Phase::Quiet | Phase::InAsk | Phase::Replied => Err(Rule::Speaker),
-        Phase::Asked => answer(&place.command, from, at, word),
-        Phase::InReply => go_on_replying(&place.command, &place.bytes, from, at, word),
-        Phase::Returned => begin_repeat(&place.answer, from, at, word),
-        Phase::InRepeat(said) => go_on_repeating(&place.answer, said, from, at, word),
-        Phase::InForeign => go_on_foreign(from, at, Line::Peripheral, word),
+        Phase::Asked => answer(&place.command, last, at, word),
+        Phase::InReply => go_on_replying(&place.command, &place.bytes, last, at, word),
+        Phase::Returned => begin_repeat(&place.last_reply, last, at, word),
+        Phase::InRepeat(said) => go_on_repeating(&place.last_reply, said, last, at, word),
+        Phase::InForeign => go_on_foreign(last, at, Line::Peripheral, word),
     }
 }
 
 /// A further word of foreign traffic.
-fn go_on_foreign(from: &Option<Event>, at: Time, line: Line, word: Word) -> Result<Judged, Rule>
-    requires in_order { OutOfOrder from.now (Event.Word at line word) → ⊥ }
+fn go_on_foreign(last: &Option<Event>, at: Time, line: Line, word: Word) -> Result<Judged, Rule>
+    requires in_order { OutOfOrder last.now (Event.Word at line word) → ⊥ }
     requires further { IsForeignWord (Event.Word at line word) }
     ensures judged { (levels : Levels)
-        → IsJudged (record { position = lists.InForeign; last = from.now; levels = levels })
+        → IsJudged (record { position = lists.InForeign; last = last.now; levels = levels })
         (Event.Word at line word) result }
     ensures belongs { (here : Phase) (bytes : List ℕ) (row : Event)
         → IfOk result (Belongs here bytes row) }
 {
     let row = word_row(at, line, word);
-    if is_before(from, &row, WORD_GAP_MIN) {
+    if is_sooner_than(last, &row, WORD_GAP_MIN) {
         Err(Rule::Early)
     } else {
         Ok(Judged::Foreign)

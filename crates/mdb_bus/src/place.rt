@@ -29,7 +29,7 @@ pub struct Place {
     /// The command that was asked last.
     pub command: Command,
     /// The last reply.
-    pub answer: Spelled,
+    pub last_reply: Spelled,
     ghost begun: { HasBegun phase bytes } by { HasBegun-prop phase bytes },
 }
 
@@ -216,7 +216,7 @@ impl Place {
         }
         *act = Act::Reply(self.command, reply.copy());
         self.phase = Phase::Replied;
-        self.answer = Spelled {
+        self.last_reply = Spelled {
             reply,
             bytes: self.bytes.copy(),
         };
@@ -250,11 +250,11 @@ impl Place {
     /// The last reply, which is moved out: no phase asks for it once it was answered.
     #[inline(always)]
     fn settled(&mut self) -> Reply
-        ensures reply { result ≡ self.old.answer.reply }
+        ensures reply { result ≡ self.old.last_reply.reply }
         ensures phase { self.new.phase ≡ self.old.phase }
         ensures command { self.new.command ≡ self.old.command }
     {
-        let Spelled { reply, .. } = mem::replace(&mut self.answer, Spelled::none());
+        let Spelled { reply, .. } = mem::replace(&mut self.last_reply, Spelled::placeholder());
         reply
     }
 
@@ -267,7 +267,7 @@ impl Place {
         ensures none { result ≡ false → act.new ≡ act.old }
     {
         self.phase = Phase::Returned;
-        act.note(Act::VmcRet(self.command, self.answer.reply.copy()))
+        act.note(Act::VmcRet(self.command, self.last_reply.reply.copy()))
     }
 
     /// A word of the repeat, which has more to come.
@@ -292,7 +292,7 @@ impl Place {
         ensures none { result ≡ false → act.new ≡ act.old }
     {
         self.phase = Phase::Replied;
-        act.note(Act::Repeat(self.command, self.answer.reply.copy()))
+        act.note(Act::Repeat(self.command, self.last_reply.reply.copy()))
     }
 }
 

@@ -26,7 +26,7 @@ impl Spelled {
 
     /// What stands for the last reply before the first one, and no phase asks for: the changer's
     /// POLL answered with status 00.
-    pub(crate) fn none() -> Spelled
+    pub(crate) fn placeholder() -> Spelled
         ensures reply { result.reply ≡ ChangerPoll (record { items = Status 0 ∷ [] }) }
         ensures bytes { result.bytes ≡ 0 ∷ [] }
     {

@@ -30,15 +30,15 @@ holding conduct parts choice was_is holds_is kept_is still_is state_is = rw (sta
 
 -- what a reply tells, as the code finds it
 pub telling : {Own Setup Asked M State : Type 0} (conduct : Conduct Own Setup Asked M State) (facts : Facts Setup Asked M) {poll polls was holds reset early : Bool} {parts : List (Part M)} {last held_now kept news : List M} {choice : Choice} {before : State}
-    → poll ≡ polls → was ≡ conduct.holds before → holds ≡ holds_read choice was → last ≡ facts.past.kept → held_now ≡ held holds last → IsSummary kept reset early parts
+    → poll ≡ polls → was ≡ conduct.holds before → holds ≡ holds_read choice was → last ≡ facts.past.last_kept → held_now ≡ held holds last → IsSummary kept reset early parts
     → ((parts : List (Part M)) → IsSummary kept reset early parts → HasNews poll choice facts.past.reset_owed held_now parts news)
     → ((parts : List (Part M)) (other : List M) → IsSummary kept reset early parts → HasNews poll choice facts.past.reset_owed held_now parts other → other ≡ news)
-    → HasNewsOnly polls choice facts.past.reset_owed (held (holds_read choice (conduct.holds before)) facts.past.kept) parts news
+    → HasNewsOnly polls choice facts.past.reset_owed (held (holds_read choice (conduct.holds before)) facts.past.last_kept) parts news
 telling conduct facts poll_is was_is holds_is last_is held_is summary found only = only_news poll_is (rw (held_is, last_is, holds_is, was_is) refl) refl summary found only
 
 -- a reply that tells nothing that it could
 pub untold : {Own Setup Asked M State : Type 0} {conduct : Conduct Own Setup Asked M State} {facts : Facts Setup Asked M} {poll polls was holds reset early : Bool} {parts : List (Part M)} {last held_now kept : List M} {choice : Choice} {before : State}
-    → poll ≡ polls → was ≡ conduct.holds before → holds ≡ holds_read choice was → last ≡ facts.past.kept → held_now ≡ held holds last → IsSummary kept reset early parts
+    → poll ≡ polls → was ≡ conduct.holds before → holds ≡ holds_read choice was → last ≡ facts.past.last_kept → held_now ≡ held holds last → IsSummary kept reset early parts
     → ((parts : List (Part M)) (other : List M) → IsSummary kept reset early parts → HasNews poll choice facts.past.reset_owed held_now parts other → ⊥)
     → IsOnlyStep (ReplyStep conduct facts polls parts choice before) None
 untold {Own} {Setup} {Asked} {M} {State} {conduct} {facts} {poll} {polls} {was} {holds} {reset} {early} {parts} {last} poll_is was_is holds_is last_is held_is summary none after gains step =
@@ -46,7 +46,7 @@ untold {Own} {Setup} {Asked} {M} {State} {conduct} {facts} {poll} {polls} {was} 
 
 -- a reply that tells these news, and no others
 pub told : {Own Setup Asked M State : Type 0} {conduct : Conduct Own Setup Asked M State} {facts : Facts Setup Asked M} {poll : Bool} {parts : List (Part M)} {choice : Choice} {before holding after : State} {news : List M} {gains : Gains}
-    → HasNewsOnly poll choice facts.past.reset_owed (held (holds_read choice (conduct.holds before)) facts.past.kept) parts news
+    → HasNewsOnly poll choice facts.past.reset_owed (held (holds_read choice (conduct.holds before)) facts.past.last_kept) parts news
     → holding ≡ holding_of conduct parts choice before → IsOnly (conduct.TellsNews facts choice news holding) (Some after)
     → gains ≡ device_gains (sum_by (conduct.first_gain facts) news) (sum_by (conduct.second_gain facts) news)
     → IsOnlyStep (ReplyStep conduct facts poll parts choice before) (Some (after, gains))
@@ -61,7 +61,7 @@ told {Own} {Setup} {Asked} {M} {State} {conduct} {facts} {poll} {parts} {choice}
 
 -- a reply whose new messages can't be
 pub impossible : {Own Setup Asked M State : Type 0} {conduct : Conduct Own Setup Asked M State} {facts : Facts Setup Asked M} {poll : Bool} {parts : List (Part M)} {choice : Choice} {before holding : State} {news : List M}
-    → HasNewsOnly poll choice facts.past.reset_owed (held (holds_read choice (conduct.holds before)) facts.past.kept) parts news
+    → HasNewsOnly poll choice facts.past.reset_owed (held (holds_read choice (conduct.holds before)) facts.past.last_kept) parts news
     → holding ≡ holding_of conduct parts choice before → IsOnly (conduct.TellsNews facts choice news holding) None
     → IsOnlyStep (ReplyStep conduct facts poll parts choice before) None
 impossible {Own} {Setup} {Asked} {M} {State} {conduct} {facts} {poll} {parts} {choice} {before} {holding} {news} telling holding_is none after gains step =

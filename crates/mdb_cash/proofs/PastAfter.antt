@@ -14,10 +14,10 @@ use Rattle.mdb_cash.specs.Past.{PastFacts, acts_from, effect_by, enables, last_t
 use Rattle.mdb_cash.specs.PastValues.{past_after, past_in, past_with}
 
 -- facts with the same fields
-same_past : {M : Type 0} {one other : PastFacts M} → ((kind : ℕ) → one.enabled kind ≡ other.enabled kind) → one.reset_owed ≡ other.reset_owed → one.kept ≡ other.kept → one ≡ other
+same_past : {M : Type 0} {one other : PastFacts M} → ((kind : ℕ) → one.enabled kind ≡ other.enabled kind) → one.reset_owed ≡ other.reset_owed → one.last_kept ≡ other.last_kept → one ≡ other
 same_past {M} {one} {other} enabled reset_owed kept =
     let masks : one.enabled ≡ other.enabled = fun_ext enabled in
-    let same : record one { kept = one.kept } ≡ record other { kept = other.kept } = cc (masks, reset_owed, kept) in
+    let same : record one { last_kept = one.last_kept } ≡ record other { last_kept = other.last_kept } = cc (masks, reset_owed, kept) in
     same
 
 -- whether one of the acts from the last boundary on passes a test
@@ -54,6 +54,6 @@ either_bit mask more coin = rw (bit_at_or mask more coin) (either (bit_at mask c
     either a (suc (suc b)) p q = absurd (omega arith)
 
 -- a device that has enabled types
-pub enabled_more : {M : Type 0} {CAP : ℕ} (old new : Past M CAP) (mask : ℕ) → new.enabled ≡ bit_or old.enabled mask → new.reset_owed ≡ old.reset_owed → new.kept.items ≡ old.kept.items
+pub enabled_more : {M : Type 0} {CAP : ℕ} (old new : Past M CAP) (mask : ℕ) → new.enabled ≡ bit_or old.enabled mask → new.reset_owed ≡ old.reset_owed → new.last_kept.items ≡ old.last_kept.items
     → past_in new ≡ past_after false (effects.Enable mask) [] (past_in old)
 enabled_more old new mask enabled reset_owed kept = same_past (λ kind. ap (λ m. bit_at m kind == 1) enabled ∙ either_bit old.enabled mask kind) reset_owed kept

@@ -22,7 +22,7 @@ use Rattle.mdb_cash.specs.Pair.{Stays}
 
 -- the power-on state: nothing held, and no DISPENSE owed
 abbrev pub power_on : ChangerState
-power_on = record { holds = false; owed = false }
+power_on = record { holds = false; dispense_owed = false }
 
 -- the value of a coin type by a setup table: its scaling factor times the type's credit; 0 for a
 -- token, where the credit wasn't sent, and where there is no table yet
@@ -60,8 +60,8 @@ is_last (Some last) coins = last == coins
 -- again; any other is new, and the controller has paid it out.
 abbrev pub DispenseStep : Facts → ℕ → ChangerState → ChangerState → Gains → Type 0
 DispenseStep facts coins before after gains =
-    (after ≡ record before { owed = true })
-    × (gains ≡ (if before.owed && is_last facts.last_asked coins
+    (after ≡ record before { dispense_owed = true })
+    × (gains ≡ (if before.dispense_owed && is_last facts.last_asked coins
     then no_gains
     else controller_gains 0 (dispensed_value facts.setup coins)))
 
@@ -70,7 +70,7 @@ abbrev pub AskStep : Facts → ChangerCommand → ChangerState → ChangerState 
 AskStep facts (changer.Dispense coins) before after gains =
     DispenseStep facts coins before after gains
 AskStep facts changer.Reset before after gains =
-    (after ≡ record before { owed = false }) × (gains ≡ no_gains)
+    (after ≡ record before { dispense_owed = false }) × (gains ≡ no_gains)
 AskStep facts _ before after gains = Stays before after gains
 
 -- whether the controller owes a DISPENSE after the changer's ACK: where it hears that, no longer
@@ -85,7 +85,7 @@ abbrev pub TakeStep : Facts → ChangerCommand → Choice → ChangerState → C
 TakeStep facts changer.Reset choice before after gains =
     (after ≡ record before { holds = false }) × (gains ≡ no_gains)
 TakeStep facts (changer.Dispense coins) choice before after gains =
-    (after ≡ record before { owed = owed_acked choice before.owed })
+    (after ≡ record before { dispense_owed = owed_acked choice before.dispense_owed })
     × (gains ≡ device_gains 0 (dispensed_value facts.setup coins))
 TakeStep facts _ choice before after gains = Stays before after gains
 
@@ -107,7 +107,7 @@ conduct =
           AllByRecursion (MayBeNew facts) news × (after ≡ before);
       first_gain = λ facts. deposited facts.setup;
       second_gain = λ facts. paid_by_hand facts.setup;
-      heard_reset = λ state. record state { owed = false };
+      heard_reset = λ state. record state { dispense_owed = false };
     }
 
 -- A step of the changer and the controller by an act under a choice, after acts that leave these

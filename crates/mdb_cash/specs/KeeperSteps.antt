@@ -50,7 +50,7 @@ pub record ReplyStep {Own Setup Asked M State : Type 0} (conduct : Conduct Own S
     (before after : State) (gains : Gains) : Type 0 where
   pub news : List M
   pub has_news : HasNews poll choice facts.past.reset_owed
-      (held (holds_read choice (conduct.holds before)) facts.past.kept) parts news
+      (held (holds_read choice (conduct.holds before)) facts.past.last_kept) parts news
   pub tells_news : conduct.TellsNews facts choice news (conduct.with_holds
       (holds_after (kept_of parts) (holds_read choice (conduct.holds before))) before) after
   pub gained : gains ≡ device_gains (sum_by (conduct.first_gain facts) news)

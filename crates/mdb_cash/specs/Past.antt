@@ -90,7 +90,7 @@ pub record PastFacts (M : Type 0) : Type 0 where
   -- a reset message is owed where no reply has had one since then
   pub reset_owed : Bool
   -- the last kept list that wasn't empty; empty where there was none
-  pub kept : List M
+  pub last_kept : List M
 
 -- what counts of acts; `parts_by` says which messages of the device an act tells
 abbrev pub past_of : {M : Type 0} → (Command → Effect) → (Act → List (Part M)) → List Act
@@ -101,5 +101,5 @@ past_of effect_of parts_by acts =
           (acts_from (powers_on effect_of) acts);
       reset_owed = not (list_any (λ act. has_reset (parts_by act))
           (acts_from (powers_on effect_of) acts));
-      kept = unwrap_or (last_told (λ act. unless_empty (kept_of (parts_by act))) acts) [];
+      last_kept = unwrap_or (last_told (λ act. unless_empty (kept_of (parts_by act))) acts) [];
     }

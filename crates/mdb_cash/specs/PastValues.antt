@@ -13,7 +13,7 @@ use Rattle.mdb_cash.specs.Past.{PastFacts, effect_by, enables, powers_on, unless
 
 -- what counts of no act
 abbrev pub no_past : {M : Type 0} → PastFacts M
-no_past = record { enabled = λ kind. false; reset_owed = true; kept = [] }
+no_past = record { enabled = λ kind. false; reset_owed = true; last_kept = [] }
 
 -- what is kept
 abbrev pub past_in : {M : Type 0} {CAP : ℕ} → Past M CAP → PastFacts M
@@ -21,7 +21,7 @@ past_in past =
     record {
       enabled = λ kind. bit_at past.enabled kind == 1;
       reset_owed = past.reset_owed;
-      kept = past.kept.items;
+      last_kept = past.last_kept.items;
     }
 
 -- what counts after one act more, which puts the device into its power-on state or doesn't, by
@@ -32,7 +32,7 @@ past_after powers effect parts past =
     record {
       enabled = λ kind. enables kind effect || (if powers then false else past.enabled kind);
       reset_owed = not (has_reset parts) && (powers || past.reset_owed);
-      kept = unwrap_or (unless_empty (kept_of parts)) past.kept;
+      last_kept = unwrap_or (unless_empty (kept_of parts)) past.last_kept;
     }
 
 -- what counts after one act more

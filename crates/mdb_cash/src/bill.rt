@@ -10,8 +10,8 @@ ghost use Rattle.mdb_cash.specs.KeeperValues.{facts_in};
 ghost use Rattle.mdb_cash.specs.inner.BillWays as ways;
 
 pub(crate) mod activity;
+mod conduct;
 pub(crate) mod state;
-mod steps;
 pub(crate) mod tables;
 mod values;
 
@@ -19,7 +19,7 @@ use crate::choice::Choice;
 use crate::conduct;
 use crate::gains::Gains;
 use crate::keeper::Keeper;
-use crate::kept::may_be_read;
+use crate::kept::may_all_be_read;
 use crate::pair::Pair;
 pub use activity::BillActivity;
 use mdb_bus::Act;
@@ -90,7 +90,7 @@ impl Pair for Bill {
     fn heeds_choice(act: &Act, state: BillState) -> bool {
         match act {
             Act::Reply(Command::Bill(_), reply) => {
-                may_be_read(Choice::Restart, Bill::messages_in(reply))
+                may_all_be_read(Choice::Restart, Bill::messages_in(reply))
             }
             Act::VmcAck(Command::Bill(_), _) => state.holds,
             _ => false,

@@ -10,8 +10,8 @@ ghost use Rattle.mdb_cash.specs.KeeperValues.{facts_in};
 ghost use Rattle.mdb_cash.specs.inner.ChangerWays as ways;
 
 pub(crate) mod activity;
+mod conduct;
 pub(crate) mod state;
-mod steps;
 pub(crate) mod tables;
 mod values;
 
@@ -19,7 +19,7 @@ use crate::choice::Choice;
 use crate::conduct;
 use crate::gains::Gains;
 use crate::keeper::Keeper;
-use crate::kept::may_be_read;
+use crate::kept::may_all_be_read;
 use crate::pair::Pair;
 pub use activity::ChangerActivity;
 use mdb_bus::Act;
@@ -93,9 +93,9 @@ impl Pair for Changer {
     #[inline(always)]
     fn heeds_choice(act: &Act, state: ChangerState) -> bool {
         match act {
-            Act::Ack(Command::Changer(ChangerCommand::Dispense(_))) => state.owed,
+            Act::Ack(Command::Changer(ChangerCommand::Dispense(_))) => state.dispense_owed,
             Act::Reply(Command::Changer(_), reply) => {
-                may_be_read(Choice::Restart, Changer::messages_in(reply))
+                may_all_be_read(Choice::Restart, Changer::messages_in(reply))
             }
             Act::VmcAck(Command::Changer(_), _) => state.holds,
             _ => false,

@@ -9,7 +9,7 @@ ghost use Rattle.mdb_cash.specs.Pair.{IsOnly, IsOnlyStep};
 use crate::choice::Choice;
 use crate::gains::Gains;
 use crate::keeper::{Keeper, KeeperFacts};
-use crate::kept::{held, holds_acked, holds_after, holds_read, may_be_read};
+use crate::kept::{held, holds_acked, holds_after, holds_read, may_all_be_read};
 use mdb_bus::Act;
 use mdb_msgs::Reply;
 
@@ -100,7 +100,7 @@ pub(crate) fn step<K: Conduct>(
             None => Some((before, Gains::none())),
         },
         Act::Reply(command, reply) => match K::own(command) {
-            Some(own) => answer(facts, own, reply, choice, before),
+            Some(own) => reply_with(facts, own, reply, choice, before),
             None => Some((before, Gains::none())),
         },
         Act::VmcAck(command, reply) => match K::own(command) {
@@ -134,7 +134,7 @@ fn ack<K: Conduct>(
 }
 
 /// The device replies with data.
-fn answer<K: Conduct>(
+fn reply_with<K: Conduct>(
     facts: &KeeperFacts<K>,
     command: K::Own,
     reply: &Reply,
@@ -146,13 +146,13 @@ fn answer<K: Conduct>(
         (K.tables.parts_of reply.now) choice before) result }
     ensures small { IfSome result (λ step. IsSmall step.1) }
 {
-    if !may_be_read(choice, K::messages_in(reply)) {
+    if !may_all_be_read(choice, K::messages_in(reply)) {
         return None;
     }
     let summary = K::summary_of(reply);
     let holds = holds_read(choice, K::holds(before));
-    let held = held(holds, facts.past.kept.as_slice());
-    let news = summary.told(K::is_poll(command), choice, facts.past.reset_owed, held)?;
+    let held = held(holds, facts.past.last_kept.as_slice());
+    let news = summary.news(K::is_poll(command), choice, facts.past.reset_owed, held)?;
     let holding = K::with_holds(before, holds_after(summary.kept.as_slice(), holds));
     let after = K::tell_news(facts, choice, news, holding)?;
     let (first, second) = worth(facts, news);

@@ -180,13 +180,13 @@ impl<K: Keeper> KeeperFacts<K> {
             ≡ facts_with K.tables (acts.Reply command.now reply.now) (facts_in self.old) }
     {
         if let Some(own) = K::own(command) {
-            self.answer(own, reply);
+            self.note_reply(own, reply);
         }
     }
 
     /// The device replies.
     #[inline(never)]
-    fn answer(&mut self, command: K::Own, reply: &Reply)
+    fn note_reply(&mut self, command: K::Own, reply: &Reply)
         ensures { facts_in self.new
             ≡ facts_told K.tables command reply.now (facts_in self.old) }
     {

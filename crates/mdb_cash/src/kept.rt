@@ -108,30 +108,30 @@ impl<M: KeptMessage + Drop, const CAP: usize> Summary<M, CAP> {
     }
 
     /// Whether its messages may come while a reset message is owed or isn't.
-    pub fn may_be_kept(&self, owed: bool) -> bool
-        ensures { IsTrue result ↔ (owed ≡ true → self.now.early ≡ false) }
+    pub fn may_come(&self, reset_owed: bool) -> bool
+        ensures { IsTrue result ↔ (reset_owed ≡ true → self.now.early ≡ false) }
     {
-        !owed || !self.early
+        !reset_owed || !self.early
     }
 
     /// The kept messages that are new where the reply is read so, a reset message is owed or isn't,
     /// and the device holds these. `None` where it can't tell what it tells.
-    pub fn told(&self, is_poll: bool, choice: Choice, owed: bool, held: &[M]) -> Option<&[M]>
+    pub fn news(&self, is_poll: bool, choice: Choice, reset_owed: bool, held: &[M]) -> Option<&[M]>
         ensures found { IfSome result (λ new. (parts : List (Part M))
             → IsSummary self.now.kept.items self.now.reset self.now.early parts
-            → HasNews is_poll choice owed held.now parts new.now) }
+            → HasNews is_poll choice reset_owed held.now parts new.now) }
         ensures only { IfSome result (λ new. (parts : List (Part M)) (other : List M)
             → IsSummary self.now.kept.items self.now.reset self.now.early parts
-            → HasNews is_poll choice owed held.now parts other → other ≡ new.now) }
+            → HasNews is_poll choice reset_owed held.now parts other → other ≡ new.now) }
         ensures none { IfNone result ((parts : List (Part M)) (other : List M)
             → IsSummary self.now.kept.items self.now.reset self.now.early parts
-            → HasNews is_poll choice owed held.now parts other → ⊥) }
+            → HasNews is_poll choice reset_owed held.now parts other → ⊥) }
         ensures few { IfSome result (λ new. length new.now ≤ array_vec_len self.now.kept) }
     {
-        if !self.may_be_read(choice) || !self.may_be_kept(owed) {
+        if !self.may_be_read(choice) || !self.may_come(reset_owed) {
             return None;
         }
-        news(is_poll, held, self.kept.as_slice())
+        news_after(is_poll, held, self.kept.as_slice())
     }
 }
 
@@ -150,8 +150,8 @@ pub fn summary_of<T: Message, const CAP: usize>(messages: &[T]) -> Summary<T::Ke
 }
 
 /// Whether messages may be read so, by what is quickly seen: none without a reset message tell of a
-/// restart. A yes promises nothing: `Summary::told` has the last word.
-pub(crate) fn may_be_read<T: Message>(choice: Choice, messages: &[T]) -> bool
+/// restart. A yes promises nothing: `Summary::news` has the last word.
+pub(crate) fn may_all_be_read<T: Message>(choice: Choice, messages: &[T]) -> bool
     ensures { OnFalse result (MayBeRead choice (map T.part_of messages.now) → ⊥) }
 {
     if let Choice::Restart = choice {
@@ -224,7 +224,7 @@ fn are_same<M: KeptMessage>(one: &[M], other: &[M]) -> bool
 
 /// The kept messages of a reply that are new, after those that its device holds; `None` where the
 /// device can't tell these.
-fn news<'a, M: KeptMessage>(is_poll: bool, held: &[M], kept: &'a [M]) -> Option<&'a [M]>
+fn news_after<'a, M: KeptMessage>(is_poll: bool, held: &[M], kept: &'a [M]) -> Option<&'a [M]>
     ensures found { IfSome result (λ new. IsNew is_poll held.now kept.now new.now) }
     ensures only { IfSome result (λ new. (other : List M)
         → IsNew is_poll held.now kept.now other → other ≡ new.now) }

@@ -31,7 +31,7 @@ pub struct Past<M: Drop, const CAP: usize> {
     /// Whether a reset message is owed.
     pub reset_owed: bool,
     /// The last kept list that wasn't empty.
-    pub kept: ArrayVec<M, CAP>,
+    pub last_kept: ArrayVec<M, CAP>,
 }
 
 impl<M: KeptMessage + Drop, const CAP: usize> Past<M, CAP> {
@@ -45,7 +45,7 @@ impl<M: KeptMessage + Drop, const CAP: usize> Past<M, CAP> {
         Past {
             enabled: 0,
             reset_owed: true,
-            kept: ArrayVec::new(),
+            last_kept: ArrayVec::new(),
         }
     }
 
@@ -53,12 +53,12 @@ impl<M: KeptMessage + Drop, const CAP: usize> Past<M, CAP> {
     pub fn copy(&self) -> Self
         ensures { result ≡ self.now }
     {
-        let mut kept = ArrayVec::new();
-        let _ = kept.try_extend_from_slice(self.kept.as_slice());
+        let mut last_kept = ArrayVec::new();
+        let _ = last_kept.try_extend_from_slice(self.last_kept.as_slice());
         Past {
             enabled: self.enabled,
             reset_owed: self.reset_owed,
-            kept,
+            last_kept,
         }
     }
 
@@ -92,7 +92,7 @@ impl<M: KeptMessage + Drop, const CAP: usize> Past<M, CAP> {
             self.reset_owed = false;
         }
         if !summary.kept.is_empty() {
-            self.kept = summary.kept;
+            self.last_kept = summary.kept;
         }
     }
 

@@ -24,22 +24,22 @@ pub record Looked (facts : Facts) (command : ReaderCommand) (reply : Reply) (cho
   pub polls : poll ≡ is_poll command
   pub owed_is : owed ≡ owes_reset facts (taken command reply)
   pub middle_is : middle ≡ before_messages facts command reply choice before
-  pub holding_is : holding ≡ held middle.holds facts.past.kept
+  pub holding_is : holding ≡ held middle.holds facts.past.last_kept
   pub summary : IsSummary kept reset early (parts_of reply)
 
 -- what the reply tells, in the words of the code
 telling : {facts : Facts} {command : ReaderCommand} {reply : Reply} {choice : Choice} {before : ReaderState} {poll owed reset early : Bool} {middle : ReaderState} {holding kept : List ReaderActivity} {news : List ReaderActivity}
     → Looked facts command reply choice before poll owed reset early middle holding kept
-    → HasNews (is_poll command) choice (owes_reset facts (taken command reply)) (held (before_messages facts command reply choice before).holds facts.past.kept) (parts_of reply) news
+    → HasNews (is_poll command) choice (owes_reset facts (taken command reply)) (held (before_messages facts command reply choice before).holds facts.past.last_kept) (parts_of reply) news
     → HasNews poll choice owed holding (parts_of reply) news
-telling {facts} looked tells = rw (looked.polls, looked.owed_is, looked.holding_is, ap (λ (s : ReaderState). held s.holds facts.past.kept) looked.middle_is) tells
+telling {facts} looked tells = rw (looked.polls, looked.owed_is, looked.holding_is, ap (λ (s : ReaderState). held s.holds facts.past.last_kept) looked.middle_is) tells
 
 told_back : {facts : Facts} {command : ReaderCommand} {reply : Reply} {choice : Choice} {before : ReaderState} {poll owed reset early : Bool} {middle : ReaderState} {holding kept : List ReaderActivity} {news : List ReaderActivity}
     → Looked facts command reply choice before poll owed reset early middle holding kept
     → HasNews poll choice owed holding (parts_of reply) news
-    → HasNews (is_poll command) choice (owes_reset facts (taken command reply)) (held (before_messages facts command reply choice before).holds facts.past.kept) (parts_of reply) news
+    → HasNews (is_poll command) choice (owes_reset facts (taken command reply)) (held (before_messages facts command reply choice before).holds facts.past.last_kept) (parts_of reply) news
 told_back {facts} {command} {reply} {choice} {before} {poll} {owed} {reset} {early} {middle} {holding} {kept} {news} looked tells =
-    let held_is : held (before_messages facts command reply choice before).holds facts.past.kept ≡ holding = sym (looked.holding_is ∙ ap (λ (s : ReaderState). held s.holds facts.past.kept) looked.middle_is) in
+    let held_is : held (before_messages facts command reply choice before).holds facts.past.last_kept ≡ holding = sym (looked.holding_is ∙ ap (λ (s : ReaderState). held s.holds facts.past.last_kept) looked.middle_is) in
     rw (held_is, sym looked.polls, sym looked.owed_is) tells
 
 -- a reply that the reader can't tell: it doesn't tell what is held

@@ -199,7 +199,7 @@ pub record ReplyStep (facts : Facts) (command : ReaderCommand) (reply : Reply)
     (choice : Choice) (before after : ReaderState) (gains : Gains) : Type 0 where
   pub news : List ReaderActivity
   pub has_news : HasNews (is_poll command) choice (owes_reset facts (taken command reply))
-      (held (before_messages facts command reply choice before).holds facts.past.kept)
+      (held (before_messages facts command reply choice before).holds facts.past.last_kept)
       (parts_of reply) news
   pub told : all_told (last_transaction facts (taken command reply)) news
       (before_messages facts command reply choice before).device ≡ Some after.device

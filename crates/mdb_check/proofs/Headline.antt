@@ -3,7 +3,7 @@ use Rattle.std.proofs.Common.{Ok, arith, refl, ap, sym, subst, ◌∙◌, ◌≡
 use Rattle.std.proofs.lemmas.List.{length-take-le, take-append-drop, take_all, take_at}
 use Rattle.mdb_words.specs.declared.event.Event.{Event}
 use Rattle.mdb_follow.specs.declared.account_name.AccountName.{AccountName}
-use Rattle.mdb_follow.specs.declared.cell.Account.{Account}
+use Rattle.mdb_follow.specs.declared.account.Account.{Account}
 use Rattle.mdb_follow.specs.declared.offence.Offence.{Offence}
 use Rattle.mdb_follow.specs.declared.report.Report.{Report}
 use Rattle.mdb_follow.specs.AccountNames.{sums_of}

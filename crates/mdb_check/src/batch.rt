@@ -88,26 +88,26 @@ impl<T: FromRecord> Batch<T> {
         &self.rows[..self.count]
     }
 
-    /// Reads the next rows in place of these, at most `room`, and answers what comes after them.
+    /// Reads the next rows in place of these, at most `rows_max`, and answers what comes after them.
     ///
     /// It ends after a row where less of the text was read ahead than a row may have. So no row
     /// waits to be followed while the next one is awaited, unless that is written in more bytes
     /// than recorders take, or after many blank lines.
     // Not inlined, so that its loop has the processor's registers to itself.
     #[inline(never)]
-    pub(crate) fn refill<R: Read + Drop>(&mut self, records: &mut Records<R>, room: u64) -> Next
-        requires { 0 < room }
+    pub(crate) fn refill<R: Read + Drop>(&mut self, records: &mut Records<R>, rows_max: u64) -> Next
+        requires { 0 < rows_max }
         ensures read { (all : List (List (List ℕ))) → ToCome R.remaining records.old all
             → HasRead T.is T.refuses R.remaining all records.new self.new result }
         ensures over { IsOverLimit R.remaining records.old
             → GoesOnOver R.remaining records.new result }
         ensures met { fault_of records.old ≡ None → IsMet result (fault_of records.new) }
-        ensures fits { FitsIn room self.new result }
+        ensures fits { FitsIn rows_max self.new result }
         ensures failed { (fault : ReadFault) → result ≡ Next.Failed fault
             → fault_of records.new ≡ Some fault }
     {
         self.clear();
-        for _ in 0..room.min(BATCH as u64) {
+        for _ in 0..rows_max.min(BATCH as u64) {
             let found = match records.advance() {
                 Ok(found) => found,
                 Err(fault) => return Next::Failed(fault),

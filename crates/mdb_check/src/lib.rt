@@ -20,7 +20,8 @@ mod verdict;
 mod writing;
 
 pub use mdb_bus::{Blame, LinkFault, Rule};
-pub use mdb_follow::{Account, Offence, ROWS_MAX, Range, Report};
+pub use mdb_follow::{Account, AccountName, Offence, ROWS_MAX, Range, Report};
+pub use mdb_msgs::{Device, ReaderUnit};
 pub use outcome::{Outcome, RunFault};
 pub use program::run;
 pub use showing::show;

@@ -11,7 +11,7 @@ ghost use Rattle.csv.specs.Reading.{default_config, records, strip_bom};
 use super::complaint::complain;
 use super::outcome::{Outcome, RunFault};
 use super::showing::show_records;
-use super::verdict::{BYTES_MAX, check_records};
+use super::verdict::{BYTES_MAX, check_records, records_of};
 use clap::Command;
 use clap::error::{Error, ErrorKind};
 use mdb_bus::LinkFault;
@@ -130,7 +130,7 @@ fn input_of<R: Read + Drop>(alloc: Global, reader: R) -> Records<R>
         BYTES_MAX < length text → IsOverLimit R.remaining result) }
     ensures limit { limit_of result ≡ BYTES_MAX }
 {
-    Records::new(alloc, reader, BYTES_MAX)
+    records_of(alloc, reader, BYTES_MAX)
 }
 
 /// What the words ask for, as `clap` reads them. Those that it refuses are no task's, unless memory

@@ -34,7 +34,7 @@ pub(crate) trait TakeRows<O> {
     ghost stops: { Self → O → O → List Self.Row → List Self.Row → Self.Stop → Type 0 };
 
     /// How many rows it has taken.
-    fn rows(&self) -> u64
+    fn rows_taken(&self) -> u64
         ensures { result ≡ count self.now };
 
     /// Takes the next rows, or tells why it stops at one of them.
@@ -64,28 +64,28 @@ pub(crate) fn read_rows<R: Read + Drop, O, T: TakeRows<O>>(
     batch: &mut Batch<T::Row>,
     taker: &mut T,
     out: &mut O,
-    limit: u64,
+    rows_max: u64,
 ) -> Result<Option<T::Stop>, RunFault>
     requires begun { T.has taker.old out.old out.old [] }
-    requires limit { limit ≤ T.most }
-    requires small { limit < 2 ^ 63 }
+    requires limit { rows_max ≤ T.most }
+    requires small { rows_max < 2 ^ 63 }
     ensures ended { (all : List (List (List ℕ))) → ToCome R.remaining records.old all
         → HasEnded T.Row.is T.Row.refuses (T.has taker.new out.old out.new)
-        (T.stops taker.new out.old out.new) limit all result }
+        (T.stops taker.new out.old out.new) rows_max all result }
     ensures whole { IsOverLimit R.remaining records.old → result ≢ Ok None }
-    ensures few { result ≡ Ok None → T.count taker.new ≤ limit }
+    ensures few { result ≡ Ok None → T.count taker.new ≤ rows_max }
     ensures stopped { IfOk result (λ stop. IfSome stop
         (IsStop (T.stops taker.new out.old out.new))) }
     ensures heard { IfErr result (IsHeard (fault_of records.new)) }
     ensures met { fault_of records.old ≡ None → IfSome (fault_of records.new)
         (λ fault. IsToldEnd fault result) }
 {
-    while taker.rows() < limit {
-        let next = batch.refill(records, limit - taker.rows());
+    while taker.rows_taken() < rows_max {
+        let next = batch.refill(records, rows_max - taker.rows_taken());
         if let Some(stop) = taker.take_all(out, batch.as_slice()) {
             return Ok(Some(stop));
         }
-        if !goes_on(next, taker.rows())? {
+        if !goes_on(next, taker.rows_taken())? {
             return Ok(None);
         }
     }

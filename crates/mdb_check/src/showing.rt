@@ -138,7 +138,7 @@ impl<W: Write> TakeRows<W> for Showing {
     ghost stops = { λ showing before after. HasStopped showing.lines (begun (W.contents before))
         (output (W.contents after) showing.page) };
 
-    fn rows(&self) -> u64 {
+    fn rows_taken(&self) -> u64 {
         self.lines.rows
     }
 

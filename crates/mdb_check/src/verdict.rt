@@ -3,7 +3,7 @@
 ghost use Rattle.std.specs.Prelude.{◌≡◌, ◌≢◌, ◌<◌, ◌≤◌, List, ℕ, IfOk, IfErr, IfSome, None, Ok, Err, length};
 ghost use Rattle.std.specs.Io.KnownBytes.{Appends};
 ghost use Rattle.csv.specs.Reading.{default_config, records, strip_bom};
-ghost use Rattle.mdb_records.specs.ToCome.{IsOverLimit, IsUncut, ToCome, fault_of};
+ghost use Rattle.mdb_records.specs.ToCome.{IsOverLimit, IsUncut, ToCome, fault_of, limit_of};
 ghost use Rattle.mdb_check.specs.Headline.{Headline};
 ghost use Rattle.mdb_check.specs.Text.{IsCutReport, report_text};
 ghost use Rattle.mdb_check.specs.Verdict.{IsAnswer, IsYes, HasMet, IsNoYes, IsToldAs};
@@ -61,38 +61,38 @@ pub fn check<R: Read + Drop, W: Write>(
     check_within(alloc, reader, writer, ROWS_MAX, BYTES_MAX)
 }
 
-/// Does as [`check`] does, with other limits: at most `rows` rows and `bytes` bytes, where `check`
+/// Does as [`check`] does, with other limits: at most `rows_max` rows and `bytes_max` bytes, where `check`
 /// allows [`ROWS_MAX`] and [`BYTES_MAX`].
 ///
 /// # Errors
 ///
-/// Those of `check`. `TooLong` is for a record past `rows`, whatever it holds: it may be no row,
-/// and a row that cannot be. `Read` is also for an input of more than `bytes` bytes that isn't
+/// Those of `check`. `TooLong` is for a record past `rows_max`, whatever it holds: it may be no row,
+/// and a row that cannot be. `Read` is also for an input of more than `bytes_max` bytes that isn't
 /// answered before.
 pub fn check_within<R: Read + Drop, W: Write>(
     alloc: Global,
     reader: R,
     writer: &mut W,
-    rows: u64,
-    bytes: u64,
+    rows_max: u64,
+    bytes_max: u64,
 ) -> Result<Outcome, RunFault>
-    requires rows { rows ≤ ROWS_MAX }
-    requires bytes { bytes ≤ BYTES_MAX }
+    requires rows { rows_max ≤ ROWS_MAX }
+    requires bytes { bytes_max ≤ BYTES_MAX }
     ensures answer { IfSome (R.remaining reader)
-        (λ text. IsAnswer rows (records default_config (strip_bom text)) result) }
+        (λ text. IsAnswer rows_max (records default_config (strip_bom text)) result) }
     ensures headline { IfSome (R.remaining reader)
-        (λ text. IfOk result (Headline rows (records default_config (strip_bom text)))) }
-    ensures whole { IfSome (R.remaining reader) (λ text. bytes < length text → IsNoYes result) }
+        (λ text. IfOk result (Headline rows_max (records default_config (strip_bom text)))) }
+    ensures whole { IfSome (R.remaining reader) (λ text. bytes_max < length text → IsNoYes result) }
     ensures written { IfOk result (λ outcome. Appends (W.contents writer.old)
         (W.contents writer.new) (report_text outcome)) }
     ensures nothing_written { IfErr result (λ fault. fault ≢ RunFault.Write
         → writer.new ≡ writer.old) }
     ensures cut { IfSome (R.remaining reader) (λ text. result ≡ Err RunFault.Write
-        → IsCutReport rows (records default_config (strip_bom text)) (W.contents writer.old)
+        → IsCutReport rows_max (records default_config (strip_bom text)) (W.contents writer.old)
         (W.contents writer.new)) }
 {
-    let mut records = records_of(alloc, reader, bytes);
-    check_records(alloc, &mut records, writer, rows)
+    let mut records = records_of(alloc, reader, bytes_max);
+    check_records(alloc, &mut records, writer, rows_max)
 }
 
 /// Checks the records that are still to come, at most so many, and writes the text of the verdict.
@@ -101,13 +101,13 @@ pub(crate) fn check_records<R: Read + Drop, W: Write>(
     alloc: Global,
     records: &mut Records<R>,
     writer: &mut W,
-    rows: u64,
+    rows_max: u64,
 ) -> Result<Outcome, RunFault>
-    requires { rows ≤ ROWS_MAX }
+    requires { rows_max ≤ ROWS_MAX }
     ensures answer { (all : List (List (List ℕ))) → ToCome R.remaining records.old all
-        → IsAnswer rows all result }
+        → IsAnswer rows_max all result }
     ensures headline { (all : List (List (List ℕ))) → ToCome R.remaining records.old all
-        → IfOk result (Headline rows all) }
+        → IfOk result (Headline rows_max all) }
     ensures whole { IsOverLimit R.remaining records.old → IsNoYes result }
     ensures written { IfOk result (λ outcome. Appends (W.contents writer.old)
         (W.contents writer.new) (report_text outcome)) }
@@ -115,10 +115,10 @@ pub(crate) fn check_records<R: Read + Drop, W: Write>(
         → writer.new ≡ writer.old) }
     ensures cut { (all : List (List (List ℕ))) → ToCome R.remaining records.old all
         → result ≡ Err RunFault.Write
-        → IsCutReport rows all (W.contents writer.old) (W.contents writer.new) }
+        → IsCutReport rows_max all (W.contents writer.old) (W.contents writer.new) }
 {
     verdicts_say_the_headline();
-    let outcome = verdict_on(records, rows)?;
+    let outcome = verdict_on(records, rows_max)?;
     let Ok(text) = text_of(alloc, &outcome) else {
         return Err(RunFault::Memory);
     };
@@ -127,23 +127,24 @@ pub(crate) fn check_records<R: Read + Drop, W: Write>(
 }
 
 /// The records of the text that a reader has left, up to so many bytes and no less.
-pub(crate) fn records_of<R: Read + Drop>(alloc: Global, reader: R, bytes: u64) -> Records<R>
+pub(crate) fn records_of<R: Read + Drop>(alloc: Global, reader: R, bytes_max: u64) -> Records<R>
     ensures records { IfSome (R.remaining reader) (λ text.
         ToCome R.remaining result (records default_config (strip_bom text))) }
     ensures over { IfSome (R.remaining reader) (λ text.
-        bytes < length text → IsOverLimit R.remaining result) }
+        bytes_max < length text → IsOverLimit R.remaining result) }
     ensures within { IfSome (R.remaining reader) (λ text.
-        length text ≤ bytes → IsUncut R.remaining result (strip_bom text)) }
+        length text ≤ bytes_max → IsUncut R.remaining result (strip_bom text)) }
     ensures going { fault_of result ≡ None }
+    ensures limit { limit_of result ≡ bytes_max }
 {
-    Records::new(alloc, reader, bytes)
+    Records::new(alloc, reader, bytes_max)
 }
 
 /// The verdict on the records that are still to come, at most so many.
-fn verdict_on<R: Read + Drop>(records: &mut Records<R>, rows: u64) -> Result<Outcome, RunFault>
-    requires { rows ≤ ROWS_MAX }
+fn verdict_on<R: Read + Drop>(records: &mut Records<R>, rows_max: u64) -> Result<Outcome, RunFault>
+    requires { rows_max ≤ ROWS_MAX }
     ensures answer { (all : List (List (List ℕ))) → ToCome R.remaining records.old all
-        → IsAnswer rows all result }
+        → IsAnswer rows_max all result }
     ensures whole { IsOverLimit R.remaining records.old → IsNoYes result }
     ensures heard { IfErr result (HasMet (fault_of records.new)) }
     ensures met { fault_of records.old ≡ None → IfSome (fault_of records.new)
@@ -153,7 +154,7 @@ fn verdict_on<R: Read + Drop>(records: &mut Records<R>, rows: u64) -> Result<Out
     laws::followers_stand_for_reached_rows();
     laws::sales_follow_their_approvals();
     let mut follower = Follower::new();
-    match read_rows(records, &mut Batch::new(), &mut follower, &mut (), rows)? {
+    match read_rows(records, &mut Batch::new(), &mut follower, &mut (), rows_max)? {
         None => Ok(outcome_of(&follower)),
         Some(offence) => Ok(Outcome::No(offence)),
     }
@@ -175,7 +176,7 @@ impl TakeRows<()> for Follower {
 
     ghost stops = { λ follower before after. HasOffence };
 
-    fn rows(&self) -> u64 {
+    fn rows_taken(&self) -> u64 {
         Follower::rows(self)
     }
 

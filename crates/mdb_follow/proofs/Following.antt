@@ -35,7 +35,7 @@ use Rattle.mdb_follow.specs.Sums.{AccountSums, Sums}
 use Rattle.mdb_follow.specs.Tables.{ArrivesAnywhere, IsTable}
 use Rattle.mdb_follow.specs.Offences.{HasOffence, IsOffence}
 use Rattle.mdb_follow.specs.Report.{AreAccounts, IsReport, report_of}
-use Rattle.mdb_follow.specs.declared.cell.Account.{Account}
+use Rattle.mdb_follow.specs.declared.account.Account.{Account}
 use Rattle.mdb_follow.specs.Runs.{AllSums, IsReached, Run, States}
 use Rattle.mdb_follow.specs.Arrivals.{Arrives, EachArrives}
 use Rattle.mdb_follow.specs.Machines.{machine_of}

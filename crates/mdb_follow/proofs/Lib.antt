@@ -18,6 +18,7 @@ pub mod Sales
 pub mod Sided
 pub mod Silent
 pub mod Slices
+pub mod Told
 pub mod TwoSteps
 pub mod Ways
 pub mod Within

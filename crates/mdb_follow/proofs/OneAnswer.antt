@@ -15,7 +15,7 @@ use Rattle.mdb_follow.specs.declared.account_name.AccountName.{AccountName}
 use Rattle.mdb_follow.specs.declared.account_name.AccountName.TheVariants.{CoinsIn, BillsIn}
 use Rattle.mdb_follow.specs.declared.account_name.AccountName.TheVariants.{PaidOut, Approved, Sold}
 use Rattle.mdb_follow.specs.declared.account_name.TheConstants.AccountName.{ALL}
-use Rattle.mdb_follow.specs.declared.cell.Account.{Account}
+use Rattle.mdb_follow.specs.declared.account.Account.{Account}
 use Rattle.mdb_follow.specs.declared.offence.Offence.{Offence}
 use Rattle.mdb_follow.specs.declared.range.Range.{Range}
 use Rattle.mdb_follow.specs.declared.report.Report.{Report}

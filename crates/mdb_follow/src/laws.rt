@@ -2,7 +2,8 @@
 
 ghost use Rattle.std.specs.Prelude.{◌≡◌, ◌↔◌, List, [], ◌∷◌, ◌++◌, Result};
 ghost use Rattle.mdb_words.specs.declared.event.Event.{Event};
-ghost use Rattle.mdb_bus.specs.ActLists.{ArePieces, Piece, acts_of};
+ghost use Rattle.mdb_msgs.specs.declared.command.Device.{Device};
+ghost use Rattle.mdb_bus.specs.ActLists.{ArePieces, IsActList, Piece, acts_of};
 ghost use Rattle.mdb_bus.specs.Loss.{Loss, LossFits};
 ghost use Rattle.mdb_follow.specs.AccountNames.{sums_of};
 ghost use Rattle.mdb_follow.specs.Arrivals.{EachArrives};
@@ -17,9 +18,11 @@ ghost use Rattle.mdb_follow.specs.declared.silence.TheConstants.{MICROS_PER_SECO
 ghost use Rattle.mdb_follow.specs.declared.silence.TheConstants.{READER_SILENCE_MAX};
 ghost use Rattle.mdb_follow.specs.Offences.{HasOffence, IsOffence};
 ghost use Rattle.mdb_follow.specs.Ranges.{IsAccount};
-ghost use Rattle.mdb_follow.specs.Report.{IsReport, account_of};
+ghost use Rattle.mdb_follow.specs.Report.{IsReport, account_of, decimals_of};
+ghost use Rattle.mdb_follow.specs.Report.{device_decimals, device_silences};
 ghost use Rattle.mdb_follow.specs.Runs.{AllSums, HearSameAcks, IsReached, IsWay, Run, States};
 ghost use Rattle.mdb_follow.specs.Sales.{SalesFollowApprovals};
+ghost use Rattle.mdb_follow.specs.Silences.{silences};
 ghost use Rattle.mdb_follow.specs.Slices.{Tells, TellsInSlices, joined};
 
 use mdb_bus::laws;
@@ -76,6 +79,19 @@ pub fn reports_name_the_accounts_of_runs()
         → (account : AccountName)
         → IsAccount (Run rows) (sums_of account) (account_of account report) }
 {}
+
+/// What a report has of each device are the decimal places that it has told in the act list of the
+/// rows, and its silences there.
+pub fn reports_name_the_decimals_and_silences_of_devices()
+    ensures decimals { (rows : List Event) (report : Report) (pieces : List Piece)
+        → IsReport rows report → IsActList pieces rows → (device : Device)
+        → device_decimals device report ≡ decimals_of device (acts_of pieces) }
+    ensures silences { (rows : List Event) (report : Report) (pieces : List Piece)
+        → IsReport rows report → IsActList pieces rows → (device : Device)
+        → device_silences device report ≡ silences device pieces }
+{
+    laws::transcripts_have_one_act_list();
+}
 
 /// A row has one offence: one number, one rule and one blame.
 pub fn rows_have_one_offence()

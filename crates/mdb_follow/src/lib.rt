@@ -2,6 +2,7 @@
 //! bounds of what the accounts come to.
 #![tactic(auto)]
 
+mod account;
 mod account_name;
 mod cell;
 mod devices;
@@ -17,8 +18,9 @@ mod sides;
 mod silence;
 mod table;
 
+pub use account::Account;
 pub use account_name::AccountName;
-pub use cell::{Account, Cell};
+pub use cell::Cell;
 pub use follower::{Follower, ROWS_MAX};
 pub use offence::Offence;
 pub use range::Range;

@@ -26,7 +26,7 @@ impl Report {
     ghost use Rattle.mdb_bus.specs.ActLists.{Piece, acts_of};
     ghost use Rattle.mdb_follow.specs.declared.account_name.AccountName.{AccountName};
     ghost use Rattle.mdb_follow.specs.declared.account_name.TheConstants.AccountName.{ALL};
-    ghost use Rattle.mdb_follow.specs.declared.cell.Account.{Account};
+    ghost use Rattle.mdb_follow.specs.declared.account.Account.{Account};
     ghost use Rattle.mdb_follow.specs.Report.{account_of, device_decimals, device_silences};
     ghost use Rattle.mdb_follow.specs.Report.{report_of};
     ghost use Rattle.mdb_follow.specs.Sides.{AreSides};

@@ -40,7 +40,7 @@ pub(crate) fn start<P: Pair, const N: usize>() -> Side<P::Facts, N>
 ///
 /// The rule of the device, where no way leads over the act. Then nothing changes.
 #[inline(always)]
-pub(crate) fn follow<P: Pair, const N: usize>(
+pub(crate) fn lead<P: Pair, const N: usize>(
     side: &mut Side<P::Facts, N>,
     act: &Act,
     rule: Rule,

@@ -54,7 +54,7 @@ impl Sides {
     ///
     /// # Errors
     ///
-    /// The rule of the first side that has no step by it.
+    /// The rule of a side that has no step by it.
     pub(crate) fn lead(&mut self, act: &Act) -> Result<(), Rule>
         requires { AreWithin (2 ^ 62) self.old }
         ensures followed { IfOk result (λ _. SidesFollow self.old act.now self.new) }
@@ -71,7 +71,7 @@ impl Sides {
     ///
     /// # Errors
     ///
-    /// The rule of the first side that has no step by it.
+    /// The rule of a side that has no step by it.
     #[inline(never)]
     fn lead_all(&mut self, act: &Act) -> Result<(), Rule>
         requires { AreWithin (2 ^ 62) self.old }
@@ -96,14 +96,14 @@ impl Sides {
         ensures stopped { IfErr result (Stops device self.old act.now) }
     {
         match device {
-            Device::Changer => side::follow::<Changer, _>(&mut self.changer, act, Rule::Changer),
-            Device::Bill => side::follow::<Bill, _>(&mut self.bill, act, Rule::Bill),
+            Device::Changer => side::lead::<Changer, _>(&mut self.changer, act, Rule::Changer),
+            Device::Bill => side::lead::<Bill, _>(&mut self.bill, act, Rule::Bill),
             Device::Reader(unit) => match unit {
                 ReaderUnit::First => {
-                    side::follow::<FirstReader, _>(&mut self.first_reader, act, Rule::Cashless)
+                    side::lead::<FirstReader, _>(&mut self.first_reader, act, Rule::Cashless)
                 }
                 ReaderUnit::Second => {
-                    side::follow::<SecondReader, _>(&mut self.second_reader, act, Rule::Cashless)
+                    side::lead::<SecondReader, _>(&mut self.second_reader, act, Rule::Cashless)
                 }
             },
         }

@@ -90,12 +90,12 @@ impl<const N: usize> Table<N> {
         if self.rests::<P>(act) {
             return true;
         }
-        self.replace::<P>(facts, act)
+        self.replace_by_steps::<P>(facts, act)
     }
 
     /// Replaces the entries by those after an act, as `advance` does.
     #[inline(never)]
-    fn replace<P: Pair>(&mut self, facts: &P::Facts, act: &Act) -> bool
+    fn replace_by_steps<P: Pair>(&mut self, facts: &P::Facts, act: &Act) -> bool
         requires size { N ≡ P.CODES }
         requires within { IsTableWithin (2 ^ 62) self.old }
         ensures table { OnTrue result ((acts : List Act) → P.stands_for facts.now acts

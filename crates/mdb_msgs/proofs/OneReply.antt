@@ -13,7 +13,7 @@ use Rattle.mdb_msgs.specs.declared.reply.setup.ChangerSetup.{ChangerSetup}
 use Rattle.mdb_msgs.specs.declared.reply.setup.Stacker.{Stacker}
 use Rattle.mdb_msgs.specs.declared.reply.setup.TubeStatus.{TubeStatus}
 use Rattle.mdb_msgs.specs.Answers.{IsDataLength}
-use Rattle.mdb_msgs.specs.Replies.{form_of_reply, reply_bytes, HasFields, has_kept, IsAnswerTo, IsReplyTo, NoReply, IsNoReplyTo, IsReadFault, IsWriteFault, SpellsReply}
+use Rattle.mdb_msgs.specs.Replies.{form_of_reply, reply_bytes, HasFields, tells_of_sales, IsAnswerTo, IsReplyTo, NoReply, IsNoReplyTo, IsReadFault, IsWriteFault, SpellsReply}
 use Rattle.mdb_msgs.specs.Setup.{changer_setup_bytes, tube_status_bytes, bill_setup_bytes, stacker_bytes, IsStacker}
 use Rattle.mdb_msgs.proofs.OneReader.{one_reader_list, reader_no_stop, one_reader_stop}
 use Rattle.mdb_msgs.proofs.ReaderBytes.{same_fronts}
@@ -193,8 +193,8 @@ reply_has_no_fault command a faults.Answer h (inl none) = let form = h.answer.fo
     cc (none, form)
 reply_has_no_fault command a faults.Answer h (inr kept) =
     let same : a ≡ kept.0 = one_answer command a kept.0 h.answer kept.1 kept.2 in
-    let told : has_kept a ≡ true = ap has_kept same ∙ kept.3 in
-    let none : has_kept a ≡ false = h.kept kept.4 in
+    let told : tells_of_sales a ≡ true = ap tells_of_sales same ∙ kept.3 in
+    let none : tells_of_sales a ≡ false = h.kept kept.4 in
     cc (told, none)
 
 -- of one form, bytes have one fault

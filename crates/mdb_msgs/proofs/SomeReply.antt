@@ -12,11 +12,11 @@ use Rattle.mdb_msgs.specs.declared.reply.setup.BillSetup.{BillSetup}
 use Rattle.mdb_msgs.specs.declared.reply.setup.ChangerSetup.{ChangerSetup}
 use Rattle.mdb_msgs.specs.declared.reply.setup.Stacker.{Stacker}
 use Rattle.mdb_msgs.specs.declared.reply.setup.TubeStatus.{TubeStatus}
-use Rattle.mdb_msgs.specs.Answers.{form_of, lengths_of, may_keep, IsDataLength}
+use Rattle.mdb_msgs.specs.Answers.{form_of, lengths_of, may_tell_of_sales, IsDataLength}
 use Rattle.mdb_msgs.specs.Bill.{bill_msg_bytes, IsBillMsg, NoBillMsg}
 use Rattle.mdb_msgs.specs.Changer.{changer_msg_bytes, IsChangerMsg, NoChangerMsg}
 use Rattle.mdb_msgs.specs.Commands.{IsByte}
-use Rattle.mdb_msgs.specs.Replies.{form_of_reply, reply_bytes, has_kept, HasFields, IsAnswerTo, IsReplyTo, IsReadFault, NoReply}
+use Rattle.mdb_msgs.specs.Replies.{form_of_reply, reply_bytes, tells_of_sales, HasFields, IsAnswerTo, IsReplyTo, IsReadFault, NoReply}
 use Rattle.mdb_msgs.specs.Setup.{changer_setup_bytes, tube_status_bytes, bill_setup_bytes, stacker_bytes, IsStacker}
 use Rattle.mdb_msgs.specs.TwoBytes.{two_bytes}
 use Rattle.mdb_msgs.proofs.SomeReading.{split, same_or_not, pair_bytes, Reads, ReadsList, Stops, ReaderStops, changer_reads, bill_reads, reader_reads}
@@ -258,8 +258,8 @@ Decided command bytes = ((reply : Reply) × IsReplyTo command reply × (bytes �
     ⊎ ((fault : MsgFault) × IsReadFault command bytes fault)
 
 by_keeping : (command : Command) (bytes : List ℕ) (found : Reply) → IsAnswerTo command found
-    → bytes ≡ reply_bytes found → ((has_kept found ≡ true) × (may_keep command ≡ false))
-    ⊎ (may_keep command ≡ false → has_kept found ≡ false) → Decided command bytes
+    → bytes ≡ reply_bytes found → ((tells_of_sales found ≡ true) × (may_tell_of_sales command ≡ false))
+    ⊎ (may_tell_of_sales command ≡ false → tells_of_sales found ≡ false) → Decided command bytes
 by_keeping command bytes found answer spelled (inl kept) =
     inr (Answer, inr (found, answer, spelled, kept.0, kept.1))
 by_keeping command bytes found answer spelled (inr free) =
@@ -276,7 +276,7 @@ by_reading command bytes f e count (inl read) =
       fields = read.fields;
     } in
     by_keeping command bytes read.reply answer read.spelled
-    (kept_or_not (has_kept read.reply) (may_keep command))
+    (kept_or_not (tells_of_sales read.reply) (may_tell_of_sales command))
 by_reading command bytes f e count (inr (inl none)) = inr (Message, (f, e, count, none))
 by_reading command bytes f e count (inr (inr none)) = inr (Profile, (f, e, count, none))
 

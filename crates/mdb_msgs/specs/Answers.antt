@@ -67,16 +67,16 @@ HasDataAnswer command count =
 -- whether answers to the command may tell of sessions and sales: POLL, and the five commands of a
 -- session, VEND REQUEST to SESSION COMPLETE, alone: 12 and 13 00 to 13 04 to the first reader, 62
 -- and 63 00 to 63 04 to the second (this profile)
-abbrev pub reader_may_keep : ReaderCommand → Bool
-reader_may_keep reader.Poll = true
-reader_may_keep (reader.VendRequest price item) = true
-reader_may_keep reader.VendCancel = true
-reader_may_keep (reader.VendSuccess item) = true
-reader_may_keep reader.VendFailure = true
-reader_may_keep reader.SessionComplete = true
-reader_may_keep _ = false
+abbrev pub reader_may_tell_of_sales : ReaderCommand → Bool
+reader_may_tell_of_sales reader.Poll = true
+reader_may_tell_of_sales (reader.VendRequest price item) = true
+reader_may_tell_of_sales reader.VendCancel = true
+reader_may_tell_of_sales (reader.VendSuccess item) = true
+reader_may_tell_of_sales reader.VendFailure = true
+reader_may_tell_of_sales reader.SessionComplete = true
+reader_may_tell_of_sales _ = false
 
 -- the same of any command: to changer and validator there are none
-abbrev pub may_keep : Command → Bool
-may_keep (command.Reader unit c) = reader_may_keep c
-may_keep _ = false
+abbrev pub may_tell_of_sales : Command → Bool
+may_tell_of_sales (command.Reader unit c) = reader_may_tell_of_sales c
+may_tell_of_sales _ = false

@@ -9,7 +9,7 @@ use Rattle.mdb_msgs.specs.declared.fault.MsgFault.{MsgFault}
 use Rattle.mdb_msgs.specs.declared.fault.MsgFault.TheVariants as faults
 use Rattle.mdb_msgs.specs.declared.reply.Reply.{Reply}
 use Rattle.mdb_msgs.specs.declared.reply.Reply.TheVariants as reply
-use Rattle.mdb_msgs.specs.Answers.{form_of, IsDataLength, may_keep}
+use Rattle.mdb_msgs.specs.Answers.{form_of, IsDataLength, may_tell_of_sales}
 use Rattle.mdb_msgs.specs.Bill.{bill_msg_bytes, IsBillMsg, NoBillMsg}
 use Rattle.mdb_msgs.specs.Changer.{changer_msg_bytes, IsChangerMsg, NoChangerMsg}
 use Rattle.mdb_msgs.specs.Lists.{StopsAt}
@@ -51,9 +51,9 @@ HasFields (reply.Reader list) = IsReaderList list
 HasFields _ = Unit {0}
 
 -- whether it tells of sessions and sales
-abbrev pub has_kept : Reply → Bool
-has_kept (reply.Reader list) = list_any is_kept list.messages
-has_kept _ = false
+abbrev pub tells_of_sales : Reply → Bool
+tells_of_sales (reply.Reader list) = list_any is_kept list.messages
+tells_of_sales _ = false
 
 -- a reply of the form that the command asks for, of an allowed number of bytes
 pub record IsAnswerTo (command : Command) (reply : Reply) : Type 0 where
@@ -64,7 +64,7 @@ pub record IsAnswerTo (command : Command) (reply : Reply) : Type 0 where
 -- a reply that may answer the command
 pub record IsReplyTo (command : Command) (reply : Reply) : Type 0 where
   pub answer : IsAnswerTo command reply
-  pub kept : may_keep command ≡ false → has_kept reply ≡ false
+  pub kept : may_tell_of_sales command ≡ false → tells_of_sales reply ≡ false
 
 -- a reply to a command and its block
 pub record SpellsReply (command : Command) (reply : Reply) (block : List ℕ) : Type 0 where
@@ -93,7 +93,7 @@ IsNoReplyTo command bytes fault =
 abbrev pub IsKeptFault : Command → List ℕ → Type 0
 IsKeptFault command bytes =
     (reply : Reply) × IsAnswerTo command reply × (bytes ≡ reply_bytes reply)
-    × (has_kept reply ≡ true) × (may_keep command ≡ false)
+    × (tells_of_sales reply ≡ true) × (may_tell_of_sales command ≡ false)
 
 -- why data bytes are no reply to a command, in the order in which the checks are made
 abbrev pub IsReadFault : Command → List ℕ → MsgFault → Type 0
@@ -116,4 +116,4 @@ IsWriteFault command reply faults.Message =
 IsWriteFault command reply faults.Profile = ⊥
 IsWriteFault command reply faults.Answer =
     (form_of command ≡ None)
-    ⊎ (IsAnswerTo command reply × (has_kept reply ≡ true) × (may_keep command ≡ false))
+    ⊎ (IsAnswerTo command reply × (tells_of_sales reply ≡ true) × (may_tell_of_sales command ≡ false))

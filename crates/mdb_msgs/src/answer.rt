@@ -1,7 +1,7 @@
 //! What a command may be answered with, beside ACK.
 
 ghost use Rattle.std.specs.Prelude.{◌≡◌, ◌↔◌, IsTrue};
-ghost use Rattle.mdb_msgs.specs.Answers.{form_of, changer_form_of, bill_form_of, lengths_of, may_keep, HasDataAnswer, IsDataLength, MayHaveData};
+ghost use Rattle.mdb_msgs.specs.Answers.{form_of, changer_form_of, bill_form_of, lengths_of, may_tell_of_sales, HasDataAnswer, IsDataLength, MayHaveData};
 
 use crate::command::{BillCommand, ChangerCommand, Command, ReaderCommand};
 
@@ -122,8 +122,8 @@ impl Command {
 /// Whether answers to this command may tell of sessions and sales: to a reader, POLL and the five
 /// commands of a session, VEND REQUEST to SESSION COMPLETE (12 and 13 00 to 13 04 to the first, 62
 /// and 63 00 to 63 04 to the second; this profile).
-pub(crate) fn may_keep(command: &Command) -> bool
-    ensures { result ≡ may_keep command.now }
+pub(crate) fn may_tell_of_sales(command: &Command) -> bool
+    ensures { result ≡ may_tell_of_sales command.now }
 {
     matches!(
         command,

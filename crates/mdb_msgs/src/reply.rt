@@ -5,7 +5,7 @@ ghost use Rattle.mdb_blocks.specs.Block.{block_of};
 ghost use Rattle.mdb_msgs.specs.Answers.{IsDataLength};
 ghost use Rattle.mdb_msgs.specs.declared.fault.MsgFault.{MsgFault};
 ghost use Rattle.mdb_msgs.specs.declared.reply.Reply.{Reply};
-ghost use Rattle.mdb_msgs.specs.Replies.{form_of_reply, reply_bytes, has_kept, HasFields, IsReplyTo, NoReply, IsReadFault, IsWriteFault, SpellsReply};
+ghost use Rattle.mdb_msgs.specs.Replies.{form_of_reply, reply_bytes, tells_of_sales, HasFields, IsReplyTo, NoReply, IsReadFault, IsWriteFault, SpellsReply};
 
 pub mod bill;
 pub mod changer;
@@ -13,7 +13,7 @@ mod list;
 pub mod reader;
 pub mod setup;
 
-use crate::answer::{AnswerForm, may_keep};
+use crate::answer::{AnswerForm, may_tell_of_sales};
 use crate::command::Command;
 use crate::fault::MsgFault;
 use arrayvec::ArrayVec;
@@ -140,11 +140,11 @@ impl Reply {
     }
 
     /// Whether it tells of sessions and sales.
-    fn has_kept(&self) -> bool
-        ensures { result ≡ has_kept self.now }
+    fn tells_of_sales(&self) -> bool
+        ensures { result ≡ tells_of_sales self.now }
     {
         match self {
-            Reply::Reader(list) => list.has_kept(),
+            Reply::Reader(list) => list.tells_of_sales(),
             _ => false,
         }
     }
@@ -214,7 +214,7 @@ fn read_content(command: &Command, content: &[u8]) -> Result<Reply, MsgFault>
     }
     let read = read_form(form, content);
     if let Ok(reply) = &read {
-        if !may_keep(command) && reply.has_kept() {
+        if !may_tell_of_sales(command) && reply.tells_of_sales() {
             return Err(MsgFault::Answer);
         }
     }
@@ -286,7 +286,7 @@ fn written_bytes(command: &Command, reply: &Reply) -> Result<Bytes, MsgFault>
     if reply.form() != form || !reply.is_valid() {
         return Err(MsgFault::Message);
     }
-    if !may_keep(command) && reply.has_kept() {
+    if !may_tell_of_sales(command) && reply.tells_of_sales() {
         return Err(MsgFault::Answer);
     }
     Ok(reply.bytes())

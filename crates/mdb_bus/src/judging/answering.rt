@@ -20,19 +20,19 @@ use mdb_words::{Event, Line, Time, Word};
 /// A peripheral's first word in answer to a command.
 pub(crate) fn answer(
     command: &Command,
-    from: &Option<Event>,
+    last: &Option<Event>,
     at: Time,
     word: Word,
 ) -> Result<Judged, Rule>
-    requires { OutOfOrder from.now (Event.Word at Line.Peripheral word) → ⊥ }
+    requires { OutOfOrder last.now (Event.Word at Line.Peripheral word) → ⊥ }
     ensures judged { (levels : Levels)
-        → IsJudged (record { position = lists.Asked command.now; last = from.now; levels = levels })
+        → IsJudged (record { position = lists.Asked command.now; last = last.now; levels = levels })
         (Event.Word at Line.Peripheral word) result }
     ensures belongs { (bytes : List ℕ)
         → IfOk result (Belongs Phase.Asked bytes (Event.Word at Line.Peripheral word)) }
 {
     let row = word_row(at, Line::Peripheral, word);
-    in_answer_time(from, &row)?;
+    in_answer_time(last, &row)?;
     if word.marked() {
         match Answer::of(word.byte()) {
             Some(Answer::Ack) => Ok(Judged::Ack),
@@ -48,13 +48,13 @@ pub(crate) fn answer(
 }
 
 /// An unmarked word of the controller in answer to a reply.
-pub(crate) fn answer_reply(from: &Option<Event>, at: Time, word: Word) -> Result<Judged, Rule>
-    requires in_order { OutOfOrder from.now (Event.Word at Line.Controller word) → ⊥ }
+pub(crate) fn answer_reply(last: &Option<Event>, at: Time, word: Word) -> Result<Judged, Rule>
+    requires in_order { OutOfOrder last.now (Event.Word at Line.Controller word) → ⊥ }
     requires unmarked { word < 256 }
     ensures judged { (levels : Levels) (command : Command) (reply : Reply)
         → IsJudged (record {
           position = lists.Replied command reply;
-          last = from.now;
+          last = last.now;
           levels = levels;
         })
         (Event.Word at Line.Controller word) result }
@@ -62,7 +62,7 @@ pub(crate) fn answer_reply(from: &Option<Event>, at: Time, word: Word) -> Result
         → IfOk result (Belongs Phase.Replied bytes row) }
 {
     let row = word_row(at, Line::Controller, word);
-    in_answer_time(from, &row)?;
+    in_answer_time(last, &row)?;
     match Answer::of(word.byte()) {
         Some(Answer::Ack) => Ok(Judged::VmcAck),
         Some(Answer::Nak) => Ok(Judged::VmcNak),

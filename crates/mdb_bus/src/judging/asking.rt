@@ -12,7 +12,7 @@ ghost use Rattle.mdb_bus.specs.inner.Steps.{Belongs, IsGoingOn, IsJudged, IsOpen
 
 use crate::begun::Begun;
 use crate::fault::Rule;
-use crate::gaps::{in_block_time, is_before, word_row};
+use crate::gaps::{in_block_time, is_sooner_than, word_row};
 use crate::judged::Judged;
 use crate::phase::Phase;
 use mdb_blocks::sum_of;
@@ -21,13 +21,13 @@ use mdb_words::{Event, Line, Time, Word};
 
 /// A word of the controller where a block may begin, at least so long after the row before it.
 pub(crate) fn begin_block(
-    from: &Option<Event>,
+    last: &Option<Event>,
     at: Time,
     word: Word,
     least: u64,
 ) -> Result<Judged, Rule>
     requires { least < 2 ^ 32 }
-    ensures opened { IsOpened least from.now (Event.Word at Line.Controller word) word result }
+    ensures opened { IsOpened least last.now (Event.Word at Line.Controller word) word result }
     ensures belongs { (here : Phase) (bytes : List ℕ) → (here ≡ Phase.InAsk → ⊥)
         → IfOk result (Belongs here bytes (Event.Word at Line.Controller word)) }
 {
@@ -35,7 +35,7 @@ pub(crate) fn begin_block(
     if !word.marked() {
         return Err(Rule::Mode);
     }
-    if is_before(from, &row, least) {
+    if is_sooner_than(last, &row, least) {
         return Err(Rule::Early);
     }
     laws::need_leaves_a_command_open();
@@ -51,14 +51,14 @@ pub(crate) fn begin_block(
 #[inline(always)]
 pub(crate) fn go_on_asking(
     bytes: &Begun,
-    from: &Option<Event>,
+    last: &Option<Event>,
     at: Time,
     word: Word,
 ) -> Result<Judged, Rule>
-    requires in_order { OutOfOrder from.now (Event.Word at Line.Controller word) → ⊥ }
+    requires in_order { OutOfOrder last.now (Event.Word at Line.Controller word) → ⊥ }
     requires begun { IsOpen bytes.now }
     ensures judged { (levels : Levels)
-        → IsJudged (record { position = lists.InAsk bytes.now; last = from.now; levels = levels })
+        → IsJudged (record { position = lists.InAsk bytes.now; last = last.now; levels = levels })
         (Event.Word at Line.Controller word) result }
     ensures belongs { IfOk result
         (Belongs Phase.InAsk bytes.now (Event.Word at Line.Controller word)) }
@@ -67,7 +67,7 @@ pub(crate) fn go_on_asking(
     if word.marked() {
         return Err(Rule::Mode);
     }
-    in_block_time(from, &row)?;
+    in_block_time(last, &row)?;
     laws::front_of_a_command_is_open();
     match bytes.as_slice() {
         [first] => second_byte(bytes, *first, word),
@@ -85,7 +85,7 @@ fn second_byte(bytes: &Begun, first: u8, word: Word) -> Result<Judged, Rule>
 {
     laws::need_leaves_a_command_open();
     if need_of(&[first]) == Need::Exactly(2) {
-        return end_ask(bytes, word);
+        return judge_end_of_ask(bytes, word);
     }
     match need_of(&[first, word.byte()]) {
         Need::Outside => Err(Rule::Profile),
@@ -105,12 +105,12 @@ fn further_byte(bytes: &Begun, so_far: &[u8], word: Word) -> Result<Judged, Rule
     laws::need_leaves_a_command_open();
     match need_of(so_far) {
         Need::Exactly(length) if so_far.len() + 1 < length => Ok(Judged::AskByte),
-        _ => end_ask(bytes, word),
+        _ => judge_end_of_ask(bytes, word),
     }
 }
 
 /// The last word of a command's block.
-fn end_ask(bytes: &Begun, word: Word) -> Result<Judged, Rule>
+fn judge_end_of_ask(bytes: &Begun, word: Word) -> Result<Judged, Rule>
     requires unmarked { word < 256 }
     requires last { needed bytes.now ≡ Exactly (length bytes.now + 1) }
     ensures { IsGoingOn bytes.now word result }

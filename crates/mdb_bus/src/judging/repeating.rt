@@ -18,16 +18,16 @@ use mdb_words::{Event, Line, Time, Word};
 
 /// The first word of a repeat.
 pub(crate) fn begin_repeat(
-    answer: &Spelled,
-    from: &Option<Event>,
+    last_reply: &Spelled,
+    last: &Option<Event>,
     at: Time,
     word: Word,
 ) -> Result<Judged, Rule>
-    requires { OutOfOrder from.now (Event.Word at Line.Peripheral word) → ⊥ }
+    requires { OutOfOrder last.now (Event.Word at Line.Peripheral word) → ⊥ }
     ensures judged { (levels : Levels) (command : Command)
         → IsJudged (record {
-          position = lists.Returned command answer.now.reply;
-          last = from.now;
+          position = lists.Returned command last_reply.now.reply;
+          last = last.now;
           levels = levels;
         })
         (Event.Word at Line.Peripheral word) result }
@@ -35,8 +35,8 @@ pub(crate) fn begin_repeat(
         → IfOk result (Belongs Phase.Returned bytes row) }
 {
     let row = word_row(at, Line::Peripheral, word);
-    in_answer_time(from, &row)?;
-    if answer.word(0) == Some(word) {
+    in_answer_time(last, &row)?;
+    if last_reply.word(0) == Some(word) {
         Ok(Judged::RepeatWord)
     } else {
         Err(Rule::Same)
@@ -45,19 +45,19 @@ pub(crate) fn begin_repeat(
 
 /// A further word of a repeat, of which so many were said.
 pub(crate) fn go_on_repeating(
-    answer: &Spelled,
+    last_reply: &Spelled,
     said: u8,
-    from: &Option<Event>,
+    last: &Option<Event>,
     at: Time,
     word: Word,
 ) -> Result<Judged, Rule>
-    requires { OutOfOrder from.now (Event.Word at Line.Peripheral word) → ⊥ }
+    requires { OutOfOrder last.now (Event.Word at Line.Peripheral word) → ⊥ }
     ensures judged { (levels : Levels) (command : Command)
         → IsJudged
         (record {
-          position = lists.InRepeat command answer.now.reply
-              (take said (reply_words answer.now.reply));
-          last = from.now;
+          position = lists.InRepeat command last_reply.now.reply
+              (take said (reply_words last_reply.now.reply));
+          last = last.now;
           levels = levels;
         })
         (Event.Word at Line.Peripheral word) result }
@@ -65,11 +65,11 @@ pub(crate) fn go_on_repeating(
         → IfOk result (Belongs (Phase.InRepeat said) bytes row) }
 {
     let row = word_row(at, Line::Peripheral, word);
-    in_block_time(from, &row)?;
-    if answer.word(usize::from(said)) != Some(word) {
+    in_block_time(last, &row)?;
+    if last_reply.word(usize::from(said)) != Some(word) {
         return Err(Rule::Same);
     }
-    if usize::from(said) < answer.bytes.as_slice().len() {
+    if usize::from(said) < last_reply.bytes.as_slice().len() {
         Ok(Judged::RepeatWord)
     } else {
         Ok(Judged::Repeat)

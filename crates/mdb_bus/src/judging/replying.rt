@@ -11,7 +11,7 @@ ghost use Rattle.mdb_bus.specs.inner.Steps.{Belongs, IsJudged, IsReplyEnd};
 
 use crate::begun::Begun;
 use crate::fault::Rule;
-use crate::gaps::{in_block_time, is_after, word_row};
+use crate::gaps::{in_block_time, is_later_than, word_row};
 use crate::judged::Judged;
 use crate::phase::Phase;
 use mdb_blocks::sum_of;
@@ -22,14 +22,14 @@ use mdb_words::{BLOCK_GAP_MAX, Event, Line, Time, Word};
 pub(crate) fn go_on_replying(
     command: &Command,
     bytes: &Begun,
-    from: &Option<Event>,
+    last: &Option<Event>,
     at: Time,
     word: Word,
 ) -> Result<Judged, Rule>
-    requires { OutOfOrder from.now (Event.Word at Line.Peripheral word) → ⊥ }
+    requires { OutOfOrder last.now (Event.Word at Line.Peripheral word) → ⊥ }
     ensures judged { (levels : Levels) → IsJudged (record {
       position = lists.InReply command.now bytes.now;
-      last = from.now;
+      last = last.now;
       levels = levels;
     })
         (Event.Word at Line.Peripheral word) result }
@@ -37,11 +37,11 @@ pub(crate) fn go_on_replying(
         (Belongs Phase.InReply bytes.now (Event.Word at Line.Peripheral word)) }
 {
     let row = word_row(at, Line::Peripheral, word);
-    in_block_time(from, &row)?;
+    in_block_time(last, &row)?;
     laws::bytes_have_one_fault();
     laws::reply_has_no_fault();
     if word.marked() {
-        end_reply(command, bytes, word)
+        judge_end_of_reply(command, bytes, word)
     } else if bytes.as_slice().len() < 35 {
         Ok(Judged::ReplyByte)
     } else {
@@ -50,7 +50,7 @@ pub(crate) fn go_on_replying(
 }
 
 /// The marked word of a reply: its length and its sum.
-fn end_reply(command: &Command, bytes: &Begun, word: Word) -> Result<Judged, Rule>
+fn judge_end_of_reply(command: &Command, bytes: &Begun, word: Word) -> Result<Judged, Rule>
     requires { 256 ≤ word }
     ensures ended { IsReplyEnd command.now bytes.now word result }
     ensures belongs { (row : Event) → IfOk result (Belongs Phase.InReply bytes.now row) }
@@ -65,26 +65,26 @@ fn end_reply(command: &Command, bytes: &Begun, word: Word) -> Result<Judged, Rul
 }
 
 /// A word of the controller inside a peripheral's block.
-pub(crate) fn cut_in(from: &Option<Event>, at: Time, word: Word) -> Result<Judged, Rule>
-    requires { OutOfOrder from.now (Event.Word at Line.Controller word) → ⊥ }
+pub(crate) fn cut_in(last: &Option<Event>, at: Time, word: Word) -> Result<Judged, Rule>
+    requires { OutOfOrder last.now (Event.Word at Line.Controller word) → ⊥ }
     ensures reply { (levels : Levels) (command : Command) (bytes : List ℕ)
         → IsJudged (record {
           position = lists.InReply command bytes;
-          last = from.now;
+          last = last.now;
           levels = levels;
         })
         (Event.Word at Line.Controller word) result }
     ensures repeat { (levels : Levels) (command : Command) (reply : Reply) (words : List ℕ)
         → IsJudged (record {
           position = lists.InRepeat command reply words;
-          last = from.now;
+          last = last.now;
           levels = levels;
         })
         (Event.Word at Line.Controller word) result }
     ensures refused { IsErr result }
 {
     let row = word_row(at, Line::Controller, word);
-    if is_after(from, &row, BLOCK_GAP_MAX) {
+    if is_later_than(last, &row, BLOCK_GAP_MAX) {
         Err(Rule::Spacing)
     } else {
         Err(Rule::Speaker)

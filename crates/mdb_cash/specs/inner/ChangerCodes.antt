@@ -6,7 +6,7 @@ use Rattle.mdb_cash.specs.declared.changer.state.ChangerState.{ChangerState}
 
 -- the code of a state
 abbrev pub code_of : ChangerState → ℕ
-code_of state = (if state.holds then 1 else 0) + (if state.owed then 2 else 0)
+code_of state = (if state.holds then 1 else 0) + (if state.dispense_owed then 2 else 0)
 
 same_parts : (h o i p : Bool)
     → ((if h then 1 else 0) + (if o then 2 else 0)) ≡ ((if i then 1 else 0) + (if p then 2 else 0))
@@ -31,9 +31,9 @@ same_parts false false false true e = absurd (omega arith)
 -- two states have two codes
 pub apart : (one other : ChangerState) → code_of one ≡ code_of other → one ≡ other
 apart one other e =
-    let parts = same_parts one.holds one.owed other.holds other.owed e in
+    let parts = same_parts one.holds one.dispense_owed other.holds other.dispense_owed e in
     let holds : one.holds ≡ other.holds = parts.0 in
-    let owed : one.owed ≡ other.owed = parts.1 in
+    let owed : one.dispense_owed ≡ other.dispense_owed = parts.1 in
     let same : record one { holds = one.holds } ≡ record other { holds = other.holds } =
     cc (holds, owed) in
     same
@@ -46,12 +46,12 @@ small_parts false false = omega arith
 
 -- codes are below 4
 pub below : (state : ChangerState) → code_of state < 4
-below state = small_parts state.holds state.owed
+below state = small_parts state.holds state.dispense_owed
 
 -- each number below 4 is a code
 pub whole : (code : ℕ) → code < 4 → (state : ChangerState) × (code_of state ≡ code)
-whole zero small = (record { holds = false; owed = false }, refl)
-whole (suc zero) small = (record { holds = true; owed = false }, refl)
-whole (suc (suc zero)) small = (record { holds = false; owed = true }, refl)
-whole (suc (suc (suc zero))) small = (record { holds = true; owed = true }, refl)
+whole zero small = (record { holds = false; dispense_owed = false }, refl)
+whole (suc zero) small = (record { holds = true; dispense_owed = false }, refl)
+whole (suc (suc zero)) small = (record { holds = false; dispense_owed = true }, refl)
+whole (suc (suc (suc zero))) small = (record { holds = true; dispense_owed = true }, refl)
 whole (suc (suc (suc (suc code)))) small = absurd (omega arith)

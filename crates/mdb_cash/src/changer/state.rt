@@ -8,7 +8,7 @@ pub struct ChangerState {
     /// Whether the changer holds kept messages.
     pub holds: bool,
     /// Whether the controller owes a DISPENSE: it asked for one, and hasn't heard that it was done.
-    pub owed: bool,
+    pub dispense_owed: bool,
 }
 
 impl ChangerState {
@@ -21,7 +21,7 @@ impl ChangerState {
     {
         ChangerState {
             holds: false,
-            owed: false,
+            dispense_owed: false,
         }
     }
 
@@ -30,7 +30,7 @@ impl ChangerState {
         ensures code { result ≡ code_of self }
         ensures below { result < 4 }
     {
-        usize::from(self.holds) + 2 * usize::from(self.owed)
+        usize::from(self.holds) + 2 * usize::from(self.dispense_owed)
     }
 
     /// The state of a code.
@@ -40,7 +40,7 @@ impl ChangerState {
     {
         ChangerState {
             holds: code % 2 == 1,
-            owed: code >= 2,
+            dispense_owed: code >= 2,
         }
     }
 }

@@ -122,8 +122,8 @@ pub(crate) fn answer(
     let taken = taken(command, said.refused);
     let start = read(choice, before);
     let middle = take_any(facts, taken, start);
-    let held = held(middle.holds, facts.past.kept.as_slice());
-    let new = summary.told(is_poll(command), choice, owes_reset(facts, taken), held)?;
+    let held = held(middle.holds, facts.past.last_kept.as_slice());
+    let new = summary.news(is_poll(command), choice, owes_reset(facts, taken), held)?;
     let device = all_told(last_transaction(facts, taken), new, middle.device)?;
     let after = ReaderState {
         device,

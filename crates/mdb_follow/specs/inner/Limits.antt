@@ -2,7 +2,7 @@
 -- and private functions.
 use Rattle.std.specs.Prelude.{ℕ, List, All, pos, neg_ℤ, ◌≤ℤ◌}
 use Rattle.mdb_follow.specs.declared.range.Range.{Range}
-use Rattle.mdb_follow.specs.declared.cell.Account.{Account}
+use Rattle.mdb_follow.specs.declared.account.Account.{Account}
 use Rattle.mdb_follow.specs.declared.cell.Cell.{Cell}
 
 -- both ends of a range are at most so far from 0

@@ -276,7 +276,7 @@ impl ReaderList {
     }
 
     /// Whether a message tells of a session or a sale.
-    pub(crate) fn has_kept(&self) -> bool
+    pub(crate) fn tells_of_sales(&self) -> bool
         ensures { result ≡ list_any is_kept self.now.messages }
     {
         let mut rest = self.bytes.as_slice();

@@ -6,36 +6,36 @@ use Rattle.mdb_bus.proofs.judging.judge_controller.Goals as goal
 
 pub returns-in-InAsk-clause-judged : goal.returns-in-InAsk-clause-judged
 returns-in-InAsk-clause-judged c =
-    λ levels. judged_at c.args.place.now _ c.args.from.now levels
+    λ levels. judged_at c.args.place.now _ c.args.last.now levels
     (Word c.args.at Controller c.args.word)
     c.go_on_asking.result c.in-InAsk.is
     (c.go_on_asking.ensures.judged levels)
 
 pub returns-in-InReply-clause-judged : goal.returns-in-InReply-clause-judged
 returns-in-InReply-clause-judged c =
-    λ levels. judged_at c.args.place.now _ c.args.from.now levels
+    λ levels. judged_at c.args.place.now _ c.args.last.now levels
     (Word c.args.at Controller c.args.word)
     c.cut_in.result c.in-InReply.is (c.cut_in.ensures.reply levels c.args.place.now.command
     c.args.place.now.bytes)
 
 pub returns-in-InRepeat-clause-judged : goal.returns-in-InRepeat-clause-judged
 returns-in-InRepeat-clause-judged c =
-    λ levels. judged_at c.args.place.now _ c.args.from.now levels
+    λ levels. judged_at c.args.place.now _ c.args.last.now levels
     (Word c.args.at Controller c.args.word)
     c.cut_in-in-InRepeat.result c.in-InRepeat.is
     (c.cut_in-in-InRepeat.ensures.repeat levels c.args.place.now.command
-    c.args.place.now.answer.reply _)
+    c.args.place.now.last_reply.reply _)
 
 pub returns-in-Replied-2-clause-judged : goal.returns-in-Replied-2-clause-judged
 returns-in-Replied-2-clause-judged c =
-    λ levels. judged_at c.args.place.now _ c.args.from.now levels
+    λ levels. judged_at c.args.place.now _ c.args.last.now levels
     (Word c.args.at Controller c.args.word)
     c.answer_reply.result c.in-Replied-2.is
-    (c.answer_reply.ensures.judged levels c.args.place.now.command c.args.place.now.answer.reply)
+    (c.answer_reply.ensures.judged levels c.args.place.now.command c.args.place.now.last_reply.reply)
 
 pub returns-in-InForeign-2-clause-judged : goal.returns-in-InForeign-2-clause-judged
 returns-in-InForeign-2-clause-judged c =
-    λ levels. judged_at c.args.place.now _ c.args.from.now levels
+    λ levels. judged_at c.args.place.now _ c.args.last.now levels
     (Word c.args.at Controller c.args.word)
     c.go_on_foreign.result c.in-InForeign-2.is (c.go_on_foreign.ensures.judged levels)
 

@@ -10,10 +10,10 @@ use Rattle.mdb_check.proofs.reading.read_rows.Goals as goal
 pub returns-in-Some-clause-ended : goal.returns-in-Some-clause-ended
 returns-in-Some-clause-ended g c all to_come =
     endings.stopped g.T.Row.FromRecord.is g.T.Row.FromRecord.refuses g.R.Read.remaining (g.T.TakeRows.has c.loop-batch.taker c.args.out.now c.loop-batch.out) (g.T.TakeRows.has c.take_all.new.self c.args.out.now c.take_all.new.out)
-    (g.T.TakeRows.stops c.take_all.new.self c.args.out.now c.take_all.new.out) c.args.limit all c.args.records.now c.loop-batch.records c.refill-next.new.records c.as_slice.result.now
+    (g.T.TakeRows.stops c.take_all.new.self c.args.out.now c.take_all.new.out) c.args.rows_max all c.args.records.now c.loop-batch.records c.refill-next.new.records c.as_slice.result.now
     c.refill-next.new.self c.refill-next.result (g.T.TakeRows.count c.loop-batch.taker) c.take_all.result c.in-Some.stop c.loop-batch.invariant.progress to_come c.refill-next.ensures.read
     (g.met.T.TakeRows.counts c.loop-batch.taker c.args.out.now c.loop-batch.out) c.as_slice.ensures.rows c.in-Some.is (λ earlier has. c.take_all.ensures c.args.out.now earlier has)
-    (omega (arith, c.loop-batch-test.true, c.rows.ensures, c.rows-in-loop-batch.ensures, fits (c.args.limit - c.rows-in-loop-batch.result) c.refill-next.new.self c.refill-next.result c.refill-next.ensures.fits))
+    (omega (arith, c.loop-batch-test.true, c.rows_taken.ensures, c.rows_taken-in-loop-batch.ensures, fits (c.args.rows_max - c.rows_taken-in-loop-batch.result) c.refill-next.new.self c.refill-next.result c.refill-next.ensures.fits))
 
 pub returns-in_err-goes_on-clause-ended : goal.returns-in_err-goes_on-clause-ended
 returns-in_err-goes_on-clause-ended g c all to_come =
@@ -23,9 +23,9 @@ returns-in_err-goes_on-clause-ended g c all to_come =
     c.as_slice.ensures.rows c.in_default.is (λ earlier has. c.take_all.ensures c.args.out.now earlier has)
     (g.met.T.TakeRows.counts c.loop-batch.taker c.args.out.now c.loop-batch.out) (g.met.T.TakeRows.counts c.take_all.new.self c.args.out.now c.take_all.new.out) in
     endings.refused g.T.Row.FromRecord.is g.T.Row.FromRecord.refuses g.R.Read.remaining (g.T.TakeRows.has c.take_all.new.self c.args.out.now c.take_all.new.out) (g.T.TakeRows.stops c.take_all.new.self c.args.out.now c.take_all.new.out)
-    c.args.limit all c.args.records.now c.refill-next.new.records c.refill-next.result c.rows-in-loop-batch-2.result
-    (c.args.limit - c.rows-in-loop-batch.result) c.refill-next.new.self after.progress to_come (c.rows-in-loop-batch-2.ensures ∙ after.number) c.refill-next.ensures.fits
-    (omega (arith, c.loop-batch-test.true, c.rows.ensures, c.rows-in-loop-batch.ensures, c.rows-in-loop-batch-2.ensures, after.counted))
+    c.args.rows_max all c.args.records.now c.refill-next.new.records c.refill-next.result c.rows_taken-in-loop-batch-2.result
+    (c.args.rows_max - c.rows_taken-in-loop-batch.result) c.refill-next.new.self after.progress to_come (c.rows_taken-in-loop-batch-2.ensures ∙ after.number) c.refill-next.ensures.fits
+    (omega (arith, c.loop-batch-test.true, c.rows_taken.ensures, c.rows_taken-in-loop-batch.ensures, c.rows_taken-in-loop-batch-2.ensures, after.counted))
     c.goes_on.result c.in_err-goes_on.field-0.0 c.goes_on.ensures c.in_err-goes_on.was c.from_residual.result c.from_residual.ensures.1
 
 pub returns-then-not-branch-clause-ended : goal.returns-then-not-branch-clause-ended
@@ -35,16 +35,16 @@ returns-then-not-branch-clause-ended g c all to_come =
     c.refill-next.new.self c.refill-next.result (g.T.TakeRows.count c.loop-batch.taker) (g.T.TakeRows.count c.take_all.new.self) c.take_all.result c.loop-batch.invariant.progress c.refill-next.ensures.read
     c.as_slice.ensures.rows c.in_default.is (λ earlier has. c.take_all.ensures c.args.out.now earlier has)
     (g.met.T.TakeRows.counts c.loop-batch.taker c.args.out.now c.loop-batch.out) (g.met.T.TakeRows.counts c.take_all.new.self c.args.out.now c.take_all.new.out) in
-    endings.whole g.T.Row.FromRecord.is g.T.Row.FromRecord.refuses g.R.Read.remaining (g.T.TakeRows.has c.take_all.new.self c.args.out.now c.take_all.new.out) c.args.limit all c.args.records.now c.refill-next.new.records c.refill-next.result after.progress to_come
-    (endings.is_end c.refill-next.result c.rows-in-loop-batch-2.result c.goes_on.result c.in_ok-goes_on.field-0 c.goes_on.ensures c.in_ok-goes_on.was c.if-not-branch.true)
+    endings.whole g.T.Row.FromRecord.is g.T.Row.FromRecord.refuses g.R.Read.remaining (g.T.TakeRows.has c.take_all.new.self c.args.out.now c.take_all.new.out) c.args.rows_max all c.args.records.now c.refill-next.new.records c.refill-next.result after.progress to_come
+    (endings.is_end c.refill-next.result c.rows_taken-in-loop-batch-2.result c.goes_on.result c.in_ok-goes_on.field-0 c.goes_on.ensures c.in_ok-goes_on.was c.if-not-branch.true)
     (omega (
       arith,
       c.loop-batch-test.true,
-      c.rows.ensures,
-      c.rows-in-loop-batch.ensures,
+      c.rows_taken.ensures,
+      c.rows_taken-in-loop-batch.ensures,
       after.counted,
       after.number,
-      fits (c.args.limit - c.rows-in-loop-batch.result) c.refill-next.new.self c.refill-next.result c.refill-next.ensures.fits,
+      fits (c.args.rows_max - c.rows_taken-in-loop-batch.result) c.refill-next.new.self c.refill-next.result c.refill-next.ensures.fits,
     ))
 
 pub loop-batch-preserved : goal.loop-batch-preserved
@@ -54,7 +54,7 @@ loop-batch-preserved g c =
     c.refill-next.new.self c.refill-next.result (g.T.TakeRows.count c.loop-batch.taker) (g.T.TakeRows.count c.take_all.new.self) c.take_all.result c.loop-batch.invariant.progress c.refill-next.ensures.read
     c.as_slice.ensures.rows c.in_default.is (λ earlier has. c.take_all.ensures c.args.out.now earlier has)
     (g.met.T.TakeRows.counts c.loop-batch.taker c.args.out.now c.loop-batch.out) (g.met.T.TakeRows.counts c.take_all.new.self c.args.out.now c.take_all.new.out) in
-    let more : c.refill-next.result ≡ next.More = endings.is_more c.refill-next.result c.rows-in-loop-batch-2.result c.goes_on.result c.in_ok-goes_on.field-0 c.goes_on.ensures c.in_ok-goes_on.was c.if-not-branch.false in
+    let more : c.refill-next.result ≡ next.More = endings.is_more c.refill-next.result c.rows_taken-in-loop-batch-2.result c.goes_on.result c.in_ok-goes_on.field-0 c.goes_on.ensures c.in_ok-goes_on.was c.if-not-branch.false in
     record {
       progress = subst (λ n. Progress g.T.Row.FromRecord.is g.T.Row.FromRecord.refuses g.R.Read.remaining (g.T.TakeRows.has c.take_all.new.self c.args.out.now c.take_all.new.out) c.args.records.now c.refill-next.new.records n) more after.progress;
       over = λ over. subst (λ n. GoesOnOver g.R.Read.remaining c.refill-next.new.records n) more (c.refill-next.ensures.over (c.loop-batch.invariant.over over));
@@ -62,10 +62,10 @@ loop-batch-preserved g c =
       few = omega (
         arith,
         c.loop-batch-test.true,
-        c.rows.ensures,
-        c.rows-in-loop-batch.ensures,
+        c.rows_taken.ensures,
+        c.rows_taken-in-loop-batch.ensures,
         after.counted,
-        fits (c.args.limit - c.rows-in-loop-batch.result) c.refill-next.new.self c.refill-next.result c.refill-next.ensures.fits,
+        fits (c.args.rows_max - c.rows_taken-in-loop-batch.result) c.refill-next.new.self c.refill-next.result c.refill-next.ensures.fits,
       );
     }
 
@@ -73,12 +73,12 @@ pub returns-in_err-expect_end-clause-ended : goal.returns-in_err-expect_end-clau
 returns-in_err-expect_end-clause-ended g c all to_come =
     let progress = c.loop-batch.invariant.progress in
     endings.refused_at g.T.Row.FromRecord.is g.T.Row.FromRecord.refuses g.R.Read.remaining (g.T.TakeRows.has c.loop-batch.taker c.args.out.now c.loop-batch.out) (g.T.TakeRows.stops c.loop-batch.taker c.args.out.now c.loop-batch.out)
-    c.args.limit all c.args.records.now c.loop-batch.records progress to_come
-    (omega (arith, c.loop-batch-test.false, c.rows.ensures, c.loop-batch.invariant.few, g.met.T.TakeRows.counts c.loop-batch.taker c.args.out.now c.loop-batch.out progress.rows progress.has))
+    c.args.rows_max all c.args.records.now c.loop-batch.records progress to_come
+    (omega (arith, c.loop-batch-test.false, c.rows_taken.ensures, c.loop-batch.invariant.few, g.met.T.TakeRows.counts c.loop-batch.taker c.args.out.now c.loop-batch.out progress.rows progress.has))
     c.expect_end.result c.in_err-expect_end.field-0.0 c.expect_end.ensures.ends c.in_err-expect_end.was c.from_residual-in_err-expect_end.result c.from_residual-in_err-expect_end.ensures.1
 
 pub returns-clause-ended : goal.returns-clause-ended
 returns-clause-ended g c all to_come =
     let progress = c.loop-batch.invariant.progress in
-    endings.whole_at g.T.Row.FromRecord.is g.T.Row.FromRecord.refuses g.R.Read.remaining (g.T.TakeRows.has c.loop-batch.taker c.args.out.now c.loop-batch.out) c.args.limit all c.args.records.now c.loop-batch.records progress to_come c.in_ok-expect_end.ensures.ends
+    endings.whole_at g.T.Row.FromRecord.is g.T.Row.FromRecord.refuses g.R.Read.remaining (g.T.TakeRows.has c.loop-batch.taker c.args.out.now c.loop-batch.out) c.args.rows_max all c.args.records.now c.loop-batch.records progress to_come c.in_ok-expect_end.ensures.ends
     (omega (arith, c.loop-batch.invariant.few, g.met.T.TakeRows.counts c.loop-batch.taker c.args.out.now c.loop-batch.out progress.rows progress.has))

@@ -6,6 +6,6 @@ use Rattle.mdb_check.proofs.verdict.check_within.Goals as goal
 
 pub returns-clause-whole : goal.returns-clause-whole
 returns-clause-whole g c =
-    let whole : (text : List ℕ) → (c.args.bytes < length text → IsOverLimit g.R.Read.remaining c.records_of-records.result) → c.args.bytes < length text → IsNoYes c.check_records.result =
+    let whole : (text : List ℕ) → (c.args.bytes_max < length text → IsOverLimit g.R.Read.remaining c.records_of-records.result) → c.args.bytes_max < length text → IsNoYes c.check_records.result =
     λ text over long. c.check_records.ensures.whole (over long) in
     IfSome_then _ c.records_of-records.ensures.over whole

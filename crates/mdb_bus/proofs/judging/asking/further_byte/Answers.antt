@@ -22,8 +22,8 @@ returns-in-Exactly c =
     let P : List ℕ → Type 0 = λ bytes. IsAskFront (bytes ++ (c.args.word % 256) ∷ []) in
     (omega (arith, c.requires.unmarked), subst P (sym c.requires.is) front)
 
-pub end_ask-requires-clause-last : goal.end_ask-requires-clause-last
-end_ask-requires-clause-last c =
+pub judge_end_of_ask-requires-clause-last : goal.judge_end_of_ask-requires-clause-last
+judge_end_of_ask-requires-clause-last c =
     let same = ap length c.requires.is in
     let most : (n : ℕ) → c.need_of.result ≡ Exactly n → n ≤ length c.args.bytes.now + 1 =
     λ n exact. (elim c.in_default.branch [

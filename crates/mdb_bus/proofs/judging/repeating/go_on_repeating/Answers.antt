@@ -5,21 +5,21 @@ use Rattle.mdb_bus.proofs.judging.repeating.go_on_repeating.Goals as goal
 
 pub returns-then-from-as_slice-clause-judged : goal.returns-then-from-as_slice-clause-judged
 returns-then-from-as_slice-clause-judged c =
-    let here : slice_get (reply_words c.args.answer.now.reply) c.args.said ≡ Some c.args.word =
+    let here : slice_get (reply_words c.args.last_reply.now.reply) c.args.said ≡ Some c.args.word =
     search rules in
-    let more : c.args.said < length c.args.answer.now.bytes =
+    let more : c.args.said < length c.args.last_reply.now.bytes =
     omega (arith, ap length c.as_slice.ensures.bytes) in
-    let front = repeats c.args.answer.now.reply c.args.said c.args.word
-    (length c.args.answer.now.bytes)
+    let front = repeats c.args.last_reply.now.reply c.args.said c.args.word
+    (length c.args.last_reply.now.bytes)
     c.word.ensures.count more here in
     λ levels command. (refl, front, (search rules, search rules))
 
 pub returns-else-from-as_slice-clause-judged : goal.returns-else-from-as_slice-clause-judged
 returns-else-from-as_slice-clause-judged c =
-    let here : slice_get (reply_words c.args.answer.now.reply) c.args.said ≡ Some c.args.word =
+    let here : slice_get (reply_words c.args.last_reply.now.reply) c.args.said ≡ Some c.args.word =
     search rules in
-    let most : length c.args.answer.now.bytes ≤ c.args.said =
+    let most : length c.args.last_reply.now.bytes ≤ c.args.said =
     omega (arith, ap length c.as_slice.ensures.bytes) in
-    let whole = repeated (reply_words c.args.answer.now.reply) c.args.said c.args.word
-    (length c.args.answer.now.bytes) c.word.ensures.count most here in
+    let whole = repeated (reply_words c.args.last_reply.now.reply) c.args.said c.args.word
+    (length c.args.last_reply.now.bytes) c.word.ensures.count most here in
     λ levels command. (whole, (search rules, search rules))

@@ -11,7 +11,7 @@ use Rattle.mdb_bus.proofs.place.Place.end_ask.Goals as goal
 pub returns-in-Some-clause-advanced : goal.returns-in-Some-clause-advanced
 returns-in-Some-clause-advanced c =
     let At : Phase → Position = λ p.
-    position_in p c.args.self.now.bytes c.args.self.now.command c.args.self.now.answer.reply in
+    position_in p c.args.self.now.bytes c.args.self.now.command c.args.self.now.last_reply.reply in
     let Poll : Command → Type 0 = λ p. Spells p (block_of c.as_slice.result.now) in
     let Spelled : List ℕ → Type 0 = λ bytes. Spells c.poll.result (block_of bytes) in
     asked_poll (position_at c.args.self.now) (position_at c.ask.new.self) c.args.self.now.bytes

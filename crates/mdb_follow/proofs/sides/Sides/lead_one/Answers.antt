@@ -6,54 +6,54 @@ use Rattle.mdb_follow.proofs.sides.Sides.lead_one.Goals as goal
 
 pub returns-in-Changer-clause-followed : goal.returns-in-Changer-clause-followed
 returns-in-Changer-clause-followed c =
-    one-follows c.follow.result c.args.device devices.Changer c.args.self.now
-    c.follow.new.side c.args.act.now c.in-Changer.is
-    c.follow.ensures.followed
+    one-follows c.lead.result c.args.device devices.Changer c.args.self.now
+    c.lead.new.side c.args.act.now c.in-Changer.is
+    c.lead.ensures.followed
 
 pub returns-in-Changer-clause-stopped : goal.returns-in-Changer-clause-stopped
 returns-in-Changer-clause-stopped c =
-    one-stops c.follow.result c.args.device devices.Changer c.args.self.now
+    one-stops c.lead.result c.args.device devices.Changer c.args.self.now
     c.args.act.now c.in-Changer.is
-    c.follow.ensures.none c.follow.ensures.its
+    c.lead.ensures.none c.lead.ensures.its
 
 pub returns-in-Bill-clause-followed : goal.returns-in-Bill-clause-followed
 returns-in-Bill-clause-followed c =
-    one-follows c.follow-in-Bill.result c.args.device devices.Bill c.args.self.now
-    c.follow-in-Bill.new.side c.args.act.now c.in-Bill.is
-    c.follow-in-Bill.ensures.followed
+    one-follows c.lead-in-Bill.result c.args.device devices.Bill c.args.self.now
+    c.lead-in-Bill.new.side c.args.act.now c.in-Bill.is
+    c.lead-in-Bill.ensures.followed
 
 pub returns-in-Bill-clause-stopped : goal.returns-in-Bill-clause-stopped
 returns-in-Bill-clause-stopped c =
-    one-stops c.follow-in-Bill.result c.args.device devices.Bill c.args.self.now
+    one-stops c.lead-in-Bill.result c.args.device devices.Bill c.args.self.now
     c.args.act.now c.in-Bill.is
-    c.follow-in-Bill.ensures.none c.follow-in-Bill.ensures.its
+    c.lead-in-Bill.ensures.none c.lead-in-Bill.ensures.its
 
 pub returns-in-First-clause-followed : goal.returns-in-First-clause-followed
 returns-in-First-clause-followed c =
-    one-follows c.follow-in-First.result c.args.device (devices.Reader First) c.args.self.now
-    c.follow-in-First.new.side c.args.act.now (c.in-Reader.is ∙ ap devices.Reader c.in-First.is)
-    c.follow-in-First.ensures.followed
+    one-follows c.lead-in-First.result c.args.device (devices.Reader First) c.args.self.now
+    c.lead-in-First.new.side c.args.act.now (c.in-Reader.is ∙ ap devices.Reader c.in-First.is)
+    c.lead-in-First.ensures.followed
 
 pub returns-in-First-clause-stopped : goal.returns-in-First-clause-stopped
 returns-in-First-clause-stopped c =
-    one-stops c.follow-in-First.result c.args.device (devices.Reader First) c.args.self.now
+    one-stops c.lead-in-First.result c.args.device (devices.Reader First) c.args.self.now
     c.args.act.now (c.in-Reader.is ∙ ap devices.Reader c.in-First.is)
-    c.follow-in-First.ensures.none c.follow-in-First.ensures.its
+    c.lead-in-First.ensures.none c.lead-in-First.ensures.its
 
 pub returns-in-Second-clause-followed : goal.returns-in-Second-clause-followed
 returns-in-Second-clause-followed c =
-    one-follows c.follow-in-Second.result c.args.device (devices.Reader Second) c.args.self.now
-    c.follow-in-Second.new.side c.args.act.now (c.in-Reader.is ∙ ap devices.Reader c.in-Second.is)
-    c.follow-in-Second.ensures.followed
+    one-follows c.lead-in-Second.result c.args.device (devices.Reader Second) c.args.self.now
+    c.lead-in-Second.new.side c.args.act.now (c.in-Reader.is ∙ ap devices.Reader c.in-Second.is)
+    c.lead-in-Second.ensures.followed
 
 pub returns-in-Second-clause-stopped : goal.returns-in-Second-clause-stopped
 returns-in-Second-clause-stopped c =
-    one-stops c.follow-in-Second.result c.args.device (devices.Reader Second) c.args.self.now
+    one-stops c.lead-in-Second.result c.args.device (devices.Reader Second) c.args.self.now
     c.args.act.now (c.in-Reader.is ∙ ap devices.Reader c.in-Second.is)
-    c.follow-in-Second.ensures.none c.follow-in-Second.ensures.its
+    c.lead-in-Second.ensures.none c.lead-in-Second.ensures.its
 
-pub follow-requires : goal.follow-requires
-follow-requires c = (
+pub lead-requires : goal.lead-requires
+lead-requires c = (
   omega arith,
   (
     refl,
@@ -62,8 +62,8 @@ follow-requires c = (
   ),
 )
 
-pub follow-requires-in-Bill : goal.follow-requires-in-Bill
-follow-requires-in-Bill c = (
+pub lead-requires-in-Bill : goal.lead-requires-in-Bill
+lead-requires-in-Bill c = (
   omega arith,
   (
     refl,
@@ -72,8 +72,8 @@ follow-requires-in-Bill c = (
   ),
 )
 
-pub follow-requires-in-First : goal.follow-requires-in-First
-follow-requires-in-First c = (
+pub lead-requires-in-First : goal.lead-requires-in-First
+lead-requires-in-First c = (
   omega arith,
   (
     refl,
@@ -82,8 +82,8 @@ follow-requires-in-First c = (
   ),
 )
 
-pub follow-requires-in-Second : goal.follow-requires-in-Second
-follow-requires-in-Second c = (
+pub lead-requires-in-Second : goal.lead-requires-in-Second
+lead-requires-in-Second c = (
   omega arith,
   (
     refl,

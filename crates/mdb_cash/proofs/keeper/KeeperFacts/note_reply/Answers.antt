@@ -2,7 +2,7 @@ use Rattle.std.proofs.Common.{ap}
 use Rattle.mdb_cash.specs.KeeperValues.{facts_in}
 use Rattle.mdb_cash.specs.PastValues.{past_in}
 use Rattle.mdb_cash.proofs.KeeperFacts.{replied}
-use Rattle.mdb_cash.proofs.keeper.KeeperFacts.answer.Goals as goal
+use Rattle.mdb_cash.proofs.keeper.KeeperFacts.note_reply.Goals as goal
 
 pub returns : goal.returns
 returns g c =

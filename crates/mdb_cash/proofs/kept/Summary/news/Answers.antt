@@ -1,5 +1,5 @@
 use Rattle.mdb_cash.proofs.KeptLists.{untold}
-use Rattle.mdb_cash.proofs.kept.Summary.told.Goals as goal
+use Rattle.mdb_cash.proofs.kept.Summary.news.Goals as goal
 
 pub returns-clause-none : goal.returns-clause-none
 returns-clause-none g c =

@@ -43,7 +43,7 @@ impl Conduct for Changer {
             ChangerCommand::Dispense(coins) => ask_for_coins(facts, coins, before),
             ChangerCommand::Reset => {
                 let after = ChangerState {
-                    owed: false,
+                    dispense_owed: false,
                     ..before
                 };
                 (after, Gains::none())
@@ -68,7 +68,7 @@ impl Conduct for Changer {
             }
             ChangerCommand::Dispense(coins) => {
                 let after = ChangerState {
-                    owed: owed_acked(choice, before.owed),
+                    dispense_owed: owed_acked(choice, before.dispense_owed),
                     ..before
                 };
                 let paid = dispensed_value(&facts.setup, coins);
@@ -84,7 +84,7 @@ impl Conduct for Changer {
         news: &[ChangerActivity],
         before: ChangerState,
     ) -> Option<ChangerState> {
-        if may_be_new(facts, news) {
+        if may_all_be_new(facts, news) {
             Some(before)
         } else {
             None
@@ -101,7 +101,7 @@ impl Conduct for Changer {
 
     fn heard_reset(state: ChangerState) -> ChangerState {
         ChangerState {
-            owed: false,
+            dispense_owed: false,
             ..state
         }
     }
@@ -114,10 +114,10 @@ fn ask_for_coins(facts: &ChangerFacts, coins: u8, before: ChangerState) -> (Chan
     ensures small { IsSmall result.1 }
 {
     let after = ChangerState {
-        owed: true,
+        dispense_owed: true,
         ..before
     };
-    if before.owed && is_last(facts.last_asked, coins) {
+    if before.dispense_owed && is_last(facts.last_asked, coins) {
         (after, Gains::none())
     } else {
         let asked = dispensed_value(&facts.setup, coins);
@@ -146,14 +146,14 @@ fn owed_acked(choice: Choice, owed: bool) -> bool
 }
 
 /// Whether kept messages may be new.
-fn may_be_new(facts: &ChangerFacts, news: &[ChangerActivity]) -> bool
+fn may_all_be_new(facts: &ChangerFacts, news: &[ChangerActivity]) -> bool
     ensures { IsTrue result ↔ AllByRecursion (spec.MayBeNew (facts_in facts.now)) news.now }
 {
-    news.iter().all(|message| may_be_told(facts, *message))
+    news.iter().all(|message| may_be_new(facts, *message))
 }
 
 /// Whether a kept message may be new.
-fn may_be_told(facts: &ChangerFacts, message: ChangerActivity) -> bool
+fn may_be_new(facts: &ChangerFacts, message: ChangerActivity) -> bool
     ensures { IsTrue result ↔ spec.MayBeNew (facts_in facts.now) message }
 {
     match message {

@@ -1,8 +1,8 @@
 use Rattle.std.proofs.Common.{refl, sym, ◌∙◌}
 use Rattle.mdb_cash.specs.KeeperValues.{facts_in}
 use Rattle.mdb_cash.proofs.Escrows.{puts, returns, returns_not, stacks, stacks_not}
-use Rattle.mdb_cash.proofs.bill.steps.move_bill.Goals as goal
-use Rattle.mdb_cash.proofs.bill.steps.move_bill.Goals.{else-is_enabled-via-then-is_enabled+else-may_stack, else-is_enabled-via-else-is_enabled}
+use Rattle.mdb_cash.proofs.bill.conduct.move_bill.Goals as goal
+use Rattle.mdb_cash.proofs.bill.conduct.move_bill.Goals.{else-is_enabled-via-then-is_enabled+else-may_stack, else-is_enabled-via-else-is_enabled}
 
 pub returns-then-may_stack : goal.returns-then-may_stack
 returns-then-may_stack c =

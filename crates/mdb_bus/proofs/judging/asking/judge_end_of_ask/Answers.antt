@@ -1,6 +1,6 @@
 use Rattle.std.proofs.Common.{rules, ◌≡◌, ◌%◌, sum}
 use Rattle.mdb_bus.proofs.Verdicts.{ask_whole}
-use Rattle.mdb_bus.proofs.judging.asking.end_ask.Goals as goal
+use Rattle.mdb_bus.proofs.judging.asking.judge_end_of_ask.Goals as goal
 
 pub returns-then-byte-sum_of : goal.returns-then-byte-sum_of
 returns-then-byte-sum_of c =

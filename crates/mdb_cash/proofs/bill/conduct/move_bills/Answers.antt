@@ -3,7 +3,7 @@ use Rattle.std.proofs.Math.Seq.{drop-length}
 use Rattle.std.proofs.lemmas.List.{drop_more}
 use Rattle.mdb_cash.specs.declared.bill.activity.BillActivity.TheVariants.{Stacked}
 use Rattle.mdb_cash.proofs.Escrows.{leaves_all, leaves_more, leaves_none}
-use Rattle.mdb_cash.proofs.bill.steps.move_bills.Goals as goal
+use Rattle.mdb_cash.proofs.bill.conduct.move_bills.Goals as goal
 
 pub loop-message-init : goal.loop-message-init
 loop-message-init c = record { as_rest = λ to. (λ takes. takes, λ takes. takes) }

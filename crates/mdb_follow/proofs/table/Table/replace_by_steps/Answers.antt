@@ -10,7 +10,7 @@ use Rattle.mdb_follow.proofs.Limits.{table-within-weaker}
 use Rattle.mdb_follow.proofs.Listed.{nil-told, seen-again, seen-one, seen-other, seen-still}
 use Rattle.mdb_follow.proofs.Listed.{some-told}
 use Rattle.mdb_follow.proofs.Ways.{nothing-arrives, table-some}
-use Rattle.mdb_follow.proofs.table.Table.replace.Goals as goal
+use Rattle.mdb_follow.proofs.table.Table.replace_by_steps.Goals as goal
 
 pub returns-then-is_empty-clause-none : goal.returns-then-is_empty-clause-none
 returns-then-is_empty-clause-none g c acts stands table state sums way =

@@ -1,7 +1,7 @@
 use Rattle.std.proofs.Common.{drop}
 use Rattle.mdb_cash.specs.KeeperValues.{facts_in}
 use Rattle.mdb_cash.proofs.Escrows.{Leaves}
-use Rattle.mdb_cash.proofs.bill.steps.move_bills.Given as goal
+use Rattle.mdb_cash.proofs.bill.conduct.move_bills.Given as goal
 
 abbrev pub invariant-loop-message : goal.invariant-loop-message
 invariant-loop-message l = Leaves (facts_in l.facts) l.messages (drop l.message-index l.messages) l.initial.escrow l.escrow

@@ -1,6 +1,6 @@
 use Rattle.std.proofs.Common.{refl}
 use Rattle.mdb_follow.specs.Sums.{added}
-use Rattle.mdb_follow.proofs.side.follow.Goals as goal
+use Rattle.mdb_follow.proofs.side.lead.Goals as goal
 
 pub returns-then-not-advance-clause-none : goal.returns-then-not-advance-clause-none
 returns-then-not-advance-clause-none c p acts on state sums way choice stands after gains step =

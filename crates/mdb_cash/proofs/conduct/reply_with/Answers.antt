@@ -3,7 +3,7 @@ use Rattle.mdb_cash.specs.Gains.{device_gains}
 use Rattle.mdb_cash.specs.KeeperValues.{facts_in}
 use Rattle.mdb_cash.proofs.KeeperSteps.{holding, telling, told, impossible, untold}
 use Rattle.mdb_cash.proofs.Sizes.{summary_fits}
-use Rattle.mdb_cash.proofs.conduct.answer.Goals as goal
+use Rattle.mdb_cash.proofs.conduct.reply_with.Goals as goal
 
 pub summary_of-summary-requires : goal.summary_of-summary-requires
 summary_of-summary-requires g c = summary_fits g.row.K-Kept g.met.K.Keeper.few_bytes
