@@ -88,7 +88,8 @@ impl<T: FromRecord> Batch<T> {
         &self.rows[..self.count]
     }
 
-    /// Reads the next rows in place of these, at most `rows_max`, and answers what comes after them.
+    /// Reads the next rows in place of these, at most `rows_max`, and answers what comes after
+    /// them.
     ///
     /// It ends after a row where less of the text was read ahead than a row may have. So no row
     /// waits to be followed while the next one is awaited, unless that is written in more bytes

@@ -61,14 +61,14 @@ pub fn check<R: Read + Drop, W: Write>(
     check_within(alloc, reader, writer, ROWS_MAX, BYTES_MAX)
 }
 
-/// Does as [`check`] does, with other limits: at most `rows_max` rows and `bytes_max` bytes, where `check`
-/// allows [`ROWS_MAX`] and [`BYTES_MAX`].
+/// Does as [`check`] does, with other limits: at most `rows_max` rows and `bytes_max` bytes, where
+/// `check` allows [`ROWS_MAX`] and [`BYTES_MAX`].
 ///
 /// # Errors
 ///
-/// Those of `check`. `TooLong` is for a record past `rows_max`, whatever it holds: it may be no row,
-/// and a row that cannot be. `Read` is also for an input of more than `bytes_max` bytes that isn't
-/// answered before.
+/// Those of `check`. `TooLong` is for a record past `rows_max`, whatever it holds: it may be no
+/// row, and a row that cannot be. `Read` is also for an input of more than `bytes_max` bytes that
+/// isn't answered before.
 pub fn check_within<R: Read + Drop, W: Write>(
     alloc: Global,
     reader: R,
