@@ -16,7 +16,7 @@ pub(crate) mod tables;
 mod values;
 
 use crate::choice::Choice;
-use crate::conduct;
+use crate::conduct::step;
 use crate::gains::Gains;
 use crate::keeper::Keeper;
 use crate::kept::may_all_be_read;
@@ -111,7 +111,7 @@ impl Pair for Bill {
         choice: Choice,
         before: BillState,
     ) -> Option<(BillState, Gains)> {
-        conduct::step(facts, act, choice, before)
+        step(facts, act, choice, before)
     }
 
     ghost apart = { codes.apart };
