@@ -23,7 +23,7 @@ one_more effect_of parts_by acts effect powers parts =
           (if powers then [] else acts_from (powers_on effect_of) acts);
       reset_owed = not (has_reset parts || list_any (λ act. has_reset (parts_by act))
           (if powers then [] else acts_from (powers_on effect_of) acts));
-      kept = unwrap_or (or_else (unless_empty (kept_of parts))
+      last_kept = unwrap_or (or_else (unless_empty (kept_of parts))
           (last_told (λ act. unless_empty (kept_of (parts_by act))) acts)) [];
     }
 

@@ -8,8 +8,8 @@ use Rattle.mdb_cash.proofs.conduct.reply_with.Goals as goal
 pub summary_of-summary-requires : goal.summary_of-summary-requires
 summary_of-summary-requires g c = summary_fits g.row.K-Kept g.met.K.Keeper.few_bytes
 
-pub told-requires : goal.told-requires
-told-requires g c = summary_fits g.row.K-Kept g.met.K.Keeper.few_bytes
+pub news-requires : goal.news-requires
+news-requires g c = summary_fits g.row.K-Kept g.met.K.Keeper.few_bytes
 
 pub returns-in_err-news-clause-step : goal.returns-in_err-news-clause-step
 returns-in_err-news-clause-step g c =

@@ -27,8 +27,8 @@ returns-in-Some-own-2-clause-step g c =
     let known = facts_in c.args.facts.now in
     let conduct = g.K.Conduct.conduct in
     let tables = g.K.Keeper.tables in
-    subst (λ (a : Act). IsOnlyStep (KeeperStep tables conduct known a c.args.choice c.args.before) c.answer.result) (sym c.in-Reply.is)
-    (by_own (λ own. ReplyStep conduct known (tables.is_poll own) (tables.parts_of c.in-Reply.reply) c.args.choice) c.args.before c.answer.result (sym c.own-in-Reply.ensures ∙ c.in-Some-own-2.is) c.answer.ensures.step)
+    subst (λ (a : Act). IsOnlyStep (KeeperStep tables conduct known a c.args.choice c.args.before) c.reply_with.result) (sym c.in-Reply.is)
+    (by_own (λ own. ReplyStep conduct known (tables.is_poll own) (tables.parts_of c.in-Reply.reply) c.args.choice) c.args.before c.reply_with.result (sym c.own-in-Reply.ensures ∙ c.in-Some-own-2.is) c.reply_with.ensures.step)
 
 pub returns-in-Some-own-3-clause-step : goal.returns-in-Some-own-3-clause-step
 returns-in-Some-own-3-clause-step g c =
