@@ -1,5 +1,5 @@
 -- What a report tells of a device is what the act list of its rows has of it.
-use Rattle.std.specs.Prelude.{◌≡◌, ◌∙◌, ap, refl, ℕ, List, Option, length}
+use Rattle.std.proofs.Common.{ap, refl, ◌∙◌, ◌≡◌, ℕ, List, length}
 use Rattle.mdb_words.specs.declared.event.Event.{Event}
 use Rattle.mdb_msgs.specs.declared.command.Device.{Device}
 use Rattle.mdb_msgs.specs.declared.command.Device.TheVariants.{Changer, Bill, Reader}
@@ -8,9 +8,10 @@ use Rattle.mdb_bus.specs.ActLists.{IsActList, Piece, acts_of}
 use Rattle.mdb_follow.specs.declared.account.Account.{Account}
 use Rattle.mdb_follow.specs.declared.account_name.AccountName.{AccountName}
 use Rattle.mdb_follow.specs.declared.report.Report.{Report}
-use Rattle.mdb_follow.specs.Report.{IsReport, decimals_of, device_decimals, device_silences, report_of}
+use Rattle.mdb_follow.specs.Report.{IsReport, decimals_of, device_decimals, device_silences}
+use Rattle.mdb_follow.specs.Report.{report_of}
 use Rattle.mdb_follow.specs.Silences.{silences}
-use Rattle.mdb_follow.proofs.OneAnswer.{OneActList}
+use Rattle.mdb_follow.proofs.Following.{OneActList}
 
 told-decimals : (rows : ℕ) (pieces : List Piece) (accounts : AccountName → Account)
     (device : Device)
