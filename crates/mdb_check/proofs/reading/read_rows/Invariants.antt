@@ -10,9 +10,9 @@ invariant-loop-batch g l = record {
   progress : Progress g.T.Row.FromRecord.is g.T.Row.FromRecord.refuses g.R.Read.remaining (g.T.TakeRows.has l.taker l.fn.out l.out) l.fn.records l.records next.More;
   over : IsOverLimit g.R.Read.remaining l.fn.records → IsOverLimit g.R.Read.remaining l.records;
   met : fault_of l.fn.records ≡ None → fault_of l.records ≡ None;
-  few : g.T.TakeRows.count l.taker ≤ l.fn.limit;
+  few : g.T.TakeRows.count l.taker ≤ l.fn.rows_max;
 }
 
 -- the rows that may still come
 abbrev pub decreases-loop-batch : goal.decreases-loop-batch
-decreases-loop-batch g l = l.fn.limit - g.T.TakeRows.count l.taker
+decreases-loop-batch g l = l.fn.rows_max - g.T.TakeRows.count l.taker
