@@ -1,4 +1,5 @@
 pub mod FirstBytes
+pub mod Addressed
 pub mod Addresses
 pub mod Contents
 pub mod ListFaults

@@ -3,6 +3,7 @@ pub mod Bill
 pub mod Changer
 pub mod CommandFaults
 pub mod Commands
+pub mod DeviceSets
 pub mod Devices
 pub mod Laws
 pub mod Lists

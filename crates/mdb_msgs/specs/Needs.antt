@@ -1,8 +1,12 @@
 -- What the first bytes of a block of the controller tell (MDB/ICP 4.3, commands of the four
 -- devices; what is outside and what is foreign, this profile).
-use Rattle.std.specs.Prelude.{◌≡◌, ◌<◌, ℕ, length, ◌/◌, ◌%◌, ◌==◌, Bool, List, Option, Some, None, slice_index, slice_get, if◌then◌else◌}
+use Rattle.std.specs.Prelude.{◌≡◌, ◌<◌, ℕ, length, ◌/◌, ◌%◌, ◌==◌, Bool, false, List, Option, Some, None, slice_index, slice_get, if◌then◌else◌}
+use Rattle.mdb_msgs.specs.declared.command.Device.TheVariants as device
+use Rattle.mdb_msgs.specs.declared.command.ReaderUnit.TheVariants.{First, Second}
+use Rattle.mdb_msgs.specs.declared.device_set.DeviceSet.{DeviceSet}
 use Rattle.mdb_msgs.specs.declared.need.Need.{Need}
 use Rattle.mdb_msgs.specs.declared.need.Need.TheVariants.{More, Exactly, Foreign, Outside}
+use Rattle.mdb_msgs.specs.DeviceSets.{has}
 
 -- what a subcommand tells, once it is there
 abbrev pub by_subcommand : (ℕ → Need) → Option ℕ → Need
@@ -114,6 +118,21 @@ need first second =
 -- what a block that begins with these bytes needs
 abbrev pub needed : List ℕ → Need
 needed prefix = need (slice_index prefix 0) (slice_get prefix 1)
+
+-- whether a block that begins with this byte is to a device of a set
+abbrev pub is_to_one_of : DeviceSet → ℕ → Bool
+is_to_one_of set first =
+    if is_for 0x08 first then has set device.Changer
+    else if is_for 0x10 first then has set (device.Reader First)
+    else if is_for 0x30 first then has set device.Bill
+    else if is_for 0x60 first then has set (device.Reader Second)
+    else false
+
+-- The same where devices are left out: whatever is said to one of them is foreign, by its first
+-- byte.
+abbrev pub needed_without : DeviceSet → List ℕ → Need
+needed_without left_out prefix =
+    if is_to_one_of left_out (slice_index prefix 0) then Foreign else needed prefix
 
 -- the need of so many first bytes of a block tells its length, but one byte may leave that to the
 -- second

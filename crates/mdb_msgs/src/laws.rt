@@ -1,11 +1,13 @@
 //! What follows from the grammars of commands and replies alone.
 
-ghost use Rattle.std.specs.Prelude.{◌≡◌, ◌<◌, ◌+◌, ◌++◌, List, ℕ, length, All};
+ghost use Rattle.std.specs.Prelude.{◌≡◌, ◌<◌, ◌+◌, ◌++◌, List, ℕ, length, All, slice_index};
 ghost use Rattle.mdb_blocks.specs.Block.{block_of};
 ghost use Rattle.mdb_msgs.specs.declared.command.Command.{Command};
 ghost use Rattle.mdb_msgs.specs.declared.need.Need.TheVariants.{Exactly};
-ghost use Rattle.mdb_msgs.specs.Commands.{IsByte, Spells};
-ghost use Rattle.mdb_msgs.specs.Needs.{TellsLength, needed};
+ghost use Rattle.mdb_msgs.specs.declared.device_set.DeviceSet.{DeviceSet};
+ghost use Rattle.mdb_msgs.specs.Commands.{IsByte, Spells, device_of};
+ghost use Rattle.mdb_msgs.specs.DeviceSets.{has};
+ghost use Rattle.mdb_msgs.specs.Needs.{TellsLength, is_to_one_of, needed};
 ghost use Rattle.mdb_msgs.specs.Laws.{OpenIsAFront, FrontIsOpen, BlockHasOneReply, ReplyHasItsLength, DataFitsABlock, SpelledReplyIsContent, DataIsAReplyOrHasAFault, ReplyHasNoFault, BytesHaveOneFault, ReplyHasOneWriteFault, WrittenHasNoFault, ListFaultIsAWriteFault, WriteFaultIsAListFault, AnswerIsReadFromItsBytes};
 
 /// A block has at most one command.
@@ -26,6 +28,13 @@ pub fn first_bytes_tell_the_length()
     ensures { (prefix rest : List ℕ) (command : Command) →
         0 < length prefix → Spells command (prefix ++ rest) →
         TellsLength prefix (length (prefix ++ rest)) }
+{}
+
+/// The first byte of a command's block is to its device, and to no other: to a device of a set
+/// exactly where that device is one of the set.
+pub fn first_byte_tells_the_device()
+    ensures { (block : List ℕ) (command : Command) → Spells command block → (set : DeviceSet)
+        → is_to_one_of set (slice_index block 0) ≡ has set (device_of command) }
 {}
 
 /// Bytes that are as long as they need to be are those of a command.

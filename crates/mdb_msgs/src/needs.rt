@@ -1,8 +1,9 @@
 //! How many bytes a block of the controller needs, told from its first bytes.
 
 ghost use Rattle.std.specs.Prelude.{◌≡◌, ◌<◌, ◌≤◌, length};
-ghost use Rattle.mdb_msgs.specs.Needs.{bill_need, changer_need, needed, reader_need};
+ghost use Rattle.mdb_msgs.specs.Needs.{bill_need, changer_need, needed, needed_without, reader_need};
 
+use crate::device_set::DeviceSet;
 use crate::first_needs::FIRST;
 use crate::need::Need;
 
@@ -18,6 +19,20 @@ pub fn need_of(prefix: &[u8]) -> Need
     match told {
         Need::More => need_by_second(prefix),
         _ => told,
+    }
+}
+
+/// What a block that begins with these bytes needs, where devices are left out: that to one of them
+/// is foreign by its first byte, whatever comes after it (this profile).
+#[inline(always)]
+pub fn need_without(left_out: DeviceSet, prefix: &[u8]) -> Need
+    requires { 0 < length prefix.now }
+    ensures { result ≡ needed_without left_out prefix.now }
+{
+    if left_out.has_address(prefix[0]) {
+        Need::Foreign
+    } else {
+        need_of(prefix)
     }
 }
 
