@@ -12,7 +12,7 @@ use std::io::Write;
 use std::{fs, io};
 
 /// The files of cases, one for each subject.
-static FILES: [&str; 16] = [
+static FILES: [&str; 17] = [
     "rows.cases",
     "times.cases",
     "commands.cases",
@@ -27,6 +27,7 @@ static FILES: [&str; 16] = [
     "silences.cases",
     "decimals.cases",
     "show.cases",
+    "without.cases",
     "worked.cases",
     "least.cases",
 ];

@@ -15,7 +15,10 @@ use Rattle.mdb_msgs.specs.declared.command.ReaderCommand.{ReaderCommand}
 use Rattle.mdb_msgs.specs.declared.command.ReaderCommand.TheVariants as reader
 use Rattle.mdb_msgs.specs.declared.need.Need.TheVariants.{More, Foreign}
 use Rattle.mdb_msgs.specs.Commands.{HasBillFields, HasChangerFields, HasReaderFields, IsByte, IsNumber, Spells, bill_bytes, changer_bytes, command_bytes, reader_address, reader_bytes}
-use Rattle.mdb_msgs.specs.Needs.{bill_need, changer_need, is_for, needed, reader_need}
+use Rattle.mdb_msgs.specs.Needs.{bill_need, changer_need, is_for, reader_need}
+use Rattle.mdb_bus.specs.declared.scope.Scope.{Scope}
+use Rattle.mdb_bus.specs.Scopes.{needed_in}
+use Rattle.mdb_bus.proofs.Followed.{within}
 use Rattle.mdb_msgs.specs.TwoBytes.{two_bytes}
 
 -- a command has bytes
@@ -146,8 +149,8 @@ by_device first false false false true a b c d more =
     omega (arith, is)
 by_device first false false false false a b c d more = cc more
 
-pub more_low : (first : ℕ) → needed (first ∷ []) ≡ More → first < 256
-more_low first more =
+pub more_low : (scope : Scope) (first : ℕ) → needed_in scope (first ∷ []) ≡ More → first < 256
+more_low scope first more =
     by_device first (is_for 0x08 first) (is_for 0x10 first) (is_for 0x30 first) (is_for 0x60 first)
     refl refl refl refl
-    more
+    (within scope (first ∷ []) More more (λ same. cc same)).1

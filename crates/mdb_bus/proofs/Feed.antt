@@ -20,7 +20,7 @@ use Rattle.mdb_bus.specs.ActLists.{ArePieces, HasActList, Piece, Position, Quiet
 use Rattle.mdb_bus.specs.Bus.{GoesOn, Grown, StandsFor, ended_act, position_at}
 use Rattle.mdb_bus.specs.inner.Gone.{HasGone}
 use Rattle.mdb_bus.specs.LinkFaults.{IsFirstBroken, IsLinkFault, RowBreaks, Situation, asked_device, blame_of, situation_of}
-use Rattle.mdb_bus.specs.inner.Steps.{HasAdvanced, IsAt, IsEnded, IsJudged, IsReadAt, Leads, WordLeads, act_after, asked_after, levels_after_step, pieces_after, position_after}
+use Rattle.mdb_bus.specs.inner.Steps.{HasAdvanced, IsAt, IsEnded, IsJudged, IsReadAt, IsSound, Leads, WordLeads, act_after, asked_after, levels_after_step, pieces_after, position_after}
 use Rattle.mdb_bus.specs.declared.judged.Judged.{Judged}
 use Rattle.mdb_bus.specs.declared.judged.Judged.TheVariants as judged
 use Rattle.mdb_msgs.specs.declared.reply.Reply.{Reply}
@@ -29,64 +29,82 @@ use Rattle.mdb_bus.proofs.EachSteps.{leads_of, some_each}
 use Rattle.mdb_bus.proofs.Forward.{forward}
 use Rattle.mdb_bus.proofs.Verdicts.{sealed}
 use Rattle.mdb_bus.proofs.Rows.{last_push}
+use Rattle.mdb_bus.proofs.Sound.{is_sound}
+use Rattle.mdb_bus.specs.declared.scope.Scope.{Scope}
 
 -- the situation that a bus is in
 abbrev pub situation_at : Bus → Situation
-situation_at bus = record { position = position_at bus.place; last = bus.last; levels = bus.levels }
+situation_at bus = record {
+  scope = bus.scope;
+  position = position_at bus.place;
+  last = bus.last;
+  levels = bus.levels;
+}
 
 -- it is that of the pieces that the bus stands for
 pub same_situation : (bus : Bus) (pieces : List Piece) → StandsFor bus pieces
-    → situation_of pieces ≡ situation_at bus
+    → situation_of bus.scope pieces ≡ situation_at bus
 same_situation bus pieces stands =
     let make : Position → Option Event → Levels
-    → Situation = λ p l v. record { position = p; last = l; levels = v } in
+    → Situation = λ p l v. record {
+      scope = bus.scope;
+      position = p;
+      last = l;
+      levels = v;
+    } in
     ap (λ p. make p (last_of (events_of pieces)) (levels_of pieces)) stands.position
     ∙ (ap (λ l. make (position_at bus.place) l (levels_of pieces)) stands.last
     ∙ ap (λ v. make (position_at bus.place) bus.last v) stands.levels)
 
+-- and its position is sound
+pub sound_at : (bus : Bus) (pieces : List Piece) → StandsFor bus pieces
+    → IsSound bus.scope (position_at bus.place)
+sound_at bus pieces stands =
+    subst (IsSound bus.scope) stands.position (is_sound bus.scope pieces stands.in_order)
+
 -- a step belongs to the position that it leads from
-word_at : (at : Position) (from : Option Event) (levels : Levels) (to : Event) (line : Line)
+word_at : (scope : Scope) (at : Position) (from : Option Event) (levels : Levels) (to : Event) (line : Line)
     (word : ℕ) (next : Step)
-    → WordLeads at from levels to line word next → IsAt at next
-word_at at from levels to line word (step.AskByte byte) leads = tt
-word_at (InAsk bytes) from levels to Controller word (step.Ask command) leads =
-    sealed bytes word command leads.1
-word_at at from levels to line word step.Foreign leads = tt
-word_at at from levels to line word (step.Break length) leads = tt
-word_at (Asked command) from levels to line word step.Ack leads = tt
-word_at (Asked command) from levels to line word step.Nak leads = tt
-word_at (Asked command) from levels to line word (step.ReplyByte byte) leads = tt
-word_at (InReply command bytes) from levels to line word (step.ReplyByte byte) leads = tt
-word_at (InReply command bytes) from levels to Peripheral word (step.Reply reply) leads =
+    → WordLeads scope at from levels to line word next → IsAt at next
+word_at scope at from levels to line word (step.AskByte byte) leads = tt
+word_at scope (InAsk bytes) from levels to Controller word (step.Ask command) leads =
+    sealed bytes word command leads.1.spells
+word_at scope at from levels to line word step.Foreign leads = tt
+word_at scope at from levels to line word (step.Break length) leads = tt
+word_at scope (Asked command) from levels to line word step.Ack leads = tt
+word_at scope (Asked command) from levels to line word step.Nak leads = tt
+word_at scope (Asked command) from levels to line word (step.ReplyByte byte) leads = tt
+word_at scope (InReply command bytes) from levels to line word (step.ReplyByte byte) leads = tt
+word_at scope (InReply command bytes) from levels to Peripheral word (step.Reply reply) leads =
     (leads.1, leads.2)
-word_at (Replied command reply) from levels to line word step.VmcAck leads = tt
-word_at (Replied command reply) from levels to line word step.VmcNak leads = tt
-word_at (Replied command reply) from levels to line word step.VmcRet leads = tt
-word_at (InRepeat command reply words) from levels to line word step.Repeat leads = tt
-word_at (Returned command reply) from levels to Peripheral word (step.RepeatWord said) leads =
+word_at scope (Replied command reply) from levels to line word step.VmcAck leads = tt
+word_at scope (Replied command reply) from levels to line word step.VmcNak leads = tt
+word_at scope (Replied command reply) from levels to line word step.VmcRet leads = tt
+word_at scope (InRepeat command reply words) from levels to line word step.Repeat leads = tt
+word_at scope (Returned command reply) from levels to Peripheral word (step.RepeatWord said) leads =
     let P : ℕ → Type 0 = λ w. IsRepeatFront reply (w ∷ []) in subst P leads.0 leads.1
-word_at (InRepeat command reply words) from levels to Peripheral word (step.RepeatWord said) leads =
+word_at scope (InRepeat command reply words) from levels to Peripheral word (step.RepeatWord said) leads =
     let P : ℕ → Type 0 = λ w. IsRepeatFront reply (words ++ w ∷ []) in subst P leads.0 leads.1
-word_at Quiet from levels to Controller word next leads = absurd leads
-word_at Quiet from levels to Peripheral word next leads = absurd leads
-word_at (InAsk bytes) from levels to Controller word next leads = absurd leads
-word_at (InAsk bytes) from levels to Peripheral word next leads = absurd leads
-word_at (Asked command) from levels to Controller word next leads = absurd leads
-word_at (Asked command) from levels to Peripheral word next leads = absurd leads
-word_at (InReply command bytes) from levels to Controller word next leads = absurd leads
-word_at (InReply command bytes) from levels to Peripheral word next leads = absurd leads
-word_at (Replied command reply) from levels to Controller word next leads = absurd leads
-word_at (Replied command reply) from levels to Peripheral word next leads = absurd leads
-word_at (Returned command reply) from levels to Controller word next leads = absurd leads
-word_at (Returned command reply) from levels to Peripheral word next leads = absurd leads
-word_at (InRepeat command reply words) from levels to Controller word next leads = absurd leads
-word_at (InRepeat command reply words) from levels to Peripheral word next leads = absurd leads
-word_at InForeign from levels to Controller word next (inl leads) = absurd leads
-word_at InForeign from levels to Controller word next (inr leads) = absurd leads.1
-word_at InForeign from levels to Peripheral word next leads = absurd leads
+word_at scope Quiet from levels to Controller word next leads = absurd leads
+word_at scope Quiet from levels to Peripheral word next leads = absurd leads
+word_at scope (InAsk bytes) from levels to Controller word next leads = absurd leads
+word_at scope (InAsk bytes) from levels to Peripheral word next leads = absurd leads
+word_at scope (Asked command) from levels to Controller word next leads = absurd leads
+word_at scope (Asked command) from levels to Peripheral word next leads = absurd leads
+word_at scope (InReply command bytes) from levels to Controller word next leads = absurd leads
+word_at scope (InReply command bytes) from levels to Peripheral word next leads = absurd leads
+word_at scope (Replied command reply) from levels to Controller word next leads = absurd leads
+word_at scope (Replied command reply) from levels to Peripheral word next leads = absurd leads
+word_at scope (Returned command reply) from levels to Controller word next leads = absurd leads
+word_at scope (Returned command reply) from levels to Peripheral word next leads = absurd leads
+word_at scope (InRepeat command reply words) from levels to Controller word next leads = absurd leads
+word_at scope (InRepeat command reply words) from levels to Peripheral word next leads = absurd leads
+word_at scope InForeign from levels to Controller word next (inl leads) = absurd leads
+word_at scope InForeign from levels to Controller word next (inr leads) = absurd leads.1
+word_at scope InForeign from levels to Peripheral word next leads = absurd leads
 
 pub leads_at : (s : Situation) (row : Event) (next : Step) → Leads s row next → IsAt s.position next
-leads_at s (Word at line word) next leads = word_at s.position s.last s.levels (Word at line word)
+leads_at s (Word at line word) next leads = word_at s.scope s.position s.last s.levels (Word at line word)
     line word next leads
 leads_at s (Break at length) (step.Break lasted) leads = tt
 leads_at s (Break at length) next leads = absurd leads
@@ -99,13 +117,14 @@ stands_by : (old new : Bus) (pieces : List Piece) (row : Event) (next : Step) (a
 stands_by old new pieces row next act stands leads gone =
     let went : HasGone old next row new act = gone (leads_at (situation_at old) row next leads) in
     let There : Situation → Type 0 = λ s. Leads s row next in
-    let more = forward pieces row next stands.in_order
+    let more = forward old.scope pieces row next stands.in_order
     (subst There (sym (same_situation old pieces stands)) leads) in
     record {
-      longer = pieces_after pieces row next;
+      longer = pieces_after old.scope pieces row next;
       stands = record {
-        in_order = more.in_order;
-        position = more.position ∙ (ap (λ p. position_after p next) stands.position
+        in_order = subst Ordered (sym went.scope) more.in_order;
+        position = ap (λ s. position_of s (pieces_after old.scope pieces row next)) went.scope
+            ∙ more.position ∙ (ap (λ p. position_after p next) stands.position
             ∙ sym went.advanced.position);
         last = ap last_of more.rows ∙ (last_push (events_of pieces) row ∙ sym went.last);
         levels = more.levels ∙ (ap (λ l. levels_after_step l next) stands.levels ∙ sym went.levels);
@@ -116,17 +135,20 @@ stands_by old new pieces row next act stands leads gone =
       grown = subst Goes (ended stands.position went.advanced.act) more.grown;
     }
   where
-    Goes : Option Act → Type 0
-    Goes a = Grown pieces row a (pieces_after pieces row next)
+    Ordered : Scope → Type 0
+    Ordered s = ArePieces s (pieces_after old.scope pieces row next)
 
-    ended : position_of pieces ≡ position_at old.place
+    Goes : Option Act → Type 0
+    Goes a = Grown pieces row a (pieces_after old.scope pieces row next)
+
+    ended : position_of old.scope pieces ≡ position_at old.place
         → act ≡ act_after (position_at old.place) next
-        → act_after (position_of pieces) next ≡ act
+        → act_after (position_of old.scope pieces) next ≡ act
     ended position is = ap (λ p. act_after p next) position ∙ sym is
 
-    acts_same : position_of pieces ≡ position_at old.place
+    acts_same : position_of old.scope pieces ≡ position_at old.place
         → act ≡ act_after (position_at old.place) next
-        → with_act (act_after (position_of pieces) next) (acts_of pieces)
+        → with_act (act_after (position_of old.scope pieces) next) (acts_of pieces)
         ≡ with_act act (acts_of pieces)
     acts_same position ended =
         ap (λ p. with_act (act_after p next) (acts_of pieces)) position
@@ -168,7 +190,7 @@ pub fault_of : (old : Bus) (pieces : List Piece) (row : Event) (broken told : Ru
     → StandsFor old pieces
     → IsFirstBroken (situation_at old) row broken → told ≡ broken
     → blamed ≡ blame_of (position_at old.place) old.asked row broken
-    → IsLinkFault pieces row told blamed
+    → IsLinkFault old.scope pieces row told blamed
 fault_of old pieces row broken told blamed stands judged same blame =
     let first : IsFirstBroken (situation_at old) row broken = judged in
     let There : Situation → Type 0 = λ s. IsFirstBroken s row told in
@@ -177,8 +199,8 @@ fault_of old pieces row broken told blamed stands judged same blame =
       rule = subst There (sym (same_situation old pieces stands)) (subst Meant (sym same) first);
       blame = blame
           ∙ (ap (λ p. blame_of p old.asked row broken) (sym stands.position)
-          ∙ (ap (λ a. blame_of (position_of pieces) a row broken) (sym stands.asked)
-          ∙ ap (λ r. blame_of (position_of pieces) (asked_device pieces) row r) (sym same)));
+          ∙ (ap (λ a. blame_of (position_of old.scope pieces) a row broken) (sym stands.asked)
+          ∙ ap (λ r. blame_of (position_of old.scope pieces) (asked_device pieces) row r) (sym same)));
     }
 
 -- the bus after a row that ends a reply: the row goes on where the reply can be read, and else
@@ -206,22 +228,23 @@ pub read_has_fault : (old : Bus) (pieces : List Piece) (row : Event)
     → IfErr result (λ fault. IsReadAt (position_at old.place) old.levels (Err fault.rule))
     → IfErr result (λ fault. fault.blame ≡ blame_of (position_at old.place) old.asked row
     fault.rule)
-    → IfErr result (λ fault. IsLinkFault pieces row fault.rule fault.blame)
+    → IfErr result (λ fault. IsLinkFault old.scope pieces row fault.rule fault.blame)
 read_has_fault old pieces row (Ok act) stands ended read blame = tt
 read_has_fault old pieces row (Err fault) stands ended read blame =
     fault_of old pieces row fault.rule fault.rule fault.blame stands
     (read_breaks old pieces row fault.rule stands ended read) refl blame
 
 -- what is refused ends the act list
-pub fault_ends : ((pieces : List Piece) (row : Event) (broken : Rule) → ArePieces pieces
-    → RowBreaks (situation_of pieces) row broken → HasActList (events_of pieces ++ row ∷ []) → ⊥)
+pub fault_ends : ((scope : Scope) (pieces : List Piece) (row : Event) (broken : Rule)
+    → ArePieces scope pieces → RowBreaks (situation_of scope pieces) row broken
+    → HasActList scope (events_of pieces ++ row ∷ []) → ⊥)
     → (old : Bus) (pieces : List Piece) (row : Event) (result : Result Bool LinkFault)
     → StandsFor old pieces
-    → IfErr result (λ fault. IsLinkFault pieces row fault.rule fault.blame)
-    → OnErr result (HasActList (events_of pieces ++ row ∷ []) → ⊥)
+    → IfErr result (λ fault. IsLinkFault old.scope pieces row fault.rule fault.blame)
+    → OnErr result (HasActList old.scope (events_of pieces ++ row ∷ []) → ⊥)
 fault_ends law old pieces row (Ok act) stands faulty = tt
 fault_ends law old pieces row (Err fault) stands faulty =
-    λ has. law pieces row fault.rule stands.in_order faulty.rule.breaks has
+    λ has. law old.scope pieces row fault.rule stands.in_order faulty.rule.breaks has
 
 -- the act that an ask ends
 asks : (at : Position) (command : Command) → IsAt at (step.Ask command)
@@ -243,71 +266,72 @@ ended_is false act told is = absurd (cc)
 pub gone_ask : (old new : Bus) (place : Place) (row : Event) (found : Judged) (ended : Bool)
     (act : Act)
     → found ≡ judged.Ask → new.place ≡ place
-    → new.last ≡ Some row
+    → new.scope ≡ old.scope → new.last ≡ Some row
     → ((command : Command) → act ≡ acts.Ask command → new.levels ≡ levels_after command old.levels)
     → ((command : Command) → act ≡ acts.Ask command → new.asked ≡ Some (device_of command))
     → EachStep found row (λ next. IsAt (position_at old.place) next
     → HasAdvanced (position_at old.place) next (position_at place) (ended_act ended act))
     → EachStep found row (λ next. IsAt (position_at old.place) next
     → HasGone old next row new (ended_act ended act))
-gone_ask old new place row judged.Ask ended act is there last levels asked advanced = λ command at.
+gone_ask old new place row judged.Ask ended act is there scope last levels asked advanced = λ command at.
     let Led : Place → Type 0 = λ p.
     HasAdvanced (position_at old.place) (step.Ask command) (position_at p) (ended_act ended act) in
     let has = subst Led (sym there) (advanced command at) in
     let told : act ≡ acts.Ask command =
     ended_is ended act (acts.Ask command) (has.act ∙ asks (position_at old.place) command at) in
     record {
+      scope = scope;
       advanced = has;
       last = last;
       levels = levels command told;
       asked = asked command told;
     }
-gone_ask old new place row found ended act is there last levels asked advanced = absurd (cc)
+gone_ask old new place row found ended act is there scope last levels asked advanced = absurd (cc)
 
 -- a bus has gone by the foreign word or the break that its place has advanced by
 pub gone_off : (old new : Bus) (row : Event) (found : Judged) (act : Option Act)
     → (found ≡ judged.Foreign) ⊎ (found ≡ judged.Break)
-    → new.last ≡ Some row → new.levels ≡ old.levels → new.asked ≡ None
+    → new.scope ≡ old.scope → new.last ≡ Some row → new.levels ≡ old.levels → new.asked ≡ None
     → EachStep found row (λ next. IsAt (position_at old.place) next
     → HasAdvanced (position_at old.place) next (position_at new.place) act)
     → EachStep found row (λ next. IsAt (position_at old.place) next → HasGone old next row new act)
-gone_off old new row judged.Foreign act is last levels asked advanced = λ at.
-    record { advanced = advanced at; last = last; levels = levels; asked = asked }
-gone_off old new (Break start length) judged.Break act is last levels asked advanced = λ at.
-    record { advanced = advanced at; last = last; levels = levels; asked = asked }
-gone_off old new (Word at line word) judged.Break act is last levels asked advanced = tt
-gone_off old new row found act (inl is) last levels asked advanced = absurd (cc)
-gone_off old new row found act (inr is) last levels asked advanced = absurd (cc)
+gone_off old new row judged.Foreign act is scope last levels asked advanced = λ at.
+    record { scope = scope; advanced = advanced at; last = last; levels = levels; asked = asked }
+gone_off old new (Break start length) judged.Break act is scope last levels asked advanced = λ at.
+    record { scope = scope; advanced = advanced at; last = last; levels = levels; asked = asked }
+gone_off old new (Word at line word) judged.Break act is scope last levels asked advanced = tt
+gone_off old new row found act (inl is) scope last levels asked advanced = absurd (cc)
+gone_off old new row found act (inr is) scope last levels asked advanced = absurd (cc)
 
 -- a bus has gone by another step that its place has advanced by, which changes neither the levels
 -- nor the device that was asked
 pub gone_on : (old new : Bus) (row : Event) (found : Judged) (act : Option Act)
     → (found ≡ judged.Ask → ⊥) → (found ≡ judged.Foreign → ⊥) → (found ≡ judged.Break → ⊥)
-    → new.last ≡ Some row → new.levels ≡ old.levels → new.asked ≡ old.asked
+    → new.scope ≡ old.scope → new.last ≡ Some row → new.levels ≡ old.levels → new.asked ≡ old.asked
     → EachStep found row (λ next. IsAt (position_at old.place) next
     → HasAdvanced (position_at old.place) next (position_at new.place) act)
     → EachStep found row (λ next. IsAt (position_at old.place) next → HasGone old next row new act)
-gone_on old new row judged.Ask act ask foreign pause last levels asked advanced = absurd (ask refl)
-gone_on old new row judged.Foreign act ask foreign pause last levels asked advanced =
+gone_on old new row judged.Ask act ask foreign pause scope last levels asked advanced = absurd (ask refl)
+gone_on old new row judged.Foreign act ask foreign pause scope last levels asked advanced =
     absurd (foreign refl)
-gone_on old new row judged.Break act ask foreign pause last levels asked advanced =
+gone_on old new row judged.Break act ask foreign pause scope last levels asked advanced =
     absurd (pause refl)
-gone_on old new row judged.Reply act ask foreign pause last levels asked advanced = tt
-gone_on old new row judged.AskByte act ask foreign pause last levels asked advanced = λ at.
-    record { advanced = advanced at; last = last; levels = levels; asked = asked }
-gone_on old new row judged.Ack act ask foreign pause last levels asked advanced = λ at.
-    record { advanced = advanced at; last = last; levels = levels; asked = asked }
-gone_on old new row judged.Nak act ask foreign pause last levels asked advanced = λ at.
-    record { advanced = advanced at; last = last; levels = levels; asked = asked }
-gone_on old new row judged.ReplyByte act ask foreign pause last levels asked advanced = λ at.
-    record { advanced = advanced at; last = last; levels = levels; asked = asked }
-gone_on old new row judged.VmcAck act ask foreign pause last levels asked advanced = λ at.
-    record { advanced = advanced at; last = last; levels = levels; asked = asked }
-gone_on old new row judged.VmcNak act ask foreign pause last levels asked advanced = λ at.
-    record { advanced = advanced at; last = last; levels = levels; asked = asked }
-gone_on old new row judged.VmcRet act ask foreign pause last levels asked advanced = λ at.
-    record { advanced = advanced at; last = last; levels = levels; asked = asked }
-gone_on old new row judged.RepeatWord act ask foreign pause last levels asked advanced = λ at.
-    record { advanced = advanced at; last = last; levels = levels; asked = asked }
-gone_on old new row judged.Repeat act ask foreign pause last levels asked advanced = λ at.
-    record { advanced = advanced at; last = last; levels = levels; asked = asked }
+gone_on old new row judged.Reply act ask foreign pause scope last levels asked advanced = tt
+gone_on old new row judged.AskByte act ask foreign pause scope last levels asked advanced = λ at.
+    record { scope = scope; advanced = advanced at; last = last; levels = levels; asked = asked }
+gone_on old new row judged.Ack act ask foreign pause scope last levels asked advanced = λ at.
+    record { scope = scope; advanced = advanced at; last = last; levels = levels; asked = asked }
+gone_on old new row judged.Nak act ask foreign pause scope last levels asked advanced = λ at.
+    record { scope = scope; advanced = advanced at; last = last; levels = levels; asked = asked }
+gone_on old new row judged.ReplyByte act ask foreign pause scope last levels asked advanced = λ at.
+    record { scope = scope; advanced = advanced at; last = last; levels = levels; asked = asked }
+gone_on old new row judged.VmcAck act ask foreign pause scope last levels asked advanced = λ at.
+    record { scope = scope; advanced = advanced at; last = last; levels = levels; asked = asked }
+gone_on old new row judged.VmcNak act ask foreign pause scope last levels asked advanced = λ at.
+    record { scope = scope; advanced = advanced at; last = last; levels = levels; asked = asked }
+gone_on old new row judged.VmcRet act ask foreign pause scope last levels asked advanced = λ at.
+    record { scope = scope; advanced = advanced at; last = last; levels = levels; asked = asked }
+gone_on old new row judged.RepeatWord act ask foreign pause scope last levels asked advanced = λ at.
+    record { scope = scope; advanced = advanced at; last = last; levels = levels; asked = asked }
+gone_on old new row judged.Repeat act ask foreign pause scope last levels asked advanced = λ at.
+    record { scope = scope; advanced = advanced at; last = last; levels = levels; asked = asked }

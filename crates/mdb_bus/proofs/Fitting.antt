@@ -11,6 +11,7 @@ use Rattle.mdb_bus.specs.ActLists.{Piece, Whole, ArePieces, MayCome, MayStand, Q
 use Rattle.mdb_bus.specs.Acts.{IsAck}
 use Rattle.mdb_bus.specs.Wish.{Wish, HearsFreeAsWished, HearsAsWished, IsFree, nothing_told}
 use Rattle.mdb_bus.specs.Loss.{AllArrive, FitsNext, Heard, Hearing, IsAsTold, IsHeard, Loss, LossFits, Open, Unheard, told_by, told_by_block}
+use Rattle.mdb_bus.specs.declared.scope.Scope.{Scope}
 
 -- the first of two tests or the second
 abbrev pick : Bool → Bool → Bool → Bool
@@ -19,8 +20,8 @@ pick false first second = second
 
 -- whether the rows of an act are damaged: as it is told, and where nothing is told, as it is wished
 abbrev is_damaged : Hearing → Bool → Bool
-is_damaged Heard wished = false
-is_damaged Unheard wished = true
+is_damaged Heard as_wished = false
+is_damaged Unheard as_wished = true
 is_damaged Open true = false
 is_damaged Open false = true
 
@@ -127,11 +128,11 @@ is_told : (hearing : Hearing) (wished : Bool) (loss : Loss) (act : Act) (before 
     → 1 ≤ count
     → AreAll loss before count (is_damaged hearing wished) → IsSparing hearing act
     → IsAsTold hearing (IsHeard loss act before count)
-is_told Heard wished loss act before count some rows sparing = heard_where loss act before count
+is_told Heard as_wished loss act before count some rows sparing = heard_where loss act before count
     rows
-is_told Unheard wished loss act before count some rows sparing = λ heard.
+is_told Unheard as_wished loss act before count some rows sparing = λ heard.
     none_arrive loss before count some rows (unheard_arrives act loss before count sparing heard)
-is_told Open wished loss act before count some rows sparing = tt
+is_told Open as_wished loss act before count some rows sparing = tt
 
 -- and where it is free, as it is wished
 arrive_wished : (hearing : Hearing) (wished : Bool) (loss : Loss) (before count : ℕ) → 1 ≤ count
@@ -163,74 +164,74 @@ nothing_sparing : (pieces : List Piece) → TellsSparingly nothing_told pieces
 nothing_sparing (Whole act events ∷ pieces) = λ quiet. refl
 nothing_sparing _ = tt
 
-next_sparing : (pieces : List Piece) (next : Act) (events : List Event)
-    → MayStand pieces (Whole next events)
+next_sparing : (scope : Scope) (pieces : List Piece) (next : Act) (events : List Event)
+    → MayStand scope pieces (Whole next events)
     → TellsSparingly (told_by next) pieces
-next_sparing (Whole act rows ∷ pieces) next events stands =
+next_sparing scope (Whole act rows ∷ pieces) next events stands =
     sparing_told next events act _ stands.first stands.comes
-next_sparing _ next events stands = tt
+next_sparing scope _ next events stands = tt
 
 -- a piece has a row
-has_row : (pieces : List Piece) (act : Act) (events : List Event)
-    → MayStand pieces (Whole act events)
+has_row : (scope : Scope) (pieces : List Piece) (act : Act) (events : List Event)
+    → MayStand scope pieces (Whole act events)
     → 1 ≤ length events
-has_row pieces act events stands = omega (arith, ap length stands.begins)
+has_row scope pieces act events stands = omega (arith, ap length stands.begins)
 
 -- the loss of the newest piece is as the act after it tells
-fits_next : (wish : Wish) (loss : Loss) (pieces : List Piece) (next : Act)
-    → Agree (damage wish pieces (told_by next)) loss (length (events_of pieces)) → ArePieces pieces
+fits_next : (scope : Scope) (wish : Wish) (loss : Loss) (pieces : List Piece) (next : Act)
+    → Agree (damage wish pieces (told_by next)) loss (length (events_of pieces)) → ArePieces scope pieces
     → TellsSparingly (told_by next) pieces → FitsNext loss pieces next
-fits_next wish loss (Whole act rows ∷ pieces) next agree are sparing =
+fits_next scope wish loss (Whole act rows ∷ pieces) next agree are sparing =
     let before = length (events_of pieces) in
     is_told (told_by next act) (wish before) loss act before (length rows)
-    (has_row pieces act rows are.1)
+    (has_row scope pieces act rows are.1)
     (agree_late (damage wish pieces (told_by act)) loss _ (events_of pieces) rows agree) sparing
-fits_next wish loss _ next agree are sparing = tt
+fits_next scope wish loss _ next agree are sparing = tt
 
 -- the loss fits, whatever is told of the newest act
-fits : (wish : Wish) (loss : Loss) (pieces : List Piece) (tells : Act → Hearing)
-    → Agree (damage wish pieces tells) loss (length (events_of pieces)) → ArePieces pieces
+fits : (scope : Scope) (wish : Wish) (loss : Loss) (pieces : List Piece) (tells : Act → Hearing)
+    → Agree (damage wish pieces tells) loss (length (events_of pieces)) → ArePieces scope pieces
     → LossFits loss pieces
-fits wish loss [] tells agree are = tt
-fits wish loss (Whole act events ∷ pieces) tells agree are =
+fits scope wish loss [] tells agree are = tt
+fits scope wish loss (Whole act events ∷ pieces) tells agree are =
     let early = agree_early (damage wish pieces (told_by act)) loss _ (events_of pieces) events
     agree in (
-      fits_next wish loss pieces act early are.2 (next_sparing pieces act events are.1),
-      fits wish loss pieces (told_by act) early are.2,
+      fits_next scope wish loss pieces act early are.2 (next_sparing scope pieces act events are.1),
+      fits scope wish loss pieces (told_by act) early are.2,
     )
-fits wish loss (piece ∷ pieces) tells agree are =
-    fits wish loss pieces nothing_told
+fits scope wish loss (piece ∷ pieces) tells agree are =
+    fits scope wish loss pieces nothing_told
     (agree_before (damage wish pieces nothing_told) loss (events_of pieces) (piece_events piece)
     agree) are.2
 
 -- the free acts are heard as wished
-wished : (wish : Wish) (loss : Loss) (pieces : List Piece) (tells : Act → Hearing)
-    → Agree (damage wish pieces tells) loss (length (events_of pieces)) → ArePieces pieces
+wished : (scope : Scope) (wish : Wish) (loss : Loss) (pieces : List Piece) (tells : Act → Hearing)
+    → Agree (damage wish pieces tells) loss (length (events_of pieces)) → ArePieces scope pieces
     → TellsSparingly tells pieces → HearsFreeAsWished loss wish tells pieces
-wished wish loss [] tells agree are sparing = tt
-wished wish loss (Whole act events ∷ pieces) tells agree are sparing =
+wished scope wish loss [] tells agree are sparing = tt
+wished scope wish loss (Whole act events ∷ pieces) tells agree are sparing =
     let before = length (events_of pieces) in
     let inner : Loss = damage wish pieces (told_by act) in (
       is_wished (tells act) (wish before) loss act before (length events)
-          (has_row pieces act events are.1)
+          (has_row scope pieces act events are.1)
           (agree_late inner loss _ (events_of pieces) events agree) sparing,
-      wished wish loss pieces (told_by act) (agree_early inner loss _ (events_of pieces) events
+      wished scope wish loss pieces (told_by act) (agree_early inner loss _ (events_of pieces) events
           agree) are.2
-          (next_sparing pieces act events are.1),
+          (next_sparing scope pieces act events are.1),
     )
-wished wish loss (piece ∷ pieces) tells agree are sparing =
-    wished wish loss pieces nothing_told
+wished scope wish loss (piece ∷ pieces) tells agree are sparing =
+    wished scope wish loss pieces nothing_told
     (agree_before (damage wish pieces nothing_told) loss (events_of pieces) (piece_events piece)
     agree) are.2
     (nothing_sparing pieces)
 
-pub fitting : (pieces : List Piece) → ArePieces pieces → (wish : Wish)
+pub fitting : (scope : Scope) (pieces : List Piece) → ArePieces scope pieces → (wish : Wish)
     → (loss : Loss) × LossFits loss pieces × HearsFreeAsWished loss wish nothing_told pieces
-fitting pieces are wish =
+fitting scope pieces are wish =
     let loss : Loss = damage wish pieces nothing_told in (
       loss,
-      fits wish loss pieces nothing_told (λ row h. refl) are,
-      wished wish loss pieces nothing_told (λ row h. refl) are (nothing_sparing pieces),
+      fits scope wish loss pieces nothing_told (λ row h. refl) are,
+      wished scope wish loss pieces nothing_told (λ row h. refl) are (nothing_sparing pieces),
     )
 
 -- an ACK is free

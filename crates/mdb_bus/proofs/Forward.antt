@@ -9,45 +9,49 @@ use Rattle.mdb_words.specs.declared.word.Line.TheVariants.{Controller, Periphera
 use Rattle.mdb_blocks.specs.Block.{block_of, controller_words, peripheral_words}
 use Rattle.mdb_msgs.specs.declared.command.Command.{Command}
 use Rattle.mdb_msgs.specs.declared.reply.Reply.{Reply}
-use Rattle.mdb_msgs.specs.Commands.{IsByte, Spells, command_bytes}
+use Rattle.mdb_msgs.specs.Commands.{IsByte, command_bytes}
 use Rattle.mdb_bus.specs.declared.act.Act.{Act}
 use Rattle.mdb_bus.specs.declared.act.Act.TheVariants as acts
 use Rattle.mdb_bus.specs.inner.Step.{Step}
 use Rattle.mdb_bus.specs.inner.Step as step
 use Rattle.mdb_bus.specs.Acts.{Say}
-use Rattle.mdb_bus.specs.ActLists.{Piece, Whole, AskTail, ReplyTail, RepeatTail, Position, Quiet, InAsk, Asked, InReply, Replied, Returned, InRepeat, InForeign, ArePieces, AreSpaced, InTime, IsPiece, IsReplyFront, IsSaid, IsTail, MayCome, MayStand, PieceFitsLevels, act_in, acts_of, events_of, last_of, left_open, levels_of, piece_events, position_of, with_act}
+use Rattle.mdb_bus.specs.ActLists.{Piece, Whole, AskTail, ReplyTail, RepeatTail, Position, Quiet, InAsk, Asked, InReply, Replied, Returned, InRepeat, InForeign, ArePieces, AreSpaced, InTime, IsPiece, IsReplyFront, IsSaid, IsTail, MayCome, MayStand, PieceFitsLevels, act_in, acts_of, events_of, first_position, last_of, left_open, levels_of, piece_events, position_of, with_act}
 use Rattle.mdb_bus.specs.Bus.{Grown}
 use Rattle.mdb_bus.specs.LinkFaults.{asked_device, situation_of}
 use Rattle.mdb_bus.specs.inner.Steps.{Answers, AnswersReply, BeginsRepeat, GoesOnAsking, GoesOnRepeating, GoesOnReplying, Leads, Opens, WordLeads, act_after, asked_after, grown, levels_after_step, piece_after, pieces_after, position_after}
 use Rattle.mdb_bus.proofs.Rows.{begins_block, say_byte, say_sum, say_word, spaced_more}
+use Rattle.mdb_bus.specs.Scopes.{Asks}
+use Rattle.mdb_bus.specs.declared.scope.Beginning.{Beginning}
+use Rattle.mdb_bus.specs.declared.scope.Beginning.TheVariants.{PowerOn}
+use Rattle.mdb_bus.specs.declared.scope.Scope.{Scope}
 
 -- what a step makes of pieces
-pub record Extended (pieces : List Piece) (row : Event) (next : Step) : Type 0 where
-  pub in_order : ArePieces (pieces_after pieces row next)
-  pub rows : events_of (pieces_after pieces row next) ≡ events_of pieces ++ row ∷ []
-  pub acts : acts_of (pieces_after pieces row next) ≡ with_act (act_after (position_of pieces) next)
+pub record Extended (scope : Scope) (pieces : List Piece) (row : Event) (next : Step) : Type 0 where
+  pub in_order : ArePieces scope (pieces_after scope pieces row next)
+  pub rows : events_of (pieces_after scope pieces row next) ≡ events_of pieces ++ row ∷ []
+  pub acts : acts_of (pieces_after scope pieces row next) ≡ with_act (act_after (position_of scope pieces) next)
       (acts_of pieces)
-  pub position : position_of (pieces_after pieces row next) ≡ position_after (position_of pieces)
+  pub position : position_of scope (pieces_after scope pieces row next) ≡ position_after (position_of scope pieces)
       next
-  pub levels : levels_of (pieces_after pieces row next) ≡ levels_after_step (levels_of pieces) next
-  pub asked : asked_device (pieces_after pieces row next) ≡ asked_after (asked_device pieces) next
-  pub grown : Grown pieces row (act_after (position_of pieces) next) (pieces_after pieces row next)
+  pub levels : levels_of (pieces_after scope pieces row next) ≡ levels_after_step (levels_of pieces) next
+  pub asked : asked_device (pieces_after scope pieces row next) ≡ asked_after (asked_device pieces) next
+  pub grown : Grown pieces row (act_after (position_of scope pieces) next) (pieces_after scope pieces row next)
 
 -- a step and the piece that it adds agree on what they leave
-record Adds (next : Step) (piece : List Event → Piece) : Type 0 where
+record Adds (scope : Scope) (next : Step) (piece : List Event → Piece) : Type 0 where
   rows : (events : List Event) → piece_events (piece events) ≡ events
   acts : (events : List Event) (pieces : List Piece)
       → acts_of (piece events ∷ pieces) ≡ with_act (act_in (piece [])) (acts_of pieces)
   act : (events : List Event) → act_in (piece events) ≡ act_in (piece [])
   position : (events : List Event) (pieces : List Piece)
-      → position_of (piece events ∷ pieces) ≡ position_of (piece [] ∷ [])
+      → position_of scope (piece events ∷ pieces) ≡ position_of scope (piece [] ∷ [])
   levels : (events : List Event) (pieces : List Piece)
       → levels_of (piece events ∷ pieces) ≡ levels_after_step (levels_of pieces) next
   asked : (events : List Event) (pieces : List Piece)
       → asked_device (piece events ∷ pieces) ≡ asked_after (asked_device pieces) next
 
-adds_ask_byte : (byte : ℕ) (bytes : List ℕ) → Adds (step.AskByte byte) (AskTail bytes)
-adds_ask_byte byte bytes = record {
+adds_ask_byte : (scope : Scope) (byte : ℕ) (bytes : List ℕ) → Adds scope (step.AskByte byte) (AskTail bytes)
+adds_ask_byte scope byte bytes = record {
   rows = λ e. refl;
   acts = λ e p. refl;
   act = λ e. refl;
@@ -56,8 +60,8 @@ adds_ask_byte byte bytes = record {
   asked = λ e p. refl;
 }
 
-adds_ask : (command : Command) → Adds (step.Ask command) (Whole (acts.Ask command))
-adds_ask command = record {
+adds_ask : (scope : Scope) (command : Command) → Adds scope (step.Ask command) (Whole (acts.Ask command))
+adds_ask scope command = record {
   rows = λ e. refl;
   acts = λ e p. refl;
   act = λ e. refl;
@@ -66,8 +70,8 @@ adds_ask command = record {
   asked = λ e p. refl;
 }
 
-adds_foreign : Adds step.Foreign (Whole acts.Foreign)
-adds_foreign = record {
+adds_foreign : (scope : Scope) → Adds scope step.Foreign (Whole acts.Foreign)
+adds_foreign scope = record {
   rows = λ e. refl;
   acts = λ e p. refl;
   act = λ e. refl;
@@ -76,8 +80,8 @@ adds_foreign = record {
   asked = λ e p. refl;
 }
 
-adds_ack : (command : Command) → Adds step.Ack (Whole (acts.Ack command))
-adds_ack command = record {
+adds_ack : (scope : Scope) (command : Command) → Adds scope step.Ack (Whole (acts.Ack command))
+adds_ack scope command = record {
   rows = λ e. refl;
   acts = λ e p. refl;
   act = λ e. refl;
@@ -86,8 +90,8 @@ adds_ack command = record {
   asked = λ e p. refl;
 }
 
-adds_nak : (command : Command) → Adds step.Nak (Whole (acts.Nak command))
-adds_nak command = record {
+adds_nak : (scope : Scope) (command : Command) → Adds scope step.Nak (Whole (acts.Nak command))
+adds_nak scope command = record {
   rows = λ e. refl;
   acts = λ e p. refl;
   act = λ e. refl;
@@ -96,9 +100,9 @@ adds_nak command = record {
   asked = λ e p. refl;
 }
 
-adds_reply_byte : (command : Command) (byte : ℕ) (bytes : List ℕ)
-    → Adds (step.ReplyByte byte) (ReplyTail command bytes)
-adds_reply_byte command byte bytes = record {
+adds_reply_byte : (scope : Scope) (command : Command) (byte : ℕ) (bytes : List ℕ)
+    → Adds scope (step.ReplyByte byte) (ReplyTail command bytes)
+adds_reply_byte scope command byte bytes = record {
   rows = λ e. refl;
   acts = λ e p. refl;
   act = λ e. refl;
@@ -107,9 +111,9 @@ adds_reply_byte command byte bytes = record {
   asked = λ e p. refl;
 }
 
-adds_reply : (command : Command) (reply : Reply)
-    → Adds (step.Reply reply) (Whole (acts.Reply command reply))
-adds_reply command reply = record {
+adds_reply : (scope : Scope) (command : Command) (reply : Reply)
+    → Adds scope (step.Reply reply) (Whole (acts.Reply command reply))
+adds_reply scope command reply = record {
   rows = λ e. refl;
   acts = λ e p. refl;
   act = λ e. refl;
@@ -118,9 +122,9 @@ adds_reply command reply = record {
   asked = λ e p. refl;
 }
 
-adds_vmc_ack : (command : Command) (reply : Reply)
-    → Adds step.VmcAck (Whole (acts.VmcAck command reply))
-adds_vmc_ack command reply = record {
+adds_vmc_ack : (scope : Scope) (command : Command) (reply : Reply)
+    → Adds scope step.VmcAck (Whole (acts.VmcAck command reply))
+adds_vmc_ack scope command reply = record {
   rows = λ e. refl;
   acts = λ e p. refl;
   act = λ e. refl;
@@ -129,9 +133,9 @@ adds_vmc_ack command reply = record {
   asked = λ e p. refl;
 }
 
-adds_vmc_nak : (command : Command) (reply : Reply)
-    → Adds step.VmcNak (Whole (acts.VmcNak command reply))
-adds_vmc_nak command reply = record {
+adds_vmc_nak : (scope : Scope) (command : Command) (reply : Reply)
+    → Adds scope step.VmcNak (Whole (acts.VmcNak command reply))
+adds_vmc_nak scope command reply = record {
   rows = λ e. refl;
   acts = λ e p. refl;
   act = λ e. refl;
@@ -140,9 +144,9 @@ adds_vmc_nak command reply = record {
   asked = λ e p. refl;
 }
 
-adds_vmc_ret : (command : Command) (reply : Reply)
-    → Adds step.VmcRet (Whole (acts.VmcRet command reply))
-adds_vmc_ret command reply = record {
+adds_vmc_ret : (scope : Scope) (command : Command) (reply : Reply)
+    → Adds scope step.VmcRet (Whole (acts.VmcRet command reply))
+adds_vmc_ret scope command reply = record {
   rows = λ e. refl;
   acts = λ e p. refl;
   act = λ e. refl;
@@ -151,9 +155,9 @@ adds_vmc_ret command reply = record {
   asked = λ e p. refl;
 }
 
-adds_repeat_word : (command : Command) (reply : Reply) (word : ℕ) (words : List ℕ)
-    → Adds (step.RepeatWord word) (RepeatTail command reply words)
-adds_repeat_word command reply word words = record {
+adds_repeat_word : (scope : Scope) (command : Command) (reply : Reply) (word : ℕ) (words : List ℕ)
+    → Adds scope (step.RepeatWord word) (RepeatTail command reply words)
+adds_repeat_word scope command reply word words = record {
   rows = λ e. refl;
   acts = λ e p. refl;
   act = λ e. refl;
@@ -162,9 +166,9 @@ adds_repeat_word command reply word words = record {
   asked = λ e p. refl;
 }
 
-adds_repeat : (command : Command) (reply : Reply)
-    → Adds step.Repeat (Whole (acts.Repeat command reply))
-adds_repeat command reply = record {
+adds_repeat : (scope : Scope) (command : Command) (reply : Reply)
+    → Adds scope step.Repeat (Whole (acts.Repeat command reply))
+adds_repeat scope command reply = record {
   rows = λ e. refl;
   acts = λ e p. refl;
   act = λ e. refl;
@@ -173,8 +177,8 @@ adds_repeat command reply = record {
   asked = λ e p. refl;
 }
 
-adds_break : (length : ℕ) → Adds (step.Break length) (Whole (acts.Break length))
-adds_break length = record {
+adds_break : (scope : Scope) (length : ℕ) → Adds scope (step.Break length) (Whole (acts.Break length))
+adds_break scope length = record {
   rows = λ e. refl;
   acts = λ e p. refl;
   act = λ e. refl;
@@ -190,28 +194,28 @@ GoesOnFromPieces pieces begun rest =
     ⊎ ((tail : Piece) × IsTail tail × (piece_events tail ≡ begun) × (pieces ≡ tail ∷ rest))
 
 -- pieces that a step leads to, as they stand, are what it makes of the pieces before it
-extended : (pieces rest : List Piece) (begun events : List Event) (row : Event) (next : Step)
+extended : (scope : Scope) (pieces rest : List Piece) (begun events : List Event) (row : Event) (next : Step)
     (piece : List Event → Piece)
-    → Adds next piece → piece_after (position_of pieces) next ≡ piece
-    → pieces_after pieces row next ≡ piece events ∷ rest → ArePieces (piece events ∷ rest)
+    → Adds scope next piece → piece_after (position_of scope pieces) next ≡ piece
+    → pieces_after scope pieces row next ≡ piece events ∷ rest → ArePieces scope (piece events ∷ rest)
     → events_of rest ++ events ≡ events_of pieces ++ row ∷ [] → acts_of pieces ≡ acts_of rest
     → levels_of pieces ≡ levels_of rest → asked_device pieces ≡ asked_device rest
-    → events ≡ begun ++ row ∷ [] → GoesOnFromPieces pieces begun rest → Extended pieces row next
-extended pieces rest begun events row next piece adds added made are rows same_acts same_levels
+    → events ≡ begun ++ row ∷ [] → GoesOnFromPieces pieces begun rest → Extended scope pieces row next
+extended scope pieces rest begun events row next piece adds added made are rows same_acts same_levels
     same_asked begins from =
-    let Right : List Piece → Type 0 = λ ps. ArePieces ps in
-    let act : act_in (piece []) ≡ act_after (position_of pieces) next =
+    let Right : List Piece → Type 0 = λ ps. ArePieces scope ps in
+    let act : act_in (piece []) ≡ act_after (position_of scope pieces) next =
     ap (λ (p : List Event → Piece). act_in (p [])) (sym added) in
-    let acts : acts_of (piece events ∷ rest) ≡ with_act (act_after (position_of pieces) next)
+    let acts : acts_of (piece events ∷ rest) ≡ with_act (act_after (position_of scope pieces) next)
     (acts_of pieces) =
     adds.acts events rest ∙ (ap (λ a. with_act a (acts_of rest)) act
-    ∙ ap (λ more. with_act (act_after (position_of pieces) next) more) (sym same_acts)) in
+    ∙ ap (λ more. with_act (act_after (position_of scope pieces) next) more) (sym same_acts)) in
     record {
       in_order = subst Right (sym made) are;
       rows = ap events_of made ∙ (ap (λ es. events_of rest ++ es) (adds.rows events) ∙ rows);
       acts = ap acts_of made ∙ acts;
-      position = ap position_of made
-          ∙ (adds.position events rest ∙ ap (λ (p : List Event → Piece). position_of (p [] ∷ []))
+      position = ap (position_of scope) made
+          ∙ (adds.position events rest ∙ ap (λ (p : List Event → Piece). (position_of scope) (p [] ∷ []))
           (sym added));
       levels = ap levels_of made
           ∙ (adds.levels events rest ∙ ap (λ ls. levels_after_step ls next) (sym same_levels));
@@ -229,17 +233,17 @@ extended pieces rest begun events row next piece adds added made are rows same_a
     }
 
 -- a piece of one event after pieces
-fresh : (pieces : List Piece) (row : Event) (next : Step) (piece : List Event → Piece)
-    → Adds next piece → piece_after (position_of pieces) next ≡ piece
-    → pieces_after pieces row next ≡ piece (row ∷ []) ∷ pieces → ArePieces pieces
-    → IsSaid (piece (row ∷ []))
-    → MayCome (piece (row ∷ [])) (position_of pieces) (last_of (events_of pieces)) row
-    → PieceFitsLevels (levels_of pieces) (piece (row ∷ [])) → Extended pieces row next
-fresh pieces row next piece adds added made are said comes levels =
+fresh : (scope : Scope) (pieces : List Piece) (row : Event) (next : Step) (piece : List Event → Piece)
+    → Adds scope next piece → piece_after (position_of scope pieces) next ≡ piece
+    → pieces_after scope pieces row next ≡ piece (row ∷ []) ∷ pieces → ArePieces scope pieces
+    → IsSaid scope (piece (row ∷ []))
+    → MayCome (piece (row ∷ [])) (position_of scope pieces) (last_of (events_of pieces)) row
+    → PieceFitsLevels (levels_of pieces) (piece (row ∷ [])) → Extended scope pieces row next
+fresh scope pieces row next piece adds added made are said comes levels =
     let Spaced : List Event → Type 0 = λ es. AreSpaced es in
-    let right : IsPiece (piece (row ∷ [])) =
+    let right : IsPiece scope (piece (row ∷ [])) =
     record { said = said; spaced = subst Spaced (sym (adds.rows (row ∷ []))) tt } in
-    let stands : MayStand pieces (piece (row ∷ [])) =
+    let stands : MayStand scope pieces (piece (row ∷ [])) =
     record {
       first = row;
       others = [];
@@ -247,7 +251,7 @@ fresh pieces row next piece adds added made are said comes levels =
       comes = comes;
       levels = levels;
     } in
-    extended pieces pieces [] (row ∷ []) row next piece adds added made (right, stands, are) refl
+    extended scope pieces pieces [] (row ∷ []) row next piece adds added made (right, stands, are) refl
     refl refl refl
     refl (inl (refl, refl))
 
@@ -259,19 +263,19 @@ record HasNoEffect (tail : Piece) : Type 0 where
   asked : (pieces : List Piece) → asked_device (tail ∷ pieces) ≡ asked_device pieces
 
 -- a tail at the head goes on, or ends
-longer : (tail : Piece) (pieces : List Piece) (row : Event) (next : Step) (piece : List Event
+longer : (scope : Scope) (tail : Piece) (pieces : List Piece) (row : Event) (next : Step) (piece : List Event
     → Piece)
-    → HasNoEffect tail → Adds next piece → piece_after (position_of (tail ∷ pieces)) next ≡ piece
-    → pieces_after (tail ∷ pieces) row next ≡ piece (piece_events tail ++ row ∷ []) ∷ pieces
-    → ArePieces (tail ∷ pieces) → IsSaid (piece (piece_events tail ++ row ∷ []))
+    → HasNoEffect tail → Adds scope next piece → piece_after (position_of scope (tail ∷ pieces)) next ≡ piece
+    → pieces_after scope (tail ∷ pieces) row next ≡ piece (piece_events tail ++ row ∷ []) ∷ pieces
+    → ArePieces scope (tail ∷ pieces) → IsSaid scope (piece (piece_events tail ++ row ∷ []))
     → ((first : Event) (others : List Event) → piece_events tail ≡ first ∷ others
-    → MayCome tail (position_of pieces) (last_of (events_of pieces)) first
-    → MayCome (piece (piece_events tail ++ row ∷ [])) (position_of pieces)
+    → MayCome tail (position_of scope pieces) (last_of (events_of pieces)) first
+    → MayCome (piece (piece_events tail ++ row ∷ [])) (position_of scope pieces)
     (last_of (events_of pieces)) first)
     → PieceFitsLevels (levels_of pieces) (piece (piece_events tail ++ row ∷ []))
     → InTime BLOCK_GAP_MAX (last_of (events_of (tail ∷ pieces))) row
-    → Extended (tail ∷ pieces) row next
-longer tail pieces row next piece is_tail adds added made are said comes levels gap =
+    → Extended scope (tail ∷ pieces) row next
+longer scope tail pieces row next piece is_tail adds added made are said comes levels gap =
     let stood = are.1 in
     let old = piece_events tail in
     let Timed : List Event → Type 0 = λ es. InTime BLOCK_GAP_MAX (last_of (events_of pieces ++ es))
@@ -282,16 +286,16 @@ longer tail pieces row next piece is_tail adds added made are said comes levels 
     (spaced_more (events_of pieces) stood.first stood.others row
     (subst Spaced stood.begins are.0.spaced)
     (subst Timed stood.begins gap)) in
-    let right : IsPiece (piece (old ++ row ∷ [])) =
+    let right : IsPiece scope (piece (old ++ row ∷ [])) =
     record { said = said; spaced = subst Spaced (sym (adds.rows (old ++ row ∷ []))) more } in
-    let stands : MayStand pieces (piece (old ++ row ∷ [])) = record {
+    let stands : MayStand scope pieces (piece (old ++ row ∷ [])) = record {
       first = stood.first;
       others = stood.others ++ row ∷ [];
       begins = adds.rows (old ++ row ∷ []) ∙ ap (λ es. es ++ row ∷ []) stood.begins;
       comes = comes stood.first stood.others stood.begins stood.comes;
       levels = levels;
     } in
-    extended (tail ∷ pieces) pieces old (old ++ row ∷ []) row next piece adds added made
+    extended scope (tail ∷ pieces) pieces old (old ++ row ∷ []) row next piece adds added made
     (right, stands, are.2)
     (sym (append_assoc (events_of pieces) old (row ∷ []))) (is_tail.acts pieces)
     (is_tail.levels pieces)
@@ -308,6 +312,10 @@ IsFree _ = Unit {0}
 free : (act : Act) → IsFree (left_open act)
 free (acts.Ask command) = tt
 free act = tt
+
+-- nor does a recording begin in one
+first_free : (begins : Beginning) → IsFree (first_position begins)
+first_free PowerOn = tt
 
 -- what opens a block at such a position
 asks : (position : Position) (byte : ℕ) → IsFree position
@@ -331,79 +339,79 @@ AreClosed pieces = (row : Event) (piece : List Event → Piece)
     → grown pieces row piece ≡ piece (row ∷ []) ∷ pieces
 
 -- a marked word of the controller begins a block
-opens : (pieces : List Piece) (at word : ℕ) (next : Step) → ArePieces pieces → AreClosed pieces
-    → IsFree (position_of pieces)
-    → Opens (position_of pieces) (last_of (events_of pieces)) (Word at Controller word) word next
-    → Extended pieces (Word at Controller word) next
-opens pieces at word (step.AskByte byte) are closed is leads =
+opens : (scope : Scope) (pieces : List Piece) (at word : ℕ) (next : Step) → ArePieces scope pieces → AreClosed pieces
+    → IsFree (position_of scope pieces)
+    → Opens scope (position_of scope pieces) (last_of (events_of pieces)) (Word at Controller word) word next
+    → Extended scope pieces (Word at Controller word) next
+opens scope pieces at word (step.AskByte byte) are closed is leads =
     let row = Word at Controller word in
-    let added = asks (position_of pieces) byte is in
-    let made : pieces_after pieces row (step.AskByte byte) ≡ AskTail (byte ∷ []) (row ∷ [])
+    let added = asks (position_of scope pieces) byte is in
+    let made : pieces_after scope pieces row (step.AskByte byte) ≡ AskTail (byte ∷ []) (row ∷ [])
     ∷ pieces =
-    closed row (piece_after (position_of pieces) (step.AskByte byte))
+    closed row (piece_after (position_of scope pieces) (step.AskByte byte))
     ∙ ap (λ (p : List Event → Piece). p (row ∷ []) ∷ pieces) added in
     let says : Say Controller ((256 + byte) ∷ []) (row ∷ []) =
     ap (λ w. Some (Controller, w) ∷ []) leads.0 in
-    fresh pieces row (step.AskByte byte) (AskTail (byte ∷ [])) (adds_ask_byte byte (byte ∷ []))
+    fresh scope pieces row (step.AskByte byte) (AskTail (byte ∷ [])) (adds_ask_byte scope byte (byte ∷ []))
     added made are
     (leads.1, says) leads.2 tt
-opens pieces at word step.Foreign are closed is leads =
+opens scope pieces at word step.Foreign are closed is leads =
     let row = Word at Controller word in
     let byte = leads.0 in
-    let added = foreign_after (position_of pieces) in
-    let made : pieces_after pieces row step.Foreign ≡ Whole acts.Foreign (row ∷ []) ∷ pieces =
-    closed row (piece_after (position_of pieces) step.Foreign)
+    let added = foreign_after (position_of scope pieces) in
+    let made : pieces_after scope pieces row step.Foreign ≡ Whole acts.Foreign (row ∷ []) ∷ pieces =
+    closed row (piece_after (position_of scope pieces) step.Foreign)
     ∙ ap (λ (p : List Event → Piece). p (row ∷ []) ∷ pieces) added in
     let says : Say Controller ((256 + byte) ∷ []) (row ∷ []) =
     ap (λ w. Some (Controller, w) ∷ []) leads.1 in
     let marked : 256 ≤ word = omega (arith, leads.1) in
-    fresh pieces row step.Foreign (Whole acts.Foreign) adds_foreign added made are
+    fresh scope pieces row step.Foreign (Whole acts.Foreign) (adds_foreign scope) added made are
     (inl (byte ∷ [], leads.2, says)) (inl (marked, leads.3)) tt
-opens pieces at word next are closed is leads = absurd leads
+opens scope pieces at word next are closed is leads = absurd leads
 
 -- the same, from a block that may begin at a position that is told
-opens_at : (position : Position) (pieces : List Piece) (at word : ℕ) (next : Step)
-    → ArePieces pieces
-    → AreClosed pieces → position_of pieces ≡ position → IsFree position
-    → Opens position (last_of (events_of pieces)) (Word at Controller word) word next
-    → Extended pieces (Word at Controller word) next
-opens_at position pieces at word next are closed here is leads =
+opens_at : (scope : Scope) (position : Position) (pieces : List Piece) (at word : ℕ) (next : Step)
+    → ArePieces scope pieces
+    → AreClosed pieces → position_of scope pieces ≡ position → IsFree position
+    → Opens scope position (last_of (events_of pieces)) (Word at Controller word) word next
+    → Extended scope pieces (Word at Controller word) next
+opens_at scope position pieces at word next are closed here is leads =
     let Free : Position → Type 0 = λ p. IsFree p in
-    let Led : Position → Type 0 = λ p. Opens p (last_of (events_of pieces))
+    let Led : Position → Type 0 = λ p. Opens scope p (last_of (events_of pieces))
     (Word at Controller word) word next in
-    opens pieces at word next are closed (subst Free (sym here) is) (subst Led (sym here) leads)
+    opens scope pieces at word next are closed (subst Free (sym here) is) (subst Led (sym here) leads)
 
 -- a new piece of one word at a position that is told
-begun : (position : Position) (pieces : List Piece) (row : Event) (next : Step) (piece : List Event
+begun : (scope : Scope) (position : Position) (pieces : List Piece) (row : Event) (next : Step) (piece : List Event
     → Piece)
-    → Adds next piece → ArePieces pieces → AreClosed pieces → position_of pieces ≡ position
-    → pieces_after pieces row next ≡ grown pieces row (piece_after (position_of pieces) next)
-    → piece_after position next ≡ piece → IsSaid (piece (row ∷ []))
-    → MayCome (piece (row ∷ [])) (position_of pieces) (last_of (events_of pieces)) row
-    → PieceFitsLevels (levels_of pieces) (piece (row ∷ [])) → Extended pieces row next
-begun position pieces row next piece adds are closed here grows gives said comes levels =
-    let added : piece_after (position_of pieces) next ≡ piece = ap (λ p. piece_after p next) here
+    → Adds scope next piece → ArePieces scope pieces → AreClosed pieces → position_of scope pieces ≡ position
+    → pieces_after scope pieces row next ≡ grown pieces row (piece_after (position_of scope pieces) next)
+    → piece_after position next ≡ piece → IsSaid scope (piece (row ∷ []))
+    → MayCome (piece (row ∷ [])) (position_of scope pieces) (last_of (events_of pieces)) row
+    → PieceFitsLevels (levels_of pieces) (piece (row ∷ [])) → Extended scope pieces row next
+begun scope position pieces row next piece adds are closed here grows gives said comes levels =
+    let added : piece_after (position_of scope pieces) next ≡ piece = ap (λ p. piece_after p next) here
     ∙ gives in
-    let made : pieces_after pieces row next ≡ piece (row ∷ []) ∷ pieces =
-    grows ∙ (closed row (piece_after (position_of pieces) next)
+    let made : pieces_after scope pieces row next ≡ piece (row ∷ []) ∷ pieces =
+    grows ∙ (closed row (piece_after (position_of scope pieces) next)
     ∙ ap (λ (p : List Event → Piece). p (row ∷ []) ∷ pieces) added) in
-    fresh pieces row next piece adds added made are said comes levels
+    fresh scope pieces row next piece adds added made are said comes levels
 
 -- an answer to a command
-answered : (command : Command) (pieces : List Piece) (at word : ℕ) (next : Step) → ArePieces pieces
+answered : (scope : Scope) (command : Command) (pieces : List Piece) (at word : ℕ) (next : Step) → ArePieces scope pieces
     → AreClosed pieces
-    → position_of pieces ≡ Asked command
+    → position_of scope pieces ≡ Asked command
     → Answers command (last_of (events_of pieces)) (Word at Peripheral word) word next
-    → Extended pieces (Word at Peripheral word) next
-answered command pieces at word step.Ack are closed here leads =
-    begun (Asked command) pieces (Word at Peripheral word) step.Ack (Whole (acts.Ack command))
-    (adds_ack command) are
+    → Extended scope pieces (Word at Peripheral word) next
+answered scope command pieces at word step.Ack are closed here leads =
+    begun scope (Asked command) pieces (Word at Peripheral word) step.Ack (Whole (acts.Ack command))
+    (adds_ack scope command) are
     closed here refl refl (ap (λ w. Some (Peripheral, w) ∷ []) leads.0) (here, leads.1) tt
-answered command pieces at word step.Nak are closed here leads =
-    begun (Asked command) pieces (Word at Peripheral word) step.Nak (Whole (acts.Nak command))
-    (adds_nak command) are
+answered scope command pieces at word step.Nak are closed here leads =
+    begun scope (Asked command) pieces (Word at Peripheral word) step.Nak (Whole (acts.Nak command))
+    (adds_nak scope command) are
     closed here refl refl (ap (λ w. Some (Peripheral, w) ∷ []) leads.0) (here, leads.1) tt
-answered command pieces at word (step.ReplyByte byte) are closed here leads =
+answered scope command pieces at word (step.ReplyByte byte) are closed here leads =
     let below : byte < 256 = omega (arith, leads.0, leads.1) in
     let front : IsReplyFront command (byte ∷ []) = record {
       allowed = leads.2;
@@ -411,159 +419,159 @@ answered command pieces at word (step.ReplyByte byte) are closed here leads =
       few = omega arith;
       in_range = All-from_recursion IsByte (byte ∷ []) (below, tt);
     } in
-    begun (Asked command) pieces (Word at Peripheral word) (step.ReplyByte byte)
+    begun scope (Asked command) pieces (Word at Peripheral word) (step.ReplyByte byte)
     (ReplyTail command (byte ∷ []))
-    (adds_reply_byte command byte (byte ∷ [])) are closed here refl refl
+    (adds_reply_byte scope command byte (byte ∷ [])) are closed here refl refl
     (front, ap (λ w. Some (Peripheral, w) ∷ []) leads.0) (here, leads.3) tt
-answered command pieces at word next are closed here leads = absurd leads
+answered scope command pieces at word next are closed here leads = absurd leads
 
 -- an answer of the controller to a reply, or a new block
-replied : (command : Command) (reply : Reply) (pieces : List Piece) (at word : ℕ) (next : Step)
-    → ArePieces pieces
-    → AreClosed pieces → position_of pieces ≡ Replied command reply
-    → AnswersReply command reply (last_of (events_of pieces)) (Word at Controller word) word next
-    → Extended pieces (Word at Controller word) next
-replied command reply pieces at word step.VmcAck are closed here leads =
-    begun (Replied command reply) pieces (Word at Controller word) step.VmcAck
+replied : (scope : Scope) (command : Command) (reply : Reply) (pieces : List Piece) (at word : ℕ) (next : Step)
+    → ArePieces scope pieces
+    → AreClosed pieces → position_of scope pieces ≡ Replied command reply
+    → AnswersReply scope command reply (last_of (events_of pieces)) (Word at Controller word) word next
+    → Extended scope pieces (Word at Controller word) next
+replied scope command reply pieces at word step.VmcAck are closed here leads =
+    begun scope (Replied command reply) pieces (Word at Controller word) step.VmcAck
     (Whole (acts.VmcAck command reply))
-    (adds_vmc_ack command reply) are closed here refl refl
+    (adds_vmc_ack scope command reply) are closed here refl refl
     (ap (λ w. Some (Controller, w) ∷ []) leads.0)
     (here, leads.1) tt
-replied command reply pieces at word step.VmcNak are closed here leads =
-    begun (Replied command reply) pieces (Word at Controller word) step.VmcNak
+replied scope command reply pieces at word step.VmcNak are closed here leads =
+    begun scope (Replied command reply) pieces (Word at Controller word) step.VmcNak
     (Whole (acts.VmcNak command reply))
-    (adds_vmc_nak command reply) are closed here refl refl
+    (adds_vmc_nak scope command reply) are closed here refl refl
     (ap (λ w. Some (Controller, w) ∷ []) leads.0)
     (here, leads.1) tt
-replied command reply pieces at word step.VmcRet are closed here leads =
-    begun (Replied command reply) pieces (Word at Controller word) step.VmcRet
+replied scope command reply pieces at word step.VmcRet are closed here leads =
+    begun scope (Replied command reply) pieces (Word at Controller word) step.VmcRet
     (Whole (acts.VmcRet command reply))
-    (adds_vmc_ret command reply) are closed here refl refl
+    (adds_vmc_ret scope command reply) are closed here refl refl
     (ap (λ w. Some (Controller, w) ∷ []) leads.0)
     (here, leads.1) tt
-replied command reply pieces at word (step.AskByte byte) are closed here leads =
-    opens_at (Replied command reply) pieces at word (step.AskByte byte) are closed here tt leads
-replied command reply pieces at word step.Foreign are closed here leads =
-    opens_at (Replied command reply) pieces at word step.Foreign are closed here tt leads
-replied command reply pieces at word next are closed here leads = absurd leads
+replied scope command reply pieces at word (step.AskByte byte) are closed here leads =
+    opens_at scope (Replied command reply) pieces at word (step.AskByte byte) are closed here tt leads
+replied scope command reply pieces at word step.Foreign are closed here leads =
+    opens_at scope (Replied command reply) pieces at word step.Foreign are closed here tt leads
+replied scope command reply pieces at word next are closed here leads = absurd leads
 
 -- the first word of a repeat
-returned : (command : Command) (reply : Reply) (pieces : List Piece) (at word : ℕ) (next : Step)
-    → ArePieces pieces
-    → AreClosed pieces → position_of pieces ≡ Returned command reply
+returned : (scope : Scope) (command : Command) (reply : Reply) (pieces : List Piece) (at word : ℕ) (next : Step)
+    → ArePieces scope pieces
+    → AreClosed pieces → position_of scope pieces ≡ Returned command reply
     → BeginsRepeat reply (last_of (events_of pieces)) (Word at Peripheral word) word next
-    → Extended pieces (Word at Peripheral word) next
-returned command reply pieces at word (step.RepeatWord said) are closed here leads =
+    → Extended scope pieces (Word at Peripheral word) next
+returned scope command reply pieces at word (step.RepeatWord said) are closed here leads =
     let Front : ℕ
-    → Type 0 = λ w. IsSaid (RepeatTail command reply (w ∷ []) (Word at Peripheral word ∷ [])) in
-    begun (Returned command reply) pieces (Word at Peripheral word) (step.RepeatWord said)
-    (RepeatTail command reply (said ∷ [])) (adds_repeat_word command reply said (said ∷ [])) are
+    → Type 0 = λ w. IsSaid scope (RepeatTail command reply (w ∷ []) (Word at Peripheral word ∷ [])) in
+    begun scope (Returned command reply) pieces (Word at Peripheral word) (step.RepeatWord said)
+    (RepeatTail command reply (said ∷ [])) (adds_repeat_word scope command reply said (said ∷ [])) are
     closed here refl refl
     (subst Front leads.0 (leads.1, refl)) (here, leads.2) tt
-returned command reply pieces at word next are closed here leads = absurd leads
+returned scope command reply pieces at word next are closed here leads = absurd leads
 
 -- a further word of foreign traffic
-foreign_word : (pieces : List Piece) (at : ℕ) (line : Line) (word : ℕ) (next : Step)
-    → ArePieces pieces
-    → AreClosed pieces → position_of pieces ≡ InForeign
-    → WordLeads InForeign (last_of (events_of pieces)) (levels_of pieces) (Word at line word) line
+foreign_word : (scope : Scope) (pieces : List Piece) (at : ℕ) (line : Line) (word : ℕ) (next : Step)
+    → ArePieces scope pieces
+    → AreClosed pieces → position_of scope pieces ≡ InForeign
+    → WordLeads scope InForeign (last_of (events_of pieces)) (levels_of pieces) (Word at line word) line
     word next
-    → Extended pieces (Word at line word) next
-foreign_word pieces at Controller word next are closed here (inl leads) =
-    opens_at InForeign pieces at word next are closed here tt leads
-foreign_word pieces at Controller word step.Foreign are closed here (inr leads) =
-    begun InForeign pieces (Word at Controller word) step.Foreign (Whole acts.Foreign) adds_foreign
+    → Extended scope pieces (Word at line word) next
+foreign_word scope pieces at Controller word next are closed here (inl leads) =
+    opens_at scope InForeign pieces at word next are closed here tt leads
+foreign_word scope pieces at Controller word step.Foreign are closed here (inr leads) =
+    begun scope InForeign pieces (Word at Controller word) step.Foreign (Whole acts.Foreign) (adds_foreign scope)
     are closed
     here refl refl (inr (Word at Controller word, refl, leads.0)) (inr (leads.0, here, leads.1)) tt
-foreign_word pieces at Controller word next are closed here (inr leads) = absurd leads.1
-foreign_word pieces at Peripheral word step.Foreign are closed here leads =
-    begun InForeign pieces (Word at Peripheral word) step.Foreign (Whole acts.Foreign) adds_foreign
+foreign_word scope pieces at Controller word next are closed here (inr leads) = absurd leads.1
+foreign_word scope pieces at Peripheral word step.Foreign are closed here leads =
+    begun scope InForeign pieces (Word at Peripheral word) step.Foreign (Whole acts.Foreign) (adds_foreign scope)
     are closed
     here refl refl (inr (Word at Peripheral word, refl, tt)) (inr (tt, here, leads)) tt
-foreign_word pieces at Peripheral word next are closed here leads = absurd leads
+foreign_word scope pieces at Peripheral word next are closed here leads = absurd leads
 
 -- a word after closed pieces
-after_closed : (position : Position) (pieces : List Piece) (at : ℕ) (line : Line) (word : ℕ)
+after_closed : (scope : Scope) (position : Position) (pieces : List Piece) (at : ℕ) (line : Line) (word : ℕ)
     (next : Step)
-    → ArePieces pieces → AreClosed pieces → position_of pieces ≡ position → IsFree position
-    → WordLeads position (last_of (events_of pieces)) (levels_of pieces) (Word at line word) line
+    → ArePieces scope pieces → AreClosed pieces → position_of scope pieces ≡ position → IsFree position
+    → WordLeads scope position (last_of (events_of pieces)) (levels_of pieces) (Word at line word) line
     word next
-    → Extended pieces (Word at line word) next
-after_closed Quiet pieces at Controller word next are closed here is leads =
-    opens_at Quiet pieces at word next are closed here tt leads
-after_closed Quiet pieces at Peripheral word next are closed here is leads = absurd leads
-after_closed (InAsk bytes) pieces at line word next are closed here is leads = absurd is
-after_closed (Asked command) pieces at Controller word next are closed here is leads =
-    opens_at (Asked command) pieces at word next are closed here tt leads
-after_closed (Asked command) pieces at Peripheral word next are closed here is leads =
-    answered command pieces at word next are closed here leads
-after_closed (InReply command bytes) pieces at line word next are closed here is leads = absurd is
-after_closed (Replied command reply) pieces at Controller word next are closed here is leads =
-    replied command reply pieces at word next are closed here leads
-after_closed (Replied command reply) pieces at Peripheral word next are closed here is leads =
+    → Extended scope pieces (Word at line word) next
+after_closed scope Quiet pieces at Controller word next are closed here is leads =
+    opens_at scope Quiet pieces at word next are closed here tt leads
+after_closed scope Quiet pieces at Peripheral word next are closed here is leads = absurd leads
+after_closed scope (InAsk bytes) pieces at line word next are closed here is leads = absurd is
+after_closed scope (Asked command) pieces at Controller word next are closed here is leads =
+    opens_at scope (Asked command) pieces at word next are closed here tt leads
+after_closed scope (Asked command) pieces at Peripheral word next are closed here is leads =
+    answered scope command pieces at word next are closed here leads
+after_closed scope (InReply command bytes) pieces at line word next are closed here is leads = absurd is
+after_closed scope (Replied command reply) pieces at Controller word next are closed here is leads =
+    replied scope command reply pieces at word next are closed here leads
+after_closed scope (Replied command reply) pieces at Peripheral word next are closed here is leads =
     absurd leads
-after_closed (Returned command reply) pieces at Controller word next are closed here is leads =
-    opens_at (Returned command reply) pieces at word next are closed here tt leads
-after_closed (Returned command reply) pieces at Peripheral word next are closed here is leads =
-    returned command reply pieces at word next are closed here leads
-after_closed (InRepeat command reply words) pieces at line word next are closed here is leads =
+after_closed scope (Returned command reply) pieces at Controller word next are closed here is leads =
+    opens_at scope (Returned command reply) pieces at word next are closed here tt leads
+after_closed scope (Returned command reply) pieces at Peripheral word next are closed here is leads =
+    returned scope command reply pieces at word next are closed here leads
+after_closed scope (InRepeat command reply words) pieces at line word next are closed here is leads =
     absurd is
-after_closed InForeign pieces at line word next are closed here is leads =
-    foreign_word pieces at line word next are closed here leads
+after_closed scope InForeign pieces at line word next are closed here is leads =
+    foreign_word scope pieces at line word next are closed here leads
 
 -- a word in a block of the controller
-in_ask : (bytes : List ℕ) (events : List Event) (pieces : List Piece) (at word : ℕ) (next : Step)
-    → ArePieces (AskTail bytes events ∷ pieces)
-    → GoesOnAsking bytes (last_of (events_of pieces ++ events)) (Word at Controller word) word next
-    → Extended (AskTail bytes events ∷ pieces) (Word at Controller word) next
-in_ask bytes events pieces at word (step.AskByte byte) are leads =
+in_ask : (scope : Scope) (bytes : List ℕ) (events : List Event) (pieces : List Piece) (at word : ℕ) (next : Step)
+    → ArePieces scope (AskTail bytes events ∷ pieces)
+    → GoesOnAsking scope bytes (last_of (events_of pieces ++ events)) (Word at Controller word) word next
+    → Extended scope (AskTail bytes events ∷ pieces) (Word at Controller word) next
+in_ask scope bytes events pieces at word (step.AskByte byte) are leads =
     let said = are.0.said in
     let row = Word at Controller word in
     let Spoken : ℕ → Type 0 = λ w. Say Controller (controller_words (bytes ++ w ∷ []))
     (events ++ row ∷ []) in
     let says : Say Controller (controller_words (bytes ++ byte ∷ [])) (events ++ row ∷ []) =
     subst Spoken leads.0 (say_byte bytes events at word said.0.some said.1) in
-    longer (AskTail bytes events) pieces row (step.AskByte byte) (AskTail (bytes ++ byte ∷ []))
+    longer scope (AskTail bytes events) pieces row (step.AskByte byte) (AskTail (bytes ++ byte ∷ []))
     (record { open_end = tt; acts = λ ps. refl; levels = λ ps. refl; asked = λ ps. refl })
-    (adds_ask_byte byte (bytes ++ byte ∷ [])) refl refl are (leads.2, says)
+    (adds_ask_byte scope byte (bytes ++ byte ∷ [])) refl refl are (leads.2, says)
     (λ first others is comes. comes) tt leads.3
-in_ask bytes events pieces at word (step.Ask command) are leads =
+in_ask scope bytes events pieces at word (step.Ask command) are leads =
     let said = are.0.said in
     let row = Word at Controller word in
-    let spells : Spells command (bytes ++ word ∷ []) = leads.1 in
+    let spells : Asks scope command (bytes ++ word ∷ []) = leads.1 in
     let Spoken : List ℕ → Type 0 = λ ws. Say Controller (controller_words ws)
     (events ++ row ∷ []) in
-    let Spelled : List ℕ → Type 0 = λ ws. Spells command ws in
+    let Spelled : List ℕ → Type 0 = λ ws. Asks scope command ws in
     let says : Say Controller (controller_words (block_of (command_bytes command)))
     (events ++ row ∷ []) =
-    subst Spoken spells.bytes (say_byte bytes events at word said.0.some said.1) in
-    longer (AskTail bytes events) pieces row (step.Ask command) (Whole (acts.Ask command))
+    subst Spoken spells.spells.bytes (say_byte bytes events at word said.0.some said.1) in
+    longer scope (AskTail bytes events) pieces row (step.Ask command) (Whole (acts.Ask command))
     (record { open_end = tt; acts = λ ps. refl; levels = λ ps. refl; asked = λ ps. refl })
-    (adds_ask command) refl refl are (subst Spelled spells.bytes spells, says)
+    (adds_ask scope command) refl refl are (subst Spelled spells.spells.bytes spells, says)
     (λ first others is comes. comes) tt leads.2
-in_ask bytes events pieces at word step.Foreign are leads =
+in_ask scope bytes events pieces at word step.Foreign are leads =
     let said = are.0.said in
     let row = Word at Controller word in
     let says : Say Controller (controller_words (bytes ++ word ∷ [])) (events ++ row ∷ []) =
     say_byte bytes events at word said.0.some said.1 in
     let Spoken : List Event → Type 0 = λ es. Say Controller (controller_words bytes) es in
-    longer (AskTail bytes events) pieces row step.Foreign (Whole acts.Foreign)
+    longer scope (AskTail bytes events) pieces row step.Foreign (Whole acts.Foreign)
     (record { open_end = tt; acts = λ ps. refl; levels = λ ps. refl; asked = λ ps. refl })
-    adds_foreign refl refl are (inl (bytes ++ word ∷ [], leads.1, says))
+    (adds_foreign scope) refl refl are (inl (bytes ++ word ∷ [], leads.1, says))
     (λ first others is comes. inl
     (begins_block bytes first others said.0.some (subst Spoken is said.1), comes))
     tt leads.2
-in_ask bytes events pieces at word next are leads = absurd leads
+in_ask scope bytes events pieces at word next are leads = absurd leads
 
 -- a word in a reply
-in_reply : (command : Command) (bytes : List ℕ) (events : List Event) (pieces : List Piece)
+in_reply : (scope : Scope) (command : Command) (bytes : List ℕ) (events : List Event) (pieces : List Piece)
     (at word : ℕ) (next : Step)
-    → ArePieces (ReplyTail command bytes events ∷ pieces)
+    → ArePieces scope (ReplyTail command bytes events ∷ pieces)
     → GoesOnReplying command bytes (last_of (events_of pieces ++ events)) (levels_of pieces)
     (Word at Peripheral word)
     word next
-    → Extended (ReplyTail command bytes events ∷ pieces) (Word at Peripheral word) next
-in_reply command bytes events pieces at word (step.ReplyByte byte) are leads =
+    → Extended scope (ReplyTail command bytes events ∷ pieces) (Word at Peripheral word) next
+in_reply scope command bytes events pieces at word (step.ReplyByte byte) are leads =
     let said = are.0.said in
     let row = Word at Peripheral word in
     let below : byte < 256 = omega (arith, leads.0, leads.1) in
@@ -575,82 +583,83 @@ in_reply command bytes events pieces at word (step.ReplyByte byte) are leads =
           (All-from_recursion IsByte (byte ∷ []) (below, tt));
     } in
     let Spoken : ℕ → Type 0 = λ w. Say Peripheral (bytes ++ w ∷ []) (events ++ row ∷ []) in
-    longer (ReplyTail command bytes events) pieces row (step.ReplyByte byte)
+    longer scope (ReplyTail command bytes events) pieces row (step.ReplyByte byte)
     (ReplyTail command (bytes ++ byte ∷ []))
     (record { open_end = tt; acts = λ ps. refl; levels = λ ps. refl; asked = λ ps. refl })
-    (adds_reply_byte command byte (bytes ++ byte ∷ [])) refl refl are
+    (adds_reply_byte scope command byte (bytes ++ byte ∷ [])) refl refl are
     (front, subst Spoken leads.0 (say_word Peripheral bytes events at word said.1))
     (λ first others is comes. comes) tt leads.3
-in_reply command bytes events pieces at word (step.Reply reply) are leads =
+in_reply scope command bytes events pieces at word (step.Reply reply) are leads =
     let said = are.0.said in
     let row = Word at Peripheral word in
     let Spoken : List ℕ → Type 0 = λ bs. Say Peripheral (peripheral_words (block_of bs))
     (events ++ row ∷ []) in
-    longer (ReplyTail command bytes events) pieces row (step.Reply reply)
+    longer scope (ReplyTail command bytes events) pieces row (step.Reply reply)
     (Whole (acts.Reply command reply))
     (record { open_end = tt; acts = λ ps. refl; levels = λ ps. refl; asked = λ ps. refl })
-    (adds_reply command reply) refl refl are
+    (adds_reply scope command reply) refl refl are
     (leads.1, subst Spoken leads.2 (say_sum bytes events at word leads.0 said.1))
     (λ first others is comes. comes) leads.3 leads.4
-in_reply command bytes events pieces at word next are leads = absurd leads
+in_reply scope command bytes events pieces at word next are leads = absurd leads
 
 -- a word in a repeat
-in_repeat : (command : Command) (reply : Reply) (words : List ℕ) (events : List Event)
+in_repeat : (scope : Scope) (command : Command) (reply : Reply) (words : List ℕ) (events : List Event)
     (pieces : List Piece)
-    (at word : ℕ) (next : Step) → ArePieces (RepeatTail command reply words events ∷ pieces)
+    (at word : ℕ) (next : Step) → ArePieces scope (RepeatTail command reply words events ∷ pieces)
     → GoesOnRepeating reply words (last_of (events_of pieces ++ events)) (Word at Peripheral word)
     word next
-    → Extended (RepeatTail command reply words events ∷ pieces) (Word at Peripheral word) next
-in_repeat command reply words events pieces at word (step.RepeatWord told) are leads =
+    → Extended scope (RepeatTail command reply words events ∷ pieces) (Word at Peripheral word) next
+in_repeat scope command reply words events pieces at word (step.RepeatWord told) are leads =
     let row = Word at Peripheral word in
     let Front : ℕ
-    → Type 0 = λ w. IsSaid (RepeatTail command reply (words ++ w ∷ []) (events ++ row ∷ [])) in
-    longer (RepeatTail command reply words events) pieces row (step.RepeatWord told)
+    → Type 0 = λ w. IsSaid scope (RepeatTail command reply (words ++ w ∷ []) (events ++ row ∷ [])) in
+    longer scope (RepeatTail command reply words events) pieces row (step.RepeatWord told)
     (RepeatTail command reply (words ++ told ∷ []))
     (record { open_end = tt; acts = λ ps. refl; levels = λ ps. refl; asked = λ ps. refl })
-    (adds_repeat_word command reply told (words ++ told ∷ [])) refl refl are
+    (adds_repeat_word scope command reply told (words ++ told ∷ [])) refl refl are
     (subst Front leads.0 (leads.1, say_word Peripheral words events at word are.0.said.1))
     (λ first others is comes. comes) tt leads.2
-in_repeat command reply words events pieces at word step.Repeat are leads =
+in_repeat scope command reply words events pieces at word step.Repeat are leads =
     let row = Word at Peripheral word in
     let Spoken : List ℕ → Type 0 = λ ws. Say Peripheral ws (events ++ row ∷ []) in
-    longer (RepeatTail command reply words events) pieces row step.Repeat
+    longer scope (RepeatTail command reply words events) pieces row step.Repeat
     (Whole (acts.Repeat command reply))
     (record { open_end = tt; acts = λ ps. refl; levels = λ ps. refl; asked = λ ps. refl })
-    (adds_repeat command reply) refl refl are
+    (adds_repeat scope command reply) refl refl are
     (subst Spoken leads.0 (say_word Peripheral words events at word are.0.said.1))
     (λ first others is comes. comes) tt leads.1
-in_repeat command reply words events pieces at word next are leads = absurd leads
+in_repeat scope command reply words events pieces at word next are leads = absurd leads
 
 -- a break after any pieces
-broken : (pieces : List Piece) (at length : ℕ) (next : Step) → ArePieces pieces
-    → Leads (situation_of pieces) (Break at length) next → Extended pieces (Break at length) next
-broken pieces at length (step.Break lasted) are leads =
+broken : (scope : Scope) (pieces : List Piece) (at length : ℕ) (next : Step) → ArePieces scope pieces
+    → Leads (situation_of scope pieces) (Break at length) next → Extended scope pieces (Break at length) next
+broken scope pieces at length (step.Break lasted) are leads =
     let row = Break at length in
     let Long : ℕ → Type 0 = λ l. BREAK_LENGTH_MIN ≤ l in
-    fresh pieces row (step.Break lasted) (Whole (acts.Break lasted)) (adds_break lasted)
-    (break_after (position_of pieces) lasted) refl are
+    fresh scope pieces row (step.Break lasted) (Whole (acts.Break lasted)) (adds_break scope lasted)
+    (break_after (position_of scope pieces) lasted) refl are
     (at, ap (λ l. Break at l ∷ []) (sym leads.0), subst Long (sym leads.0) leads.1) leads.2 tt
-broken pieces at length next are leads = absurd leads
+broken scope pieces at length next are leads = absurd leads
 
 -- a row that breaks no rule extends the act list by its step
-pub forward : (pieces : List Piece) (row : Event) (next : Step) → ArePieces pieces
-    → Leads (situation_of pieces) row next → Extended pieces row next
-forward pieces (Break at length) next are leads = broken pieces at length next are leads
-forward [] (Word at line word) next are leads =
-    after_closed Quiet [] at line word next are (λ row piece. refl) refl tt leads
-forward (Whole act events ∷ pieces) (Word at line word) next are leads =
-    after_closed (left_open act) (Whole act events ∷ pieces) at line word next are
+pub forward : (scope : Scope) (pieces : List Piece) (row : Event) (next : Step) → ArePieces scope pieces
+    → Leads (situation_of scope pieces) row next → Extended scope pieces row next
+forward scope pieces (Break at length) next are leads = broken scope pieces at length next are leads
+forward scope [] (Word at line word) next are leads =
+    after_closed scope (first_position scope.begins) [] at line word next are (λ row piece. refl)
+    refl (first_free scope.begins) leads
+forward scope (Whole act events ∷ pieces) (Word at line word) next are leads =
+    after_closed scope (left_open act) (Whole act events ∷ pieces) at line word next are
     (λ row piece. refl) refl
     (free act) leads
-forward (AskTail bytes events ∷ pieces) (Word at Controller word) next are leads =
-    in_ask bytes events pieces at word next are leads
-forward (AskTail bytes events ∷ pieces) (Word at Peripheral word) next are leads = absurd leads
-forward (ReplyTail command bytes events ∷ pieces) (Word at Controller word) next are leads =
+forward scope (AskTail bytes events ∷ pieces) (Word at Controller word) next are leads =
+    in_ask scope bytes events pieces at word next are leads
+forward scope (AskTail bytes events ∷ pieces) (Word at Peripheral word) next are leads = absurd leads
+forward scope (ReplyTail command bytes events ∷ pieces) (Word at Controller word) next are leads =
     absurd leads
-forward (ReplyTail command bytes events ∷ pieces) (Word at Peripheral word) next are leads =
-    in_reply command bytes events pieces at word next are leads
-forward (RepeatTail command reply words events ∷ pieces) (Word at Controller word) next are leads =
+forward scope (ReplyTail command bytes events ∷ pieces) (Word at Peripheral word) next are leads =
+    in_reply scope command bytes events pieces at word next are leads
+forward scope (RepeatTail command reply words events ∷ pieces) (Word at Controller word) next are leads =
     absurd leads
-forward (RepeatTail command reply words events ∷ pieces) (Word at Peripheral word) next are leads =
-    in_repeat command reply words events pieces at word next are leads
+forward scope (RepeatTail command reply words events ∷ pieces) (Word at Peripheral word) next are leads =
+    in_repeat scope command reply words events pieces at word next are leads

@@ -1,5 +1,5 @@
 -- The fronts of commands' blocks: they are of bytes, and what they need stays as they grow.
-use Rattle.std.proofs.Common.{arith, refl, Bool, true, false, if◌then◌else◌, sym, subst, ◌≡◌, ◌≢◌, ◌%◌, ◌<◌, ◌≤◌, ℕ, List, [], ◌∷◌, ◌++◌, ◌⊎◌, inl, inr, Option, Some, None, All, length, sum}
+use Rattle.std.proofs.Common.{arith, refl, Bool, true, false, if◌then◌else◌, sym, subst, ◌∙◌, ◌≡◌, ◌≢◌, ◌%◌, ◌<◌, ◌≤◌, ℕ, List, [], ◌∷◌, ◌++◌, ◌⊎◌, inl, inr, Option, Some, None, All, length, sum}
 use Rattle.std.specs.List.{AllByRecursion}
 use Rattle.std.proofs.lemmas.Grind.{common_steps}
 use Rattle.std.proofs.lemmas.List.Elements.{recursion_from_All, All-from_recursion, All-cons, All-nil, All-push}
@@ -19,7 +19,10 @@ use Rattle.mdb_msgs.specs.Commands.{HasBillFields, HasChangerFields, HasFields, 
 use Rattle.mdb_msgs.specs.Needs.{bill_need, changer_need, is_for, need as need_of, needed, reader_need}
 use Rattle.mdb_bus.specs.ActLists.{IsAskFront}
 use Rattle.mdb_bus.proofs.Decided.{Decided, less}
+use Rattle.mdb_bus.specs.declared.scope.Scope.{Scope}
+use Rattle.mdb_bus.specs.Scopes.{needed_in}
 use Rattle.mdb_bus.specs.inner.Grammar.{Grammar}
+use Rattle.mdb_bus.proofs.Followed.{needed_followed, still_followed, within}
 use Rattle.mdb_bus.proofs.Stops.{some_long}
 
 -- one byte never needs to be the whole block
@@ -75,14 +78,21 @@ need_fits first =
     foreign_fits)))
 
 -- a subcommand doesn't end its block
-pub need_three : (first second n : ℕ) → need_of first None ≡ need.More
-    → need_of first (Some second) ≡ need.Exactly n
+pub need_three : (scope : Scope) (first second n : ℕ)
+    → needed_in scope (first ∷ []) ≡ need.More
+    → needed_in scope (first ∷ second ∷ []) ≡ need.Exactly n
     → 3 ≤ n
-need_three first second n more told = (need_fits first).three second n more told
+need_three scope first second n more told =
+    (need_fits first).three second n
+    (within scope (first ∷ []) need.More more (λ same. cc same)).1
+    (within scope (first ∷ second ∷ []) (need.Exactly n) told (λ same. cc same)).1
 
 -- two bytes tell the need
-pub need_ends : (first second : ℕ) → need_of first (Some second) ≡ need.More → ⊥
-need_ends first second more = (need_fits first).ends second more
+pub need_ends : (scope : Scope) (first second : ℕ)
+    → needed_in scope (first ∷ second ∷ []) ≡ need.More → ⊥
+need_ends scope first second more =
+    (need_fits first).ends second
+    (within scope (first ∷ second ∷ []) need.More more (λ same. cc same)).1
 
 -- what is no byte is for no device
 pub need_high : (first : ℕ) → 256 ≤ first → need_of first None ≡ need.Foreign
@@ -186,53 +196,69 @@ low_front [] rest low = tt
 low_front (byte ∷ bytes) rest low = (low.0, low_front bytes rest low.1)
 
 -- the front of a command's block is of bytes
-pub front_bytes : (bytes : List ℕ) → IsAskFront bytes → All IsByte bytes
-front_bytes bytes front =
+pub front_bytes : (scope : Scope) (bytes : List ℕ) → IsAskFront scope bytes → All IsByte bytes
+front_bytes scope bytes front =
     let content = command_bytes front.command in
     let low : All IsByte content = All-from_recursion IsByte content
-    (command_low front.command front.spelled.fields) in
+    (command_low front.command front.spelled.spells.fields) in
     let block : All IsByte (block_of content) = All-push IsByte content (sum content % 256) low
     (sum_low content) in
     let P : List ℕ → Type 0 = λ bs. All IsByte bs in
-    let whole : All IsByte (bytes ++ front.rest) = subst P (sym front.spelled.bytes) block in
+    let whole : All IsByte (bytes ++ front.rest) = subst P (sym front.spelled.spells.bytes) block in
     All-from_recursion IsByte bytes
     (low_front bytes front.rest (recursion_from_All IsByte (bytes ++ front.rest) whole))
 
 -- what two bytes need stays as more come, and what one byte does unless it is left to the second
-pub needed_stays : (bytes : List ℕ) (byte n : ℕ) → bytes ≢ [] → needed bytes ≡ need.Exactly n
+plain_stays : (bytes : List ℕ) (byte n : ℕ) → bytes ≢ [] → needed bytes ≡ need.Exactly n
     → needed (bytes ++ byte ∷ []) ≡ need.Exactly n
-needed_stays [] byte n some told = absurd (some refl)
-needed_stays (first ∷ []) byte n some told = (need_fits first).stays byte n told
-needed_stays (first ∷ second ∷ bytes) byte n some told = told
+plain_stays [] byte n some told = absurd (some refl)
+plain_stays (first ∷ []) byte n some told = (need_fits first).stays byte n told
+plain_stays (first ∷ second ∷ bytes) byte n some told = told
+
+pub needed_stays : (scope : Scope) (bytes : List ℕ) (byte n : ℕ) → bytes ≢ []
+    → needed_in scope bytes ≡ need.Exactly n
+    → needed_in scope (bytes ++ byte ∷ []) ≡ need.Exactly n
+needed_stays scope bytes byte n some told =
+    let plain = within scope bytes (need.Exactly n) told (λ same. cc same) in
+    needed_followed scope (bytes ++ byte ∷ []) (still_followed scope bytes (byte ∷ []) some plain.0)
+    ∙ plain_stays bytes byte n some plain.1
 
 -- bytes that need more are a front
-pub front_of : Grammar → (bytes : List ℕ) → bytes ≢ [] → All IsByte bytes
-    → ((needed bytes ≡ need.More) × (length bytes ≡ 1))
-    ⊎ ((n : ℕ) × (needed bytes ≡ need.Exactly n) × (length bytes < n))
-    → IsAskFront bytes
-front_of grammar bytes some low needs =
+pub front_of : (scope : Scope) → Grammar scope → (bytes : List ℕ) → bytes ≢ [] → All IsByte bytes
+    → ((needed_in scope bytes ≡ need.More) × (length bytes ≡ 1))
+    ⊎ ((n : ℕ) × (needed_in scope bytes ≡ need.Exactly n) × (length bytes < n))
+    → IsAskFront scope bytes
+front_of scope grammar bytes some low needs =
     let found = grammar.opens bytes (some_long bytes some) low needs in
     record { some = some; command = found.0; rest = found.1; open_end = found.2; spelled = found.3 }
 
 -- where one byte opens a block: in the profile it is a front, or it is foreign
-pub first_byte : Grammar → (byte : ℕ) → (needed (byte ∷ []) ≡ need.Outside → ⊥)
-    → IsAskFront (byte ∷ []) ⊎ (needed (byte ∷ []) ≡ need.Foreign)
-first_byte grammar byte inside = by_size (less byte 256)
+pub first_byte : (scope : Scope) → Grammar scope → (byte : ℕ)
+    → (needed_in scope (byte ∷ []) ≡ need.Outside → ⊥)
+    → IsAskFront scope (byte ∷ []) ⊎ (needed_in scope (byte ∷ []) ≡ need.Foreign)
+first_byte scope grammar byte inside = by_need (needed_in scope (byte ∷ [])) refl (less byte 256)
   where
     low : byte < 256 → All IsByte (byte ∷ [])
     low small = All-cons IsByte byte [] small (All-nil IsByte)
 
-    by_need : byte < 256 → (n : Need) → needed (byte ∷ []) ≡ n
-        → IsAskFront (byte ∷ []) ⊎ (needed (byte ∷ []) ≡ need.Foreign)
-    by_need small need.More told =
-        inl (front_of grammar (byte ∷ []) (λ none. cc) (low small) (inl (told, refl)))
-    by_need small (need.Exactly n) told =
-        let two : 2 ≤ n = need_two byte n told in
-        inl (front_of grammar (byte ∷ []) (λ none. cc) (low small)
-        (inr (n, told, omega (arith, two))))
-    by_need small need.Foreign told = inr told
-    by_need small need.Outside told = absurd (inside told)
+    -- what is no byte is for no device
+    high : (n : Need) → needed_in scope (byte ∷ []) ≡ n → n ≢ need.Foreign → 256 ≤ byte → ⊥
+    high n told other large =
+        let plain = within scope (byte ∷ []) n told other in
+        other (sym plain.1 ∙ need_high byte large)
 
-    by_size : Decided (byte < 256) → IsAskFront (byte ∷ []) ⊎ (needed (byte ∷ []) ≡ need.Foreign)
-    by_size (inl small) = by_need small (needed (byte ∷ [])) refl
-    by_size (inr large) = inr (need_high byte (omega (arith, large)))
+    by_need : (n : Need) → needed_in scope (byte ∷ []) ≡ n → Decided (byte < 256)
+        → IsAskFront scope (byte ∷ []) ⊎ (needed_in scope (byte ∷ []) ≡ need.Foreign)
+    by_need need.More told (inl small) =
+        inl (front_of scope grammar (byte ∷ []) (λ none. cc) (low small) (inl (told, refl)))
+    by_need (need.Exactly n) told (inl small) =
+        let plain = within scope (byte ∷ []) (need.Exactly n) told (λ same. cc same) in
+        let two : 2 ≤ n = need_two byte n plain.1 in
+        inl (front_of scope grammar (byte ∷ []) (λ none. cc) (low small)
+        (inr (n, told, omega (arith, two))))
+    by_need need.Foreign told size = inr told
+    by_need need.Outside told size = absurd (inside told)
+    by_need need.More told (inr large) =
+        absurd (high need.More told (λ same. cc same) (omega (arith, large)))
+    by_need (need.Exactly n) told (inr large) =
+        absurd (high (need.Exactly n) told (λ same. cc same) (omega (arith, large)))

@@ -4,10 +4,16 @@ pub mod Decided
 pub mod EachSteps
 pub mod Feed
 pub mod Fitting
+pub mod Followed
 pub mod Forward
 pub mod Fronts
 pub mod Verdicts
+pub mod LeftOutActs
+pub mod LeftOutLoss
+pub mod LeftOutOrder
+pub mod LeftOutWords
 pub mod Lists
+pub mod Named
 pub mod Needs
 pub mod OneActList
 pub mod OneFault

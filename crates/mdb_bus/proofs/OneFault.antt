@@ -6,6 +6,7 @@ use Rattle.mdb_bus.specs.declared.fault.Rule.{Rule}
 use Rattle.mdb_bus.specs.declared.fault.Rule.TheVariants as rule
 use Rattle.mdb_bus.specs.ActLists.{Piece, position_of}
 use Rattle.mdb_bus.specs.LinkFaults.{IsLinkFault, asked_device, blame_of, place_of}
+use Rattle.mdb_bus.specs.declared.scope.Scope.{Scope}
 
 -- the rule that has a place
 abbrev rule_at : ℕ → Rule
@@ -27,14 +28,14 @@ rule_back r = refl
 place_one : (r s : Rule) → place_of r ≡ place_of s → r ≡ s
 place_one r s same = sym (rule_back r) ∙ (ap rule_at same ∙ rule_back s)
 
-pub one_fault : (pieces : List Piece) (row : Event) (r s : Rule) (a b : Blame)
-    → IsLinkFault pieces row r a
-    → IsLinkFault pieces row s b → (r ≡ s) × (a ≡ b)
-one_fault pieces row r s a b first second =
+pub one_fault : (scope : Scope) (pieces : List Piece) (row : Event) (r s : Rule) (a b : Blame)
+    → IsLinkFault scope pieces row r a
+    → IsLinkFault scope pieces row s b → (r ≡ s) × (a ≡ b)
+one_fault scope pieces row r s a b first second =
     let up : place_of r ≤ place_of s = first.rule.first s second.rule.breaks in
     let down : place_of s ≤ place_of r = second.rule.first r first.rule.breaks in
     let same : r ≡ s = place_one r s (omega arith) in (
       same,
-      first.blame ∙ (ap (λ x. blame_of (position_of pieces) (asked_device pieces) row x) same
+      first.blame ∙ (ap (λ x. blame_of (position_of scope pieces) (asked_device pieces) row x) same
           ∙ sym second.blame),
     )

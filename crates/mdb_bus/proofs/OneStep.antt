@@ -8,8 +8,7 @@ use Rattle.mdb_msgs.specs.declared.command.Command.{Command}
 use Rattle.mdb_msgs.specs.declared.need.Need.{Need}
 use Rattle.mdb_msgs.specs.declared.need.Need.TheVariants.{Exactly, Foreign}
 use Rattle.mdb_msgs.specs.declared.reply.Reply.{Reply}
-use Rattle.mdb_msgs.specs.Commands.{Spells}
-use Rattle.mdb_msgs.specs.Needs.{IsTold, TellsLength, needed}
+use Rattle.mdb_msgs.specs.Needs.{IsTold}
 use Rattle.mdb_msgs.specs.Replies.{IsReplyTo, reply_bytes}
 use Rattle.mdb_bus.specs.declared.levels.Levels.{Levels}
 use Rattle.mdb_bus.specs.inner.Step.{Step}
@@ -20,22 +19,24 @@ use Rattle.mdb_bus.specs.LinkFaults.{Situation}
 use Rattle.mdb_bus.specs.inner.Steps.{Answers, AnswersReply, BeginsRepeat, GoesOnAsking, GoesOnForeign, GoesOnRepeating, GoesOnReplying, Leads, Opens, WordLeads}
 use Rattle.mdb_bus.specs.inner.Grammar.{Grammar}
 use Rattle.mdb_bus.proofs.Lists.{nothing_after, some_length}
+use Rattle.mdb_bus.specs.Scopes.{Asks, needed_in}
+use Rattle.mdb_bus.specs.declared.scope.Scope.{Scope}
 
 -- what mdb_msgs promises of the commands and replies that a block may be
-pub record Readings : Type 0 where
-  pub one_command : (block : List ℕ) (one other : Command) → Spells one block → Spells other block
+pub record Readings (scope : Scope) : Type 0 where
+  pub one_command : (block : List ℕ) (one other : Command) → Asks scope one block → Asks scope other block
       → one ≡ other
-  pub needs : (block : List ℕ) (command : Command) → Spells command block
-      → needed block ≡ Exactly (length block)
+  pub needs : (block : List ℕ) (command : Command) → Asks scope command block
+      → needed_in scope block ≡ Exactly (length block)
   pub tells : (prefix rest : List ℕ) (command : Command) → 0 < length prefix
-      → Spells command (prefix ++ rest)
-      → TellsLength prefix (length (prefix ++ rest))
+      → Asks scope command (prefix ++ rest)
+      → IsTold (needed_in scope prefix) (length prefix) (length (prefix ++ rest))
   pub one_reply : (command : Command) (one other : Reply) → IsReplyTo command one
       → IsReplyTo command other
       → reply_bytes one ≡ reply_bytes other → one ≡ other
 
-pub readings_of : Grammar → Readings
-readings_of grammar = record {
+pub readings_of : (scope : Scope) → Grammar scope → Readings scope
+readings_of scope grammar = record {
   one_command = grammar.one_command;
   needs = grammar.needs;
   tells = grammar.tells;
@@ -43,33 +44,33 @@ readings_of grammar = record {
 }
 
 -- what opens a foreign block is foreign
-opening_foreign : (bytes : List ℕ) → IsForeignOpening bytes → needed bytes ≡ Foreign
-opening_foreign [] opening = absurd opening
-opening_foreign (first ∷ []) opening = opening
-opening_foreign (first ∷ second ∷ []) opening = opening.1
-opening_foreign (first ∷ second ∷ third ∷ bytes) opening = absurd opening
+opening_foreign : (scope : Scope) (bytes : List ℕ) → IsForeignOpening scope bytes → needed_in scope bytes ≡ Foreign
+opening_foreign scope [] opening = absurd opening
+opening_foreign scope (first ∷ []) opening = opening
+opening_foreign scope (first ∷ second ∷ []) opening = opening.1
+opening_foreign scope (first ∷ second ∷ third ∷ bytes) opening = absurd opening
 
 -- no front of a command is
-front_not_foreign : (readings : Readings) (bytes : List ℕ) → IsAskFront bytes
-    → IsForeignOpening bytes → ⊥
-front_not_foreign readings bytes front opening =
+front_not_foreign : (scope : Scope) (readings : Readings scope) (bytes : List ℕ) → IsAskFront scope bytes
+    → IsForeignOpening scope bytes → ⊥
+front_not_foreign scope readings bytes front opening =
     let Told : Need → Type 0 = λ need. IsTold need (length bytes) (length (bytes ++ front.rest)) in
-    subst Told (opening_foreign bytes opening)
+    subst Told (opening_foreign scope bytes opening)
     (readings.tells bytes front.rest front.command (some_length bytes front.some) front.spelled)
 
 -- nor is a command
-command_not_foreign : (readings : Readings) (bytes : List ℕ) (command : Command)
-    → Spells command bytes
-    → IsForeignOpening bytes → ⊥
-command_not_foreign readings bytes command spells opening =
+command_not_foreign : (scope : Scope) (readings : Readings scope) (bytes : List ℕ) (command : Command)
+    → Asks scope command bytes
+    → IsForeignOpening scope bytes → ⊥
+command_not_foreign scope readings bytes command spells opening =
     let clash : Exactly (length bytes) ≡ Foreign = sym (readings.needs bytes command spells)
-    ∙ opening_foreign bytes opening in
+    ∙ opening_foreign scope bytes opening in
     cc clash
 
 -- no command is the front of another
-front_not_command : (readings : Readings) (bytes : List ℕ) (command : Command) → IsAskFront bytes
-    → Spells command bytes → ⊥
-front_not_command readings bytes command front spells =
+front_not_command : (scope : Scope) (readings : Readings scope) (bytes : List ℕ) (command : Command) → IsAskFront scope bytes
+    → Asks scope command bytes → ⊥
+front_not_command scope readings bytes command front spells =
     let Told : Need → Type 0 = λ need. IsTold need (length bytes) (length (bytes ++ front.rest)) in
     let same : length bytes ≡ length (bytes ++ front.rest) =
     subst Told (readings.needs bytes command spells)
@@ -83,93 +84,93 @@ repeat_not_whole reply words front whole =
     front.open_end (nothing_after words front.rest (ap length (whole ∙ sym front.same)))
 
 -- a block begins with one step
-open_byte : (readings : Readings) (position : Position) (from : Option Event) (to : Event)
+open_byte : (scope : Scope) (readings : Readings scope) (position : Position) (from : Option Event) (to : Event)
     (word byte : ℕ)
     (other : Step)
-    → Opens position from to word (step.AskByte byte) → Opens position from to word other
+    → Opens scope position from to word (step.AskByte byte) → Opens scope position from to word other
     → step.AskByte byte ≡ other
-open_byte readings position from to word byte (step.AskByte other) p q =
+open_byte scope readings position from to word byte (step.AskByte other) p q =
     let same : byte ≡ other = omega (arith, p.0, q.0) in ap step.AskByte same
-open_byte readings position from to word byte step.Foreign p q =
+open_byte scope readings position from to word byte step.Foreign p q =
     let same : q.0 ≡ byte = omega (arith, p.0, q.1) in
-    let P : ℕ → Type 0 = λ b. IsForeignOpening (b ∷ []) in
-    absurd (front_not_foreign readings (byte ∷ []) p.1 (subst P same q.2))
-open_byte readings position from to word byte other p q = absurd q
+    let P : ℕ → Type 0 = λ b. IsForeignOpening scope (b ∷ []) in
+    absurd (front_not_foreign scope readings (byte ∷ []) p.1 (subst P same q.2))
+open_byte scope readings position from to word byte other p q = absurd q
 
-open_foreign : (readings : Readings) (position : Position) (from : Option Event) (to : Event)
+open_foreign : (scope : Scope) (readings : Readings scope) (position : Position) (from : Option Event) (to : Event)
     (word : ℕ) (other : Step)
-    → Opens position from to word step.Foreign → Opens position from to word other
+    → Opens scope position from to word step.Foreign → Opens scope position from to word other
     → step.Foreign ≡ other
-open_foreign readings position from to word (step.AskByte byte) p q =
-    sym (open_byte readings position from to word byte step.Foreign q p)
-open_foreign readings position from to word step.Foreign p q = refl
-open_foreign readings position from to word other p q = absurd q
+open_foreign scope readings position from to word (step.AskByte byte) p q =
+    sym (open_byte scope readings position from to word byte step.Foreign q p)
+open_foreign scope readings position from to word step.Foreign p q = refl
+open_foreign scope readings position from to word other p q = absurd q
 
-one_opening : (readings : Readings) (position : Position) (from : Option Event) (to : Event)
+one_opening : (scope : Scope) (readings : Readings scope) (position : Position) (from : Option Event) (to : Event)
     (word : ℕ)
     (one other : Step)
-    → Opens position from to word one → Opens position from to word other → one ≡ other
-one_opening readings position from to word (step.AskByte byte) other p q =
-    open_byte readings position from to word byte other p q
-one_opening readings position from to word step.Foreign other p q =
-    open_foreign readings position from to word other p q
-one_opening readings position from to word one other p q = absurd p
+    → Opens scope position from to word one → Opens scope position from to word other → one ≡ other
+one_opening scope readings position from to word (step.AskByte byte) other p q =
+    open_byte scope readings position from to word byte other p q
+one_opening scope readings position from to word step.Foreign other p q =
+    open_foreign scope readings position from to word other p q
+one_opening scope readings position from to word one other p q = absurd p
 
 -- the word that begins a block is marked
-opens_marked : (position : Position) (from : Option Event) (to : Event) (word : ℕ) (next : Step)
-    → Opens position from to word next → word < 256 → ⊥
-opens_marked position from to word (step.AskByte byte) p low = omega (arith, p.0, low)
-opens_marked position from to word step.Foreign p low = omega (arith, p.1, low)
-opens_marked position from to word next p low = absurd p
+opens_marked : (scope : Scope) (position : Position) (from : Option Event) (to : Event) (word : ℕ) (next : Step)
+    → Opens scope position from to word next → word < 256 → ⊥
+opens_marked scope position from to word (step.AskByte byte) p low = omega (arith, p.0, low)
+opens_marked scope position from to word step.Foreign p low = omega (arith, p.1, low)
+opens_marked scope position from to word next p low = absurd p
 
 -- a block goes on with one step
-ask_byte : (readings : Readings) (bytes : List ℕ) (from : Option Event) (to : Event) (word byte : ℕ)
+ask_byte : (scope : Scope) (readings : Readings scope) (bytes : List ℕ) (from : Option Event) (to : Event) (word byte : ℕ)
     (other : Step)
-    → GoesOnAsking bytes from to word (step.AskByte byte) → GoesOnAsking bytes from to word other
+    → GoesOnAsking scope bytes from to word (step.AskByte byte) → GoesOnAsking scope bytes from to word other
     → step.AskByte byte ≡ other
-ask_byte readings bytes from to word byte (step.AskByte other) p q = ap step.AskByte (sym p.0 ∙ q.0)
-ask_byte readings bytes from to word byte (step.Ask command) p q =
-    let P : ℕ → Type 0 = λ w. Spells command (bytes ++ w ∷ []) in
-    absurd (front_not_command readings (bytes ++ byte ∷ []) command p.2 (subst P p.0 q.1))
-ask_byte readings bytes from to word byte step.Foreign p q =
-    let P : ℕ → Type 0 = λ w. IsForeignOpening (bytes ++ w ∷ []) in
-    absurd (front_not_foreign readings (bytes ++ byte ∷ []) p.2 (subst P p.0 q.1))
-ask_byte readings bytes from to word byte other p q = absurd q
+ask_byte scope readings bytes from to word byte (step.AskByte other) p q = ap step.AskByte (sym p.0 ∙ q.0)
+ask_byte scope readings bytes from to word byte (step.Ask command) p q =
+    let P : ℕ → Type 0 = λ w. Asks scope command (bytes ++ w ∷ []) in
+    absurd (front_not_command scope readings (bytes ++ byte ∷ []) command p.2 (subst P p.0 q.1))
+ask_byte scope readings bytes from to word byte step.Foreign p q =
+    let P : ℕ → Type 0 = λ w. IsForeignOpening scope (bytes ++ w ∷ []) in
+    absurd (front_not_foreign scope readings (bytes ++ byte ∷ []) p.2 (subst P p.0 q.1))
+ask_byte scope readings bytes from to word byte other p q = absurd q
 
-ask_end : (readings : Readings) (bytes : List ℕ) (from : Option Event) (to : Event) (word : ℕ)
+ask_end : (scope : Scope) (readings : Readings scope) (bytes : List ℕ) (from : Option Event) (to : Event) (word : ℕ)
     (command : Command)
     (other : Step)
-    → GoesOnAsking bytes from to word (step.Ask command) → GoesOnAsking bytes from to word other
+    → GoesOnAsking scope bytes from to word (step.Ask command) → GoesOnAsking scope bytes from to word other
     → step.Ask command ≡ other
-ask_end readings bytes from to word command (step.AskByte byte) p q =
-    sym (ask_byte readings bytes from to word byte (step.Ask command) q p)
-ask_end readings bytes from to word command (step.Ask other) p q =
+ask_end scope readings bytes from to word command (step.AskByte byte) p q =
+    sym (ask_byte scope readings bytes from to word byte (step.Ask command) q p)
+ask_end scope readings bytes from to word command (step.Ask other) p q =
     ap step.Ask (readings.one_command (bytes ++ word ∷ []) command other p.1 q.1)
-ask_end readings bytes from to word command step.Foreign p q =
-    absurd (command_not_foreign readings (bytes ++ word ∷ []) command p.1 q.1)
-ask_end readings bytes from to word command other p q = absurd q
+ask_end scope readings bytes from to word command step.Foreign p q =
+    absurd (command_not_foreign scope readings (bytes ++ word ∷ []) command p.1 q.1)
+ask_end scope readings bytes from to word command other p q = absurd q
 
-ask_foreign : (readings : Readings) (bytes : List ℕ) (from : Option Event) (to : Event) (word : ℕ)
+ask_foreign : (scope : Scope) (readings : Readings scope) (bytes : List ℕ) (from : Option Event) (to : Event) (word : ℕ)
     (other : Step)
-    → GoesOnAsking bytes from to word step.Foreign → GoesOnAsking bytes from to word other
+    → GoesOnAsking scope bytes from to word step.Foreign → GoesOnAsking scope bytes from to word other
     → step.Foreign ≡ other
-ask_foreign readings bytes from to word (step.AskByte byte) p q =
-    sym (ask_byte readings bytes from to word byte step.Foreign q p)
-ask_foreign readings bytes from to word (step.Ask command) p q =
-    sym (ask_end readings bytes from to word command step.Foreign q p)
-ask_foreign readings bytes from to word step.Foreign p q = refl
-ask_foreign readings bytes from to word other p q = absurd q
+ask_foreign scope readings bytes from to word (step.AskByte byte) p q =
+    sym (ask_byte scope readings bytes from to word byte step.Foreign q p)
+ask_foreign scope readings bytes from to word (step.Ask command) p q =
+    sym (ask_end scope readings bytes from to word command step.Foreign q p)
+ask_foreign scope readings bytes from to word step.Foreign p q = refl
+ask_foreign scope readings bytes from to word other p q = absurd q
 
-one_asking : (readings : Readings) (bytes : List ℕ) (from : Option Event) (to : Event) (word : ℕ)
+one_asking : (scope : Scope) (readings : Readings scope) (bytes : List ℕ) (from : Option Event) (to : Event) (word : ℕ)
     (one other : Step)
-    → GoesOnAsking bytes from to word one → GoesOnAsking bytes from to word other → one ≡ other
-one_asking readings bytes from to word (step.AskByte byte) other p q =
-    ask_byte readings bytes from to word byte other p q
-one_asking readings bytes from to word (step.Ask command) other p q =
-    ask_end readings bytes from to word command other p q
-one_asking readings bytes from to word step.Foreign other p q = ask_foreign readings bytes from to
+    → GoesOnAsking scope bytes from to word one → GoesOnAsking scope bytes from to word other → one ≡ other
+one_asking scope readings bytes from to word (step.AskByte byte) other p q =
+    ask_byte scope readings bytes from to word byte other p q
+one_asking scope readings bytes from to word (step.Ask command) other p q =
+    ask_end scope readings bytes from to word command other p q
+one_asking scope readings bytes from to word step.Foreign other p q = ask_foreign scope readings bytes from to
     word other p q
-one_asking readings bytes from to word one other p q = absurd p
+one_asking scope readings bytes from to word one other p q = absurd p
 
 -- a command is answered with one step
 answer_ack : (command : Command) (from : Option Event) (to : Event) (word : ℕ) (other : Step)
@@ -214,94 +215,94 @@ reply_byte command bytes from levels to word byte (step.Reply reply) p q =
     absurd (omega (arith, p.1, q.0))
 reply_byte command bytes from levels to word byte other p q = absurd q
 
-reply_end : (readings : Readings) (command : Command) (bytes : List ℕ) (from : Option Event)
+reply_end : (scope : Scope) (readings : Readings scope) (command : Command) (bytes : List ℕ) (from : Option Event)
     (levels : Levels)
     (to : Event) (word : ℕ)
     (reply : Reply) (other : Step) → GoesOnReplying command bytes from levels to word
     (step.Reply reply)
     → GoesOnReplying command bytes from levels to word other → step.Reply reply ≡ other
-reply_end readings command bytes from levels to word reply (step.ReplyByte byte) p q =
+reply_end scope readings command bytes from levels to word reply (step.ReplyByte byte) p q =
     absurd (omega (arith, q.1, p.0))
-reply_end readings command bytes from levels to word reply (step.Reply other) p q =
+reply_end scope readings command bytes from levels to word reply (step.Reply other) p q =
     ap step.Reply (readings.one_reply command reply other p.1.answers q.1.answers (sym p.2 ∙ q.2))
-reply_end readings command bytes from levels to word reply other p q = absurd q
+reply_end scope readings command bytes from levels to word reply other p q = absurd q
 
-one_replying : (readings : Readings) (command : Command) (bytes : List ℕ) (from : Option Event)
+one_replying : (scope : Scope) (readings : Readings scope) (command : Command) (bytes : List ℕ) (from : Option Event)
     (levels : Levels)
     (to : Event) (word : ℕ)
     (one other : Step) → GoesOnReplying command bytes from levels to word one
     → GoesOnReplying command bytes from levels to word other → one ≡ other
-one_replying readings command bytes from levels to word (step.ReplyByte byte) other p q =
+one_replying scope readings command bytes from levels to word (step.ReplyByte byte) other p q =
     reply_byte command bytes from levels to word byte other p q
-one_replying readings command bytes from levels to word (step.Reply reply) other p q =
-    reply_end readings command bytes from levels to word reply other p q
-one_replying readings command bytes from levels to word one other p q = absurd p
+one_replying scope readings command bytes from levels to word (step.Reply reply) other p q =
+    reply_end scope readings command bytes from levels to word reply other p q
+one_replying scope readings command bytes from levels to word one other p q = absurd p
 
 -- the controller answers a reply with one step
-vmc_low : (command : Command) (reply : Reply) (from : Option Event) (to : Event) (word answer : ℕ)
+vmc_low : (scope : Scope) (command : Command) (reply : Reply) (from : Option Event) (to : Event) (word answer : ℕ)
     (one other : Step)
     → word ≡ answer
-    → answer < 256 → Opens (Replied command reply) from to word other → one ≡ other
-vmc_low command reply from to word answer one other is low opens =
-    absurd (opens_marked (Replied command reply) from to word other opens (omega (arith, is, low)))
+    → answer < 256 → Opens scope (Replied command reply) from to word other → one ≡ other
+vmc_low scope command reply from to word answer one other is low opens =
+    absurd (opens_marked scope (Replied command reply) from to word other opens (omega (arith, is, low)))
 
-vmc_ack : (command : Command) (reply : Reply) (from : Option Event) (to : Event) (word : ℕ)
+vmc_ack : (scope : Scope) (command : Command) (reply : Reply) (from : Option Event) (to : Event) (word : ℕ)
     (other : Step) → word ≡ 0x00
-    → AnswersReply command reply from to word other → step.VmcAck ≡ other
-vmc_ack command reply from to word step.VmcAck is q = refl
-vmc_ack command reply from to word step.VmcNak is q = absurd (omega (arith, is, q.0))
-vmc_ack command reply from to word step.VmcRet is q = absurd (omega (arith, is, q.0))
-vmc_ack command reply from to word other is q = vmc_low command reply from to word 0x00 step.VmcAck
+    → AnswersReply scope command reply from to word other → step.VmcAck ≡ other
+vmc_ack scope command reply from to word step.VmcAck is q = refl
+vmc_ack scope command reply from to word step.VmcNak is q = absurd (omega (arith, is, q.0))
+vmc_ack scope command reply from to word step.VmcRet is q = absurd (omega (arith, is, q.0))
+vmc_ack scope command reply from to word other is q = vmc_low scope command reply from to word 0x00 step.VmcAck
     other is
     (omega arith) q
 
-vmc_nak : (command : Command) (reply : Reply) (from : Option Event) (to : Event) (word : ℕ)
+vmc_nak : (scope : Scope) (command : Command) (reply : Reply) (from : Option Event) (to : Event) (word : ℕ)
     (other : Step) → word ≡ 0xFF
-    → AnswersReply command reply from to word other → step.VmcNak ≡ other
-vmc_nak command reply from to word step.VmcAck is q = absurd (omega (arith, is, q.0))
-vmc_nak command reply from to word step.VmcNak is q = refl
-vmc_nak command reply from to word step.VmcRet is q = absurd (omega (arith, is, q.0))
-vmc_nak command reply from to word other is q = vmc_low command reply from to word 0xFF step.VmcNak
+    → AnswersReply scope command reply from to word other → step.VmcNak ≡ other
+vmc_nak scope command reply from to word step.VmcAck is q = absurd (omega (arith, is, q.0))
+vmc_nak scope command reply from to word step.VmcNak is q = refl
+vmc_nak scope command reply from to word step.VmcRet is q = absurd (omega (arith, is, q.0))
+vmc_nak scope command reply from to word other is q = vmc_low scope command reply from to word 0xFF step.VmcNak
     other is
     (omega arith) q
 
-vmc_ret : (command : Command) (reply : Reply) (from : Option Event) (to : Event) (word : ℕ)
+vmc_ret : (scope : Scope) (command : Command) (reply : Reply) (from : Option Event) (to : Event) (word : ℕ)
     (other : Step) → word ≡ 0xAA
-    → AnswersReply command reply from to word other → step.VmcRet ≡ other
-vmc_ret command reply from to word step.VmcAck is q = absurd (omega (arith, is, q.0))
-vmc_ret command reply from to word step.VmcNak is q = absurd (omega (arith, is, q.0))
-vmc_ret command reply from to word step.VmcRet is q = refl
-vmc_ret command reply from to word other is q = vmc_low command reply from to word 0xAA step.VmcRet
+    → AnswersReply scope command reply from to word other → step.VmcRet ≡ other
+vmc_ret scope command reply from to word step.VmcAck is q = absurd (omega (arith, is, q.0))
+vmc_ret scope command reply from to word step.VmcNak is q = absurd (omega (arith, is, q.0))
+vmc_ret scope command reply from to word step.VmcRet is q = refl
+vmc_ret scope command reply from to word other is q = vmc_low scope command reply from to word 0xAA step.VmcRet
     other is
     (omega arith) q
 
-vmc_opens : (readings : Readings) (command : Command) (reply : Reply) (from : Option Event)
+vmc_opens : (scope : Scope) (readings : Readings scope) (command : Command) (reply : Reply) (from : Option Event)
     (to : Event) (word : ℕ)
     (one other : Step)
-    → Opens (Replied command reply) from to word one → AnswersReply command reply from to word other
+    → Opens scope (Replied command reply) from to word one → AnswersReply scope command reply from to word other
     → one ≡ other
-vmc_opens readings command reply from to word one step.VmcAck p q =
-    sym (vmc_low command reply from to word 0x00 step.VmcAck one q.0 (omega arith) p)
-vmc_opens readings command reply from to word one step.VmcNak p q =
-    sym (vmc_low command reply from to word 0xFF step.VmcNak one q.0 (omega arith) p)
-vmc_opens readings command reply from to word one step.VmcRet p q =
-    sym (vmc_low command reply from to word 0xAA step.VmcRet one q.0 (omega arith) p)
-vmc_opens readings command reply from to word one other p q =
-    one_opening readings (Replied command reply) from to word one other p q
+vmc_opens scope readings command reply from to word one step.VmcAck p q =
+    sym (vmc_low scope command reply from to word 0x00 step.VmcAck one q.0 (omega arith) p)
+vmc_opens scope readings command reply from to word one step.VmcNak p q =
+    sym (vmc_low scope command reply from to word 0xFF step.VmcNak one q.0 (omega arith) p)
+vmc_opens scope readings command reply from to word one step.VmcRet p q =
+    sym (vmc_low scope command reply from to word 0xAA step.VmcRet one q.0 (omega arith) p)
+vmc_opens scope readings command reply from to word one other p q =
+    one_opening scope readings (Replied command reply) from to word one other p q
 
-one_vmc_answer : (readings : Readings) (command : Command) (reply : Reply) (from : Option Event)
+one_vmc_answer : (scope : Scope) (readings : Readings scope) (command : Command) (reply : Reply) (from : Option Event)
     (to : Event)
     (word : ℕ) (one other : Step)
-    → AnswersReply command reply from to word one → AnswersReply command reply from to word other
+    → AnswersReply scope command reply from to word one → AnswersReply scope command reply from to word other
     → one ≡ other
-one_vmc_answer readings command reply from to word step.VmcAck other p q =
-    vmc_ack command reply from to word other p.0 q
-one_vmc_answer readings command reply from to word step.VmcNak other p q =
-    vmc_nak command reply from to word other p.0 q
-one_vmc_answer readings command reply from to word step.VmcRet other p q =
-    vmc_ret command reply from to word other p.0 q
-one_vmc_answer readings command reply from to word one other p q =
-    vmc_opens readings command reply from to word one other p q
+one_vmc_answer scope readings command reply from to word step.VmcAck other p q =
+    vmc_ack scope command reply from to word other p.0 q
+one_vmc_answer scope readings command reply from to word step.VmcNak other p q =
+    vmc_nak scope command reply from to word other p.0 q
+one_vmc_answer scope readings command reply from to word step.VmcRet other p q =
+    vmc_ret scope command reply from to word other p.0 q
+one_vmc_answer scope readings command reply from to word one other p q =
+    vmc_opens scope readings command reply from to word one other p q
 
 -- a repeat begins with one step
 repeat_first : (reply : Reply) (from : Option Event) (to : Event) (word said : ℕ) (other : Step)
@@ -355,53 +356,53 @@ is_foreign : (from : Option Event) (to : Event) (next : Step) → GoesOnForeign 
 is_foreign from to step.Foreign p = refl
 is_foreign from to next p = absurd p
 
-one_after_foreign : (readings : Readings) (from : Option Event) (to : Event) (word : ℕ)
+one_after_foreign : (scope : Scope) (readings : Readings scope) (from : Option Event) (to : Event) (word : ℕ)
     (one other : Step)
-    → Opens InForeign from to word one ⊎ ((word < 256) × GoesOnForeign from to one)
-    → Opens InForeign from to word other ⊎ ((word < 256) × GoesOnForeign from to other)
+    → Opens scope InForeign from to word one ⊎ ((word < 256) × GoesOnForeign from to one)
+    → Opens scope InForeign from to word other ⊎ ((word < 256) × GoesOnForeign from to other)
     → one ≡ other
-one_after_foreign readings from to word one other (inl p) (inl q) =
-    one_opening readings InForeign from to word one other p q
-one_after_foreign readings from to word one other (inl p) (inr q) =
-    absurd (opens_marked InForeign from to word one p q.0)
-one_after_foreign readings from to word one other (inr p) (inl q) =
-    absurd (opens_marked InForeign from to word other q p.0)
-one_after_foreign readings from to word one other (inr p) (inr q) =
+one_after_foreign scope readings from to word one other (inl p) (inl q) =
+    one_opening scope readings InForeign from to word one other p q
+one_after_foreign scope readings from to word one other (inl p) (inr q) =
+    absurd (opens_marked scope InForeign from to word one p q.0)
+one_after_foreign scope readings from to word one other (inr p) (inl q) =
+    absurd (opens_marked scope InForeign from to word other q p.0)
+one_after_foreign scope readings from to word one other (inr p) (inr q) =
     is_foreign from to one p.1 ∙ sym (is_foreign from to other q.1)
 
 -- a word leads to one step
-one_word : (readings : Readings) (position : Position) (from : Option Event) (levels : Levels)
+one_word : (scope : Scope) (readings : Readings scope) (position : Position) (from : Option Event) (levels : Levels)
     (to : Event)
     (line : Line) (word : ℕ)
-    (one other : Step) → WordLeads position from levels to line word one
-    → WordLeads position from levels to line word other → one ≡ other
-one_word readings Quiet from levels to Controller word one other p q =
-    one_opening readings Quiet from to word one other p q
-one_word readings Quiet from levels to Peripheral word one other p q = absurd p
-one_word readings (InAsk bytes) from levels to Controller word one other p q =
-    one_asking readings bytes from to word one other p q
-one_word readings (InAsk bytes) from levels to Peripheral word one other p q = absurd p
-one_word readings (Asked command) from levels to Controller word one other p q =
-    one_opening readings (Asked command) from to word one other p q
-one_word readings (Asked command) from levels to Peripheral word one other p q =
+    (one other : Step) → WordLeads scope position from levels to line word one
+    → WordLeads scope position from levels to line word other → one ≡ other
+one_word scope readings Quiet from levels to Controller word one other p q =
+    one_opening scope readings Quiet from to word one other p q
+one_word scope readings Quiet from levels to Peripheral word one other p q = absurd p
+one_word scope readings (InAsk bytes) from levels to Controller word one other p q =
+    one_asking scope readings bytes from to word one other p q
+one_word scope readings (InAsk bytes) from levels to Peripheral word one other p q = absurd p
+one_word scope readings (Asked command) from levels to Controller word one other p q =
+    one_opening scope readings (Asked command) from to word one other p q
+one_word scope readings (Asked command) from levels to Peripheral word one other p q =
     one_answer command from to word one other p q
-one_word readings (InReply command bytes) from levels to Controller word one other p q = absurd p
-one_word readings (InReply command bytes) from levels to Peripheral word one other p q =
-    one_replying readings command bytes from levels to word one other p q
-one_word readings (Replied command reply) from levels to Controller word one other p q =
-    one_vmc_answer readings command reply from to word one other p q
-one_word readings (Replied command reply) from levels to Peripheral word one other p q = absurd p
-one_word readings (Returned command reply) from levels to Controller word one other p q =
-    one_opening readings (Returned command reply) from to word one other p q
-one_word readings (Returned command reply) from levels to Peripheral word one other p q =
+one_word scope readings (InReply command bytes) from levels to Controller word one other p q = absurd p
+one_word scope readings (InReply command bytes) from levels to Peripheral word one other p q =
+    one_replying scope readings command bytes from levels to word one other p q
+one_word scope readings (Replied command reply) from levels to Controller word one other p q =
+    one_vmc_answer scope readings command reply from to word one other p q
+one_word scope readings (Replied command reply) from levels to Peripheral word one other p q = absurd p
+one_word scope readings (Returned command reply) from levels to Controller word one other p q =
+    one_opening scope readings (Returned command reply) from to word one other p q
+one_word scope readings (Returned command reply) from levels to Peripheral word one other p q =
     one_repeat reply from to word one other p q
-one_word readings (InRepeat command reply words) from levels to Controller word one other p q =
+one_word scope readings (InRepeat command reply words) from levels to Controller word one other p q =
     absurd p
-one_word readings (InRepeat command reply words) from levels to Peripheral word one other p q =
+one_word scope readings (InRepeat command reply words) from levels to Peripheral word one other p q =
     one_repeating reply words from to word one other p q
-one_word readings InForeign from levels to Controller word one other p q =
-    one_after_foreign readings from to word one other p q
-one_word readings InForeign from levels to Peripheral word one other p q =
+one_word scope readings InForeign from levels to Controller word one other p q =
+    one_after_foreign scope readings from to word one other p q
+one_word scope readings InForeign from levels to Peripheral word one other p q =
     is_foreign from to one p ∙ sym (is_foreign from to other q)
 
 -- a break leads to one step
@@ -411,10 +412,10 @@ is_break s at length (step.Break lasted) p = ap step.Break p.0
 is_break s at length next p = absurd p
 
 -- a row leads to one step
-pub one_step : (readings : Readings) (s : Situation) (row : Event) (one other : Step)
+pub one_step : (s : Situation) (readings : Readings s.scope) (row : Event) (one other : Step)
     → Leads s row one
     → Leads s row other → one ≡ other
-one_step readings s (Word at line word) one other p q =
-    one_word readings s.position s.last s.levels (Word at line word) line word one other p q
-one_step readings s (Break at length) one other p q = is_break s at length one p
+one_step s readings (Word at line word) one other p q =
+    one_word s.scope readings s.position s.last s.levels (Word at line word) line word one other p q
+one_step s readings (Break at length) one other p q = is_break s at length one p
     ∙ sym (is_break s at length other q)

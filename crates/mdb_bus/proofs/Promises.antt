@@ -1,24 +1,113 @@
--- The laws of mdb_msgs, put together.
-use Rattle.std.proofs.Common.{refl, ap, ◌≡◌, ◌≢◌, ◌<◌, ℕ, List, [], ◌++◌, ◌⊎◌, inl, inr, length, All, sym, subst}
+-- The laws of mdb_msgs, put together, of the devices that are followed.
+use Rattle.std.proofs.Common.{arith, refl, ap, ◌∙◌, ◌+◌, ◌∷◌, ◌≡◌, ◌≢◌, ◌<◌, ℕ, List, [], ◌++◌, ◌⊎◌, inl, inr, length, All, sym, subst}
 use Rattle.mdb_blocks.specs.Block.{block_of}
 use Rattle.mdb_msgs.specs.declared.command.Command.{Command}
 use Rattle.mdb_msgs.specs.declared.need.Need.{Need}
-use Rattle.mdb_msgs.specs.declared.need.Need.TheVariants.{Exactly, More}
+use Rattle.mdb_msgs.specs.declared.need.Need.TheVariants.{Exactly, Foreign, More, Outside}
 use Rattle.mdb_msgs.specs.declared.reply.Reply.{Reply}
 use Rattle.mdb_msgs.specs.Commands.{IsByte, Spells}
-use Rattle.mdb_msgs.specs.Laws.{BlockHasOneReply, OpenIsAFront}
-use Rattle.mdb_msgs.specs.Needs.{IsShort, needed}
+use Rattle.mdb_msgs.specs.Laws.{BlockHasOneReply, OpenIsAFront as PlainOpenIsAFront}
+use Rattle.mdb_msgs.specs.Needs.{IsShort, IsTold, TellsLength, needed}
 use Rattle.mdb_msgs.specs.Replies.{IsReplyTo, reply_bytes}
+use Rattle.mdb_bus.specs.declared.scope.Scope.{Scope}
+use Rattle.mdb_bus.specs.Scopes.{Asks, needed_in}
+use Rattle.mdb_bus.specs.inner.Grammar.{OpenIsAFront}
+use Rattle.mdb_bus.proofs.Followed.{AreFollowed, FirstTells, asks_followed, block_followed, needed_followed, still_followed, was_followed, within}
+
+not_empty : (bytes : List ℕ) → 0 < length bytes → bytes ≢ []
+not_empty [] some none = omega (arith, some)
+not_empty (byte ∷ bytes) some none = cc none
+
+-- a block has at most one command
+pub one_command : (scope : Scope)
+    → ((block : List ℕ) (one other : Command) → Spells one block → Spells other block
+    → one ≡ other)
+    → (block : List ℕ) (one other : Command) → Asks scope one block → Asks scope other block
+    → one ≡ other
+one_command scope law block one other first second = law block one other first.spells second.spells
+
+-- the first two bytes of a command's block tell its length
+pub needs : FirstTells
+    → ((block : List ℕ) (command : Command) → Spells command block
+    → needed block ≡ Exactly (length block))
+    → (scope : Scope) (block : List ℕ) (command : Command) → Asks scope command block
+    → needed_in scope block ≡ Exactly (length block)
+needs first law scope block command asks =
+    needed_followed scope block (block_followed first scope command block asks)
+    ∙ law block command asks.spells
+
+-- its first bytes tell it, or leave it to the second
+pub tells : FirstTells
+    → ((prefix rest : List ℕ) (command : Command) → 0 < length prefix
+    → Spells command (prefix ++ rest) → TellsLength prefix (length (prefix ++ rest)))
+    → (scope : Scope) (prefix rest : List ℕ) (command : Command) → 0 < length prefix
+    → Asks scope command (prefix ++ rest)
+    → IsTold (needed_in scope prefix) (length prefix) (length (prefix ++ rest))
+tells first law scope prefix rest command some asks =
+    let Told : Need → Type 0 = λ n. IsTold n (length prefix) (length (prefix ++ rest)) in
+    let followed : AreFollowed scope prefix =
+    was_followed scope prefix rest (not_empty prefix some)
+    (block_followed first scope command (prefix ++ rest) asks) in
+    subst Told (sym (needed_followed scope prefix followed))
+    (law prefix rest command some asks.spells)
+
+-- bytes that need a length are some, and their block is to whom they are
+whole_followed : (scope : Scope) (bytes : List ℕ) → AreFollowed scope bytes
+    → needed bytes ≡ Exactly (length bytes + 1) → AreFollowed scope (block_of bytes)
+whole_followed scope [] followed told = absurd (cc told)
+whole_followed scope (byte ∷ bytes) followed told = followed
+
+-- bytes that are as long as they need to be are those of a command
+pub is_command : FirstTells
+    → ((content : List ℕ) → All IsByte content → needed content ≡ Exactly (length content + 1)
+    → (command : Command) × Spells command (block_of content))
+    → (scope : Scope) (content : List ℕ) → All IsByte content
+    → needed_in scope content ≡ Exactly (length content + 1)
+    → (command : Command) × Asks scope command (block_of content)
+is_command first law scope content all told =
+    let plain = within scope content (Exactly (length content + 1)) told (λ same. cc same) in
+    let found = law content all plain.1 in (
+      found.0,
+      asks_followed first scope found.0 (block_of content) found.1
+          (whole_followed scope content plain.0 plain.1),
+    )
+
+-- open bytes are the front of a command's block
+pub open_front : FirstTells → PlainOpenIsAFront → (scope : Scope) → OpenIsAFront scope
+open_front first law scope bytes all wanting =
+    let plain = within scope bytes (needed_in scope bytes) refl (is_some (needed_in scope bytes) wanting) in
+    let Short : Need → Type 0 = λ n. IsShort n (length bytes) in
+    let found = law bytes all (subst Short (sym plain.1) wanting) in (
+      found.0,
+      found.1,
+      found.2,
+      asks_followed first scope found.0 (bytes ++ found.1) found.3
+          (still_followed scope bytes found.1 (some_there bytes plain.1 wanting) plain.0),
+    )
+  where
+    is_some : (n : Need) → IsShort n (length bytes) → n ≢ Foreign
+    is_some More short is = cc is
+    is_some (Exactly n) short is = cc is
+    is_some Foreign short is = short
+    is_some Outside short is = short
+
+    -- no bytes need nothing
+    some_there : (bs : List ℕ) → needed bs ≡ needed_in scope bs
+        → IsShort (needed_in scope bs) (length bs) → bs ≢ []
+    some_there [] is short none =
+        let Short : Need → Type 0 = λ n. IsShort n 0 in subst Short (sym is) short
+    some_there (byte ∷ bs) is short none = cc none
 
 -- bytes that need more are the front of a command's block
-pub opens : OpenIsAFront → (bytes : List ℕ) → 0 < length bytes → All IsByte bytes
-    → ((needed bytes ≡ More) × (length bytes ≡ 1))
-    ⊎ ((n : ℕ) × (needed bytes ≡ Exactly n) × (length bytes < n))
-    → (command : Command) × (rest : List ℕ) × (rest ≢ []) × Spells command (bytes ++ rest)
-opens law bytes some all (inl alone) =
+pub opens : (scope : Scope) → OpenIsAFront scope → (bytes : List ℕ) → 0 < length bytes
+    → All IsByte bytes
+    → ((needed_in scope bytes ≡ More) × (length bytes ≡ 1))
+    ⊎ ((n : ℕ) × (needed_in scope bytes ≡ Exactly n) × (length bytes < n))
+    → (command : Command) × (rest : List ℕ) × (rest ≢ []) × Asks scope command (bytes ++ rest)
+opens scope law bytes some all (inl alone) =
     let P : Need → Type 0 = λ n. IsShort n (length bytes) in
     law bytes all (subst P (sym alone.0) alone.1)
-opens law bytes some all (inr short) =
+opens scope law bytes some all (inr short) =
     let P : Need → Type 0 = λ n. IsShort n (length bytes) in
     law bytes all (subst P (sym short.1) short.2)
 

@@ -19,8 +19,8 @@ use Rattle.mdb_msgs.specs.declared.need.Need.{Need}
 use Rattle.mdb_msgs.specs.declared.need.Need.TheVariants as need
 use Rattle.mdb_msgs.specs.declared.reply.Reply.{Reply}
 use Rattle.mdb_msgs.specs.Answers.{IsDataLength, form_of, lengths_of}
-use Rattle.mdb_msgs.specs.Commands.{IsByte, Spells}
-use Rattle.mdb_msgs.specs.Needs.{IsTold, needed}
+use Rattle.mdb_msgs.specs.Commands.{IsByte}
+use Rattle.mdb_msgs.specs.Needs.{IsTold}
 use Rattle.mdb_msgs.specs.Replies.{IsReadFault, IsReplyTo, reply_bytes}
 use Rattle.mdb_msgs.specs.Answers.{HasDataAnswer, MayHaveData}
 use Rattle.mdb_bus.specs.declared.fault.Rule.{Rule}
@@ -30,12 +30,14 @@ use Rattle.mdb_bus.specs.inner.Step.{Step}
 use Rattle.mdb_bus.specs.inner.Step as step
 use Rattle.mdb_bus.specs.Acts.{IsReply, reply_words}
 use Rattle.mdb_bus.specs.ActLists.{Position, Quiet, InAsk, Asked, InReply, Replied, Returned, InRepeat, InForeign, BlockMayCome, InTime, IsAskFront, IsLow, IsReplyFront, NotBefore, NotAfter, level_for, rest_before_block, rest_before_break, tells_high}
-use Rattle.mdb_bus.specs.LinkFaults.{HasBadMessage, HasHighLevels, IsBefore, IsAfter, IsChanged, IsFirstBroken, IsLeftOut, IsOutside, OutOfOrder, RowBreaks, Situation, TooEarly, TooFarApart, TooLate, TooShort, WrongAnswer, WrongLength, WrongMode, WrongSpeaker, WrongSum}
+use Rattle.mdb_bus.specs.LinkFaults.{HasBadMessage, HasHighLevels, IsBefore, IsAfter, IsChanged, IsFirstBroken, IsBeyondProfile, IsOutside, OutOfOrder, RowBreaks, Situation, TooEarly, TooFarApart, TooLate, TooShort, WrongAnswer, WrongLength, WrongMode, WrongSpeaker, WrongSum}
 use Rattle.mdb_bus.specs.inner.Steps.{GoesOnAsking, IsSound, Leads, Opens}
 use Rattle.mdb_bus.proofs.Decided.{Decided, Found, all_three, both, denied, either, first_or_none, held, is_true, less, meant, never, next_in, same, within}
 use Rattle.mdb_bus.proofs.Fronts.{first_byte, front_bytes, front_of, need_ends, need_three, needed_stays}
 use Rattle.mdb_bus.specs.inner.Grammar.{Grammar}
 use Rattle.mdb_bus.proofs.Stops.{Broken, none_bad, same_reply, some_long}
+use Rattle.mdb_bus.specs.Scopes.{Asks, needed_in}
+use Rattle.mdb_bus.specs.declared.scope.Scope.{Scope}
 
 -- a reply that was told, or is told again, is one
 abbrev pub HasReply : Position → Type 0
@@ -174,12 +176,12 @@ is_outside : (needs : Need) → Decided (needs ≡ need.Outside)
 is_outside need.Outside = inl refl
 is_outside needs = never (λ e. cc)
 
-wrong_sum : (position : Position) (row : Event) → Decided (WrongSum position row)
-wrong_sum (InAsk bytes) (Word at Controller word) =
-    both (is_exactly (needed bytes) (length bytes + 1)) (denied (same word (sum bytes % 256)))
-wrong_sum (InReply command bytes) (Word at Peripheral word) =
+wrong_sum : (scope : Scope) (position : Position) (row : Event) → Decided (WrongSum scope position row)
+wrong_sum scope (InAsk bytes) (Word at Controller word) =
+    both (is_exactly (needed_in scope bytes) (length bytes + 1)) (denied (same word (sum bytes % 256)))
+wrong_sum scope (InReply command bytes) (Word at Peripheral word) =
     both (within 256 word) (denied (same word (256 + sum bytes % 256)))
-wrong_sum position row = never (λ h. h)
+wrong_sum scope position row = never (λ h. h)
 
 too_short : (row : Event) → Decided (TooShort row)
 too_short (Break at length) = less length BREAK_LENGTH_MIN
@@ -206,8 +208,8 @@ Read command bytes =
     ((reply : Reply) × IsReply command reply × (bytes ≡ reply_bytes reply))
     ⊎ ((fault : MsgFault) × IsReadFault command bytes fault)
 
-read : Grammar → (command : Command) (bytes : List ℕ) → IsContent bytes → Read command bytes
-read grammar command bytes content = told (grammar.readable command bytes content)
+read : (scope : Scope) → Grammar scope → (command : Command) (bytes : List ℕ) → IsContent bytes → Read command bytes
+read scope grammar command bytes content = told (grammar.readable command bytes content)
   where
     told : ((reply : Reply) × IsReplyTo command reply × (bytes ≡ reply_bytes reply))
         ⊎ ((fault : MsgFault) × IsReadFault command bytes fault)
@@ -218,11 +220,11 @@ read grammar command bytes content = told (grammar.readable command bytes conten
         inl (good.0, record { answers = good.1; content = there }, good.2)
     told (inr bad) = inr bad
 
-read_fault : Grammar → (command : Command) (bytes : List ℕ) (fault : MsgFault) → Read command bytes
+read_fault : (scope : Scope) → Grammar scope → (command : Command) (bytes : List ℕ) (fault : MsgFault) → Read command bytes
     → Decided (IsReadFault command bytes fault)
-read_fault grammar command bytes fault (inl good) =
-    never (none_bad grammar command bytes good.0 fault good.1 good.2)
-read_fault grammar command bytes fault (inr bad) =
+read_fault scope grammar command bytes fault (inl good) =
+    never (none_bad scope grammar command bytes good.0 fault good.1 good.2)
+read_fault scope grammar command bytes fault (inr bad) =
     meant (λ (e : bad.0 ≡ fault). let P : MsgFault → Type 0 = λ f. IsReadFault command bytes f in
     subst P e bad.1)
     (λ other. grammar.one_fault command bytes bad.0 fault bad.1 other) (same_fault bad.0 fault)
@@ -231,9 +233,9 @@ is_low : (level : Option ℕ) → Decided (IsLow level)
 is_low None = inl tt
 is_low (Some level) = less level 2
 
-high_levels : Grammar → (command : Command) (bytes : List ℕ) (levels : Levels) → Read command bytes
+high_levels : (scope : Scope) → Grammar scope → (command : Command) (bytes : List ℕ) (levels : Levels) → Read command bytes
     → Decided (HasHighLevels command bytes levels)
-high_levels grammar command bytes levels (inl good) =
+high_levels scope grammar command bytes levels (inl good) =
     meant to from (both (is_true (tells_high good.0)) (denied (is_low (level_for command levels))))
   where
     to : (tells_high good.0 ≡ true) × (IsLow (level_for command levels) → ⊥)
@@ -243,12 +245,12 @@ high_levels grammar command bytes levels (inl good) =
     from : HasHighLevels command bytes levels → (tells_high good.0 ≡ true)
         × (IsLow (level_for command levels) → ⊥)
     from h =
-        let one : h.0 ≡ good.0 = same_reply grammar command bytes h.0 good.0 h.1 h.2 good.1
+        let one : h.0 ≡ good.0 = same_reply scope grammar command bytes h.0 good.0 h.1 h.2 good.1
         good.2 in
         let P : Reply → Type 0 = λ r. tells_high r ≡ true in
         (subst P one h.3, h.4)
-high_levels grammar command bytes levels (inr bad) =
-    never (λ h. none_bad grammar command bytes h.0 bad.0 h.1 h.2 bad.1)
+high_levels scope grammar command bytes levels (inr bad) =
+    never (λ h. none_bad scope grammar command bytes h.0 bad.0 h.1 h.2 bad.1)
 
 -- a word of the controller is none of its answers
 no_vmc_answer : (word : ℕ) → Decided ((answer : Answer) → word ≢ answer_word Controller answer)
@@ -269,25 +271,25 @@ no_vmc_answer word =
         × (word ≢ answer_word Controller answers.Ret)
     from h = (h answers.Ack, h answers.Nak, h answers.Ret)
 
-wrong_answer : Grammar → (position : Position) (row : Event) → IsSound position
+wrong_answer : (scope : Scope) → Grammar scope → (position : Position) (row : Event) → IsSound scope position
     → Decided (WrongAnswer position row)
-wrong_answer grammar (Asked command) (Word at Peripheral word) sound =
+wrong_answer scope grammar (Asked command) (Word at Peripheral word) sound =
     either (all_three (within 256 word) (denied (same word (answer_word Peripheral answers.Ack)))
     (denied (same word (answer_word Peripheral answers.Nak))))
     (both (less word 256) (denied (may_have_data command)))
-wrong_answer grammar (InReply command bytes) (Word at Peripheral word) sound =
-    both (within 256 word) (read_fault grammar command bytes reading.Answer
-    (read grammar command bytes (content_of command bytes sound)))
-wrong_answer grammar (Replied command reply) (Word at Controller word) sound =
+wrong_answer scope grammar (InReply command bytes) (Word at Peripheral word) sound =
+    both (within 256 word) (read_fault scope grammar command bytes reading.Answer
+    (read scope grammar command bytes (content_of command bytes sound)))
+wrong_answer scope grammar (Replied command reply) (Word at Controller word) sound =
     both (less word 256) (no_vmc_answer word)
-wrong_answer grammar position row sound = never (λ h. h)
+wrong_answer scope grammar position row sound = never (λ h. h)
 
-bad_message : Grammar → (position : Position) (row : Event) → IsSound position
+bad_message : (scope : Scope) → Grammar scope → (position : Position) (row : Event) → IsSound scope position
     → Decided (HasBadMessage position row)
-bad_message grammar (InReply command bytes) (Word at Peripheral word) sound =
-    both (within 256 word) (read_fault grammar command bytes reading.Message
-    (read grammar command bytes (content_of command bytes sound)))
-bad_message grammar position row sound = never (λ h. h)
+bad_message scope grammar (InReply command bytes) (Word at Peripheral word) sound =
+    both (within 256 word) (read_fault scope grammar command bytes reading.Message
+    (read scope grammar command bytes (content_of command bytes sound)))
+bad_message scope grammar position row sound = never (λ h. h)
 
 is_changed : (position : Position) (row : Event) → Decided (IsChanged position row)
 is_changed (Returned command reply) (Word at Peripheral word) =
@@ -296,110 +298,110 @@ is_changed (InRepeat command reply words) (Word at Peripheral word) =
     denied (next_in (reply_words reply) words word)
 is_changed position row = never (λ h. h)
 
-outside_word : (word : ℕ) → Decided (IsOutside word)
-outside_word word = by (less word 256)
+outside_word : (scope : Scope) (word : ℕ) → Decided (IsOutside scope word)
+outside_word scope word = by (less word 256)
   where
-    at : 256 ≤ word → Decided (needed ((word - 256) ∷ []) ≡ need.Outside) → Decided (IsOutside word)
+    at : 256 ≤ word → Decided (needed_in scope ((word - 256) ∷ []) ≡ need.Outside) → Decided (IsOutside scope word)
     at high (inl outside) = inl (word - 256, omega arith, outside)
     at high (inr inside) = never told
       where
-        told : IsOutside word → ⊥
+        told : IsOutside scope word → ⊥
         told h =
             let one : h.0 ≡ word - 256 = omega (arith, h.1) in
-            let P : ℕ → Type 0 = λ b. needed (b ∷ []) ≡ need.Outside in
+            let P : ℕ → Type 0 = λ b. needed_in scope (b ∷ []) ≡ need.Outside in
             inside (subst P one h.2)
 
-    by : Decided (word < 256) → Decided (IsOutside word)
+    by : Decided (word < 256) → Decided (IsOutside scope word)
     by (inl low) = never (λ h. absurd (omega (arith, low, h.1)))
-    by (inr high) = at (omega (arith, high)) (is_outside (needed ((word - 256) ∷ [])))
+    by (inr high) = at (omega (arith, high)) (is_outside (needed_in scope ((word - 256) ∷ [])))
 
-left_out : Grammar → (position : Position) (levels : Levels) (row : Event) → IsSound position
-    → Decided (IsLeftOut position levels row)
-left_out grammar (InAsk bytes) levels (Word at Controller word) sound =
-    both (is_more (needed bytes)) (is_outside (needed (bytes ++ word ∷ [])))
-left_out grammar (InReply command bytes) levels (Word at Peripheral word) sound =
-    let told = read grammar command bytes (content_of command bytes sound) in
-    both (within 256 word) (either (read_fault grammar command bytes reading.Profile told)
-    (high_levels grammar command bytes levels told))
-left_out grammar (InReply command bytes) levels row sound = never (λ h. h)
-left_out grammar (InRepeat command reply words) levels row sound = never (λ h. h)
-left_out grammar position levels (Word at Controller word) sound = outside_word word
-left_out grammar position levels row sound = never (λ h. h)
+left_out : (scope : Scope) → Grammar scope → (position : Position) (levels : Levels) (row : Event) → IsSound scope position
+    → Decided (IsBeyondProfile scope position levels row)
+left_out scope grammar (InAsk bytes) levels (Word at Controller word) sound =
+    both (is_more (needed_in scope bytes)) (is_outside (needed_in scope (bytes ++ word ∷ [])))
+left_out scope grammar (InReply command bytes) levels (Word at Peripheral word) sound =
+    let told = read scope grammar command bytes (content_of command bytes sound) in
+    both (within 256 word) (either (read_fault scope grammar command bytes reading.Profile told)
+    (high_levels scope grammar command bytes levels told))
+left_out scope grammar (InReply command bytes) levels row sound = never (λ h. h)
+left_out scope grammar (InRepeat command reply words) levels row sound = never (λ h. h)
+left_out scope grammar position levels (Word at Controller word) sound = outside_word scope word
+left_out scope grammar position levels row sound = never (λ h. h)
 
 -- each rule is broken or isn't
-breaks : Grammar → (s : Situation) (row : Event) → IsSound s.position → (r : Rule)
+breaks : (s : Situation) → Grammar s.scope → (row : Event) → IsSound s.scope s.position → (r : Rule)
     → Decided (RowBreaks s row r)
-breaks grammar s row sound rule.Order = out_of_order s.last row
-breaks grammar s row sound rule.Speaker = wrong_speaker s.position s.last row
-breaks grammar s row sound rule.Mode = wrong_mode s.position row
-breaks grammar s row sound rule.Early = too_early s.position s.last row
-breaks grammar s row sound rule.Late = too_late s.position s.last row
-breaks grammar s row sound rule.Spacing = too_far_apart s.position s.last row
-breaks grammar s row sound rule.Length = wrong_length s.position row
-breaks grammar s row sound rule.Sum = wrong_sum s.position row
-breaks grammar s row sound rule.Break = too_short row
-breaks grammar s row sound rule.Answer = wrong_answer grammar s.position row sound
-breaks grammar s row sound rule.Message = bad_message grammar s.position row sound
-breaks grammar s row sound rule.Same = is_changed s.position row
-breaks grammar s row sound rule.Profile = left_out grammar s.position s.levels row sound
-breaks grammar s row sound rule.Changer = never (λ h. h)
-breaks grammar s row sound rule.Bill = never (λ h. h)
-breaks grammar s row sound rule.Cashless = never (λ h. h)
+breaks s grammar row sound rule.Order = out_of_order s.last row
+breaks s grammar row sound rule.Speaker = wrong_speaker s.position s.last row
+breaks s grammar row sound rule.Mode = wrong_mode s.position row
+breaks s grammar row sound rule.Early = too_early s.position s.last row
+breaks s grammar row sound rule.Late = too_late s.position s.last row
+breaks s grammar row sound rule.Spacing = too_far_apart s.position s.last row
+breaks s grammar row sound rule.Length = wrong_length s.position row
+breaks s grammar row sound rule.Sum = wrong_sum s.scope s.position row
+breaks s grammar row sound rule.Break = too_short row
+breaks s grammar row sound rule.Answer = wrong_answer s.scope grammar s.position row sound
+breaks s grammar row sound rule.Message = bad_message s.scope grammar s.position row sound
+breaks s grammar row sound rule.Same = is_changed s.position row
+breaks s grammar row sound rule.Profile = left_out s.scope grammar s.position s.levels row sound
+breaks s grammar row sound rule.Changer = never (λ h. h)
+breaks s grammar row sound rule.Bill = never (λ h. h)
+breaks s grammar row sound rule.Cashless = never (λ h. h)
 
 -- a word that breaks no rule leads on
 
 -- where a row leads
-abbrev LeadsOn : Position → Option Event → Levels → Event → Type 0
-LeadsOn position from levels row =
-    (next : Step) × Leads (record { position = position; last = from; levels = levels }) row next
+abbrev LeadsOn : (scope : Scope) → Position → Option Event → Levels → Event → Type 0
+LeadsOn scope position from levels row =
+    (next : Step) × Leads (record { scope = scope; position = position; last = from; levels = levels }) row next
 
 -- none of the rules is broken
-abbrev NoneBroken : Position → Option Event → Levels → Event → Type 0
-NoneBroken position from levels row = (r : Rule) → Broken position from levels row r → ⊥
+abbrev NoneBroken : (scope : Scope) → Position → Option Event → Levels → Event → Type 0
+NoneBroken scope position from levels row = (r : Rule) → Broken scope position from levels row r → ⊥
 
 -- a marked word that isn't left out opens a block
-opens_on : Grammar → (position : Position) (from : Option Event) (to : Event) (word : ℕ)
+opens_on : (scope : Scope) → Grammar scope → (position : Position) (from : Option Event) (to : Event) (word : ℕ)
     → 256 ≤ word
-    → (IsOutside word → ⊥)
+    → (IsOutside scope word → ⊥)
     → BlockMayCome position from to
-    → (IsAskFront ((word - 256) ∷ []) ⊎ (needed ((word - 256) ∷ []) ≡ need.Foreign))
-    → (next : Step) × Opens position from to word next
-opens_on grammar position from to word high inside comes (inl front) =
+    → (IsAskFront scope ((word - 256) ∷ []) ⊎ (needed_in scope ((word - 256) ∷ []) ≡ need.Foreign))
+    → (next : Step) × Opens scope position from to word next
+opens_on scope grammar position from to word high inside comes (inl front) =
     (step.AskByte (word - 256), (omega arith, front, comes))
-opens_on grammar position from to word high inside comes (inr foreign) =
+opens_on scope grammar position from to word high inside comes (inr foreign) =
     (step.Foreign, (word - 256, omega arith, foreign, comes))
 
 -- a marked word of the controller opens a block
-opens : Grammar → (position : Position) (from : Option Event) (to : Event) (word : ℕ) → 256 ≤ word
-    → (IsOutside word → ⊥)
-    → BlockMayCome position from to → (next : Step) × Opens position from to word next
-opens grammar position from to word high inside comes =
-    opens_on grammar position from to word high inside comes
-    (first_byte grammar (word - 256) (λ out. inside (word - 256, omega arith, out)))
+opens : (scope : Scope) → Grammar scope → (position : Position) (from : Option Event) (to : Event) (word : ℕ) → 256 ≤ word
+    → (IsOutside scope word → ⊥)
+    → BlockMayCome position from to → (next : Step) × Opens scope position from to word next
+opens scope grammar position from to word high inside comes =
+    opens_on scope grammar position from to word high inside comes
+    (first_byte scope grammar (word - 256) (λ out. inside (word - 256, omega arith, out)))
 
 -- a whole ask
-ask_whole : Grammar → (bytes : List ℕ) (from : Option Event) (to : Event) (word : ℕ)
+ask_whole : (scope : Scope) → Grammar scope → (bytes : List ℕ) (from : Option Event) (to : Event) (word : ℕ)
     → All IsByte bytes
-    → needed bytes ≡ need.Exactly (length bytes + 1) → word < 256 → word ≡ sum bytes % 256
+    → needed_in scope bytes ≡ need.Exactly (length bytes + 1) → word < 256 → word ≡ sum bytes % 256
     → InTime BLOCK_GAP_MAX from to
-    → (next : Step) × GoesOnAsking bytes from to word next
-ask_whole grammar bytes from to word low told small total near =
+    → (next : Step) × GoesOnAsking scope bytes from to word next
+ask_whole scope grammar bytes from to word low told small total near =
     let found = grammar.is_command bytes low told in
-    let P : ℕ → Type 0 = λ w. Spells found.0 (bytes ++ w ∷ []) in
+    let P : ℕ → Type 0 = λ w. Asks scope found.0 (bytes ++ w ∷ []) in
     (step.Ask found.0, (small, subst P (sym total) found.1, near))
 
 -- a longer front of an ask
-ask_longer : Grammar → (bytes : List ℕ) (from : Option Event) (to : Event) (word n : ℕ) → bytes ≢ []
+ask_longer : (scope : Scope) → Grammar scope → (bytes : List ℕ) (from : Option Event) (to : Event) (word n : ℕ) → bytes ≢ []
     → All IsByte bytes
-    → needed (bytes ++ word ∷ []) ≡ need.Exactly n → length bytes + 1 < n → word < 256
+    → needed_in scope (bytes ++ word ∷ []) ≡ need.Exactly n → length bytes + 1 < n → word < 256
     → InTime BLOCK_GAP_MAX from to
-    → (next : Step) × GoesOnAsking bytes from to word next
-ask_longer grammar bytes from to word n some low told long small near =
+    → (next : Step) × GoesOnAsking scope bytes from to word next
+ask_longer scope grammar bytes from to word n some low told long small near =
     let longer = bytes ++ word ∷ [] in
     let count : length (bytes ++ word ∷ []) ≡ length bytes + 1 =
     omega (arith, length-append bytes (word ∷ [])) in
-    let front : IsAskFront (bytes ++ word ∷ []) =
-    front_of grammar (bytes ++ word ∷ []) (some_there bytes) (All-push IsByte bytes word low small)
+    let front : IsAskFront scope (bytes ++ word ∷ []) =
+    front_of scope grammar (bytes ++ word ∷ []) (some_there bytes) (All-push IsByte bytes word low small)
     (inr (n, told, omega (arith, count, long))) in
     (step.AskByte word, (refl, small, front, near))
   where
@@ -408,81 +410,81 @@ ask_longer grammar bytes from to word n some low told long small near =
     some_there (b ∷ bs) is = cc
 
 -- the second byte of a block
-second_byte : Grammar → (first : ℕ) (from : Option Event) (to : Event) (word : ℕ)
+second_byte : (scope : Scope) → Grammar scope → (first : ℕ) (from : Option Event) (to : Event) (word : ℕ)
     → All IsByte (first ∷ [])
-    → needed (first ∷ []) ≡ need.More → (needed (first ∷ word ∷ []) ≡ need.Outside → ⊥) → word < 256
+    → needed_in scope (first ∷ []) ≡ need.More → (needed_in scope (first ∷ word ∷ []) ≡ need.Outside → ⊥) → word < 256
     → InTime BLOCK_GAP_MAX from to
-    → (n : Need) → needed (first ∷ word ∷ []) ≡ n → (next : Step) × GoesOnAsking (first ∷ []) from
+    → (n : Need) → needed_in scope (first ∷ word ∷ []) ≡ n → (next : Step) × GoesOnAsking scope (first ∷ []) from
     to word next
-second_byte grammar first from to word low more inside small near (need.Exactly n) told =
-    let three : 3 ≤ n = need_three first word n more told in
-    ask_longer grammar (first ∷ []) from to word n (λ none. cc) low told (omega (arith, three))
+second_byte scope grammar first from to word low more inside small near (need.Exactly n) told =
+    let three : 3 ≤ n = need_three scope first word n more told in
+    ask_longer scope grammar (first ∷ []) from to word n (λ none. cc) low told (omega (arith, three))
     small near
-second_byte grammar first from to word low more inside small near need.More told =
-    absurd (need_ends first word told)
-second_byte grammar first from to word low more inside small near need.Foreign told =
+second_byte scope grammar first from to word low more inside small near need.More told =
+    absurd (need_ends scope first word told)
+second_byte scope grammar first from to word low more inside small near need.Foreign told =
     (step.Foreign, (small, (more, told, small), near))
-second_byte grammar first from to word low more inside small near need.Outside told =
+second_byte scope grammar first from to word low more inside small near need.Outside told =
     absurd (inside told)
 
 -- where the first byte left it to the second
-asks_second : Grammar → (bytes : List ℕ) (from : Option Event) (to : Event) (word : ℕ)
+asks_second : (scope : Scope) → Grammar scope → (bytes : List ℕ) (from : Option Event) (to : Event) (word : ℕ)
     → length bytes ≡ 1
     → All IsByte bytes
-    → needed bytes ≡ need.More → (needed (bytes ++ word ∷ []) ≡ need.Outside → ⊥) → word < 256
+    → needed_in scope bytes ≡ need.More → (needed_in scope (bytes ++ word ∷ []) ≡ need.Outside → ⊥) → word < 256
     → InTime BLOCK_GAP_MAX from to
-    → (next : Step) × GoesOnAsking bytes from to word next
-asks_second grammar [] from to word one low more inside small near = absurd (omega (arith, one))
-asks_second grammar (first ∷ []) from to word one low more inside small near =
-    second_byte grammar first from to word low more inside small near (needed (first ∷ word ∷ []))
+    → (next : Step) × GoesOnAsking scope bytes from to word next
+asks_second scope grammar [] from to word one low more inside small near = absurd (omega (arith, one))
+asks_second scope grammar (first ∷ []) from to word one low more inside small near =
+    second_byte scope grammar first from to word low more inside small near (needed_in scope (first ∷ word ∷ []))
     refl
-asks_second grammar (first ∷ second ∷ bytes) from to word one low more inside small near =
+asks_second scope grammar (first ∷ second ∷ bytes) from to word one low more inside small near =
     absurd (omega (arith, one))
 
 -- where the first bytes told the length
-asks_further : Grammar → (bytes : List ℕ) (from : Option Event) (to : Event) (word n : ℕ)
+asks_further : (scope : Scope) → Grammar scope → (bytes : List ℕ) (from : Option Event) (to : Event) (word n : ℕ)
     → bytes ≢ []
     → All IsByte bytes
-    → needed bytes ≡ need.Exactly n → length bytes + 1 ≤ n
-    → ((needed bytes ≡ need.Exactly (length bytes + 1)) × (word ≢ sum bytes % 256) → ⊥) → word < 256
+    → needed_in scope bytes ≡ need.Exactly n → length bytes + 1 ≤ n
+    → ((needed_in scope bytes ≡ need.Exactly (length bytes + 1)) × (word ≢ sum bytes % 256) → ⊥) → word < 256
     → InTime BLOCK_GAP_MAX from to
-    → Decided (n ≡ length bytes + 1) → (next : Step) × GoesOnAsking bytes from to word next
-asks_further grammar bytes from to word n some low told enough summed small near (inl is) =
-    let whole : needed bytes ≡ need.Exactly (length bytes + 1) = told ∙ ap need.Exactly is in
-    ask_whole grammar bytes from to word low whole small
+    → Decided (n ≡ length bytes + 1) → (next : Step) × GoesOnAsking scope bytes from to word next
+asks_further scope grammar bytes from to word n some low told enough summed small near (inl is) =
+    let whole : needed_in scope bytes ≡ need.Exactly (length bytes + 1) = told ∙ ap need.Exactly is in
+    ask_whole scope grammar bytes from to word low whole small
     (held (same word (sum bytes % 256)) (λ wrong. summed (whole, wrong))) near
-asks_further grammar bytes from to word n some low told enough summed small near (inr more) =
-    ask_longer grammar bytes from to word n some low (needed_stays bytes word n some told)
+asks_further scope grammar bytes from to word n some low told enough summed small near (inr more) =
+    ask_longer scope grammar bytes from to word n some low (needed_stays scope bytes word n some told)
     (omega (arith, enough, more))
     small near
 
 -- an unmarked word goes on with a block, or ends it
-asks : Grammar → (bytes : List ℕ) (from : Option Event) (to : Event) (word whole : ℕ) → bytes ≢ []
+asks : (scope : Scope) → Grammar scope → (bytes : List ℕ) (from : Option Event) (to : Event) (word whole : ℕ) → bytes ≢ []
     → All IsByte bytes
     → length bytes + 1 ≤ whole
-    → ((needed bytes ≡ need.Exactly (length bytes + 1)) × (word ≢ sum bytes % 256) → ⊥)
-    → ((needed bytes ≡ need.More) × (needed (bytes ++ word ∷ []) ≡ need.Outside) → ⊥) → word < 256
+    → ((needed_in scope bytes ≡ need.Exactly (length bytes + 1)) × (word ≢ sum bytes % 256) → ⊥)
+    → ((needed_in scope bytes ≡ need.More) × (needed_in scope (bytes ++ word ∷ []) ≡ need.Outside) → ⊥) → word < 256
     → InTime BLOCK_GAP_MAX from to
-    → (n : Need) → needed bytes ≡ n → IsTold n (length bytes) whole
-    → (next : Step) × GoesOnAsking bytes from to word next
-asks grammar bytes from to word whole some low enough summed inside small near (need.Exactly n) told
+    → (n : Need) → needed_in scope bytes ≡ n → IsTold n (length bytes) whole
+    → (next : Step) × GoesOnAsking scope bytes from to word next
+asks scope grammar bytes from to word whole some low enough summed inside small near (need.Exactly n) told
     is =
-    asks_further grammar bytes from to word n some low told (omega (arith, enough, is)) summed small
+    asks_further scope grammar bytes from to word n some low told (omega (arith, enough, is)) summed small
     near
     (same n (length bytes + 1))
-asks grammar bytes from to word whole some low enough summed inside small near need.More told is =
-    asks_second grammar bytes from to word is low told (λ out. inside (told, out)) small near
-asks grammar bytes from to word whole some low enough summed inside small near need.Foreign told
+asks scope grammar bytes from to word whole some low enough summed inside small near need.More told is =
+    asks_second scope grammar bytes from to word is low told (λ out. inside (told, out)) small near
+asks scope grammar bytes from to word whole some low enough summed inside small near need.Foreign told
     is = absurd is
-asks grammar bytes from to word whole some low enough summed inside small near need.Outside told
+asks scope grammar bytes from to word whole some low enough summed inside small near need.Outside told
     is = absurd is
 
 -- a word inside an ask leads on
-goes_on_asking : Grammar → (bytes : List ℕ) (from : Option Event) (levels : Levels) (at word : ℕ)
-    → IsAskFront bytes
-    → NoneBroken (InAsk bytes) from levels (Word at Controller word)
-    → LeadsOn (InAsk bytes) from levels (Word at Controller word)
-goes_on_asking grammar bytes from levels at word front none =
+goes_on_asking : (scope : Scope) → Grammar scope → (bytes : List ℕ) (from : Option Event) (levels : Levels) (at word : ℕ)
+    → IsAskFront scope bytes
+    → NoneBroken scope (InAsk bytes) from levels (Word at Controller word)
+    → LeadsOn scope (InAsk bytes) from levels (Word at Controller word)
+goes_on_asking scope grammar bytes from levels at word front none =
     let small : word < 256 = held (less word 256) (λ high. none rule.Mode (omega (arith, high))) in
     let near : InTime BLOCK_GAP_MAX from (Word at Controller word) = (
       not_before WORD_GAP_MIN from (Word at Controller word) (none rule.Early),
@@ -492,16 +494,16 @@ goes_on_asking grammar bytes from levels at word front none =
     let more : 0 < length front.rest = some_long front.rest front.open_end in
     let enough : length bytes + 1 ≤ length (bytes ++ front.rest) =
     omega (arith, more, length-append bytes front.rest) in
-    asks grammar bytes from (Word at Controller word) word (length (bytes ++ front.rest)) front.some
-    (front_bytes bytes front) enough (none rule.Sum) (none rule.Profile) small near (needed bytes)
+    asks scope grammar bytes from (Word at Controller word) word (length (bytes ++ front.rest)) front.some
+    (front_bytes scope bytes front) enough (none rule.Sum) (none rule.Profile) small near (needed_in scope bytes)
     refl
     (grammar.tells bytes front.rest front.command some front.spelled)
 
 -- a peripheral's word answers a command
-when_asked : (command : Command) (from : Option Event) (levels : Levels) (at word : ℕ)
-    → NoneBroken (Asked command) from levels (Word at Peripheral word) → Decided (word < 256)
-    → LeadsOn (Asked command) from levels (Word at Peripheral word)
-when_asked command from levels at word none (inl low) = (
+when_asked : (scope : Scope) (command : Command) (from : Option Event) (levels : Levels) (at word : ℕ)
+    → NoneBroken scope (Asked command) from levels (Word at Peripheral word) → Decided (word < 256)
+    → LeadsOn scope (Asked command) from levels (Word at Peripheral word)
+when_asked scope command from levels at word none (inl low) = (
   step.ReplyByte word,
   (
     refl,
@@ -513,7 +515,7 @@ when_asked command from levels at word none (inl low) = (
     ),
   ),
 )
-when_asked command from levels at word none (inr high) =
+when_asked scope command from levels at word none (inr high) =
     marked (same word (answer_word Peripheral answers.Ack))
     (same word (answer_word Peripheral answers.Nak))
   where
@@ -525,30 +527,30 @@ when_asked command from levels at word none (inr high) =
 
     marked : Decided (word ≡ answer_word Peripheral answers.Ack)
         → Decided (word ≡ answer_word Peripheral answers.Nak)
-        → LeadsOn (Asked command) from levels (Word at Peripheral word)
+        → LeadsOn scope (Asked command) from levels (Word at Peripheral word)
     marked (inl ack) other = (step.Ack, (ack, near))
     marked (inr not_ack) (inl nak) = (step.Nak, (nak, near))
     marked (inr not_ack) (inr not_nak) =
         absurd (none rule.Answer (inl (omega (arith, high), not_ack, not_nak)))
 
 -- an unmarked word goes on with a reply
-reply_longer : (command : Command) (bytes : List ℕ) (from : Option Event) (levels : Levels)
+reply_longer : (scope : Scope) (command : Command) (bytes : List ℕ) (from : Option Event) (levels : Levels)
     (at word : ℕ)
-    → NoneBroken (InReply command bytes) from levels (Word at Peripheral word) → word < 256
+    → NoneBroken scope (InReply command bytes) from levels (Word at Peripheral word) → word < 256
     → InTime BLOCK_GAP_MAX from (Word at Peripheral word)
-    → LeadsOn (InReply command bytes) from levels (Word at Peripheral word)
-reply_longer command bytes from levels at word none low near =
+    → LeadsOn scope (InReply command bytes) from levels (Word at Peripheral word)
+reply_longer scope command bytes from levels at word none low near =
     let short : length bytes < 35 =
     held (less (length bytes) 35) (λ long. none rule.Length (inl (low, omega (arith, long)))) in
     (step.ReplyByte word, (refl, low, short, near))
 
 -- a marked word ends it
-reply_whole : Grammar → (command : Command) (bytes : List ℕ) (from : Option Event) (levels : Levels)
+reply_whole : (scope : Scope) → Grammar scope → (command : Command) (bytes : List ℕ) (from : Option Event) (levels : Levels)
     (at word : ℕ)
-    → NoneBroken (InReply command bytes) from levels (Word at Peripheral word) → 256 ≤ word
+    → NoneBroken scope (InReply command bytes) from levels (Word at Peripheral word) → 256 ≤ word
     → InTime BLOCK_GAP_MAX from (Word at Peripheral word) → Read command bytes
-    → LeadsOn (InReply command bytes) from levels (Word at Peripheral word)
-reply_whole grammar command bytes from levels at word none high near (inl good) =
+    → LeadsOn scope (InReply command bytes) from levels (Word at Peripheral word)
+reply_whole scope grammar command bytes from levels at word none high near (inl good) =
     let total : word ≡ 256 + sum bytes % 256 =
     held (same word (256 + sum bytes % 256)) (λ wrong. none rule.Sum (high, wrong)) in
     (step.Reply good.0, (total, good.1, good.2, low, near))
@@ -557,7 +559,7 @@ reply_whole grammar command bytes from levels at word none high near (inl good) 
     low tells =
         held (is_low (level_for command levels)) (λ wrong. none rule.Profile
         (high, inr (good.0, good.1, good.2, tells, wrong)))
-reply_whole grammar command bytes from levels at word none high near (inr bad) =
+reply_whole scope grammar command bytes from levels at word none high near (inr bad) =
     absurd (faulty bad.0 bad.1)
   where
     faulty : (fault : MsgFault) → IsReadFault command bytes fault → ⊥
@@ -578,13 +580,13 @@ reply_whole grammar command bytes from levels at word none high near (inr bad) =
     faulty reading.Answer told = none rule.Answer (high, told)
 
 -- a word inside a reply leads on
-replies : Grammar → (command : Command) (bytes : List ℕ) (from : Option Event) (levels : Levels)
+replies : (scope : Scope) → Grammar scope → (command : Command) (bytes : List ℕ) (from : Option Event) (levels : Levels)
     (at word : ℕ)
-    → IsReplyFront command bytes → NoneBroken (InReply command bytes) from levels
+    → IsReplyFront command bytes → NoneBroken scope (InReply command bytes) from levels
     (Word at Peripheral word)
     → Decided (word < 256)
-    → LeadsOn (InReply command bytes) from levels (Word at Peripheral word)
-replies grammar command bytes from levels at word front none sized = by sized
+    → LeadsOn scope (InReply command bytes) from levels (Word at Peripheral word)
+replies scope grammar command bytes from levels at word front none sized = by sized
   where
     near : InTime BLOCK_GAP_MAX from (Word at Peripheral word)
     near = (
@@ -593,21 +595,21 @@ replies grammar command bytes from levels at word front none sized = by sized
     )
 
     by : Decided (word < 256)
-        → LeadsOn (InReply command bytes) from levels (Word at Peripheral word)
-    by (inl low) = reply_longer command bytes from levels at word none low near
+        → LeadsOn scope (InReply command bytes) from levels (Word at Peripheral word)
+    by (inl low) = reply_longer scope command bytes from levels at word none low near
     by (inr high) =
-        reply_whole grammar command bytes from levels at word none (omega (arith, high)) near
-        (read grammar command bytes (content_of command bytes front))
+        reply_whole scope grammar command bytes from levels at word none (omega (arith, high)) near
+        (read scope grammar command bytes (content_of command bytes front))
 
 -- a controller's unmarked word answers a reply
-vmc_answers : (command : Command) (reply : Reply) (from : Option Event) (levels : Levels)
+vmc_answers : (scope : Scope) (command : Command) (reply : Reply) (from : Option Event) (levels : Levels)
     (at word : ℕ)
-    → NoneBroken (Replied command reply) from levels (Word at Controller word) → word < 256
+    → NoneBroken scope (Replied command reply) from levels (Word at Controller word) → word < 256
     → Decided (word ≡ answer_word Controller answers.Ack)
     → Decided (word ≡ answer_word Controller answers.Nak)
     → Decided (word ≡ answer_word Controller answers.Ret)
-    → LeadsOn (Replied command reply) from levels (Word at Controller word)
-vmc_answers command reply from levels at word none low ack nak ret = by ack nak ret
+    → LeadsOn scope (Replied command reply) from levels (Word at Controller word)
+vmc_answers scope command reply from levels at word none low ack nak ret = by ack nak ret
   where
     near : InTime ANSWER_GAP_MAX from (Word at Controller word)
     near = (
@@ -627,40 +629,40 @@ vmc_answers command reply from levels at word none low ack nak ret = by ack nak 
     by : Decided (word ≡ answer_word Controller answers.Ack)
         → Decided (word ≡ answer_word Controller answers.Nak)
         → Decided (word ≡ answer_word Controller answers.Ret)
-        → LeadsOn (Replied command reply) from levels (Word at Controller word)
+        → LeadsOn scope (Replied command reply) from levels (Word at Controller word)
     by (inl is) n r = (step.VmcAck, (is, near))
     by (inr a) (inl is) r = (step.VmcNak, (is, near))
     by (inr a) (inr n) (inl is) = (step.VmcRet, (is, near))
     by (inr a) (inr n) (inr r) = absurd (none rule.Answer (low, no_answer a n r))
 
 -- an opening leads on after a reply too
-opening_leads : (command : Command) (reply : Reply) (from : Option Event) (levels : Levels)
+opening_leads : (scope : Scope) (command : Command) (reply : Reply) (from : Option Event) (levels : Levels)
     (at word : ℕ) (next : Step)
-    → Opens (Replied command reply) from (Word at Controller word) word next
-    → Leads (record { position = Replied command reply; last = from; levels = levels })
+    → Opens scope (Replied command reply) from (Word at Controller word) word next
+    → Leads (record { scope = scope; position = Replied command reply; last = from; levels = levels })
     (Word at Controller word) next
-opening_leads command reply from levels at word (step.AskByte byte) leads = leads
-opening_leads command reply from levels at word step.Foreign leads = leads
-opening_leads command reply from levels at word next leads = absurd leads
+opening_leads scope command reply from levels at word (step.AskByte byte) leads = leads
+opening_leads scope command reply from levels at word step.Foreign leads = leads
+opening_leads scope command reply from levels at word next leads = absurd leads
 
 -- an answer to a reply, or a block after it
-when_replied : Grammar → (command : Command) (reply : Reply) (from : Option Event) (levels : Levels)
+when_replied : (scope : Scope) → Grammar scope → (command : Command) (reply : Reply) (from : Option Event) (levels : Levels)
     (at word : ℕ)
-    → NoneBroken (Replied command reply) from levels (Word at Controller word)
+    → NoneBroken scope (Replied command reply) from levels (Word at Controller word)
     → Decided (word < 256)
-    → LeadsOn (Replied command reply) from levels (Word at Controller word)
-when_replied grammar command reply from levels at word none (inl low) =
-    vmc_answers command reply from levels at word none low
+    → LeadsOn scope (Replied command reply) from levels (Word at Controller word)
+when_replied scope grammar command reply from levels at word none (inl low) =
+    vmc_answers scope command reply from levels at word none low
     (same word (answer_word Controller answers.Ack))
     (same word (answer_word Controller answers.Nak))
     (same word (answer_word Controller answers.Ret))
-when_replied grammar command reply from levels at word none (inr large) =
+when_replied scope grammar command reply from levels at word none (inr large) =
     let high : 256 ≤ word = omega (arith, large) in
-    let on = opens grammar (Replied command reply) from (Word at Controller word) word high
+    let on = opens scope grammar (Replied command reply) from (Word at Controller word) word high
     (none rule.Profile)
     (not_before NEW_BLOCK_GAP_MIN from (Word at Controller word)
     (λ early. none rule.Early (inl (high, early)))) in
-    (on.0, opening_leads command reply from levels at word on.0 on.1)
+    (on.0, opening_leads scope command reply from levels at word on.0 on.1)
 
 -- the words of a reply are more than one
 peripheral_long : (bytes : List ℕ) → length (peripheral_words bytes) ≡ length bytes
@@ -681,15 +683,15 @@ words_long command reply good =
     )
 
 -- a word begins a repeat
-repeat_begins : (command : Command) (reply : Reply) (from : Option Event) (levels : Levels)
+repeat_begins : (scope : Scope) (command : Command) (reply : Reply) (from : Option Event) (levels : Levels)
     (at word : ℕ)
     → IsReply command reply
     → InTime ANSWER_GAP_MAX from (Word at Peripheral word) → (rest : List ℕ)
     → word ∷ rest ≡ reply_words reply
-    → LeadsOn (Returned command reply) from levels (Word at Peripheral word)
-repeat_begins command reply from levels at word good near [] is =
+    → LeadsOn scope (Returned command reply) from levels (Word at Peripheral word)
+repeat_begins scope command reply from levels at word good near [] is =
     absurd (omega (arith, words_long command reply good, ap length is))
-repeat_begins command reply from levels at word good near (next ∷ rest) is = (
+repeat_begins scope command reply from levels at word good near (next ∷ rest) is = (
   step.RepeatWord word,
   (
     refl,
@@ -705,14 +707,14 @@ repeat_begins command reply from levels at word good near (next ∷ rest) is = (
 )
 
 -- a word that begins a repeat
-when_returned : (command : Command) (reply : Reply) (from : Option Event) (levels : Levels)
+when_returned : (scope : Scope) (command : Command) (reply : Reply) (from : Option Event) (levels : Levels)
     (at word : ℕ)
     → IsReply command reply
-    → NoneBroken (Returned command reply) from levels (Word at Peripheral word)
-    → LeadsOn (Returned command reply) from levels (Word at Peripheral word)
-when_returned command reply from levels at word good none =
+    → NoneBroken scope (Returned command reply) from levels (Word at Peripheral word)
+    → LeadsOn scope (Returned command reply) from levels (Word at Peripheral word)
+when_returned scope command reply from levels at word good none =
     let next = held (next_in (reply_words reply) [] word) (none rule.Same) in
-    repeat_begins command reply from levels at word good (
+    repeat_begins scope command reply from levels at word good (
       not_before WORD_GAP_MIN from (Word at Peripheral word) (none rule.Early),
       not_after ANSWER_GAP_MAX from (Word at Peripheral word) (none rule.Late),
     ) next.0 next.1
@@ -723,14 +725,14 @@ not_empty [] word none = cc
 not_empty (w ∷ words) word none = cc
 
 -- a word goes on with a repeat, or ends it
-repeat_goes_on : (command : Command) (reply : Reply) (words : List ℕ) (from : Option Event)
+repeat_goes_on : (scope : Scope) (command : Command) (reply : Reply) (words : List ℕ) (from : Option Event)
     (levels : Levels)
     (at word : ℕ)
     → InTime BLOCK_GAP_MAX from (Word at Peripheral word) → (rest : List ℕ)
     → words ++ word ∷ rest ≡ reply_words reply
-    → LeadsOn (InRepeat command reply words) from levels (Word at Peripheral word)
-repeat_goes_on command reply words from levels at word near [] is = (step.Repeat, (is, near))
-repeat_goes_on command reply words from levels at word near (next ∷ rest) is = (
+    → LeadsOn scope (InRepeat command reply words) from levels (Word at Peripheral word)
+repeat_goes_on scope command reply words from levels at word near [] is = (step.Repeat, (is, near))
+repeat_goes_on scope command reply words from levels at word near (next ∷ rest) is = (
   step.RepeatWord word,
   (
     refl,
@@ -745,27 +747,27 @@ repeat_goes_on command reply words from levels at word near (next ∷ rest) is =
 )
 
 -- a word inside a repeat
-in_repeat : (command : Command) (reply : Reply) (words : List ℕ) (from : Option Event)
+in_repeat : (scope : Scope) (command : Command) (reply : Reply) (words : List ℕ) (from : Option Event)
     (levels : Levels) (at word : ℕ)
-    → NoneBroken (InRepeat command reply words) from levels (Word at Peripheral word)
-    → LeadsOn (InRepeat command reply words) from levels (Word at Peripheral word)
-in_repeat command reply words from levels at word none =
+    → NoneBroken scope (InRepeat command reply words) from levels (Word at Peripheral word)
+    → LeadsOn scope (InRepeat command reply words) from levels (Word at Peripheral word)
+in_repeat scope command reply words from levels at word none =
     let next = held (next_in (reply_words reply) words word) (none rule.Same) in
-    repeat_goes_on command reply words from levels at word (
+    repeat_goes_on scope command reply words from levels at word (
       not_before WORD_GAP_MIN from (Word at Peripheral word) (none rule.Early),
       not_after BLOCK_GAP_MAX from (Word at Peripheral word) (none rule.Spacing),
     ) next.0 next.1
 
 -- foreign traffic, or a block after it
-in_foreign : Grammar → (from : Option Event) (levels : Levels) (at word : ℕ)
-    → NoneBroken InForeign from levels (Word at Controller word) → Decided (word < 256)
-    → LeadsOn InForeign from levels (Word at Controller word)
-in_foreign grammar from levels at word none (inl low) = (
+in_foreign : (scope : Scope) → Grammar scope → (from : Option Event) (levels : Levels) (at word : ℕ)
+    → NoneBroken scope InForeign from levels (Word at Controller word) → Decided (word < 256)
+    → LeadsOn scope InForeign from levels (Word at Controller word)
+in_foreign scope grammar from levels at word none (inl low) = (
   step.Foreign,
   inr (low, not_before WORD_GAP_MIN from (Word at Controller word) (none rule.Early)),
 )
-in_foreign grammar from levels at word none (inr large) =
-    let on = opens grammar InForeign from (Word at Controller word) word (omega (arith, large))
+in_foreign scope grammar from levels at word none (inr large) =
+    let on = opens scope grammar InForeign from (Word at Controller word) word (omega (arith, large))
     (none rule.Profile)
     (not_before WORD_GAP_MIN from (Word at Controller word) (none rule.Early)) in
     (on.0, inl on.1)
@@ -775,59 +777,59 @@ high_word : (word : ℕ) → (word < 256 → ⊥) → 256 ≤ word
 high_word word low = omega (arith, low)
 
 -- a word that breaks no rule leads on
-word_leads : Grammar → (position : Position) (from : Option Event) (levels : Levels) (at : ℕ)
+word_leads : (scope : Scope) → Grammar scope → (position : Position) (from : Option Event) (levels : Levels) (at : ℕ)
     (line : Line) (word : ℕ)
-    → IsSound position → HasReply position → NoneBroken position from levels (Word at line word)
-    → LeadsOn position from levels (Word at line word)
-word_leads grammar Quiet from levels at Controller word sound replied none =
-    opens grammar Quiet from (Word at Controller word) word (high_word word (none rule.Mode))
+    → IsSound scope position → HasReply position → NoneBroken scope position from levels (Word at line word)
+    → LeadsOn scope position from levels (Word at line word)
+word_leads scope grammar Quiet from levels at Controller word sound replied none =
+    opens scope grammar Quiet from (Word at Controller word) word (high_word word (none rule.Mode))
     (none rule.Profile)
     (not_before (rest_before_block from) from (Word at Controller word) (none rule.Early))
-word_leads grammar Quiet from levels at Peripheral word sound replied none =
+word_leads scope grammar Quiet from levels at Peripheral word sound replied none =
     absurd (none rule.Speaker tt)
-word_leads grammar (InAsk bytes) from levels at Controller word sound replied none =
-    goes_on_asking grammar bytes from levels at word sound none
-word_leads grammar (InAsk bytes) from levels at Peripheral word sound replied none =
+word_leads scope grammar (InAsk bytes) from levels at Controller word sound replied none =
+    goes_on_asking scope grammar bytes from levels at word sound none
+word_leads scope grammar (InAsk bytes) from levels at Peripheral word sound replied none =
     absurd (none rule.Speaker tt)
-word_leads grammar (Asked command) from levels at Controller word sound replied none =
-    opens grammar (Asked command) from (Word at Controller word) word
+word_leads scope grammar (Asked command) from levels at Controller word sound replied none =
+    opens scope grammar (Asked command) from (Word at Controller word) word
     (high_word word (none rule.Mode))
     (none rule.Profile)
     (not_before NEW_BLOCK_GAP_MIN from (Word at Controller word) (none rule.Early))
-word_leads grammar (Asked command) from levels at Peripheral word sound replied none =
-    when_asked command from levels at word none (less word 256)
-word_leads grammar (InReply command bytes) from levels at Controller word sound replied none =
+word_leads scope grammar (Asked command) from levels at Peripheral word sound replied none =
+    when_asked scope command from levels at word none (less word 256)
+word_leads scope grammar (InReply command bytes) from levels at Controller word sound replied none =
     absurd (none rule.Speaker (none rule.Spacing))
-word_leads grammar (InReply command bytes) from levels at Peripheral word sound replied none =
-    replies grammar command bytes from levels at word sound none (less word 256)
-word_leads grammar (Replied command reply) from levels at Controller word sound replied none =
-    when_replied grammar command reply from levels at word none (less word 256)
-word_leads grammar (Replied command reply) from levels at Peripheral word sound replied none =
+word_leads scope grammar (InReply command bytes) from levels at Peripheral word sound replied none =
+    replies scope grammar command bytes from levels at word sound none (less word 256)
+word_leads scope grammar (Replied command reply) from levels at Controller word sound replied none =
+    when_replied scope grammar command reply from levels at word none (less word 256)
+word_leads scope grammar (Replied command reply) from levels at Peripheral word sound replied none =
     absurd (none rule.Speaker tt)
-word_leads grammar (Returned command reply) from levels at Controller word sound replied none =
-    opens grammar (Returned command reply) from (Word at Controller word) word
+word_leads scope grammar (Returned command reply) from levels at Controller word sound replied none =
+    opens scope grammar (Returned command reply) from (Word at Controller word) word
     (high_word word (none rule.Mode))
     (none rule.Profile)
     (not_before NEW_BLOCK_GAP_MIN from (Word at Controller word) (none rule.Early))
-word_leads grammar (Returned command reply) from levels at Peripheral word sound replied none =
-    when_returned command reply from levels at word replied none
-word_leads grammar (InRepeat command reply words) from levels at Controller word sound replied
+word_leads scope grammar (Returned command reply) from levels at Peripheral word sound replied none =
+    when_returned scope command reply from levels at word replied none
+word_leads scope grammar (InRepeat command reply words) from levels at Controller word sound replied
     none =
     absurd (none rule.Speaker (none rule.Spacing))
-word_leads grammar (InRepeat command reply words) from levels at Peripheral word sound replied
+word_leads scope grammar (InRepeat command reply words) from levels at Peripheral word sound replied
     none =
-    in_repeat command reply words from levels at word none
-word_leads grammar InForeign from levels at Controller word sound replied none =
-    in_foreign grammar from levels at word none (less word 256)
-word_leads grammar InForeign from levels at Peripheral word sound replied none =
+    in_repeat scope command reply words from levels at word none
+word_leads scope grammar InForeign from levels at Controller word sound replied none =
+    in_foreign scope grammar from levels at word none (less word 256)
+word_leads scope grammar InForeign from levels at Peripheral word sound replied none =
     (step.Foreign, not_before WORD_GAP_MIN from (Word at Peripheral word) (none rule.Early))
 
 -- a row that breaks no rule leads on
-leads_on : Grammar → (s : Situation) (row : Event) → IsSound s.position → HasReply s.position
+leads_on : (s : Situation) → Grammar s.scope → (row : Event) → IsSound s.scope s.position → HasReply s.position
     → ((r : Rule) → RowBreaks s row r → ⊥) → (next : Step) × Leads s row next
-leads_on grammar s (Word at line word) sound replied none =
-    word_leads grammar s.position s.last s.levels at line word sound replied none
-leads_on grammar s (Break at lasted) sound replied none =
+leads_on s grammar (Word at line word) sound replied none =
+    word_leads s.scope grammar s.position s.last s.levels at line word sound replied none
+leads_on s grammar (Break at lasted) sound replied none =
     let long : BREAK_LENGTH_MIN ≤ lasted = omega (arith, none rule.Break) in (
       step.Break lasted,
       (
@@ -839,12 +841,12 @@ leads_on grammar s (Break at lasted) sound replied none =
     )
 
 -- a row leads on, or some rule is the first that it breaks
-pub decide : Grammar → (s : Situation) (row : Event) → IsSound s.position → HasReply s.position
+pub decide : (s : Situation) → Grammar s.scope → (row : Event) → IsSound s.scope s.position → HasReply s.position
     → ((next : Step) × Leads s row next) ⊎ ((broken : Rule) × IsFirstBroken s row broken)
-decide grammar s row sound replied =
-    told (first_or_none (RowBreaks s row) (breaks grammar s row sound))
+decide s grammar row sound replied =
+    told (first_or_none (RowBreaks s row) (breaks s grammar row sound))
   where
     told : Found (RowBreaks s row) ⊎ ((r : Rule) → RowBreaks s row r → ⊥)
         → ((next : Step) × Leads s row next) ⊎ ((broken : Rule) × IsFirstBroken s row broken)
     told (inl found) = inr (found.rule, record { breaks = found.broken; first = found.first })
-    told (inr none) = inl (leads_on grammar s row sound replied none)
+    told (inr none) = inl (leads_on s grammar row sound replied none)

@@ -11,27 +11,37 @@ use Rattle.mdb_blocks.specs.declared.answer.Answer.TheVariants as answers
 use Rattle.mdb_bus.specs.declared.act.Act.{Act}
 use Rattle.mdb_bus.specs.declared.act.Act.TheVariants as acts
 use Rattle.mdb_bus.specs.Acts.{IsForeign, IsForeignWord, NamesAReply, Say, command_words, reply_words}
-use Rattle.mdb_bus.specs.ActLists.{Piece, Whole, AskTail, ReplyTail, RepeatTail, Position, ArePieces, IsSaid, events_of, last_of, piece_events, position_of}
+use Rattle.mdb_bus.specs.ActLists.{Piece, Whole, AskTail, ReplyTail, RepeatTail, Position, ArePieces, IsSaid, events_of, first_position, last_of, piece_events, position_of}
 use Rattle.mdb_bus.specs.inner.Steps.{IsSound}
 use Rattle.mdb_bus.proofs.SomeRule.{HasReply}
 use Rattle.mdb_bus.proofs.Stops.{LastIsLong}
+use Rattle.mdb_bus.specs.declared.scope.Beginning.{Beginning}
+use Rattle.mdb_bus.specs.declared.scope.Beginning.TheVariants.{PowerOn}
+use Rattle.mdb_bus.specs.declared.scope.Scope.{Scope}
+
+-- a recording begins at a position that is sound, where no reply is open
+first_sound : (scope : Scope) (begins : Beginning) → IsSound scope (first_position begins)
+first_sound scope PowerOn = tt
+
+first_replied : (begins : Beginning) → HasReply (first_position begins)
+first_replied PowerOn = tt
 
 -- the position after pieces in order is sound
-pub is_sound : (pieces : List Piece) → ArePieces pieces → IsSound (position_of pieces)
-is_sound [] order = tt
-is_sound (Whole (acts.Ask command) events ∷ pieces) order = tt
-is_sound (Whole (acts.Ack command) events ∷ pieces) order = tt
-is_sound (Whole (acts.Nak command) events ∷ pieces) order = tt
-is_sound (Whole (acts.Reply command reply) events ∷ pieces) order = tt
-is_sound (Whole (acts.VmcAck command reply) events ∷ pieces) order = tt
-is_sound (Whole (acts.VmcNak command reply) events ∷ pieces) order = tt
-is_sound (Whole (acts.VmcRet command reply) events ∷ pieces) order = tt
-is_sound (Whole (acts.Repeat command reply) events ∷ pieces) order = tt
-is_sound (Whole acts.Foreign events ∷ pieces) order = tt
-is_sound (Whole (acts.Break length) events ∷ pieces) order = tt
-is_sound (AskTail bytes events ∷ pieces) order = order.0.said.0
-is_sound (ReplyTail command bytes events ∷ pieces) order = order.0.said.0
-is_sound (RepeatTail command reply words events ∷ pieces) order = tt
+pub is_sound : (scope : Scope) (pieces : List Piece) → ArePieces scope pieces → IsSound scope (position_of scope pieces)
+is_sound scope [] order = first_sound scope scope.begins
+is_sound scope (Whole (acts.Ask command) events ∷ pieces) order = tt
+is_sound scope (Whole (acts.Ack command) events ∷ pieces) order = tt
+is_sound scope (Whole (acts.Nak command) events ∷ pieces) order = tt
+is_sound scope (Whole (acts.Reply command reply) events ∷ pieces) order = tt
+is_sound scope (Whole (acts.VmcAck command reply) events ∷ pieces) order = tt
+is_sound scope (Whole (acts.VmcNak command reply) events ∷ pieces) order = tt
+is_sound scope (Whole (acts.VmcRet command reply) events ∷ pieces) order = tt
+is_sound scope (Whole (acts.Repeat command reply) events ∷ pieces) order = tt
+is_sound scope (Whole acts.Foreign events ∷ pieces) order = tt
+is_sound scope (Whole (acts.Break length) events ∷ pieces) order = tt
+is_sound scope (AskTail bytes events ∷ pieces) order = order.0.said.0
+is_sound scope (ReplyTail command bytes events ∷ pieces) order = order.0.said.0
+is_sound scope (RepeatTail command reply words events ∷ pieces) order = tt
 
 -- the last of some rows after others
 rest_last : (front : List Event) (first : Event) (others : List Event)
@@ -56,92 +66,92 @@ foreign_long (Word at line word) further = tt
 foreign_long (Break at length) further = absurd further
 
 -- nor does a foreign act end in one
-a_foreign_long : (events : List Event) → IsForeign events → LastIsLong (last_of events)
-a_foreign_long events (inl opening) = say_long Controller (words_on Controller opening.0) events
+a_foreign_long : (scope : Scope) (events : List Event) → IsForeign scope events → LastIsLong (last_of events)
+a_foreign_long scope events (inl opening) = say_long Controller (words_on Controller opening.0) events
     opening.2
-a_foreign_long events (inr further) =
+a_foreign_long scope events (inr further) =
     let P : List Event → Type 0 = λ es. LastIsLong (last_of es) in
     subst P (sym further.1) (foreign_long further.0 further.2)
 
 -- the last row of a piece that is a break is long
-piece_long : (piece : Piece) → IsSaid piece → LastIsLong (last_of (piece_events piece))
-piece_long (Whole (acts.Ask command) events) said = say_long Controller (command_words command)
+piece_long : (scope : Scope) (piece : Piece) → IsSaid scope piece → LastIsLong (last_of (piece_events piece))
+piece_long scope (Whole (acts.Ask command) events) said = say_long Controller (command_words command)
     events said.1
-piece_long (Whole (acts.Ack command) events) said =
+piece_long scope (Whole (acts.Ack command) events) said =
     say_long Peripheral (answer_word Peripheral answers.Ack ∷ []) events said
-piece_long (Whole (acts.Nak command) events) said =
+piece_long scope (Whole (acts.Nak command) events) said =
     say_long Peripheral (answer_word Peripheral answers.Nak ∷ []) events said
-piece_long (Whole (acts.Reply command reply) events) said = say_long Peripheral (reply_words reply)
+piece_long scope (Whole (acts.Reply command reply) events) said = say_long Peripheral (reply_words reply)
     events said.1
-piece_long (Whole (acts.VmcAck command reply) events) said =
+piece_long scope (Whole (acts.VmcAck command reply) events) said =
     say_long Controller (answer_word Controller answers.Ack ∷ []) events said
-piece_long (Whole (acts.VmcNak command reply) events) said =
+piece_long scope (Whole (acts.VmcNak command reply) events) said =
     say_long Controller (answer_word Controller answers.Nak ∷ []) events said
-piece_long (Whole (acts.VmcRet command reply) events) said =
+piece_long scope (Whole (acts.VmcRet command reply) events) said =
     say_long Controller (answer_word Controller answers.Ret ∷ []) events said
-piece_long (Whole (acts.Repeat command reply) events) said = say_long Peripheral (reply_words reply)
+piece_long scope (Whole (acts.Repeat command reply) events) said = say_long Peripheral (reply_words reply)
     events said
-piece_long (Whole acts.Foreign events) said = a_foreign_long events said
-piece_long (Whole (acts.Break length) events) said =
+piece_long scope (Whole acts.Foreign events) said = a_foreign_long scope events said
+piece_long scope (Whole (acts.Break length) events) said =
     let P : List Event → Type 0 = λ es. LastIsLong (last_of es) in
     subst P (sym said.1) said.2
-piece_long (AskTail bytes events) said = say_long Controller (words_on Controller bytes) events
+piece_long scope (AskTail bytes events) said = say_long Controller (words_on Controller bytes) events
     said.1
-piece_long (ReplyTail command bytes events) said = say_long Peripheral bytes events said.1
-piece_long (RepeatTail command reply words events) said = say_long Peripheral words events said.1
+piece_long scope (ReplyTail command bytes events) said = say_long Peripheral bytes events said.1
+piece_long scope (RepeatTail command reply words events) said = say_long Peripheral words events said.1
 
 -- the last row of pieces that is a break is long
-pub last_is_long : (pieces : List Piece) → ArePieces pieces
+pub last_is_long : (scope : Scope) (pieces : List Piece) → ArePieces scope pieces
     → LastIsLong (last_of (events_of pieces))
-last_is_long [] order = tt
-last_is_long (piece ∷ pieces) order =
+last_is_long scope [] order = tt
+last_is_long scope (piece ∷ pieces) order =
     let stands = order.1 in
     let begins : piece_events piece ≡ stands.first ∷ stands.others = stands.begins in
     let P : List Event → Type 0 = λ es. LastIsLong (last_of es) in
     let Q : List Event → Type 0 = λ es. LastIsLong (last_of (events_of pieces ++ es)) in
     let R : Option Event → Type 0 = λ last. LastIsLong last in
     let here : LastIsLong (last_of (stands.first ∷ stands.others)) =
-    subst P begins (piece_long piece order.0.said) in
+    subst P begins (piece_long scope piece order.0.said) in
     subst Q (sym begins) (subst R (sym (rest_last (events_of pieces) stands.first stands.others))
     here)
 
 -- after a reply or a repeat, and where it was asked for again, there is a reply
-pub has_reply : (pieces : List Piece) → ArePieces pieces → HasReply (position_of pieces)
-has_reply [] order = tt
-has_reply (Whole (acts.Ask command) events ∷ pieces) order = tt
-has_reply (Whole (acts.Ack command) events ∷ pieces) order = tt
-has_reply (Whole (acts.Nak command) events ∷ pieces) order = tt
-has_reply (Whole (acts.Reply command reply) events ∷ pieces) order = order.0.said.0
-has_reply (Whole (acts.VmcAck command reply) events ∷ pieces) order = tt
-has_reply (Whole (acts.VmcNak command reply) events ∷ pieces) order = tt
-has_reply (Whole (acts.VmcRet command reply) events ∷ pieces) order =
+pub has_reply : (scope : Scope) (pieces : List Piece) → ArePieces scope pieces → HasReply (position_of scope pieces)
+has_reply scope [] order = first_replied scope.begins
+has_reply scope (Whole (acts.Ask command) events ∷ pieces) order = tt
+has_reply scope (Whole (acts.Ack command) events ∷ pieces) order = tt
+has_reply scope (Whole (acts.Nak command) events ∷ pieces) order = tt
+has_reply scope (Whole (acts.Reply command reply) events ∷ pieces) order = order.0.said.0
+has_reply scope (Whole (acts.VmcAck command reply) events ∷ pieces) order = tt
+has_reply scope (Whole (acts.VmcNak command reply) events ∷ pieces) order = tt
+has_reply scope (Whole (acts.VmcRet command reply) events ∷ pieces) order =
     let P : Position → Type 0 = λ position. HasReply position in
-    subst P order.1.comes.0 (has_reply pieces order.2)
-has_reply (Whole (acts.Repeat command reply) events ∷ pieces) order =
+    subst P order.1.comes.0 (has_reply scope pieces order.2)
+has_reply scope (Whole (acts.Repeat command reply) events ∷ pieces) order =
     let P : Position → Type 0 = λ position. HasReply position in
-    subst P order.1.comes.0 (has_reply pieces order.2)
-has_reply (Whole acts.Foreign events ∷ pieces) order = tt
-has_reply (Whole (acts.Break length) events ∷ pieces) order = tt
-has_reply (AskTail bytes events ∷ pieces) order = tt
-has_reply (ReplyTail command bytes events ∷ pieces) order = tt
-has_reply (RepeatTail command reply words events ∷ pieces) order =
+    subst P order.1.comes.0 (has_reply scope pieces order.2)
+has_reply scope (Whole acts.Foreign events ∷ pieces) order = tt
+has_reply scope (Whole (acts.Break length) events ∷ pieces) order = tt
+has_reply scope (AskTail bytes events ∷ pieces) order = tt
+has_reply scope (ReplyTail command bytes events ∷ pieces) order = tt
+has_reply scope (RepeatTail command reply words events ∷ pieces) order =
     let P : Position → Type 0 = λ position. HasReply position in
-    subst P order.1.comes.0 (has_reply pieces order.2)
+    subst P order.1.comes.0 (has_reply scope pieces order.2)
 
 -- so the reply that an act names is one
-pub names_a_reply : (act : Act) (events : List Event) (pieces : List Piece)
-    → ArePieces (Whole act events ∷ pieces) → NamesAReply act
-names_a_reply (acts.Ask command) events pieces order = tt
-names_a_reply (acts.Ack command) events pieces order = tt
-names_a_reply (acts.Nak command) events pieces order = tt
-names_a_reply (acts.Reply command reply) events pieces order = order.0.said.0
-names_a_reply (acts.VmcAck command reply) events pieces order =
-    subst HasReply order.1.comes.0 (has_reply pieces order.2)
-names_a_reply (acts.VmcNak command reply) events pieces order =
-    subst HasReply order.1.comes.0 (has_reply pieces order.2)
-names_a_reply (acts.VmcRet command reply) events pieces order =
-    subst HasReply order.1.comes.0 (has_reply pieces order.2)
-names_a_reply (acts.Repeat command reply) events pieces order =
-    subst HasReply order.1.comes.0 (has_reply pieces order.2)
-names_a_reply acts.Foreign events pieces order = tt
-names_a_reply (acts.Break length) events pieces order = tt
+pub names_a_reply : (scope : Scope) (act : Act) (events : List Event) (pieces : List Piece)
+    → ArePieces scope (Whole act events ∷ pieces) → NamesAReply act
+names_a_reply scope (acts.Ask command) events pieces order = tt
+names_a_reply scope (acts.Ack command) events pieces order = tt
+names_a_reply scope (acts.Nak command) events pieces order = tt
+names_a_reply scope (acts.Reply command reply) events pieces order = order.0.said.0
+names_a_reply scope (acts.VmcAck command reply) events pieces order =
+    subst HasReply order.1.comes.0 (has_reply scope pieces order.2)
+names_a_reply scope (acts.VmcNak command reply) events pieces order =
+    subst HasReply order.1.comes.0 (has_reply scope pieces order.2)
+names_a_reply scope (acts.VmcRet command reply) events pieces order =
+    subst HasReply order.1.comes.0 (has_reply scope pieces order.2)
+names_a_reply scope (acts.Repeat command reply) events pieces order =
+    subst HasReply order.1.comes.0 (has_reply scope pieces order.2)
+names_a_reply scope acts.Foreign events pieces order = tt
+names_a_reply scope (acts.Break length) events pieces order = tt

@@ -16,8 +16,8 @@ use Rattle.mdb_msgs.specs.declared.fault.MsgFault.TheVariants as reading
 use Rattle.mdb_msgs.specs.declared.need.Need.{Need}
 use Rattle.mdb_msgs.specs.declared.need.Need.TheVariants as need
 use Rattle.mdb_msgs.specs.declared.reply.Reply.{Reply}
-use Rattle.mdb_msgs.specs.Commands.{Spells, command_bytes}
-use Rattle.mdb_msgs.specs.Needs.{IsTold, needed}
+use Rattle.mdb_msgs.specs.Commands.{command_bytes}
+use Rattle.mdb_msgs.specs.Needs.{IsTold}
 use Rattle.mdb_msgs.specs.Replies.{IsReadFault, reply_bytes}
 use Rattle.mdb_msgs.specs.Answers.{HasDataAnswer, MayHaveData}
 use Rattle.mdb_bus.specs.declared.fault.Rule.{Rule}
@@ -30,6 +30,8 @@ use Rattle.mdb_bus.specs.ActLists.{Position, Quiet, InAsk, Asked, InReply, Repli
 use Rattle.mdb_bus.specs.LinkFaults.{HasHighLevels, IsBefore, IsAfter, IsNext, IsOutside, OutOfOrder, RowBreaks, Situation}
 use Rattle.mdb_bus.specs.inner.Steps.{Answers, AnswersReply, BeginsRepeat, GoesOnAsking, GoesOnForeign, GoesOnRepeating, GoesOnReplying, IsSound, Leads, Opens, WordLeads}
 use Rattle.mdb_bus.specs.inner.Grammar.{Grammar}
+use Rattle.mdb_bus.specs.Scopes.{Asks, needed_in}
+use Rattle.mdb_bus.specs.declared.scope.Scope.{Scope}
 
 -- a last row that is a break lasts long enough for one
 abbrev pub LastIsLong : Option Event → Type 0
@@ -80,17 +82,17 @@ some_long [] some = absurd (some refl)
 some_long (x ∷ xs) some = omega arith
 
 -- the front of a command's block isn't outside the profile
-front_inside : Grammar → (bytes : List ℕ) → IsAskFront bytes → needed bytes ≡ need.Outside → ⊥
-front_inside grammar bytes front outside =
-    not_told (needed bytes) (length bytes) (length (bytes ++ front.rest)) outside
+front_inside : (scope : Scope) → Grammar scope → (bytes : List ℕ) → IsAskFront scope bytes → needed_in scope bytes ≡ need.Outside → ⊥
+front_inside scope grammar bytes front outside =
+    not_told (needed_in scope bytes) (length bytes) (length (bytes ++ front.rest)) outside
     (grammar.tells bytes front.rest front.command (some_long bytes front.some) front.spelled)
 
 -- the front of a longer front needs more than one byte
-front_open : Grammar → (bytes : List ℕ) (byte : ℕ) → bytes ≢ [] → IsAskFront (bytes ++ byte ∷ [])
-    → needed bytes ≡ need.Exactly (length bytes + 1) → ⊥
-front_open grammar bytes byte some front short =
-    let P : List ℕ → Type 0 = λ block. Spells front.command block in
-    let spelled : Spells front.command (bytes ++ (byte ∷ front.rest)) =
+front_open : (scope : Scope) → Grammar scope → (bytes : List ℕ) (byte : ℕ) → bytes ≢ [] → IsAskFront scope (bytes ++ byte ∷ [])
+    → needed_in scope bytes ≡ need.Exactly (length bytes + 1) → ⊥
+front_open scope grammar bytes byte some front short =
+    let P : List ℕ → Type 0 = λ block. Asks scope front.command block in
+    let spelled : Asks scope front.command (bytes ++ (byte ∷ front.rest)) =
     subst P (append_assoc bytes (byte ∷ []) front.rest) front.spelled in
     let told = grammar.tells bytes (byte ∷ front.rest) front.command (some_long bytes some)
     spelled in
@@ -101,587 +103,587 @@ front_open grammar bytes byte some front short =
     absurd (omega (arith, same, more, length-append bytes (byte ∷ front.rest)))
 
 -- where a block opens, its word is marked
-opens_marked : (position : Position) (from : Option Event) (to : Event) (word : ℕ) (next : Step)
-    → Opens position from to word next → 256 ≤ word
-opens_marked position from to word (step.AskByte byte) leads = omega (arith, leads.0)
-opens_marked position from to word step.Foreign leads = omega (arith, leads.1)
-opens_marked position from to word next leads = absurd leads
+opens_marked : (scope : Scope) (position : Position) (from : Option Event) (to : Event) (word : ℕ) (next : Step)
+    → Opens scope position from to word next → 256 ≤ word
+opens_marked scope position from to word (step.AskByte byte) leads = omega (arith, leads.0)
+opens_marked scope position from to word step.Foreign leads = omega (arith, leads.1)
+opens_marked scope position from to word next leads = absurd leads
 
 -- and it may come
-opens_comes : (position : Position) (from : Option Event) (to : Event) (word : ℕ) (next : Step)
-    → Opens position from to word next → BlockMayCome position from to
-opens_comes position from to word (step.AskByte byte) leads = leads.2
-opens_comes position from to word step.Foreign leads = leads.3
-opens_comes position from to word next leads = absurd leads
+opens_comes : (scope : Scope) (position : Position) (from : Option Event) (to : Event) (word : ℕ) (next : Step)
+    → Opens scope position from to word next → BlockMayCome position from to
+opens_comes scope position from to word (step.AskByte byte) leads = leads.2
+opens_comes scope position from to word step.Foreign leads = leads.3
+opens_comes scope position from to word next leads = absurd leads
 
 -- and it isn't one that is left out
-opens_inside : Grammar → (position : Position) (from : Option Event) (to : Event) (word : ℕ)
+opens_inside : (scope : Scope) → Grammar scope → (position : Position) (from : Option Event) (to : Event) (word : ℕ)
     (next : Step)
-    → Opens position from to word next → IsOutside word → ⊥
-opens_inside grammar position from to word (step.AskByte byte) leads outside =
+    → Opens scope position from to word next → IsOutside scope word → ⊥
+opens_inside scope grammar position from to word (step.AskByte byte) leads outside =
     let same : outside.0 ≡ byte = omega (arith, leads.0, outside.1) in
-    let P : ℕ → Type 0 = λ b. needed (b ∷ []) ≡ need.Outside in
-    front_inside grammar (byte ∷ []) leads.1 (subst P same outside.2)
-opens_inside grammar position from to word step.Foreign leads outside =
+    let P : ℕ → Type 0 = λ b. needed_in scope (b ∷ []) ≡ need.Outside in
+    front_inside scope grammar (byte ∷ []) leads.1 (subst P same outside.2)
+opens_inside scope grammar position from to word step.Foreign leads outside =
     let same : outside.0 ≡ leads.0 = omega (arith, leads.1, outside.1) in
-    let P : ℕ → Type 0 = λ b. needed (b ∷ []) ≡ need.Outside in
-    let out : needed (leads.0 ∷ []) ≡ need.Outside = subst P same outside.2 in
-    let foreign : needed (leads.0 ∷ []) ≡ need.Foreign = leads.2 in
+    let P : ℕ → Type 0 = λ b. needed_in scope (b ∷ []) ≡ need.Outside in
+    let out : needed_in scope (leads.0 ∷ []) ≡ need.Outside = subst P same outside.2 in
+    let foreign : needed_in scope (leads.0 ∷ []) ≡ need.Foreign = leads.2 in
     cc
-opens_inside grammar position from to word next leads outside = absurd leads
+opens_inside scope grammar position from to word next leads outside = absurd leads
 
 -- a row in a situation breaks a rule
-abbrev pub Broken : Position → Option Event → Levels → Event → Rule → Type 0
-Broken position from levels row broken =
-    RowBreaks (record { position = position; last = from; levels = levels }) row broken
+abbrev pub Broken : (scope : Scope) → Position → Option Event → Levels → Event → Rule → Type 0
+Broken scope position from levels row broken =
+    RowBreaks (record { scope = scope; position = position; last = from; levels = levels }) row broken
 
 -- where nothing is open, a word that breaks a rule opens no block
-when_quiet : Grammar → (from : Option Event) (levels : Levels) (at word : ℕ) (broken : Rule)
+when_quiet : (scope : Scope) → Grammar scope → (from : Option Event) (levels : Levels) (at word : ℕ) (broken : Rule)
     (next : Step)
-    → Broken Quiet from levels (Word at Controller word) broken
-    → Opens Quiet from (Word at Controller word) word next
+    → Broken scope Quiet from levels (Word at Controller word) broken
+    → Opens scope Quiet from (Word at Controller word) word next
     → ⊥
-when_quiet grammar from levels at word rule.Order next breaks leads =
+when_quiet scope grammar from levels at word rule.Order next breaks leads =
     in_order (rest_before_block from) from (Word at Controller word) (rests from) breaks
-    (opens_comes Quiet from (Word at Controller word) word next leads)
-when_quiet grammar from levels at word rule.Mode next breaks leads =
+    (opens_comes scope Quiet from (Word at Controller word) word next leads)
+when_quiet scope grammar from levels at word rule.Mode next breaks leads =
     absurd (omega (
       arith,
       breaks,
-      opens_marked Quiet from (Word at Controller word) word next
+      opens_marked scope Quiet from (Word at Controller word) word next
           leads,
     ))
-when_quiet grammar from levels at word rule.Early next breaks leads =
+when_quiet scope grammar from levels at word rule.Early next breaks leads =
     not_early (rest_before_block from) from (Word at Controller word) breaks
-    (opens_comes Quiet from (Word at Controller word) word next leads)
-when_quiet grammar from levels at word rule.Profile next breaks leads =
-    opens_inside grammar Quiet from (Word at Controller word) word next leads breaks
-when_quiet grammar from levels at word other next breaks leads = breaks
+    (opens_comes scope Quiet from (Word at Controller word) word next leads)
+when_quiet scope grammar from levels at word rule.Profile next breaks leads =
+    opens_inside scope grammar Quiet from (Word at Controller word) word next leads breaks
+when_quiet scope grammar from levels at word other next breaks leads = breaks
 
 -- nor does one after a command
-ask_when_asked : Grammar → (command : Command) (from : Option Event) (levels : Levels) (at word : ℕ)
+ask_when_asked : (scope : Scope) → Grammar scope → (command : Command) (from : Option Event) (levels : Levels) (at word : ℕ)
     (broken : Rule)
     (next : Step)
-    → Broken (Asked command) from levels (Word at Controller word) broken
-    → Opens (Asked command) from (Word at Controller word) word next → ⊥
-ask_when_asked grammar command from levels at word rule.Order next breaks leads =
+    → Broken scope (Asked command) from levels (Word at Controller word) broken
+    → Opens scope (Asked command) from (Word at Controller word) word next → ⊥
+ask_when_asked scope grammar command from levels at word rule.Order next breaks leads =
     in_order NEW_BLOCK_GAP_MIN from (Word at Controller word) (omega arith) breaks
-    (opens_comes (Asked command) from (Word at Controller word) word next leads)
-ask_when_asked grammar command from levels at word rule.Mode next breaks leads =
+    (opens_comes scope (Asked command) from (Word at Controller word) word next leads)
+ask_when_asked scope grammar command from levels at word rule.Mode next breaks leads =
     absurd (omega (
       arith,
       breaks,
-      opens_marked (Asked command) from (Word at Controller word) word
+      opens_marked scope (Asked command) from (Word at Controller word) word
           next leads,
     ))
-ask_when_asked grammar command from levels at word rule.Early next breaks leads =
+ask_when_asked scope grammar command from levels at word rule.Early next breaks leads =
     not_early NEW_BLOCK_GAP_MIN from (Word at Controller word) breaks
-    (opens_comes (Asked command) from (Word at Controller word) word next leads)
-ask_when_asked grammar command from levels at word rule.Profile next breaks leads =
-    opens_inside grammar (Asked command) from (Word at Controller word) word next leads breaks
-ask_when_asked grammar command from levels at word other next breaks leads = breaks
+    (opens_comes scope (Asked command) from (Word at Controller word) word next leads)
+ask_when_asked scope grammar command from levels at word rule.Profile next breaks leads =
+    opens_inside scope grammar (Asked command) from (Word at Controller word) word next leads breaks
+ask_when_asked scope grammar command from levels at word other next breaks leads = breaks
 
 -- nor after RET
-ask_when_returned : Grammar
+ask_when_returned : (scope : Scope) → Grammar scope
     → (command : Command) (reply : Reply) (from : Option Event) (levels : Levels) (at word : ℕ)
     (broken : Rule)
     (next : Step)
-    → Broken (Returned command reply) from levels (Word at Controller word) broken
-    → Opens (Returned command reply) from (Word at Controller word) word next → ⊥
-ask_when_returned grammar command reply from levels at word rule.Order next breaks leads =
+    → Broken scope (Returned command reply) from levels (Word at Controller word) broken
+    → Opens scope (Returned command reply) from (Word at Controller word) word next → ⊥
+ask_when_returned scope grammar command reply from levels at word rule.Order next breaks leads =
     in_order NEW_BLOCK_GAP_MIN from (Word at Controller word) (omega arith) breaks
-    (opens_comes (Returned command reply) from (Word at Controller word) word next leads)
-ask_when_returned grammar command reply from levels at word rule.Mode next breaks leads =
+    (opens_comes scope (Returned command reply) from (Word at Controller word) word next leads)
+ask_when_returned scope grammar command reply from levels at word rule.Mode next breaks leads =
     absurd (omega (
       arith,
       breaks,
-      opens_marked (Returned command reply) from
+      opens_marked scope (Returned command reply) from
           (Word at Controller word) word next leads,
     ))
-ask_when_returned grammar command reply from levels at word rule.Early next breaks leads =
+ask_when_returned scope grammar command reply from levels at word rule.Early next breaks leads =
     not_early NEW_BLOCK_GAP_MIN from (Word at Controller word) breaks
-    (opens_comes (Returned command reply) from (Word at Controller word) word next leads)
-ask_when_returned grammar command reply from levels at word rule.Profile next breaks leads =
-    opens_inside grammar (Returned command reply) from (Word at Controller word) word next leads
+    (opens_comes scope (Returned command reply) from (Word at Controller word) word next leads)
+ask_when_returned scope grammar command reply from levels at word rule.Profile next breaks leads =
+    opens_inside scope grammar (Returned command reply) from (Word at Controller word) word next leads
     breaks
-ask_when_returned grammar command reply from levels at word other next breaks leads = breaks
+ask_when_returned scope grammar command reply from levels at word other next breaks leads = breaks
 
 -- nor after a reply
-ask_when_replied : Grammar
+ask_when_replied : (scope : Scope) → Grammar scope
     → (command : Command) (reply : Reply) (from : Option Event) (levels : Levels) (at word : ℕ)
     (broken : Rule)
     (next : Step)
-    → Broken (Replied command reply) from levels (Word at Controller word) broken
-    → Opens (Replied command reply) from (Word at Controller word) word next → ⊥
-ask_when_replied grammar command reply from levels at word rule.Order next breaks leads =
+    → Broken scope (Replied command reply) from levels (Word at Controller word) broken
+    → Opens scope (Replied command reply) from (Word at Controller word) word next → ⊥
+ask_when_replied scope grammar command reply from levels at word rule.Order next breaks leads =
     in_order NEW_BLOCK_GAP_MIN from (Word at Controller word) (omega arith) breaks
-    (opens_comes (Replied command reply) from (Word at Controller word) word next leads)
-ask_when_replied grammar command reply from levels at word rule.Early next (inl breaks) leads =
+    (opens_comes scope (Replied command reply) from (Word at Controller word) word next leads)
+ask_when_replied scope grammar command reply from levels at word rule.Early next (inl breaks) leads =
     not_early NEW_BLOCK_GAP_MIN from (Word at Controller word) breaks.1
-    (opens_comes (Replied command reply) from (Word at Controller word) word next leads)
-ask_when_replied grammar command reply from levels at word rule.Early next (inr breaks) leads =
+    (opens_comes scope (Replied command reply) from (Word at Controller word) word next leads)
+ask_when_replied scope grammar command reply from levels at word rule.Early next (inr breaks) leads =
     absurd (omega (
       arith,
       breaks.0,
-      opens_marked (Replied command reply) from (Word at Controller word) word next leads,
+      opens_marked scope (Replied command reply) from (Word at Controller word) word next leads,
     ))
-ask_when_replied grammar command reply from levels at word rule.Late next breaks leads =
+ask_when_replied scope grammar command reply from levels at word rule.Late next breaks leads =
     absurd (omega (
       arith,
       breaks.0,
-      opens_marked (Replied command reply) from (Word at Controller word) word next leads,
+      opens_marked scope (Replied command reply) from (Word at Controller word) word next leads,
     ))
-ask_when_replied grammar command reply from levels at word rule.Answer next breaks leads =
+ask_when_replied scope grammar command reply from levels at word rule.Answer next breaks leads =
     absurd (omega (
       arith,
       breaks.0,
-      opens_marked (Replied command reply) from (Word at Controller word) word next leads,
+      opens_marked scope (Replied command reply) from (Word at Controller word) word next leads,
     ))
-ask_when_replied grammar command reply from levels at word rule.Profile next breaks leads =
-    opens_inside grammar (Replied command reply) from (Word at Controller word) word next leads
+ask_when_replied scope grammar command reply from levels at word rule.Profile next breaks leads =
+    opens_inside scope grammar (Replied command reply) from (Word at Controller word) word next leads
     breaks
-ask_when_replied grammar command reply from levels at word other next breaks leads = breaks
+ask_when_replied scope grammar command reply from levels at word other next breaks leads = breaks
 
 -- a controller's answer comes in its time
-vmc_answers : (command : Command) (reply : Reply) (from : Option Event) (levels : Levels)
+vmc_answers : (scope : Scope) (command : Command) (reply : Reply) (from : Option Event) (levels : Levels)
     (at word : ℕ)
     (answer : Answer) (broken : Rule)
-    → Broken (Replied command reply) from levels (Word at Controller word) broken
+    → Broken scope (Replied command reply) from levels (Word at Controller word) broken
     → word < 256 → word ≡ answer_word Controller answer
     → InTime ANSWER_GAP_MAX from (Word at Controller word) → ⊥
-vmc_answers command reply from levels at word answer rule.Order breaks low is near =
+vmc_answers scope command reply from levels at word answer rule.Order breaks low is near =
     in_order WORD_GAP_MIN from (Word at Controller word) (omega arith) breaks near.0
-vmc_answers command reply from levels at word answer rule.Early (inl breaks) low is near =
+vmc_answers scope command reply from levels at word answer rule.Early (inl breaks) low is near =
     absurd (omega (arith, breaks.0, low))
-vmc_answers command reply from levels at word answer rule.Early (inr breaks) low is near =
+vmc_answers scope command reply from levels at word answer rule.Early (inr breaks) low is near =
     not_early WORD_GAP_MIN from (Word at Controller word) breaks.1 near.0
-vmc_answers command reply from levels at word answer rule.Late breaks low is near =
+vmc_answers scope command reply from levels at word answer rule.Late breaks low is near =
     not_late ANSWER_GAP_MAX from (Word at Controller word) breaks.1 near.1
-vmc_answers command reply from levels at word answer rule.Answer breaks low is near =
+vmc_answers scope command reply from levels at word answer rule.Answer breaks low is near =
     breaks.1 answer is
-vmc_answers command reply from levels at word answer rule.Profile breaks low is near =
+vmc_answers scope command reply from levels at word answer rule.Profile breaks low is near =
     absurd (omega (arith, breaks.1, low))
-vmc_answers command reply from levels at word answer other breaks low is near = breaks
+vmc_answers scope command reply from levels at word answer other breaks low is near = breaks
 
 -- an answer to a reply, or a block after it
-when_replied : Grammar → (command : Command) (reply : Reply) (from : Option Event) (levels : Levels)
+when_replied : (scope : Scope) → Grammar scope → (command : Command) (reply : Reply) (from : Option Event) (levels : Levels)
     (at word : ℕ)
     (broken : Rule) (next : Step)
-    → Broken (Replied command reply) from levels (Word at Controller word) broken
-    → AnswersReply command reply from (Word at Controller word) word next → ⊥
-when_replied grammar command reply from levels at word broken step.VmcAck breaks leads =
-    vmc_answers command reply from levels at word answers.Ack broken breaks (omega (arith, leads.0))
+    → Broken scope (Replied command reply) from levels (Word at Controller word) broken
+    → AnswersReply scope command reply from (Word at Controller word) word next → ⊥
+when_replied scope grammar command reply from levels at word broken step.VmcAck breaks leads =
+    vmc_answers scope command reply from levels at word answers.Ack broken breaks (omega (arith, leads.0))
     leads.0 leads.1
-when_replied grammar command reply from levels at word broken step.VmcNak breaks leads =
-    vmc_answers command reply from levels at word answers.Nak broken breaks (omega (arith, leads.0))
+when_replied scope grammar command reply from levels at word broken step.VmcNak breaks leads =
+    vmc_answers scope command reply from levels at word answers.Nak broken breaks (omega (arith, leads.0))
     leads.0 leads.1
-when_replied grammar command reply from levels at word broken step.VmcRet breaks leads =
-    vmc_answers command reply from levels at word answers.Ret broken breaks (omega (arith, leads.0))
+when_replied scope grammar command reply from levels at word broken step.VmcRet breaks leads =
+    vmc_answers scope command reply from levels at word answers.Ret broken breaks (omega (arith, leads.0))
     leads.0 leads.1
-when_replied grammar command reply from levels at word broken (step.AskByte byte) breaks leads =
-    ask_when_replied grammar command reply from levels at word broken (step.AskByte byte) breaks
+when_replied scope grammar command reply from levels at word broken (step.AskByte byte) breaks leads =
+    ask_when_replied scope grammar command reply from levels at word broken (step.AskByte byte) breaks
     leads
-when_replied grammar command reply from levels at word broken step.Foreign breaks leads =
-    ask_when_replied grammar command reply from levels at word broken step.Foreign breaks leads
-when_replied grammar command reply from levels at word broken next breaks leads = leads
+when_replied scope grammar command reply from levels at word broken step.Foreign breaks leads =
+    ask_when_replied scope grammar command reply from levels at word broken step.Foreign breaks leads
+when_replied scope grammar command reply from levels at word broken next breaks leads = leads
 
 -- a foreign word comes in its time
-foreign_goes_on : (line : Line) (from : Option Event) (levels : Levels) (at word : ℕ)
+foreign_goes_on : (scope : Scope) (line : Line) (from : Option Event) (levels : Levels) (at word : ℕ)
     (broken : Rule) (next : Step)
-    → Broken InForeign from levels (Word at line word) broken → IsForeignWord (Word at line word)
+    → Broken scope InForeign from levels (Word at line word) broken → IsForeignWord (Word at line word)
     → GoesOnForeign from (Word at line word) next → ⊥
-foreign_goes_on Controller from levels at word rule.Order step.Foreign breaks low comes =
+foreign_goes_on scope Controller from levels at word rule.Order step.Foreign breaks low comes =
     in_order WORD_GAP_MIN from (Word at Controller word) (omega arith) breaks comes
-foreign_goes_on Controller from levels at word rule.Early step.Foreign breaks low comes =
+foreign_goes_on scope Controller from levels at word rule.Early step.Foreign breaks low comes =
     not_early WORD_GAP_MIN from (Word at Controller word) breaks comes
-foreign_goes_on Controller from levels at word rule.Profile step.Foreign breaks low comes =
+foreign_goes_on scope Controller from levels at word rule.Profile step.Foreign breaks low comes =
     absurd (omega (arith, breaks.1, low))
-foreign_goes_on Controller from levels at word other step.Foreign breaks low comes = breaks
-foreign_goes_on Peripheral from levels at word rule.Order step.Foreign breaks low comes =
+foreign_goes_on scope Controller from levels at word other step.Foreign breaks low comes = breaks
+foreign_goes_on scope Peripheral from levels at word rule.Order step.Foreign breaks low comes =
     in_order WORD_GAP_MIN from (Word at Peripheral word) (omega arith) breaks comes
-foreign_goes_on Peripheral from levels at word rule.Early step.Foreign breaks low comes =
+foreign_goes_on scope Peripheral from levels at word rule.Early step.Foreign breaks low comes =
     not_early WORD_GAP_MIN from (Word at Peripheral word) breaks comes
-foreign_goes_on Peripheral from levels at word other step.Foreign breaks low comes = breaks
-foreign_goes_on line from levels at word broken next breaks low comes = comes
+foreign_goes_on scope Peripheral from levels at word other step.Foreign breaks low comes = breaks
+foreign_goes_on scope line from levels at word broken next breaks low comes = comes
 
 -- a block after foreign traffic
-ask_in_foreign : Grammar → (from : Option Event) (levels : Levels) (at word : ℕ) (broken : Rule)
+ask_in_foreign : (scope : Scope) → Grammar scope → (from : Option Event) (levels : Levels) (at word : ℕ) (broken : Rule)
     (next : Step)
-    → Broken InForeign from levels (Word at Controller word) broken
-    → Opens InForeign from (Word at Controller word) word next → ⊥
-ask_in_foreign grammar from levels at word rule.Order next breaks leads =
+    → Broken scope InForeign from levels (Word at Controller word) broken
+    → Opens scope InForeign from (Word at Controller word) word next → ⊥
+ask_in_foreign scope grammar from levels at word rule.Order next breaks leads =
     in_order WORD_GAP_MIN from (Word at Controller word) (omega arith) breaks
-    (opens_comes InForeign from (Word at Controller word) word next leads)
-ask_in_foreign grammar from levels at word rule.Early next breaks leads =
+    (opens_comes scope InForeign from (Word at Controller word) word next leads)
+ask_in_foreign scope grammar from levels at word rule.Early next breaks leads =
     not_early WORD_GAP_MIN from (Word at Controller word) breaks
-    (opens_comes InForeign from (Word at Controller word) word next leads)
-ask_in_foreign grammar from levels at word rule.Profile next breaks leads =
-    opens_inside grammar InForeign from (Word at Controller word) word next leads breaks
-ask_in_foreign grammar from levels at word other next breaks leads = breaks
+    (opens_comes scope InForeign from (Word at Controller word) word next leads)
+ask_in_foreign scope grammar from levels at word rule.Profile next breaks leads =
+    opens_inside scope grammar InForeign from (Word at Controller word) word next leads breaks
+ask_in_foreign scope grammar from levels at word other next breaks leads = breaks
 
 -- foreign traffic, or a block after it
-in_foreign : Grammar → (from : Option Event) (levels : Levels) (at word : ℕ) (broken : Rule)
+in_foreign : (scope : Scope) → Grammar scope → (from : Option Event) (levels : Levels) (at word : ℕ) (broken : Rule)
     (next : Step)
-    → Broken InForeign from levels (Word at Controller word) broken
-    → WordLeads InForeign from levels (Word at Controller word) Controller word next → ⊥
-in_foreign grammar from levels at word broken next breaks (inl leads) =
-    ask_in_foreign grammar from levels at word broken next breaks leads
-in_foreign grammar from levels at word broken next breaks (inr leads) =
-    foreign_goes_on Controller from levels at word broken next breaks leads.0 leads.1
+    → Broken scope InForeign from levels (Word at Controller word) broken
+    → WordLeads scope InForeign from levels (Word at Controller word) Controller word next → ⊥
+in_foreign scope grammar from levels at word broken next breaks (inl leads) =
+    ask_in_foreign scope grammar from levels at word broken next breaks leads
+in_foreign scope grammar from levels at word broken next breaks (inr leads) =
+    foreign_goes_on scope Controller from levels at word broken next breaks leads.0 leads.1
 
 -- a further byte of an ask
-ask_goes_on : Grammar → (bytes : List ℕ) (from : Option Event) (levels : Levels) (at word byte : ℕ)
+ask_goes_on : (scope : Scope) → Grammar scope → (bytes : List ℕ) (from : Option Event) (levels : Levels) (at word byte : ℕ)
     (broken : Rule)
-    → bytes ≢ [] → Broken (InAsk bytes) from levels (Word at Controller word) broken
-    → word ≡ byte → word < 256 → IsAskFront (bytes ++ byte ∷ [])
+    → bytes ≢ [] → Broken scope (InAsk bytes) from levels (Word at Controller word) broken
+    → word ≡ byte → word < 256 → IsAskFront scope (bytes ++ byte ∷ [])
     → InTime BLOCK_GAP_MAX from (Word at Controller word) → ⊥
-ask_goes_on grammar bytes from levels at word byte rule.Order some breaks is low front near =
+ask_goes_on scope grammar bytes from levels at word byte rule.Order some breaks is low front near =
     in_order WORD_GAP_MIN from (Word at Controller word) (omega arith) breaks near.0
-ask_goes_on grammar bytes from levels at word byte rule.Mode some breaks is low front near =
+ask_goes_on scope grammar bytes from levels at word byte rule.Mode some breaks is low front near =
     absurd (omega (arith, breaks, low))
-ask_goes_on grammar bytes from levels at word byte rule.Early some breaks is low front near =
+ask_goes_on scope grammar bytes from levels at word byte rule.Early some breaks is low front near =
     not_early WORD_GAP_MIN from (Word at Controller word) breaks near.0
-ask_goes_on grammar bytes from levels at word byte rule.Spacing some breaks is low front near =
+ask_goes_on scope grammar bytes from levels at word byte rule.Spacing some breaks is low front near =
     not_late BLOCK_GAP_MAX from (Word at Controller word) breaks near.1
-ask_goes_on grammar bytes from levels at word byte rule.Sum some breaks is low front near =
-    front_open grammar bytes byte some front breaks.0
-ask_goes_on grammar bytes from levels at word byte rule.Profile some breaks is low front near =
-    let P : ℕ → Type 0 = λ b. needed (bytes ++ b ∷ []) ≡ need.Outside in
-    front_inside grammar (bytes ++ byte ∷ []) front (subst P is breaks.1)
-ask_goes_on grammar bytes from levels at word byte other some breaks is low front near = breaks
+ask_goes_on scope grammar bytes from levels at word byte rule.Sum some breaks is low front near =
+    front_open scope grammar bytes byte some front breaks.0
+ask_goes_on scope grammar bytes from levels at word byte rule.Profile some breaks is low front near =
+    let P : ℕ → Type 0 = λ b. needed_in scope (bytes ++ b ∷ []) ≡ need.Outside in
+    front_inside scope grammar (bytes ++ byte ∷ []) front (subst P is breaks.1)
+ask_goes_on scope grammar bytes from levels at word byte other some breaks is low front near = breaks
 
 -- the last byte of a command's block is its sum
-last_is_sum : (bytes : List ℕ) (word : ℕ) (command : Command) → Spells command (bytes ++ word ∷ [])
+last_is_sum : (scope : Scope) (bytes : List ℕ) (word : ℕ) (command : Command) → Asks scope command (bytes ++ word ∷ [])
     → word ≡ sum bytes % 256
-last_is_sum bytes word command spelled =
+last_is_sum scope bytes word command spelled =
     let content = command_bytes command in
-    let same = same_from_push bytes content word (sum content % 256) spelled.bytes in
+    let same = same_from_push bytes content word (sum content % 256) spelled.spells.bytes in
     same.1 ∙ ap (λ bs. sum bs % 256) (sym same.0)
 
 -- the last word of an ask
-ask_ends : Grammar → (bytes : List ℕ) (from : Option Event) (levels : Levels) (at word : ℕ)
+ask_ends : (scope : Scope) → Grammar scope → (bytes : List ℕ) (from : Option Event) (levels : Levels) (at word : ℕ)
     (command : Command)
     (broken : Rule)
-    → Broken (InAsk bytes) from levels (Word at Controller word) broken
-    → word < 256 → Spells command (bytes ++ word ∷ [])
+    → Broken scope (InAsk bytes) from levels (Word at Controller word) broken
+    → word < 256 → Asks scope command (bytes ++ word ∷ [])
     → InTime BLOCK_GAP_MAX from (Word at Controller word) → ⊥
-ask_ends grammar bytes from levels at word command rule.Order breaks low spelled near =
+ask_ends scope grammar bytes from levels at word command rule.Order breaks low spelled near =
     in_order WORD_GAP_MIN from (Word at Controller word) (omega arith) breaks near.0
-ask_ends grammar bytes from levels at word command rule.Mode breaks low spelled near =
+ask_ends scope grammar bytes from levels at word command rule.Mode breaks low spelled near =
     absurd (omega (arith, breaks, low))
-ask_ends grammar bytes from levels at word command rule.Early breaks low spelled near =
+ask_ends scope grammar bytes from levels at word command rule.Early breaks low spelled near =
     not_early WORD_GAP_MIN from (Word at Controller word) breaks near.0
-ask_ends grammar bytes from levels at word command rule.Spacing breaks low spelled near =
+ask_ends scope grammar bytes from levels at word command rule.Spacing breaks low spelled near =
     not_late BLOCK_GAP_MAX from (Word at Controller word) breaks near.1
-ask_ends grammar bytes from levels at word command rule.Sum breaks low spelled near =
-    breaks.1 (last_is_sum bytes word command spelled)
-ask_ends grammar bytes from levels at word command rule.Profile breaks low spelled near =
+ask_ends scope grammar bytes from levels at word command rule.Sum breaks low spelled near =
+    breaks.1 (last_is_sum scope bytes word command spelled)
+ask_ends scope grammar bytes from levels at word command rule.Profile breaks low spelled near =
     let whole = grammar.needs (bytes ++ word ∷ []) command spelled in
     let clash : need.Exactly (length (bytes ++ word ∷ [])) ≡ need.Outside = sym whole ∙ breaks.1 in
     cc
-ask_ends grammar bytes from levels at word command other breaks low spelled near = breaks
+ask_ends scope grammar bytes from levels at word command other breaks low spelled near = breaks
 
 -- a foreign opening of two bytes comes where the first leaves it to the second
-foreign_opening : (bytes : List ℕ) (word : ℕ) → bytes ≢ [] → IsForeignOpening (bytes ++ word ∷ [])
-    → (needed bytes ≡ need.More) × (needed (bytes ++ word ∷ []) ≡ need.Foreign)
-foreign_opening [] word some opening = absurd (some refl)
-foreign_opening (first ∷ []) word some opening = (opening.0, opening.1)
-foreign_opening (first ∷ second ∷ []) word some opening = absurd opening
-foreign_opening (first ∷ second ∷ third ∷ bytes) word some opening = absurd opening
+foreign_opening : (scope : Scope) (bytes : List ℕ) (word : ℕ) → bytes ≢ [] → IsForeignOpening scope (bytes ++ word ∷ [])
+    → (needed_in scope bytes ≡ need.More) × (needed_in scope (bytes ++ word ∷ []) ≡ need.Foreign)
+foreign_opening scope [] word some opening = absurd (some refl)
+foreign_opening scope (first ∷ []) word some opening = (opening.0, opening.1)
+foreign_opening scope (first ∷ second ∷ []) word some opening = absurd opening
+foreign_opening scope (first ∷ second ∷ third ∷ bytes) word some opening = absurd opening
 
 -- the second word of a foreign opening
-foreign_begins : (bytes : List ℕ) (from : Option Event) (levels : Levels) (at word : ℕ)
+foreign_begins : (scope : Scope) (bytes : List ℕ) (from : Option Event) (levels : Levels) (at word : ℕ)
     (broken : Rule)
-    → bytes ≢ [] → Broken (InAsk bytes) from levels (Word at Controller word) broken
-    → word < 256 → IsForeignOpening (bytes ++ word ∷ [])
+    → bytes ≢ [] → Broken scope (InAsk bytes) from levels (Word at Controller word) broken
+    → word < 256 → IsForeignOpening scope (bytes ++ word ∷ [])
     → InTime BLOCK_GAP_MAX from (Word at Controller word) → ⊥
-foreign_begins bytes from levels at word rule.Order some breaks low opening near =
+foreign_begins scope bytes from levels at word rule.Order some breaks low opening near =
     in_order WORD_GAP_MIN from (Word at Controller word) (omega arith) breaks near.0
-foreign_begins bytes from levels at word rule.Mode some breaks low opening near =
+foreign_begins scope bytes from levels at word rule.Mode some breaks low opening near =
     absurd (omega (arith, breaks, low))
-foreign_begins bytes from levels at word rule.Early some breaks low opening near =
+foreign_begins scope bytes from levels at word rule.Early some breaks low opening near =
     not_early WORD_GAP_MIN from (Word at Controller word) breaks near.0
-foreign_begins bytes from levels at word rule.Spacing some breaks low opening near =
+foreign_begins scope bytes from levels at word rule.Spacing some breaks low opening near =
     not_late BLOCK_GAP_MAX from (Word at Controller word) breaks near.1
-foreign_begins bytes from levels at word rule.Sum some breaks low opening near =
-    let told = foreign_opening bytes word some opening in
+foreign_begins scope bytes from levels at word rule.Sum some breaks low opening near =
+    let told = foreign_opening scope bytes word some opening in
     let clash : need.More ≡ need.Exactly (length bytes + 1) = sym told.0 ∙ breaks.0 in
     cc
-foreign_begins bytes from levels at word rule.Profile some breaks low opening near =
-    let told = foreign_opening bytes word some opening in
+foreign_begins scope bytes from levels at word rule.Profile some breaks low opening near =
+    let told = foreign_opening scope bytes word some opening in
     let clash : need.Foreign ≡ need.Outside = sym told.1 ∙ breaks.1 in
     cc
-foreign_begins bytes from levels at word other some breaks low opening near = breaks
+foreign_begins scope bytes from levels at word other some breaks low opening near = breaks
 
 -- a word inside an ask
-in_ask : Grammar → (bytes : List ℕ) (from : Option Event) (levels : Levels) (at word : ℕ)
+in_ask : (scope : Scope) → Grammar scope → (bytes : List ℕ) (from : Option Event) (levels : Levels) (at word : ℕ)
     (broken : Rule) (next : Step)
-    → bytes ≢ [] → Broken (InAsk bytes) from levels (Word at Controller word) broken
-    → GoesOnAsking bytes from (Word at Controller word) word next → ⊥
-in_ask grammar bytes from levels at word broken (step.AskByte byte) some breaks leads =
-    ask_goes_on grammar bytes from levels at word byte broken some breaks leads.0 leads.1 leads.2
+    → bytes ≢ [] → Broken scope (InAsk bytes) from levels (Word at Controller word) broken
+    → GoesOnAsking scope bytes from (Word at Controller word) word next → ⊥
+in_ask scope grammar bytes from levels at word broken (step.AskByte byte) some breaks leads =
+    ask_goes_on scope grammar bytes from levels at word byte broken some breaks leads.0 leads.1 leads.2
     leads.3
-in_ask grammar bytes from levels at word broken (step.Ask command) some breaks leads =
-    ask_ends grammar bytes from levels at word command broken breaks leads.0 leads.1 leads.2
-in_ask grammar bytes from levels at word broken step.Foreign some breaks leads =
-    foreign_begins bytes from levels at word broken some breaks leads.0 leads.1 leads.2
-in_ask grammar bytes from levels at word broken next some breaks leads = leads
+in_ask scope grammar bytes from levels at word broken (step.Ask command) some breaks leads =
+    ask_ends scope grammar bytes from levels at word command broken breaks leads.0 leads.1 leads.2
+in_ask scope grammar bytes from levels at word broken step.Foreign some breaks leads =
+    foreign_begins scope bytes from levels at word broken some breaks leads.0 leads.1 leads.2
+in_ask scope grammar bytes from levels at word broken next some breaks leads = leads
 
 -- a peripheral's ACK or NAK
-ack_comes : (command : Command) (from : Option Event) (levels : Levels) (at word : ℕ)
+ack_comes : (scope : Scope) (command : Command) (from : Option Event) (levels : Levels) (at word : ℕ)
     (broken : Rule)
-    → Broken (Asked command) from levels (Word at Peripheral word) broken
+    → Broken scope (Asked command) from levels (Word at Peripheral word) broken
     → (word ≡ answer_word Peripheral answers.Ack) ⊎ (word ≡ answer_word Peripheral answers.Nak)
     → InTime ANSWER_GAP_MAX from (Word at Peripheral word) → ⊥
-ack_comes command from levels at word rule.Order breaks is near =
+ack_comes scope command from levels at word rule.Order breaks is near =
     in_order WORD_GAP_MIN from (Word at Peripheral word) (omega arith) breaks near.0
-ack_comes command from levels at word rule.Early breaks is near =
+ack_comes scope command from levels at word rule.Early breaks is near =
     not_early WORD_GAP_MIN from (Word at Peripheral word) breaks near.0
-ack_comes command from levels at word rule.Late breaks is near =
+ack_comes scope command from levels at word rule.Late breaks is near =
     not_late ANSWER_GAP_MAX from (Word at Peripheral word) breaks near.1
-ack_comes command from levels at word rule.Answer (inl breaks) (inl is) near = breaks.1 is
-ack_comes command from levels at word rule.Answer (inl breaks) (inr is) near = breaks.2 is
-ack_comes command from levels at word rule.Answer (inr breaks) (inl is) near =
+ack_comes scope command from levels at word rule.Answer (inl breaks) (inl is) near = breaks.1 is
+ack_comes scope command from levels at word rule.Answer (inl breaks) (inr is) near = breaks.2 is
+ack_comes scope command from levels at word rule.Answer (inr breaks) (inl is) near =
     absurd (omega (arith, breaks.0, is))
-ack_comes command from levels at word rule.Answer (inr breaks) (inr is) near =
+ack_comes scope command from levels at word rule.Answer (inr breaks) (inr is) near =
     absurd (omega (arith, breaks.0, is))
-ack_comes command from levels at word other breaks is near = breaks
+ack_comes scope command from levels at word other breaks is near = breaks
 
 -- the first word of a reply
-reply_begins : (command : Command) (from : Option Event) (levels : Levels) (at word : ℕ)
+reply_begins : (scope : Scope) (command : Command) (from : Option Event) (levels : Levels) (at word : ℕ)
     (broken : Rule)
-    → Broken (Asked command) from levels (Word at Peripheral word) broken
+    → Broken scope (Asked command) from levels (Word at Peripheral word) broken
     → word < 256 → MayHaveData command → InTime ANSWER_GAP_MAX from (Word at Peripheral word) → ⊥
-reply_begins command from levels at word rule.Order breaks low may near =
+reply_begins scope command from levels at word rule.Order breaks low may near =
     in_order WORD_GAP_MIN from (Word at Peripheral word) (omega arith) breaks near.0
-reply_begins command from levels at word rule.Early breaks low may near =
+reply_begins scope command from levels at word rule.Early breaks low may near =
     not_early WORD_GAP_MIN from (Word at Peripheral word) breaks near.0
-reply_begins command from levels at word rule.Late breaks low may near =
+reply_begins scope command from levels at word rule.Late breaks low may near =
     not_late ANSWER_GAP_MAX from (Word at Peripheral word) breaks near.1
-reply_begins command from levels at word rule.Answer (inl breaks) low may near =
+reply_begins scope command from levels at word rule.Answer (inl breaks) low may near =
     absurd (omega (arith, breaks.0, low))
-reply_begins command from levels at word rule.Answer (inr breaks) low may near = breaks.1 may
-reply_begins command from levels at word other breaks low may near = breaks
+reply_begins scope command from levels at word rule.Answer (inr breaks) low may near = breaks.1 may
+reply_begins scope command from levels at word other breaks low may near = breaks
 
 -- a word that answers a command
-when_asked : (command : Command) (from : Option Event) (levels : Levels) (at word : ℕ)
+when_asked : (scope : Scope) (command : Command) (from : Option Event) (levels : Levels) (at word : ℕ)
     (broken : Rule) (next : Step)
-    → Broken (Asked command) from levels (Word at Peripheral word) broken
+    → Broken scope (Asked command) from levels (Word at Peripheral word) broken
     → Answers command from (Word at Peripheral word) word next → ⊥
-when_asked command from levels at word broken step.Ack breaks leads =
-    ack_comes command from levels at word broken breaks (inl leads.0) leads.1
-when_asked command from levels at word broken step.Nak breaks leads =
-    ack_comes command from levels at word broken breaks (inr leads.0) leads.1
-when_asked command from levels at word broken (step.ReplyByte byte) breaks leads =
-    reply_begins command from levels at word broken breaks leads.1 leads.2 leads.3
-when_asked command from levels at word broken next breaks leads = leads
+when_asked scope command from levels at word broken step.Ack breaks leads =
+    ack_comes scope command from levels at word broken breaks (inl leads.0) leads.1
+when_asked scope command from levels at word broken step.Nak breaks leads =
+    ack_comes scope command from levels at word broken breaks (inr leads.0) leads.1
+when_asked scope command from levels at word broken (step.ReplyByte byte) breaks leads =
+    reply_begins scope command from levels at word broken breaks leads.1 leads.2 leads.3
+when_asked scope command from levels at word broken next breaks leads = leads
 
 -- a further word of a reply
-reply_goes_on : (command : Command) (bytes : List ℕ) (from : Option Event) (levels : Levels)
+reply_goes_on : (scope : Scope) (command : Command) (bytes : List ℕ) (from : Option Event) (levels : Levels)
     (at word : ℕ)
     (broken : Rule)
-    → Broken (InReply command bytes) from levels (Word at Peripheral word) broken
+    → Broken scope (InReply command bytes) from levels (Word at Peripheral word) broken
     → word < 256 → length bytes < 35 → InTime BLOCK_GAP_MAX from (Word at Peripheral word) → ⊥
-reply_goes_on command bytes from levels at word rule.Order breaks low short near =
+reply_goes_on scope command bytes from levels at word rule.Order breaks low short near =
     in_order WORD_GAP_MIN from (Word at Peripheral word) (omega arith) breaks near.0
-reply_goes_on command bytes from levels at word rule.Early breaks low short near =
+reply_goes_on scope command bytes from levels at word rule.Early breaks low short near =
     not_early WORD_GAP_MIN from (Word at Peripheral word) breaks near.0
-reply_goes_on command bytes from levels at word rule.Spacing breaks low short near =
+reply_goes_on scope command bytes from levels at word rule.Spacing breaks low short near =
     not_late BLOCK_GAP_MAX from (Word at Peripheral word) breaks near.1
-reply_goes_on command bytes from levels at word rule.Length (inl breaks) low short near =
+reply_goes_on scope command bytes from levels at word rule.Length (inl breaks) low short near =
     absurd (omega (arith, breaks.1, short))
-reply_goes_on command bytes from levels at word rule.Length (inr breaks) low short near =
+reply_goes_on scope command bytes from levels at word rule.Length (inr breaks) low short near =
     absurd (omega (arith, breaks.0, low))
-reply_goes_on command bytes from levels at word rule.Sum breaks low short near =
+reply_goes_on scope command bytes from levels at word rule.Sum breaks low short near =
     absurd (omega (arith, breaks.0, low))
-reply_goes_on command bytes from levels at word rule.Answer breaks low short near =
+reply_goes_on scope command bytes from levels at word rule.Answer breaks low short near =
     absurd (omega (arith, breaks.0, low))
-reply_goes_on command bytes from levels at word rule.Message breaks low short near =
+reply_goes_on scope command bytes from levels at word rule.Message breaks low short near =
     absurd (omega (arith, breaks.0, low))
-reply_goes_on command bytes from levels at word rule.Profile breaks low short near =
+reply_goes_on scope command bytes from levels at word rule.Profile breaks low short near =
     absurd (omega (arith, breaks.0, low))
-reply_goes_on command bytes from levels at word other breaks low short near = breaks
+reply_goes_on scope command bytes from levels at word other breaks low short near = breaks
 
 -- a reply has no fault
-pub none_bad : Grammar → (command : Command) (bytes : List ℕ) (reply : Reply) (fault : MsgFault)
+pub none_bad : (scope : Scope) → Grammar scope → (command : Command) (bytes : List ℕ) (reply : Reply) (fault : MsgFault)
     → IsReply command reply → bytes ≡ reply_bytes reply → IsReadFault command bytes fault → ⊥
-none_bad grammar command bytes reply fault good same bad =
+none_bad scope grammar command bytes reply fault good same bad =
     let P : List ℕ → Type 0 = λ bs. IsReadFault command bs fault in
     grammar.no_fault command reply fault good.answers (subst P same bad)
 
 -- a reply has a number of bytes that the command allows
-pub right_count : Grammar → (command : Command) (bytes : List ℕ) (reply : Reply)
+pub right_count : (scope : Scope) → Grammar scope → (command : Command) (bytes : List ℕ) (reply : Reply)
     → IsReply command reply → bytes ≡ reply_bytes reply → HasDataAnswer command (length bytes)
-right_count grammar command bytes reply good same =
+right_count scope grammar command bytes reply good same =
     let P : List ℕ → Type 0 = λ bs. HasDataAnswer command (length bs) in
     subst P (sym same) (grammar.counted command reply good.answers)
 
 -- bytes are at most one reply
-pub same_reply : Grammar → (command : Command) (bytes : List ℕ) (one other : Reply)
+pub same_reply : (scope : Scope) → Grammar scope → (command : Command) (bytes : List ℕ) (one other : Reply)
     → IsReply command one
     → bytes ≡ reply_bytes one
     → IsReply command other → bytes ≡ reply_bytes other → one ≡ other
-same_reply grammar command bytes one other first is second same =
+same_reply scope grammar command bytes one other first is second same =
     grammar.one_reply command one other first.answers second.answers (sym is ∙ same)
 
 -- a reply of the right level isn't left out
-not_left_out : Grammar → (command : Command) (bytes : List ℕ) (reply : Reply) (levels : Levels)
+not_left_out : (scope : Scope) → Grammar scope → (command : Command) (bytes : List ℕ) (reply : Reply) (levels : Levels)
     → IsReply command reply → bytes ≡ reply_bytes reply
     → (tells_high reply ≡ true → IsLow (level_for command levels))
     → IsReadFault command bytes reading.Profile ⊎ HasHighLevels command bytes levels → ⊥
-not_left_out grammar command bytes reply levels good same low (inl bad) =
-    none_bad grammar command bytes reply reading.Profile good same bad
-not_left_out grammar command bytes reply levels good same low (inr high) =
-    let one : high.0 ≡ reply = same_reply grammar command bytes high.0 reply high.1 high.2 good
+not_left_out scope grammar command bytes reply levels good same low (inl bad) =
+    none_bad scope grammar command bytes reply reading.Profile good same bad
+not_left_out scope grammar command bytes reply levels good same low (inr high) =
+    let one : high.0 ≡ reply = same_reply scope grammar command bytes high.0 reply high.1 high.2 good
     same in
     let P : Reply → Type 0 = λ r. tells_high r ≡ true in
     high.4 (low (subst P one high.3))
 
 -- the marked word of a reply
-reply_ends : Grammar → (command : Command) (bytes : List ℕ) (from : Option Event) (levels : Levels)
+reply_ends : (scope : Scope) → Grammar scope → (command : Command) (bytes : List ℕ) (from : Option Event) (levels : Levels)
     (at word : ℕ)
     (reply : Reply) (broken : Rule)
-    → Broken (InReply command bytes) from levels (Word at Peripheral word) broken
+    → Broken scope (InReply command bytes) from levels (Word at Peripheral word) broken
     → word ≡ 256 + sum bytes % 256 → IsReply command reply → bytes ≡ reply_bytes reply
     → (tells_high reply ≡ true → IsLow (level_for command levels))
     → InTime BLOCK_GAP_MAX from (Word at Peripheral word) → ⊥
-reply_ends grammar command bytes from levels at word reply rule.Order breaks is good same low near =
+reply_ends scope grammar command bytes from levels at word reply rule.Order breaks is good same low near =
     in_order WORD_GAP_MIN from (Word at Peripheral word) (omega arith) breaks near.0
-reply_ends grammar command bytes from levels at word reply rule.Early breaks is good same low near =
+reply_ends scope grammar command bytes from levels at word reply rule.Early breaks is good same low near =
     not_early WORD_GAP_MIN from (Word at Peripheral word) breaks near.0
-reply_ends grammar command bytes from levels at word reply rule.Spacing breaks is good same low
+reply_ends scope grammar command bytes from levels at word reply rule.Spacing breaks is good same low
     near =
     not_late BLOCK_GAP_MAX from (Word at Peripheral word) breaks near.1
-reply_ends grammar command bytes from levels at word reply rule.Length (inl breaks) is good same low
+reply_ends scope grammar command bytes from levels at word reply rule.Length (inl breaks) is good same low
     near =
     absurd (omega (arith, breaks.0, is))
-reply_ends grammar command bytes from levels at word reply rule.Length (inr breaks) is good same low
+reply_ends scope grammar command bytes from levels at word reply rule.Length (inr breaks) is good same low
     near =
-    breaks.1 (right_count grammar command bytes reply good same)
-reply_ends grammar command bytes from levels at word reply rule.Sum breaks is good same low near =
+    breaks.1 (right_count scope grammar command bytes reply good same)
+reply_ends scope grammar command bytes from levels at word reply rule.Sum breaks is good same low near =
     breaks.1 is
-reply_ends grammar command bytes from levels at word reply rule.Answer breaks is good same low
+reply_ends scope grammar command bytes from levels at word reply rule.Answer breaks is good same low
     near =
-    none_bad grammar command bytes reply reading.Answer good same breaks.1
-reply_ends grammar command bytes from levels at word reply rule.Message breaks is good same low
+    none_bad scope grammar command bytes reply reading.Answer good same breaks.1
+reply_ends scope grammar command bytes from levels at word reply rule.Message breaks is good same low
     near =
-    none_bad grammar command bytes reply reading.Message good same breaks.1
-reply_ends grammar command bytes from levels at word reply rule.Profile breaks is good same low
+    none_bad scope grammar command bytes reply reading.Message good same breaks.1
+reply_ends scope grammar command bytes from levels at word reply rule.Profile breaks is good same low
     near =
-    not_left_out grammar command bytes reply levels good same low breaks.1
-reply_ends grammar command bytes from levels at word reply other breaks is good same low near =
+    not_left_out scope grammar command bytes reply levels good same low breaks.1
+reply_ends scope grammar command bytes from levels at word reply other breaks is good same low near =
     breaks
 
 -- a word inside a reply
-in_reply : Grammar → (command : Command) (bytes : List ℕ) (from : Option Event) (levels : Levels)
+in_reply : (scope : Scope) → Grammar scope → (command : Command) (bytes : List ℕ) (from : Option Event) (levels : Levels)
     (at word : ℕ)
     (broken : Rule) (next : Step)
-    → Broken (InReply command bytes) from levels (Word at Peripheral word) broken
+    → Broken scope (InReply command bytes) from levels (Word at Peripheral word) broken
     → GoesOnReplying command bytes from levels (Word at Peripheral word) word next → ⊥
-in_reply grammar command bytes from levels at word broken (step.ReplyByte byte) breaks leads =
-    reply_goes_on command bytes from levels at word broken breaks leads.1 leads.2 leads.3
-in_reply grammar command bytes from levels at word broken (step.Reply reply) breaks leads =
-    reply_ends grammar command bytes from levels at word reply broken breaks leads.0 leads.1 leads.2
+in_reply scope grammar command bytes from levels at word broken (step.ReplyByte byte) breaks leads =
+    reply_goes_on scope command bytes from levels at word broken breaks leads.1 leads.2 leads.3
+in_reply scope grammar command bytes from levels at word broken (step.Reply reply) breaks leads =
+    reply_ends scope grammar command bytes from levels at word reply broken breaks leads.0 leads.1 leads.2
     leads.3 leads.4
-in_reply grammar command bytes from levels at word broken next breaks leads = leads
+in_reply scope grammar command bytes from levels at word broken next breaks leads = leads
 
 -- the first word of a repeat
-repeat_begins : (command : Command) (reply : Reply) (from : Option Event) (levels : Levels)
+repeat_begins : (scope : Scope) (command : Command) (reply : Reply) (from : Option Event) (levels : Levels)
     (at word : ℕ)
     (broken : Rule)
-    → Broken (Returned command reply) from levels (Word at Peripheral word) broken
+    → Broken scope (Returned command reply) from levels (Word at Peripheral word) broken
     → IsRepeatFront reply (word ∷ []) → InTime ANSWER_GAP_MAX from (Word at Peripheral word) → ⊥
-repeat_begins command reply from levels at word rule.Order breaks front near =
+repeat_begins scope command reply from levels at word rule.Order breaks front near =
     in_order WORD_GAP_MIN from (Word at Peripheral word) (omega arith) breaks near.0
-repeat_begins command reply from levels at word rule.Early breaks front near =
+repeat_begins scope command reply from levels at word rule.Early breaks front near =
     not_early WORD_GAP_MIN from (Word at Peripheral word) breaks near.0
-repeat_begins command reply from levels at word rule.Late breaks front near =
+repeat_begins scope command reply from levels at word rule.Late breaks front near =
     not_late ANSWER_GAP_MAX from (Word at Peripheral word) breaks near.1
-repeat_begins command reply from levels at word rule.Same breaks front near =
+repeat_begins scope command reply from levels at word rule.Same breaks front near =
     breaks (front.rest, front.same)
-repeat_begins command reply from levels at word other breaks front near = breaks
+repeat_begins scope command reply from levels at word other breaks front near = breaks
 
 -- a word that begins a repeat
-when_returned : (command : Command) (reply : Reply) (from : Option Event) (levels : Levels)
+when_returned : (scope : Scope) (command : Command) (reply : Reply) (from : Option Event) (levels : Levels)
     (at word : ℕ)
     (broken : Rule) (next : Step)
-    → Broken (Returned command reply) from levels (Word at Peripheral word) broken
+    → Broken scope (Returned command reply) from levels (Word at Peripheral word) broken
     → BeginsRepeat reply from (Word at Peripheral word) word next → ⊥
-when_returned command reply from levels at word broken (step.RepeatWord said) breaks leads =
-    repeat_begins command reply from levels at word broken breaks leads.1 leads.2
-when_returned command reply from levels at word broken next breaks leads = leads
+when_returned scope command reply from levels at word broken (step.RepeatWord said) breaks leads =
+    repeat_begins scope command reply from levels at word broken breaks leads.1 leads.2
+when_returned scope command reply from levels at word broken next breaks leads = leads
 
 -- a further word of a repeat
-repeat_goes_on : (command : Command) (reply : Reply) (words : List ℕ) (from : Option Event)
+repeat_goes_on : (scope : Scope) (command : Command) (reply : Reply) (words : List ℕ) (from : Option Event)
     (levels : Levels)
     (at word : ℕ) (broken : Rule)
-    → Broken (InRepeat command reply words) from levels (Word at Peripheral word) broken
+    → Broken scope (InRepeat command reply words) from levels (Word at Peripheral word) broken
     → IsNext (reply_words reply) words word → InTime BLOCK_GAP_MAX from (Word at Peripheral word)
     → ⊥
-repeat_goes_on command reply words from levels at word rule.Order breaks next near =
+repeat_goes_on scope command reply words from levels at word rule.Order breaks next near =
     in_order WORD_GAP_MIN from (Word at Peripheral word) (omega arith) breaks near.0
-repeat_goes_on command reply words from levels at word rule.Early breaks next near =
+repeat_goes_on scope command reply words from levels at word rule.Early breaks next near =
     not_early WORD_GAP_MIN from (Word at Peripheral word) breaks near.0
-repeat_goes_on command reply words from levels at word rule.Spacing breaks next near =
+repeat_goes_on scope command reply words from levels at word rule.Spacing breaks next near =
     not_late BLOCK_GAP_MAX from (Word at Peripheral word) breaks near.1
-repeat_goes_on command reply words from levels at word rule.Same breaks next near = breaks next
-repeat_goes_on command reply words from levels at word other breaks next near = breaks
+repeat_goes_on scope command reply words from levels at word rule.Same breaks next near = breaks next
+repeat_goes_on scope command reply words from levels at word other breaks next near = breaks
 
 -- a word inside a repeat
-in_repeat : (command : Command) (reply : Reply) (words : List ℕ) (from : Option Event)
+in_repeat : (scope : Scope) (command : Command) (reply : Reply) (words : List ℕ) (from : Option Event)
     (levels : Levels) (at word : ℕ)
     (broken : Rule) (next : Step)
-    → Broken (InRepeat command reply words) from levels (Word at Peripheral word) broken
+    → Broken scope (InRepeat command reply words) from levels (Word at Peripheral word) broken
     → GoesOnRepeating reply words from (Word at Peripheral word) word next → ⊥
-in_repeat command reply words from levels at word broken (step.RepeatWord said) breaks leads =
-    repeat_goes_on command reply words from levels at word broken breaks
+in_repeat scope command reply words from levels at word broken (step.RepeatWord said) breaks leads =
+    repeat_goes_on scope command reply words from levels at word broken breaks
     (leads.1.rest, sym (append_assoc words (word ∷ []) leads.1.rest) ∙ leads.1.same) leads.2
-in_repeat command reply words from levels at word broken step.Repeat breaks leads =
-    repeat_goes_on command reply words from levels at word broken breaks ([], leads.0) leads.1
-in_repeat command reply words from levels at word broken next breaks leads = leads
+in_repeat scope command reply words from levels at word broken step.Repeat breaks leads =
+    repeat_goes_on scope command reply words from levels at word broken breaks ([], leads.0) leads.1
+in_repeat scope command reply words from levels at word broken next breaks leads = leads
 
 -- a word that breaks a rule leads nowhere
-word_stops : Grammar → (position : Position) (from : Option Event) (levels : Levels) (at : ℕ)
+word_stops : (scope : Scope) → Grammar scope → (position : Position) (from : Option Event) (levels : Levels) (at : ℕ)
     (line : Line) (word : ℕ)
     (broken : Rule) (next : Step)
-    → IsSound position → Broken position from levels (Word at line word) broken
-    → WordLeads position from levels (Word at line word) line word next → ⊥
-word_stops grammar Quiet from levels at Controller word broken next sound breaks leads =
-    when_quiet grammar from levels at word broken next breaks leads
-word_stops grammar Quiet from levels at Peripheral word broken next sound breaks leads = leads
-word_stops grammar (InAsk bytes) from levels at Controller word broken next sound breaks leads =
-    in_ask grammar bytes from levels at word broken next sound.some breaks leads
-word_stops grammar (InAsk bytes) from levels at Peripheral word broken next sound breaks leads =
+    → IsSound scope position → Broken scope position from levels (Word at line word) broken
+    → WordLeads scope position from levels (Word at line word) line word next → ⊥
+word_stops scope grammar Quiet from levels at Controller word broken next sound breaks leads =
+    when_quiet scope grammar from levels at word broken next breaks leads
+word_stops scope grammar Quiet from levels at Peripheral word broken next sound breaks leads = leads
+word_stops scope grammar (InAsk bytes) from levels at Controller word broken next sound breaks leads =
+    in_ask scope grammar bytes from levels at word broken next sound.some breaks leads
+word_stops scope grammar (InAsk bytes) from levels at Peripheral word broken next sound breaks leads =
     leads
-word_stops grammar (Asked command) from levels at Controller word broken next sound breaks leads =
-    ask_when_asked grammar command from levels at word broken next breaks leads
-word_stops grammar (Asked command) from levels at Peripheral word broken next sound breaks leads =
-    when_asked command from levels at word broken next breaks leads
-word_stops grammar (InReply command bytes) from levels at Controller word broken next sound breaks
+word_stops scope grammar (Asked command) from levels at Controller word broken next sound breaks leads =
+    ask_when_asked scope grammar command from levels at word broken next breaks leads
+word_stops scope grammar (Asked command) from levels at Peripheral word broken next sound breaks leads =
+    when_asked scope command from levels at word broken next breaks leads
+word_stops scope grammar (InReply command bytes) from levels at Controller word broken next sound breaks
     leads = leads
-word_stops grammar (InReply command bytes) from levels at Peripheral word broken next sound breaks
+word_stops scope grammar (InReply command bytes) from levels at Peripheral word broken next sound breaks
     leads =
-    in_reply grammar command bytes from levels at word broken next breaks leads
-word_stops grammar (Replied command reply) from levels at Controller word broken next sound breaks
+    in_reply scope grammar command bytes from levels at word broken next breaks leads
+word_stops scope grammar (Replied command reply) from levels at Controller word broken next sound breaks
     leads =
-    when_replied grammar command reply from levels at word broken next breaks leads
-word_stops grammar (Replied command reply) from levels at Peripheral word broken next sound breaks
+    when_replied scope grammar command reply from levels at word broken next breaks leads
+word_stops scope grammar (Replied command reply) from levels at Peripheral word broken next sound breaks
     leads = leads
-word_stops grammar (Returned command reply) from levels at Controller word broken next sound breaks
+word_stops scope grammar (Returned command reply) from levels at Controller word broken next sound breaks
     leads =
-    ask_when_returned grammar command reply from levels at word broken next breaks leads
-word_stops grammar (Returned command reply) from levels at Peripheral word broken next sound breaks
+    ask_when_returned scope grammar command reply from levels at word broken next breaks leads
+word_stops scope grammar (Returned command reply) from levels at Peripheral word broken next sound breaks
     leads =
-    when_returned command reply from levels at word broken next breaks leads
-word_stops grammar (InRepeat command reply words) from levels at Controller word broken next sound
+    when_returned scope command reply from levels at word broken next breaks leads
+word_stops scope grammar (InRepeat command reply words) from levels at Controller word broken next sound
     breaks leads = leads
-word_stops grammar (InRepeat command reply words) from levels at Peripheral word broken next sound
+word_stops scope grammar (InRepeat command reply words) from levels at Peripheral word broken next sound
     breaks leads =
-    in_repeat command reply words from levels at word broken next breaks leads
-word_stops grammar InForeign from levels at Controller word broken next sound breaks leads =
-    in_foreign grammar from levels at word broken next breaks leads
-word_stops grammar InForeign from levels at Peripheral word broken next sound breaks leads =
-    foreign_goes_on Peripheral from levels at word broken next breaks tt leads
+    in_repeat scope command reply words from levels at word broken next breaks leads
+word_stops scope grammar InForeign from levels at Controller word broken next sound breaks leads =
+    in_foreign scope grammar from levels at word broken next breaks leads
+word_stops scope grammar InForeign from levels at Peripheral word broken next sound breaks leads =
+    foreign_goes_on scope Peripheral from levels at word broken next breaks tt leads
 
 -- a break comes after the row before it
 break_in_order : (from : Option Event) (at lasted : ℕ) → LastIsLong from
@@ -694,33 +696,33 @@ break_in_order (Some (Break start length)) at lasted long out comes =
     absurd (omega (arith, out, comes, long))
 
 -- a break that breaks a rule leads nowhere
-break_stops : (position : Position) (from : Option Event) (levels : Levels) (at length : ℕ)
+break_stops : (scope : Scope) (position : Position) (from : Option Event) (levels : Levels) (at length : ℕ)
     (broken : Rule)
-    → LastIsLong from → Broken position from levels (Break at length) broken
+    → LastIsLong from → Broken scope position from levels (Break at length) broken
     → BREAK_LENGTH_MIN ≤ length → NotBefore (rest_before_break from) from (Break at length) → ⊥
-break_stops position from levels at length rule.Order long breaks enough comes =
+break_stops scope position from levels at length rule.Order long breaks enough comes =
     break_in_order from at length long breaks comes
-break_stops position from levels at length rule.Early long breaks enough comes =
+break_stops scope position from levels at length rule.Early long breaks enough comes =
     not_early (rest_before_break from) from (Break at length) breaks comes
-break_stops position from levels at length rule.Break long breaks enough comes =
+break_stops scope position from levels at length rule.Break long breaks enough comes =
     absurd (omega (arith, breaks, enough))
-break_stops Quiet from levels at length other long breaks enough comes = breaks
-break_stops (InAsk bytes) from levels at length other long breaks enough comes = breaks
-break_stops (Asked command) from levels at length other long breaks enough comes = breaks
-break_stops (InReply command bytes) from levels at length other long breaks enough comes = breaks
-break_stops (Replied command reply) from levels at length other long breaks enough comes = breaks
-break_stops (Returned command reply) from levels at length other long breaks enough comes = breaks
-break_stops (InRepeat command reply words) from levels at length other long breaks enough comes =
+break_stops scope Quiet from levels at length other long breaks enough comes = breaks
+break_stops scope (InAsk bytes) from levels at length other long breaks enough comes = breaks
+break_stops scope (Asked command) from levels at length other long breaks enough comes = breaks
+break_stops scope (InReply command bytes) from levels at length other long breaks enough comes = breaks
+break_stops scope (Replied command reply) from levels at length other long breaks enough comes = breaks
+break_stops scope (Returned command reply) from levels at length other long breaks enough comes = breaks
+break_stops scope (InRepeat command reply words) from levels at length other long breaks enough comes =
     breaks
-break_stops InForeign from levels at length other long breaks enough comes = breaks
+break_stops scope InForeign from levels at length other long breaks enough comes = breaks
 
 -- a row that breaks a rule leads nowhere
-pub stops : Grammar → (s : Situation) (row : Event) (broken : Rule) (next : Step)
-    → IsSound s.position
+pub stops : (s : Situation) → Grammar s.scope → (row : Event) (broken : Rule) (next : Step)
+    → IsSound s.scope s.position
     → LastIsLong s.last
     → RowBreaks s row broken → Leads s row next → ⊥
-stops grammar s (Word at line word) broken next sound long breaks leads =
-    word_stops grammar s.position s.last s.levels at line word broken next sound breaks leads
-stops grammar s (Break at length) broken (step.Break lasted) sound long breaks leads =
-    break_stops s.position s.last s.levels at length broken long breaks leads.1 leads.2
-stops grammar s (Break at length) broken next sound long breaks leads = leads
+stops s grammar (Word at line word) broken next sound long breaks leads =
+    word_stops s.scope grammar s.position s.last s.levels at line word broken next sound breaks leads
+stops s grammar (Break at length) broken (step.Break lasted) sound long breaks leads =
+    break_stops s.scope s.position s.last s.levels at length broken long breaks leads.1 leads.2
+stops s grammar (Break at length) broken next sound long breaks leads = leads

@@ -31,14 +31,18 @@ use Rattle.mdb_bus.specs.declared.levels.Levels.{Levels}
 use Rattle.mdb_bus.specs.declared.place.Place.{Place}
 use Rattle.mdb_bus.specs.declared.judged.Judged.{Judged}
 use Rattle.mdb_bus.specs.declared.judged.Judged.TheVariants as judged
-use Rattle.mdb_bus.specs.Acts.{IsForeignOpening, IsReply, reply_words}
-use Rattle.mdb_bus.specs.ActLists.{Asked, InAsk, InReply, IsAskFront, IsRepeatFront, NotBefore, NotAfter}
+use Rattle.mdb_bus.specs.Acts.{IsReply, reply_words}
+use Rattle.mdb_bus.specs.ActLists.{Asked, InAsk, InReply, IsRepeatFront, NotBefore, NotAfter}
 use Rattle.mdb_bus.specs.declared.phase.Phase.{Phase}
 use Rattle.mdb_bus.specs.declared.phase.Phase.TheVariants as phase
 use Rattle.mdb_bus.specs.Bus.{position_at, position_in}
 use Rattle.mdb_bus.specs.LinkFaults.{IsBefore, IsAfter, IsFirstBroken, OutOfOrder, RowBreaks, Situation, WrongLength, place_of}
-use Rattle.mdb_bus.specs.inner.Steps.{Belongs, IsGoingOn, IsJudged, IsOpened, IsRead, IsReplyEnd, IsSettled, MayAsk, rule_of}
+use Rattle.mdb_bus.specs.inner.Steps.{Belongs, IsCommandFront, IsGoingOn, IsJudged, IsOpened, IsRead, IsReplyEnd, IsSettled, IsSound, IsUnknownExpansion, MayAsk, rule_of}
 use Rattle.mdb_bus.proofs.Needs.{at_least_two, at_most_32, not_left, stays, narrows}
+use Rattle.mdb_bus.specs.declared.scope.Scope.{Scope}
+use Rattle.mdb_bus.specs.ActLists.{IsAskFront}
+use Rattle.mdb_bus.specs.Scopes.{needed_in}
+use Rattle.mdb_bus.proofs.Followed.{AreFollowed, FirstTells, ask_front_followed, asks_followed, expansion_opens, front_followed, needed_followed, plain_front, still_followed, within}
 
 -- a row isn't both too early and in time
 pub not_early : (least : ℕ) (from : Option Event) (to : Event) → NotBefore least from to
@@ -69,7 +73,7 @@ WhatItNeeds = (content : List ℕ) → All IsByte content
 
 -- what is open is the front of an ask, and the front of an ask is open
 pub front_of : OpenIsAFront → (bytes : List ℕ) → 0 < length bytes → All IsByte bytes → IsOpen bytes
-    → IsAskFront bytes
+    → IsCommandFront bytes
 front_of law bytes some low wanting =
     let found = law bytes low wanting in
     record {
@@ -84,16 +88,16 @@ some_long : (bytes : List ℕ) → bytes ≢ [] → 0 < length bytes
 some_long [] some = absurd (some refl)
 some_long (byte ∷ bytes) some = omega arith
 
-pub open_front : FrontIsOpen → (bytes : List ℕ) → IsAskFront bytes → IsOpen bytes
+pub open_front : FrontIsOpen → (bytes : List ℕ) → IsCommandFront bytes → IsOpen bytes
 open_front law bytes front =
     law bytes front.rest front.command (some_long bytes front.some) front.open_end front.spelled
 
 -- a first byte that leaves a command open begins an ask
 pub begins : OpenIsAFront → (word one byte : ℕ) (told : Need) → one ≡ word % 256 → byte ≡ word % 256
     → told ≡ needed (one ∷ [])
-    → (told ≡ More) ⊎ ((n : ℕ) × (told ≡ Exactly n)) → IsAskFront (byte ∷ [])
+    → (told ≡ More) ⊎ ((n : ℕ) × (told ≡ Exactly n)) → IsCommandFront (byte ∷ [])
 begins law word one byte told same again is wanting =
-    let P : ℕ → Type 0 = λ b. IsAskFront (b ∷ []) in
+    let P : ℕ → Type 0 = λ b. IsCommandFront (b ∷ []) in
     subst P (same ∙ sym again)
     (front_of law (one ∷ []) (omega arith)
     (All-from_recursion IsByte (one ∷ []) (omega (arith, same), tt))
@@ -106,6 +110,22 @@ begins law word one byte told same again is wanting =
         let P : Need → Type 0 = λ need. IsShort need 1 in
         let two : 2 ≤ exact.0 = at_least_two (one ∷ []) exact.0 (omega arith) (sym is ∙ exact.1) in
         subst P (sym exact.1 ∙ is) (omega arith)
+
+-- the same of a byte that is no address of a device that is left out
+pub begins_followed : FirstTells → OpenIsAFront → (scope : Scope) (word one byte : ℕ) (told : Need)
+    → one ≡ word % 256 → byte ≡ word % 256 → told ≡ needed_in scope (one ∷ [])
+    → (told ≡ More) ⊎ ((n : ℕ) × (told ≡ Exactly n)) → IsAskFront scope (byte ∷ [])
+begins_followed first law scope word one byte told same again is wanting =
+    let plain = within scope (one ∷ []) told (sym is) (not_foreign wanting) in
+    let There : ℕ → Type 0 = λ b. AreFollowed scope (b ∷ []) in
+    front_followed first scope (byte ∷ [])
+    (begins law word one byte told same again (sym plain.1) wanting)
+    (subst There (same ∙ sym again) plain.0)
+  where
+    not_foreign : (told ≡ More) ⊎ ((n : ℕ) × (told ≡ Exactly n)) → told ≢ Foreign
+    not_foreign (inl more) foreign = let clash : More ≡ Foreign = sym more ∙ foreign in cc clash
+    not_foreign (inr exact) foreign =
+        let clash : Exactly exact.0 ≡ Foreign = sym exact.1 ∙ foreign in cc clash
 
 -- what two bytes don't tell a length of, the first leaves to the second
 left_by : (first word : ℕ) (told : Need) → needed (first ∷ []) ≡ told → IsShort told 1
@@ -145,9 +165,9 @@ second_outside bytes first byte word told is low small tell out begun =
 pub second_foreign : (bytes : List ℕ) (first byte word : ℕ) (told : Need) → bytes ≡ first ∷ []
     → byte ≡ word % 256 → word < 256 → told ≡ needed (first ∷ byte ∷ []) → told ≡ Foreign
     → IsOpen bytes
-    → IsForeignOpening (bytes ++ word ∷ [])
+    → IsUnknownExpansion (bytes ++ word ∷ [])
 second_foreign bytes first byte word told is low small tell out begun =
-    let P : List ℕ → Type 0 = λ bs. IsForeignOpening (bs ++ word ∷ []) in
+    let P : List ℕ → Type 0 = λ bs. IsUnknownExpansion (bs ++ word ∷ []) in
     let unsaid : (n : ℕ) → Foreign ≡ Exactly n → ⊥ = λ n same. cc same in
     let both = second_other bytes first byte word told Foreign is low small tell out unsaid begun in
     subst P (sym is) (both.0, both.1, small)
@@ -180,15 +200,15 @@ pub second_front : OpenIsAFront → (bytes : List ℕ) (first one byte word : �
     → word < 256
     → told ≡ needed (first ∷ one ∷ [])
     → (told ≡ More) ⊎ ((n : ℕ) × (told ≡ Exactly n)) → IsOpen bytes
-    → (word ≡ byte) × IsAskFront (bytes ++ byte ∷ [])
+    → (word ≡ byte) × IsCommandFront (bytes ++ byte ∷ [])
 second_front opens bytes first one byte word alone told is low lone other same again small tell
     wanting begun =
-    let P : List ℕ → Type 0 = λ bs. IsOpen bs → IsAskFront (bs ++ byte ∷ []) in
+    let P : List ℕ → Type 0 = λ bs. IsOpen bs → IsCommandFront (bs ++ byte ∷ []) in
     let fits : one ≡ byte = omega (arith, same, again) in
     let byte_low : byte < 256 = omega (arith, again) in
     let both : told ≡ needed (first ∷ byte ∷ []) = tell ∙ ap (λ b. needed (first ∷ b ∷ [])) fits in
     let Q : Need → Type 0 = λ need. IsShort need 2 in
-    let go : IsOpen (first ∷ []) → IsAskFront (first ∷ byte ∷ []) = λ alone_open.
+    let go : IsOpen (first ∷ []) → IsCommandFront (first ∷ byte ∷ []) = λ alone_open.
     front_of opens (first ∷ byte ∷ []) (omega arith)
     (All-from_recursion IsByte (first ∷ byte ∷ []) (low, (byte_low, tt)))
     (subst Q both (second_short first byte (needed (first ∷ [])) told refl (sym both)
@@ -199,7 +219,7 @@ second_front opens bytes first one byte word alone told is low lone other same a
 pub further_front : OpenIsAFront → (bytes : List ℕ) (byte n : ℕ) → 2 ≤ length bytes
     → All IsByte bytes → byte < 256
     → needed bytes ≡ Exactly n
-    → length bytes + 1 < n → IsAskFront (bytes ++ byte ∷ [])
+    → length bytes + 1 < n → IsCommandFront (bytes ++ byte ∷ [])
 further_front opens bytes byte n two low byte_low told short =
     let long : length (bytes ++ byte ∷ []) ≡ length bytes + 1 = length-append bytes (byte ∷ []) in
     let P : Need → Type 0 = λ need. IsShort need (length (bytes ++ byte ∷ [])) in
@@ -236,55 +256,83 @@ ask_whole law bytes word low told total =
     (found.0, subst P (ap (λ w. bytes ++ w ∷ []) (sym total)) found.1)
 
 -- a controller's word inside its block breaks a rule
-abbrev AskBreaks : List ℕ → Option Event → ℕ → ℕ → Levels → Rule → Type 0
-AskBreaks bytes from at word levels broken =
-    RowBreaks (record { position = InAsk bytes; last = from; levels = levels })
+abbrev AskBreaks : (scope : Scope) → List ℕ → Option Event → ℕ → ℕ → Levels → Rule → Type 0
+AskBreaks scope bytes from at word levels broken =
+    RowBreaks (record { scope = scope; position = InAsk bytes; last = from; levels = levels })
     (Word at Controller word) broken
 
+-- bytes that leave a command open are some: none need nothing
+pub some_bytes : (bytes : List ℕ) → IsOpen bytes → bytes ≢ []
+some_bytes [] wanting none = wanting
+some_bytes (byte ∷ bytes) wanting none = cc none
+
 -- an unmarked word inside a block of the controller, in its time
-pub going_on : (bytes : List ℕ) (from : Option Event) (at word : ℕ) (levels : Levels)
+pub going_on : (scope : Scope) (bytes : List ℕ) (from : Option Event) (at word : ℕ) (levels : Levels)
     (result : Result Judged Rule)
     → (OutOfOrder from (Word at Controller word) → ⊥)
     → (IsBefore WORD_GAP_MIN from (Word at Controller word) → ⊥)
     → (IsAfter BLOCK_GAP_MAX from (Word at Controller word) → ⊥) → word < 256
-    → IsGoingOn bytes word result
-    → IsJudged (record { position = InAsk bytes; last = from; levels = levels })
+    → FirstTells → bytes ≢ [] → AreFollowed scope bytes → IsGoingOn bytes word result
+    → IsJudged (record { scope = scope; position = InAsk bytes; last = from; levels = levels })
     (Word at Controller word) result
-going_on bytes from at word levels (Ok judged.AskByte) order early late small h =
+going_on scope bytes from at word levels (Ok judged.AskByte) order early late small law some
+    followed h =
     let soon = in_time WORD_GAP_MIN from (Word at Controller word) early in
     let near = not_late BLOCK_GAP_MAX from (Word at Controller word) late in
-    (h.0, small, h.1, (soon, near))
-going_on bytes from at word levels (Ok judged.Ask) order early late small h =
+    let front = front_followed law scope (bytes ++ word % 256 ∷ []) h.1
+    (still_followed scope bytes (word % 256 ∷ []) some followed) in
+    (h.0, small, front, (soon, near))
+going_on scope bytes from at word levels (Ok judged.Ask) order early late small law some
+    followed h =
     let soon = in_time WORD_GAP_MIN from (Word at Controller word) early in
     let near = not_late BLOCK_GAP_MAX from (Word at Controller word) late in
-    (h.0, (small, h.1, (soon, near)))
-going_on bytes from at word levels (Ok judged.Foreign) order early late small h =
+    let asks = asks_followed law scope h.0 (bytes ++ word ∷ []) h.1
+    (still_followed scope bytes (word ∷ []) some followed) in
+    (h.0, (small, asks, (soon, near)))
+going_on scope bytes from at word levels (Ok judged.Foreign) order early late small law some
+    followed h =
     let soon = in_time WORD_GAP_MIN from (Word at Controller word) early in
     let near = not_late BLOCK_GAP_MAX from (Word at Controller word) late in
-    (small, h, (soon, near))
-going_on bytes from at word levels (Ok other) order early late small h = absurd h
-going_on bytes from at word levels (Err rule.Sum) order early late small h =
-    record { breaks = h; first = first }
+    let opening = expansion_opens scope (bytes ++ word ∷ []) h
+    (still_followed scope bytes (word ∷ []) some followed) in
+    (small, opening, (soon, near))
+going_on scope bytes from at word levels (Ok other) order early late small law some
+    followed h = absurd h
+going_on scope bytes from at word levels (Err rule.Sum) order early late small law some
+    followed h =
+    record { breaks = (needed_followed scope bytes followed ∙ h.0, h.1); first = first }
   where
-    first : (other : Rule) → AskBreaks bytes from at word levels other
+    first : (other : Rule) → AskBreaks scope bytes from at word levels other
         → place_of rule.Sum ≤ place_of other
     first rule.Order b = absurd (order b)
     first rule.Mode b = absurd (omega (arith, b))
     first rule.Early b = absurd (early b)
     first rule.Spacing b = absurd (late b)
     first other b = search rules
-going_on bytes from at word levels (Err rule.Profile) order early late small h =
-    record { breaks = h; first = first }
+going_on scope bytes from at word levels (Err rule.Profile) order early late small law some
+    followed h =
+    record {
+      breaks = (
+        needed_followed scope bytes followed ∙ h.0,
+        needed_followed scope (bytes ++ word ∷ [])
+            (still_followed scope bytes (word ∷ []) some followed) ∙ h.1,
+      );
+      first = first;
+    }
   where
-    first : (other : Rule) → AskBreaks bytes from at word levels other
+    first : (other : Rule) → AskBreaks scope bytes from at word levels other
         → place_of rule.Profile ≤ place_of other
     first rule.Order b = absurd (order b)
     first rule.Mode b = absurd (omega (arith, b))
     first rule.Early b = absurd (early b)
     first rule.Spacing b = absurd (late b)
-    first rule.Sum b = let clash : More ≡ Exactly (length bytes + 1) = sym h.0 ∙ b.0 in absurd (cc)
+    first rule.Sum b =
+        let clash : More ≡ Exactly (length bytes + 1) =
+        sym h.0 ∙ (sym (needed_followed scope bytes followed) ∙ b.0) in
+        absurd (cc)
     first other b = search rules
-going_on bytes from at word levels (Err other) order early late small h = absurd h
+going_on scope bytes from at word levels (Err other) order early late small law some
+    followed h = absurd h
 
 -- the words of a peripheral that end in one
 pub peripheral_push : (bytes : List ℕ) (byte : ℕ) → peripheral_words (bytes ++ byte ∷ [])
@@ -318,16 +366,16 @@ length_read command bytes has bad =
     bad.2 (subst P same has.2)
 
 -- a marked word that is no answer's
-pub no_answer : (command : Command) (from : Option Event) (at word byte : ℕ) (levels : Levels)
+pub no_answer : (scope : Scope) (command : Command) (from : Option Event) (at word byte : ℕ) (levels : Levels)
     → (OutOfOrder from (Word at Peripheral word) → ⊥)
     → (IsBefore WORD_GAP_MIN from (Word at Peripheral word) → ⊥)
     → (IsAfter ANSWER_GAP_MAX from (Word at Peripheral word) → ⊥) → 256 ≤ word → word < 512
     → byte ≡ word % 256
     → ((answer : Answer) → answer_byte answer ≢ byte)
-    → IsFirstBroken (record { position = Asked command; last = from; levels = levels })
+    → IsFirstBroken (record { scope = scope; position = Asked command; last = from; levels = levels })
     (Word at Peripheral word)
     rule.Answer
-no_answer command from at word byte levels order early late marked small low none = record {
+no_answer scope command from at word byte levels order early late marked small low none = record {
   breaks = inl (
     marked,
     (λ ack. none answers.Ack (omega (arith, low, ack))),
@@ -337,7 +385,7 @@ no_answer command from at word byte levels order early late marked small low non
 }
   where
     first : (other : Rule)
-        → RowBreaks (record { position = Asked command; last = from; levels = levels })
+        → RowBreaks (record { scope = scope; position = Asked command; last = from; levels = levels })
         (Word at Peripheral word) other
         → place_of rule.Answer ≤ place_of other
     first rule.Order b = absurd (order b)
@@ -376,14 +424,14 @@ count_right command bytes reply is same =
     subst P (sym same) (form_of_reply reply, is.answers.answer.form, is.answers.answer.count)
 
 -- a peripheral's word inside a reply breaks a rule
-abbrev Breaks : Command → List ℕ → Option Event → ℕ → ℕ → Levels → Rule → Type 0
-Breaks command bytes from at word levels broken =
-    RowBreaks (record { position = InReply command bytes; last = from; levels = levels })
+abbrev Breaks : (scope : Scope) → Command → List ℕ → Option Event → ℕ → ℕ → Levels → Rule → Type 0
+Breaks scope command bytes from at word levels broken =
+    RowBreaks (record { scope = scope; position = InReply command bytes; last = from; levels = levels })
     (Word at Peripheral word)
     broken
 
 -- the reply that a marked word has ended in its time, read
-reply_read : BytesHaveOneFault → ReplyHasNoFault
+reply_read : (scope : Scope) → BytesHaveOneFault → ReplyHasNoFault
     → (command : Command) (bytes : List ℕ) (from : Option Event) (at word : ℕ) (levels : Levels)
     (result : Result Reply Rule)
     → (OutOfOrder from (Word at Peripheral word) → ⊥)
@@ -391,22 +439,22 @@ reply_read : BytesHaveOneFault → ReplyHasNoFault
     → (IsAfter BLOCK_GAP_MAX from (Word at Peripheral word) → ⊥)
     → 256 ≤ word → HasDataAnswer command (length bytes) → word ≡ 256 + sum bytes % 256
     → IsRead command bytes levels result
-    → IsSettled (record { position = InReply command bytes; last = from; levels = levels })
+    → IsSettled (record { scope = scope; position = InReply command bytes; last = from; levels = levels })
     (Word at Peripheral word)
     result
-reply_read one none command bytes from at word levels (Ok reply) order early late marked has total
+reply_read scope one none command bytes from at word levels (Ok reply) order early late marked has total
     h =
     let soon = in_time WORD_GAP_MIN from (Word at Peripheral word) early in
     let near = not_late BLOCK_GAP_MAX from (Word at Peripheral word) late in
     (total, h.0, h.1, h.2, (soon, near))
-reply_read one none command bytes from at word levels (Err rule.Length) order early late marked has
+reply_read scope one none command bytes from at word levels (Err rule.Length) order early late marked has
     total h =
     absurd (length_read command bytes has h)
-reply_read one none command bytes from at word levels (Err rule.Answer) order early late marked has
+reply_read scope one none command bytes from at word levels (Err rule.Answer) order early late marked has
     total h =
     record { breaks = (marked, h); first = first }
   where
-    first : (other : Rule) → Breaks command bytes from at word levels other
+    first : (other : Rule) → Breaks scope command bytes from at word levels other
         → place_of rule.Answer ≤ place_of other
     first rule.Order b = absurd (order b)
     first rule.Early b = absurd (early b)
@@ -414,11 +462,11 @@ reply_read one none command bytes from at word levels (Err rule.Answer) order ea
     first rule.Length b = absurd (length_right command bytes at word marked has b)
     first rule.Sum b = absurd (b.1 total)
     first other b = search rules
-reply_read one none command bytes from at word levels (Err rule.Message) order early late marked has
+reply_read scope one none command bytes from at word levels (Err rule.Message) order early late marked has
     total h =
     record { breaks = (marked, h); first = first }
   where
-    first : (other : Rule) → Breaks command bytes from at word levels other
+    first : (other : Rule) → Breaks scope command bytes from at word levels other
         → place_of rule.Message ≤ place_of other
     first rule.Order b = absurd (order b)
     first rule.Early b = absurd (early b)
@@ -430,11 +478,11 @@ reply_read one none command bytes from at word levels (Err rule.Message) order e
         reading.Message b.1 h in
         absurd (cc)
     first other b = search rules
-reply_read one none command bytes from at word levels (Err rule.Profile) order early late marked has
+reply_read scope one none command bytes from at word levels (Err rule.Profile) order early late marked has
     total (inl h) =
     record { breaks = (marked, inl h); first = first }
   where
-    first : (other : Rule) → Breaks command bytes from at word levels other
+    first : (other : Rule) → Breaks scope command bytes from at word levels other
         → place_of rule.Profile ≤ place_of other
     first rule.Order b = absurd (order b)
     first rule.Early b = absurd (early b)
@@ -450,7 +498,7 @@ reply_read one none command bytes from at word levels (Err rule.Profile) order e
         reading.Profile b.1 h in
         absurd (cc)
     first other b = search rules
-reply_read one none command bytes from at word levels (Err rule.Profile) order early late marked has
+reply_read scope one none command bytes from at word levels (Err rule.Profile) order early late marked has
     total (inr h) =
     record { breaks = (marked, inr h); first = first }
   where
@@ -459,7 +507,7 @@ reply_read one none command bytes from at word levels (Err rule.Profile) order e
         let P : List ℕ → Type 0 = λ bs. IsReadFault command bs fault in
         none command h.0 fault h.1.answers (subst P h.2 bad)
 
-    first : (other : Rule) → Breaks command bytes from at word levels other
+    first : (other : Rule) → Breaks scope command bytes from at word levels other
         → place_of rule.Profile ≤ place_of other
     first rule.Order b = absurd (order b)
     first rule.Early b = absurd (early b)
@@ -469,45 +517,45 @@ reply_read one none command bytes from at word levels (Err rule.Profile) order e
     first rule.Answer b = absurd (faultless reading.Answer b.1)
     first rule.Message b = absurd (faultless reading.Message b.1)
     first other b = search rules
-reply_read one none command bytes from at word levels (Err other) order early late marked has total
+reply_read scope one none command bytes from at word levels (Err other) order early late marked has total
     h = absurd h
 
 -- the marked word of a reply, in its time
-pub reply_ended : BytesHaveOneFault → ReplyHasNoFault
+pub reply_ended : (scope : Scope) → BytesHaveOneFault → ReplyHasNoFault
     → (command : Command) (bytes : List ℕ) (from : Option Event) (at word : ℕ) (levels : Levels)
     (result : Result Judged Rule)
     → (OutOfOrder from (Word at Peripheral word) → ⊥)
     → (IsBefore WORD_GAP_MIN from (Word at Peripheral word) → ⊥)
     → (IsAfter BLOCK_GAP_MAX from (Word at Peripheral word) → ⊥)
     → 256 ≤ word → IsReplyEnd command bytes word result
-    → IsJudged (record { position = InReply command bytes; last = from; levels = levels })
+    → IsJudged (record { scope = scope; position = InReply command bytes; last = from; levels = levels })
     (Word at Peripheral word)
     result
-reply_ended one none command bytes from at word levels (Ok judged.Reply) order early late marked h =
-    λ result is. reply_read one none command bytes from at word levels result order early late
+reply_ended scope one none command bytes from at word levels (Ok judged.Reply) order early late marked h =
+    λ result is. reply_read scope one none command bytes from at word levels result order early late
     marked h.0 h.1 is
-reply_ended one none command bytes from at word levels (Ok other) order early late marked h =
+reply_ended scope one none command bytes from at word levels (Ok other) order early late marked h =
     absurd h
-reply_ended one none command bytes from at word levels (Err rule.Length) order early late marked h =
+reply_ended scope one none command bytes from at word levels (Err rule.Length) order early late marked h =
     record { breaks = inr (marked, h); first = first }
   where
-    first : (other : Rule) → Breaks command bytes from at word levels other
+    first : (other : Rule) → Breaks scope command bytes from at word levels other
         → place_of rule.Length ≤ place_of other
     first rule.Order b = absurd (order b)
     first rule.Early b = absurd (early b)
     first rule.Spacing b = absurd (late b)
     first other b = search rules
-reply_ended one none command bytes from at word levels (Err rule.Sum) order early late marked h =
+reply_ended scope one none command bytes from at word levels (Err rule.Sum) order early late marked h =
     record { breaks = (marked, h.1); first = first }
   where
-    first : (other : Rule) → Breaks command bytes from at word levels other
+    first : (other : Rule) → Breaks scope command bytes from at word levels other
         → place_of rule.Sum ≤ place_of other
     first rule.Order b = absurd (order b)
     first rule.Early b = absurd (early b)
     first rule.Spacing b = absurd (late b)
     first rule.Length b = absurd (length_right command bytes at word marked h.0 b)
     first other b = search rules
-reply_ended one none command bytes from at word levels (Err other) order early late marked h =
+reply_ended scope one none command bytes from at word levels (Err other) order early late marked h =
     absurd h
 
 -- the word at an index splits words
@@ -581,23 +629,33 @@ word_after bytes content block i same sealed past =
     sym (slice_get_past (peripheral_words (block_of bytes)) i (omega arith))
 
 -- what is made of a row at a place that is another's
-pub judged_at : (place : Place) (other : Phase) (from : Option Event) (levels : Levels)
+pub judged_at : (scope : Scope) (place : Place) (other : Phase) (from : Option Event) (levels : Levels)
     (row : Event)
     (result : Result Judged Rule) → place.phase ≡ other
     → IsJudged (record {
+      scope = scope;
       position = position_in other place.bytes place.command place.last_reply.reply;
       last = from;
       levels = levels;
     }) row result
-    → IsJudged (record { position = position_at place; last = from; levels = levels }) row result
-judged_at place other from levels row result is judged =
+    → IsJudged (record { scope = scope; position = position_at place; last = from; levels = levels }) row result
+judged_at scope place other from levels row result is judged =
     let P : Phase → Type 0 =
     λ p. IsJudged (record {
+      scope = scope;
       position = position_in p place.bytes place.command place.last_reply.reply;
       last = from;
       levels = levels;
     }) row result in
     subst P (sym is) judged
+
+-- inside a block of the controller, the bytes so far are to a device that is followed
+pub asking_followed : FirstTells → (scope : Scope) (place : Place) → place.phase ≡ phase.InAsk
+    → IsSound scope (position_at place) → AreFollowed scope place.bytes
+asking_followed law scope place asking sound =
+    let Sound : Phase → Type 0 = λ p.
+    IsSound scope (position_in p place.bytes place.command place.last_reply.reply) in
+    ask_front_followed law scope place.bytes (subst Sound asking sound)
 
 -- what is made of a row that is another
 pub judged_row : (situation : Situation) (row other : Event) (result : Result Judged Rule)
@@ -640,16 +698,19 @@ may_begin (phase.InRepeat said) bytes byte other begun = begun
 may_begin phase.InForeign bytes byte other begun = begun
 
 -- what was judged of a word that may begin a block
-pub opened_belongs : FrontIsOpen → (least : ℕ) (from : Option Event) (at word : ℕ)
+pub opened_belongs : (scope : Scope) → FrontIsOpen → (least : ℕ) (from : Option Event) (at word : ℕ)
     (result : Result Judged Rule)
-    → IsOpened least from (Word at Controller word) word result
+    → IsOpened scope least from (Word at Controller word) word result
     → (here : Phase) (bytes : List ℕ) → (here ≡ phase.InAsk → ⊥)
     → IfOk result (Belongs here bytes (Word at Controller word))
-opened_belongs law least from at word (Ok judged.AskByte) opened here bytes other =
-    (tt, may_begin here bytes (word % 256) other (open_front law (word % 256 ∷ []) opened.1))
-opened_belongs law least from at word (Ok judged.Foreign) opened here bytes other = tt
-opened_belongs law least from at word (Ok found) opened here bytes other = absurd opened
-opened_belongs law least from at word (Err broken) opened here bytes other = tt
+opened_belongs scope law least from at word (Ok judged.AskByte) opened here bytes other = (
+  tt,
+  may_begin here bytes (word % 256) other (open_front law (word % 256 ∷ [])
+      (plain_front scope (word % 256 ∷ []) opened.1)),
+)
+opened_belongs scope law least from at word (Ok judged.Foreign) opened here bytes other = tt
+opened_belongs scope law least from at word (Ok found) opened here bytes other = absurd opened
+opened_belongs scope law least from at word (Err broken) opened here bytes other = tt
 
 -- bytes with which a command is open are few
 few_open : (bytes : List ℕ) (need : Need) → 0 < length bytes → needed bytes ≡ need

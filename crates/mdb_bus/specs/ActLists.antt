@@ -16,12 +16,16 @@ use Rattle.mdb_msgs.specs.declared.command.ReaderUnit.TheVariants.{First, Second
 use Rattle.mdb_msgs.specs.declared.reply.Reply.{Reply}
 use Rattle.mdb_msgs.specs.declared.reply.Reply.TheVariants as replies
 use Rattle.mdb_msgs.specs.Answers.{MayHaveData}
-use Rattle.mdb_msgs.specs.Commands.{IsByte, Spells}
+use Rattle.mdb_msgs.specs.Commands.{IsByte}
 use Rattle.mdb_msgs.specs.Reader.{tells_level}
 use Rattle.mdb_bus.specs.declared.act.Act.{Act}
 use Rattle.mdb_bus.specs.declared.act.Act.TheVariants as acts
 use Rattle.mdb_bus.specs.declared.levels.Levels.{Levels}
+use Rattle.mdb_bus.specs.declared.scope.Beginning.{Beginning}
+use Rattle.mdb_bus.specs.declared.scope.Beginning.TheVariants.{PowerOn}
+use Rattle.mdb_bus.specs.declared.scope.Scope.{Scope}
 use Rattle.mdb_bus.specs.Acts.{IsAct, IsBlockWord, IsForeignWord, Say, reply_words}
+use Rattle.mdb_bus.specs.Scopes.{Asks}
 
 -- A piece of a transcript with its events: a whole act; or a tail, the words of an act that has
 -- begun and not ended, with the bytes that they have.
@@ -58,13 +62,13 @@ AreSpaced (event ∷ []) = Unit {0}
 AreSpaced (event ∷ next ∷ events) =
     AtLeast WORD_GAP_MIN event next × AtMost BLOCK_GAP_MAX event next × AreSpaced (next ∷ events)
 
--- bytes that begin a command's block, and don't end it
-pub record IsAskFront (bytes : List ℕ) : Type 0 where
+-- bytes that begin the block of a command to a device that is followed, and don't end it
+pub record IsAskFront (scope : Scope) (bytes : List ℕ) : Type 0 where
   pub some : bytes ≢ []
   pub command : Command
   pub rest : List ℕ
   pub open_end : rest ≢ []
-  pub spelled : Spells command (bytes ++ rest)
+  pub spelled : Asks scope command (bytes ++ rest)
 
 -- bytes that a reply to the command may begin with: what it says is judged at its marked word
 pub record IsReplyFront (command : Command) (bytes : List ℕ) : Type 0 where
@@ -81,16 +85,17 @@ pub record IsRepeatFront (reply : Reply) (words : List ℕ) : Type 0 where
   pub same : words ++ rest ≡ reply_words reply
 
 -- the words of a piece are right by themselves
-abbrev pub IsSaid : Piece → Type 0
-IsSaid (Whole act events) = IsAct act events
-IsSaid (AskTail bytes events) = IsAskFront bytes × Say Controller (words_on Controller bytes) events
-IsSaid (ReplyTail command bytes events) = IsReplyFront command bytes × Say Peripheral bytes events
-IsSaid (RepeatTail command reply words events) = IsRepeatFront reply words
+abbrev pub IsSaid : Scope → Piece → Type 0
+IsSaid scope (Whole act events) = IsAct scope act events
+IsSaid scope (AskTail bytes events) =
+    IsAskFront scope bytes × Say Controller (words_on Controller bytes) events
+IsSaid scope (ReplyTail command bytes events) = IsReplyFront command bytes × Say Peripheral bytes events
+IsSaid scope (RepeatTail command reply words events) = IsRepeatFront reply words
     × Say Peripheral words events
 
 -- a piece by itself: its words, and the gaps between them
-pub record IsPiece (piece : Piece) : Type 0 where
-  pub said : IsSaid piece
+pub record IsPiece (scope : Scope) (piece : Piece) : Type 0 where
+  pub said : IsSaid scope piece
   pub spaced : AreSpaced (piece_events piece)
 
 -- Where the bus is: what the last act has left open, or what a tail has said.
@@ -125,13 +130,21 @@ left_open (acts.Repeat command reply) = Replied command reply
 left_open acts.Foreign = InForeign
 left_open (acts.Break length) = Quiet
 
+-- what a piece leaves open, or has said
+abbrev pub left_by : Piece → Position
+left_by (Whole act events) = left_open act
+left_by (AskTail bytes events) = InAsk bytes
+left_by (ReplyTail command bytes events) = InReply command bytes
+left_by (RepeatTail command reply words events) = InRepeat command reply words
+
+-- where the bus is as a recording begins
+abbrev pub first_position : Beginning → Position
+first_position PowerOn = Quiet
+
 -- where the bus is after pieces
-abbrev pub position_of : List Piece → Position
-position_of [] = Quiet
-position_of (Whole act events ∷ pieces) = left_open act
-position_of (AskTail bytes events ∷ pieces) = InAsk bytes
-position_of (ReplyTail command bytes events ∷ pieces) = InReply command bytes
-position_of (RepeatTail command reply words events ∷ pieces) = InRepeat command reply words
+abbrev pub position_of : Scope → List Piece → Position
+position_of scope [] = first_position scope.begins
+position_of scope (piece ∷ pieces) = left_by piece
 
 -- the gap from the row before, if there is one, is at least, at most so long; it counts from a
 -- word's start and a break's end
@@ -263,26 +276,27 @@ PieceFitsLevels levels (Whole act events) = FitsLevels levels act
 PieceFitsLevels levels _ = Unit {0}
 
 -- a piece may stand after the pieces before it
-pub record MayStand (pieces : List Piece) (piece : Piece) : Type 0 where
+pub record MayStand (scope : Scope) (pieces : List Piece) (piece : Piece) : Type 0 where
   pub first : Event
   pub others : List Event
   pub begins : piece_events piece ≡ first ∷ others
-  pub comes : MayCome piece (position_of pieces) (last_of (events_of pieces)) first
+  pub comes : MayCome piece (position_of scope pieces) (last_of (events_of pieces)) first
   pub levels : PieceFitsLevels (levels_of pieces) piece
 
 -- pieces, each right by itself and after those before it
-abbrev pub ArePieces : List Piece → Type 0
-ArePieces [] = Unit {0}
-ArePieces (piece ∷ pieces) = IsPiece piece × MayStand pieces piece × ArePieces pieces
+abbrev pub ArePieces : Scope → List Piece → Type 0
+ArePieces scope [] = Unit {0}
+ArePieces scope (piece ∷ pieces) =
+    IsPiece scope piece × MayStand scope pieces piece × ArePieces scope pieces
 
 -- an act list of a transcript: pieces in order which together have all its rows and no others
-pub record IsActList (pieces : List Piece) (events : List Event) : Type 0 where
-  pub in_order : ArePieces pieces
+pub record IsActList (scope : Scope) (pieces : List Piece) (events : List Event) : Type 0 where
+  pub in_order : ArePieces scope pieces
   pub whole : events_of pieces ≡ events
 
 -- the transcript has an act list
-abbrev pub HasActList : List Event → Type 0
-HasActList events = (pieces : List Piece) × IsActList pieces events
+abbrev pub HasActList : Scope → List Event → Type 0
+HasActList scope events = (pieces : List Piece) × IsActList scope pieces events
 
 -- the acts of pieces, the newest first: tails have no effect
 abbrev pub acts_of : List Piece → List Act
@@ -296,8 +310,8 @@ with_act None acts = acts
 with_act (Some act) acts = act ∷ acts
 
 -- pieces go on from an act list of these rows, by an act or by none
-pub record GoesOnFrom (rows : List Event) (pieces : List Piece) : Type 0 where
+pub record GoesOnFrom (scope : Scope) (rows : List Event) (pieces : List Piece) : Type 0 where
   pub before : List Piece
   pub act : Option Act
-  pub act_list : IsActList before rows
+  pub act_list : IsActList scope before rows
   pub acts : acts_of pieces ≡ with_act act (acts_of before)

@@ -13,11 +13,12 @@ use Rattle.mdb_blocks.specs.declared.answer.Answer.TheVariants as answers
 use Rattle.mdb_msgs.specs.declared.command.Command.{Command}
 use Rattle.mdb_msgs.specs.declared.need.Need.TheVariants as need
 use Rattle.mdb_msgs.specs.declared.reply.Reply.{Reply}
-use Rattle.mdb_msgs.specs.Commands.{IsByte, Spells, command_bytes}
-use Rattle.mdb_msgs.specs.Needs.{needed}
+use Rattle.mdb_msgs.specs.Commands.{IsByte, command_bytes}
 use Rattle.mdb_msgs.specs.Replies.{IsReplyTo, reply_bytes}
 use Rattle.mdb_bus.specs.declared.act.Act.{Act}
 use Rattle.mdb_bus.specs.declared.act.Act.TheVariants as acts
+use Rattle.mdb_bus.specs.declared.scope.Scope.{Scope}
+use Rattle.mdb_bus.specs.Scopes.{Asks, needed_in}
 
 -- the line and the word of an event, if it is a word
 abbrev pub said_by : Event → Option (Line × ℕ)
@@ -47,12 +48,12 @@ pub record IsReply (command : Command) (reply : Reply) : Type 0 where
 
 -- The bytes that open a foreign block: an address that isn't followed, or the first byte of an
 -- EXPANSION and a subcommand that this profile doesn't know.
-abbrev pub IsForeignOpening : List ℕ → Type 0
-IsForeignOpening (first ∷ []) = needed (first ∷ []) ≡ need.Foreign
-IsForeignOpening (first ∷ second ∷ []) =
-    (needed (first ∷ []) ≡ need.More) × (needed (first ∷ second ∷ []) ≡ need.Foreign)
+abbrev pub IsForeignOpening : Scope → List ℕ → Type 0
+IsForeignOpening scope (first ∷ []) = needed_in scope (first ∷ []) ≡ need.Foreign
+IsForeignOpening scope (first ∷ second ∷ []) =
+    (needed_in scope (first ∷ []) ≡ need.More) × (needed_in scope (first ∷ second ∷ []) ≡ need.Foreign)
     × IsByte second
-IsForeignOpening _ = ⊥
+IsForeignOpening scope _ = ⊥
 
 -- a marked word of the controller, which begins a block
 abbrev pub IsBlockWord : Event → Type 0
@@ -67,26 +68,27 @@ IsForeignWord (Word at Peripheral word) = Unit {0}
 IsForeignWord (Break at length) = ⊥
 
 -- a foreign act: the opening of a foreign block, or a word after one
-abbrev pub IsForeign : List Event → Type 0
-IsForeign events =
-    ((bytes : List ℕ) × IsForeignOpening bytes × Say Controller (words_on Controller bytes) events)
+abbrev pub IsForeign : Scope → List Event → Type 0
+IsForeign scope events =
+    ((bytes : List ℕ) × IsForeignOpening scope bytes × Say Controller (words_on Controller bytes) events)
     ⊎ ((event : Event) × (events ≡ event ∷ []) × IsForeignWord event)
 
--- an act and its events; what an answer belongs to is settled by where it may come
-abbrev pub IsAct : Act → List Event → Type 0
-IsAct (acts.Ask command) events =
-    Spells command (block_of (command_bytes command))
+-- an act and its events, as a recording is taken; what an answer belongs to is settled by where it
+-- may come
+abbrev pub IsAct : Scope → Act → List Event → Type 0
+IsAct scope (acts.Ask command) events =
+    Asks scope command (block_of (command_bytes command))
     × Say Controller (command_words command) events
-IsAct (acts.Ack command) events = SayAnswer Peripheral answers.Ack events
-IsAct (acts.Nak command) events = SayAnswer Peripheral answers.Nak events
-IsAct (acts.Reply command reply) events = IsReply command reply
+IsAct scope (acts.Ack command) events = SayAnswer Peripheral answers.Ack events
+IsAct scope (acts.Nak command) events = SayAnswer Peripheral answers.Nak events
+IsAct scope (acts.Reply command reply) events = IsReply command reply
     × Say Peripheral (reply_words reply) events
-IsAct (acts.VmcAck command reply) events = SayAnswer Controller answers.Ack events
-IsAct (acts.VmcNak command reply) events = SayAnswer Controller answers.Nak events
-IsAct (acts.VmcRet command reply) events = SayAnswer Controller answers.Ret events
-IsAct (acts.Repeat command reply) events = Say Peripheral (reply_words reply) events
-IsAct acts.Foreign events = IsForeign events
-IsAct (acts.Break length) events =
+IsAct scope (acts.VmcAck command reply) events = SayAnswer Controller answers.Ack events
+IsAct scope (acts.VmcNak command reply) events = SayAnswer Controller answers.Nak events
+IsAct scope (acts.VmcRet command reply) events = SayAnswer Controller answers.Ret events
+IsAct scope (acts.Repeat command reply) events = Say Peripheral (reply_words reply) events
+IsAct scope acts.Foreign events = IsForeign scope events
+IsAct scope (acts.Break length) events =
     (at : ℕ) × (events ≡ Break at length ∷ []) × (BREAK_LENGTH_MIN ≤ length)
 
 -- an ACK: a peripheral's, or the controller's

@@ -4,6 +4,7 @@ use Rattle.mdb_words.specs.declared.event.Event.{Event}
 use Rattle.mdb_bus.specs.declared.act.Act.{Act}
 use Rattle.mdb_bus.specs.declared.bus.Bus.{Bus}
 use Rattle.mdb_bus.specs.declared.place.Place.{Place}
+use Rattle.mdb_bus.specs.declared.scope.Scope.{Scope}
 use Rattle.mdb_msgs.specs.declared.command.Command.{Command}
 use Rattle.mdb_msgs.specs.declared.reply.Reply.{Reply}
 use Rattle.mdb_bus.specs.declared.phase.Phase.{Phase}
@@ -28,10 +29,14 @@ position_in phase.InForeign bytes command reply = InForeign
 abbrev pub position_at : Place → Position
 position_at place = position_in place.phase place.bytes place.command place.last_reply.reply
 
+-- how the recording is taken that a bus is fed
+abbrev pub scope_of : Bus → Scope
+scope_of bus = bus.scope
+
 -- A bus stands for pieces: they are in order, and the bus is where they leave it.
 pub record StandsFor (bus : Bus) (pieces : List Piece) : Type 0 where
-  pub in_order : ArePieces pieces
-  pub position : position_of pieces ≡ position_at bus.place
+  pub in_order : ArePieces (scope_of bus) pieces
+  pub position : position_of (scope_of bus) pieces ≡ position_at bus.place
   pub last : last_of (events_of pieces) ≡ bus.last
   pub levels : levels_of pieces ≡ bus.levels
   pub asked : asked_device pieces ≡ bus.asked

@@ -4,5 +4,7 @@ pub mod Bus
 pub mod FaultWords
 pub mod Wish
 pub mod LinkFaults
+pub mod LeavingOut
 pub mod Loss
+pub mod Scopes
 pub mod inner

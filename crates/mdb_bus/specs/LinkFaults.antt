@@ -18,7 +18,6 @@ use Rattle.mdb_msgs.specs.declared.need.Need.TheVariants as need
 use Rattle.mdb_msgs.specs.declared.reply.Reply.{Reply}
 use Rattle.mdb_msgs.specs.Answers.{HasDataAnswer, MayHaveData}
 use Rattle.mdb_msgs.specs.Commands.{device_of}
-use Rattle.mdb_msgs.specs.Needs.{needed}
 use Rattle.mdb_msgs.specs.Replies.{IsReadFault, reply_bytes}
 use Rattle.mdb_bus.specs.declared.act.Act.TheVariants as acts
 use Rattle.mdb_bus.specs.declared.fault.Blame.{Blame}
@@ -26,11 +25,15 @@ use Rattle.mdb_bus.specs.declared.fault.Blame.TheVariants as blame
 use Rattle.mdb_bus.specs.declared.fault.Rule.{Rule}
 use Rattle.mdb_bus.specs.declared.fault.Rule.TheVariants as rule
 use Rattle.mdb_bus.specs.declared.levels.Levels.{Levels}
+use Rattle.mdb_bus.specs.declared.scope.Scope.{Scope}
 use Rattle.mdb_bus.specs.Acts.{IsReply, reply_words}
+use Rattle.mdb_bus.specs.Scopes.{needed_in}
 use Rattle.mdb_bus.specs.ActLists.{Piece, Whole, Position, Quiet, InAsk, Asked, InReply, Replied, Returned, InRepeat, IsLow, events_of, last_of, level_for, levels_of, position_of, rest_before_block, rest_before_break, tells_high}
 
 -- What the rows so far leave for the next one.
 pub record Situation : Type 0 where
+  -- how the recording is taken
+  pub scope : Scope
   -- where the bus is
   pub position : Position
   -- the last row
@@ -38,9 +41,10 @@ pub record Situation : Type 0 where
   -- the feature levels that the controller has last told the readers
   pub levels : Levels
 
-abbrev pub situation_of : List Piece → Situation
-situation_of pieces = record {
-  position = position_of pieces;
+abbrev pub situation_of : Scope → List Piece → Situation
+situation_of scope pieces = record {
+  scope = scope;
+  position = position_of scope pieces;
   last = last_of (events_of pieces);
   levels = levels_of pieces;
 }
@@ -128,12 +132,12 @@ WrongLength (InReply command bytes) (Word at Peripheral word) =
 WrongLength _ _ = ⊥
 
 -- Sum: a block's last byte isn't the sum of the bytes before it.
-abbrev pub WrongSum : Position → Event → Type 0
-WrongSum (InAsk bytes) (Word at Controller word) =
-    (needed bytes ≡ need.Exactly (length bytes + 1)) × (word ≢ sum bytes % 256)
-WrongSum (InReply command bytes) (Word at Peripheral word) =
+abbrev pub WrongSum : Scope → Position → Event → Type 0
+WrongSum scope (InAsk bytes) (Word at Controller word) =
+    (needed_in scope bytes ≡ need.Exactly (length bytes + 1)) × (word ≢ sum bytes % 256)
+WrongSum scope (InReply command bytes) (Word at Peripheral word) =
     (256 ≤ word) × (word ≢ 256 + sum bytes % 256)
-WrongSum _ _ = ⊥
+WrongSum scope _ _ = ⊥
 
 -- Break: a break is too short.
 abbrev pub TooShort : Event → Type 0
@@ -177,8 +181,9 @@ IsChanged (InRepeat command reply words) (Word at Peripheral word) =
 IsChanged _ _ = ⊥
 
 -- the marked word of a block that this profile leaves out
-abbrev pub IsOutside : ℕ → Type 0
-IsOutside word = (byte : ℕ) × (word ≡ 256 + byte) × (needed (byte ∷ []) ≡ need.Outside)
+abbrev pub IsOutside : Scope → ℕ → Type 0
+IsOutside scope word = (byte : ℕ) × (word ≡ 256 + byte)
+    × (needed_in scope (byte ∷ []) ≡ need.Outside)
 
 -- a reader tells of a feature level of 2 or more, and the controller has last told it so too
 abbrev pub HasHighLevels : Command → List ℕ → Levels → Type 0
@@ -189,15 +194,15 @@ HasHighLevels command bytes levels =
 
 -- Profile: what this profile leaves out: commands, messages, and a feature level of 2 or more on
 -- both sides.
-abbrev pub IsLeftOut : Position → Levels → Event → Type 0
-IsLeftOut (InAsk bytes) levels (Word at Controller word) =
-    (needed bytes ≡ need.More) × (needed (bytes ++ word ∷ []) ≡ need.Outside)
-IsLeftOut (InReply command bytes) levels (Word at Peripheral word) =
+abbrev pub IsBeyondProfile : Scope → Position → Levels → Event → Type 0
+IsBeyondProfile scope (InAsk bytes) levels (Word at Controller word) =
+    (needed_in scope bytes ≡ need.More) × (needed_in scope (bytes ++ word ∷ []) ≡ need.Outside)
+IsBeyondProfile scope (InReply command bytes) levels (Word at Peripheral word) =
     (256 ≤ word) × (IsReadFault command bytes reading.Profile ⊎ HasHighLevels command bytes levels)
-IsLeftOut (InReply command bytes) levels _ = ⊥
-IsLeftOut (InRepeat command reply words) levels _ = ⊥
-IsLeftOut position levels (Word at Controller word) = IsOutside word
-IsLeftOut _ levels _ = ⊥
+IsBeyondProfile scope (InReply command bytes) levels _ = ⊥
+IsBeyondProfile scope (InRepeat command reply words) levels _ = ⊥
+IsBeyondProfile scope position levels (Word at Controller word) = IsOutside scope word
+IsBeyondProfile scope _ levels _ = ⊥
 
 -- A row breaks a rule, each for itself; which of them counts their order decides. The rules of the
 -- devices are none of the link.
@@ -209,12 +214,12 @@ RowBreaks s row rule.Early = TooEarly s.position s.last row
 RowBreaks s row rule.Late = TooLate s.position s.last row
 RowBreaks s row rule.Spacing = TooFarApart s.position s.last row
 RowBreaks s row rule.Length = WrongLength s.position row
-RowBreaks s row rule.Sum = WrongSum s.position row
+RowBreaks s row rule.Sum = WrongSum s.scope s.position row
 RowBreaks s row rule.Break = TooShort row
 RowBreaks s row rule.Answer = WrongAnswer s.position row
 RowBreaks s row rule.Message = HasBadMessage s.position row
 RowBreaks s row rule.Same = IsChanged s.position row
-RowBreaks s row rule.Profile = IsLeftOut s.position s.levels row
+RowBreaks s row rule.Profile = IsBeyondProfile s.scope s.position s.levels row
 RowBreaks s row rule.Changer = ⊥
 RowBreaks s row rule.Bill = ⊥
 RowBreaks s row rule.Cashless = ⊥
@@ -266,7 +271,7 @@ blame_of position asked (Word at Controller word) broken = vmc_blame position as
 blame_of position asked (Break at length) broken = blame.Controller
 
 -- the fault of a row after pieces
-pub record IsLinkFault (pieces : List Piece) (row : Event) (broken : Rule)
+pub record IsLinkFault (scope : Scope) (pieces : List Piece) (row : Event) (broken : Rule)
     (blamed : Blame) : Type 0 where
-  pub rule : IsFirstBroken (situation_of pieces) row broken
-  pub blame : blamed ≡ blame_of (position_of pieces) (asked_device pieces) row broken
+  pub rule : IsFirstBroken (situation_of scope pieces) row broken
+  pub blame : blamed ≡ blame_of (position_of scope pieces) (asked_device pieces) row broken

@@ -3,6 +3,7 @@ use Rattle.std.specs.Prelude.{◌≡◌, ◌+◌, ◌<◌, ◌≤◌, ℕ, Bool,
 use Rattle.mdb_words.specs.declared.event.Event.{Event}
 use Rattle.mdb_bus.specs.declared.act.Act.{Act}
 use Rattle.mdb_bus.specs.declared.act.Act.TheVariants as acts
+use Rattle.mdb_bus.specs.declared.scope.Scope.{Scope}
 use Rattle.mdb_bus.specs.ActLists.{Piece, Whole, IsActList, events_of}
 
 -- A loss tells of each row, by its number from 1, whether its word was damaged at its receiver.
@@ -65,8 +66,8 @@ LossFits loss (Whole act events ∷ pieces) = FitsNext loss pieces act × LossFi
 LossFits loss (piece ∷ pieces) = LossFits loss pieces
 
 -- The acts and the loss of a transcript.
-pub record IsExplained (events : List Event) : Type 0 where
+pub record IsExplained (scope : Scope) (events : List Event) : Type 0 where
   pub pieces : List Piece
-  pub act_list : IsActList pieces events
+  pub act_list : IsActList scope pieces events
   pub loss : Loss
   pub fits : LossFits loss pieces

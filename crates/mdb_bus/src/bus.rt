@@ -2,6 +2,7 @@
 
 ghost use Rattle.std.specs.Prelude.{◌≡◌, ◌≢◌, [], ◌∷◌, ◌++◌, ℕ, List, Some, false, true, IfOk, IfErr, OnErr, Ok, Err};
 ghost use Rattle.mdb_msgs.specs.declared.reply.Reply.{Reply};
+ghost use Rattle.mdb_bus.specs.declared.scope.TheConstants.Scope.{POWER_ON};
 ghost use Rattle.mdb_bus.specs.inner.Step.{EachStep};
 
 use super::act::Act;
@@ -13,6 +14,7 @@ use super::laws;
 use super::levels::Levels;
 use super::phase::Phase;
 use super::place::Place;
+use super::scope::{Beginning, Scope};
 use super::spelled::Spelled;
 use mdb_msgs::{ChangerCommand, Command, Device};
 use mdb_words::{Event, Line};
@@ -22,6 +24,7 @@ use mdb_words::{Event, Line};
 /// It keeps where the bus is, and no rows: its size doesn't depend on how many there were.
 #[derive(Drop)]
 pub struct Bus {
+    scope: Scope,
     place: Place,
     last: Option<Event>,
     levels: Levels,
@@ -31,19 +34,33 @@ pub struct Bus {
 impl Bus {
     ghost use Rattle.mdb_msgs.specs.Commands.{device_of};
     ghost use Rattle.mdb_bus.specs.ActLists.{HasActList, Piece, events_of, levels_after};
-    ghost use Rattle.mdb_bus.specs.Bus.{GoesOn, StandsFor, ended_act, position_at};
+    ghost use Rattle.mdb_bus.specs.Bus.{GoesOn, StandsFor, ended_act, position_at, scope_of};
     ghost use Rattle.mdb_bus.specs.LinkFaults.{IsLinkFault, blame_of};
     ghost use Rattle.mdb_bus.specs.inner.Gone.{HasGone};
     ghost use Rattle.mdb_bus.specs.inner.Step as step;
     ghost use Rattle.mdb_bus.specs.inner.Steps.{Belongs, IsAt, IsReadAt};
 
-    /// The bus before its first row: recording began at power-on or at a break.
+    /// The bus before its first row: recording began at power-on or at a break, and all devices are
+    /// followed.
     pub fn new() -> Bus
-        ensures { StandsFor result [] }
+        ensures stands { StandsFor result [] }
+        ensures scope { scope_of result ≡ POWER_ON }
     {
+        Bus::scoped(Scope::POWER_ON)
+    }
+
+    /// The bus before its first row, of a recording that is taken so.
+    pub fn scoped(scope: Scope) -> Bus
+        ensures stands { StandsFor result [] }
+        ensures scope { scope_of result ≡ scope }
+    {
+        let phase = match scope.begins {
+            Beginning::PowerOn => Phase::Quiet,
+        };
         Bus {
+            scope,
             place: Place {
-                phase: Phase::Quiet,
+                phase,
                 bytes: Begun::with(0),
                 command: Command::Changer(ChangerCommand::Poll),
                 last_reply: Spelled::placeholder(),
@@ -64,10 +81,12 @@ impl Bus {
         ensures goes_on { (pieces : List Piece) → StandsFor self.old pieces
             → IfOk result (λ act. GoesOn self.new pieces event act) }
         ensures faults { (pieces : List Piece) → StandsFor self.old pieces
-            → IfErr result (λ fault. IsLinkFault pieces event fault.rule fault.blame) }
+            → IfErr result (λ fault.
+            IsLinkFault (scope_of self.old) pieces event fault.rule fault.blame) }
         ensures impossible { (pieces : List Piece) → StandsFor self.old pieces
-            → OnErr result (HasActList (events_of pieces ++ event ∷ []) → ⊥) }
+            → OnErr result (HasActList (scope_of self.old) (events_of pieces ++ event ∷ []) → ⊥) }
         ensures unchanged { OnErr result (self.new ≡ self.old) }
+        ensures scope { scope_of self.new ≡ scope_of self.old }
     {
         let mut act = Act::Foreign;
         match self.feed_into(event, &mut act) {
@@ -91,15 +110,17 @@ impl Bus {
         ensures goes_on { (pieces : List Piece) → StandsFor self.old pieces
             → IfOk result (λ ended. GoesOn self.new pieces event (ended_act ended act.new)) }
         ensures faults { (pieces : List Piece) → StandsFor self.old pieces
-            → IfErr result (λ fault. IsLinkFault pieces event fault.rule fault.blame) }
+            → IfErr result (λ fault.
+            IsLinkFault (scope_of self.old) pieces event fault.rule fault.blame) }
         ensures impossible { (pieces : List Piece) → StandsFor self.old pieces
-            → OnErr result (HasActList (events_of pieces ++ event ∷ []) → ⊥) }
+            → OnErr result (HasActList (scope_of self.old) (events_of pieces ++ event ∷ []) → ⊥) }
         ensures unchanged { OnErr result (self.new ≡ self.old) }
+        ensures scope { scope_of self.new ≡ scope_of self.old }
         ensures none { IfOk result (λ ended. ended ≡ false → act.new ≡ act.old) }
         ensures untouched { OnErr result (act.new ≡ act.old) }
     {
         laws::rows_that_break_a_rule_end_the_act_list();
-        match judge(&self.place, &self.last, &event) {
+        match judge(&self.scope, &self.place, &self.last, &event) {
             Ok(judged) => match judged {
                 Judged::Reply => self.take_reply(event, act),
                 _ => Ok(self.go(judged, event, act)),
@@ -122,6 +143,7 @@ impl Bus {
             ≡ blame_of (position_at self.old.place) self.old.asked event fault.rule) }
         ensures unchanged { OnErr result (self.new ≡ self.old) }
         ensures ends { IfOk result (λ ended. ended ≡ true) }
+        ensures scope { self.new.scope ≡ self.old.scope }
         ensures untouched { OnErr result (act.new ≡ act.old) }
     {
         match self.place.end_reply(self.levels, act) {
@@ -144,6 +166,7 @@ impl Bus {
         ensures gone { EachStep judged event (λ next. IsAt (position_at self.old.place) next
             → HasGone self.old next event self.new (ended_act result act.new)) }
         ensures none { result ≡ false → act.new ≡ act.old }
+        ensures scope { self.new.scope ≡ self.old.scope }
     {
         let ended = self.place.advance(judged, &event, act);
         // After the step, since it was measured to be quicker: so no store stands between judging
@@ -160,6 +183,7 @@ impl Bus {
     /// Keeps the levels and the device of an act, if it is an ask.
     #[inline(always)]
     fn note_ask(&mut self, act: &Act)
+        ensures scope { self.new.scope ≡ self.old.scope }
         ensures levels { (command : Command) → act.now ≡ Act.Ask command
             → self.new.levels ≡ levels_after command self.old.levels }
         ensures asked { (command : Command) → act.now ≡ Act.Ask command

@@ -8,7 +8,8 @@ ghost use Rattle.mdb_bus.specs.Acts.{IsForeignWord};
 ghost use Rattle.mdb_bus.specs.ActLists as lists;
 ghost use Rattle.mdb_bus.specs.Bus.{position_at};
 ghost use Rattle.mdb_bus.specs.LinkFaults.{OutOfOrder};
-ghost use Rattle.mdb_bus.specs.inner.Steps.{Belongs, IsJudged};
+ghost use Rattle.mdb_bus.specs.declared.scope.Scope.{Scope};
+ghost use Rattle.mdb_bus.specs.inner.Steps.{Belongs, IsJudged, IsSound};
 
 mod answering;
 mod asking;
@@ -22,17 +23,25 @@ use super::gaps::{
 use super::judged::Judged;
 use super::phase::Phase;
 use super::place::Place;
+use super::scope::Scope;
 use answering::{answer, answer_reply};
 use asking::{begin_block, go_on_asking};
+use mdb_msgs::laws;
 use mdb_words::{BREAK_LENGTH_MIN, Event, Line, NEW_BLOCK_GAP_MIN, Span, Time, WORD_GAP_MIN, Word};
 use repeating::{begin_repeat, go_on_repeating};
 use replying::{cut_in, go_on_replying};
 
 /// What is made of a row, which comes after `last`.
 #[inline(always)]
-pub(crate) fn judge(place: &Place, last: &Option<Event>, row: &Event) -> Result<Judged, Rule>
-    ensures judged { (levels : Levels)
+pub(crate) fn judge(
+    scope: &Scope,
+    place: &Place,
+    last: &Option<Event>,
+    row: &Event,
+) -> Result<Judged, Rule>
+    ensures judged { (levels : Levels) → IsSound scope.now (position_at place.now)
         → IsJudged (record {
+          scope = scope.now;
           position = position_at place.now;
           last = last.now;
           levels = levels;
@@ -45,7 +54,7 @@ pub(crate) fn judge(place: &Place, last: &Option<Event>, row: &Event) -> Result<
     match *row {
         Event::Break { at, length } => judge_break(last, at, length),
         Event::Word { at, line, word } => match line {
-            Line::Controller => judge_controller(place, last, at, word),
+            Line::Controller => judge_controller(scope, place, last, at, word),
             Line::Peripheral => judge_peripheral(place, last, at, word),
         },
     }
@@ -54,8 +63,9 @@ pub(crate) fn judge(place: &Place, last: &Option<Event>, row: &Event) -> Result<
 /// A break: it may come everywhere.
 fn judge_break(last: &Option<Event>, at: Time, length: Span) -> Result<Judged, Rule>
     requires { OutOfOrder last.now (Event.Break at length) → ⊥ }
-    ensures judged { (position : lists.Position) (levels : Levels)
+    ensures judged { (scope : Scope) (position : lists.Position) (levels : Levels)
         → IsJudged (record {
+          scope = scope;
           position = position;
           last = last.now;
           levels = levels;
@@ -76,28 +86,35 @@ fn judge_break(last: &Option<Event>, at: Time, length: Span) -> Result<Judged, R
 /// A word of the controller.
 #[inline(always)]
 fn judge_controller(
+    scope: &Scope,
     place: &Place,
     last: &Option<Event>,
     at: Time,
     word: Word,
 ) -> Result<Judged, Rule>
     requires { OutOfOrder last.now (Event.Word at Line.Controller word) → ⊥ }
-    ensures judged { (levels : Levels)
-        → IsJudged (record { position = position_at place.now; last = last.now; levels = levels })
+    ensures judged { (levels : Levels) → IsSound scope.now (position_at place.now)
+        → IsJudged (record {
+          scope = scope.now;
+          position = position_at place.now;
+          last = last.now;
+          levels = levels;
+        })
         (Event.Word at Line.Controller word) result }
     ensures belongs { IfOk result (Belongs place.now.phase place.now.bytes
         (Event.Word at Line.Controller word)) }
 {
+    laws::first_byte_tells_the_device();
     match place.phase {
-        Phase::Quiet => begin_block(last, at, word, rest_before_block(last)),
+        Phase::Quiet => begin_block(scope, last, at, word, rest_before_block(last)),
         Phase::InAsk => go_on_asking(&place.bytes, last, at, word),
-        Phase::Asked => begin_block(last, at, word, NEW_BLOCK_GAP_MIN),
+        Phase::Asked => begin_block(scope, last, at, word, NEW_BLOCK_GAP_MIN),
         Phase::InReply => cut_in(last, at, word),
-        Phase::Replied if word.marked() => begin_block(last, at, word, NEW_BLOCK_GAP_MIN),
+        Phase::Replied if word.marked() => begin_block(scope, last, at, word, NEW_BLOCK_GAP_MIN),
         Phase::Replied => answer_reply(last, at, word),
-        Phase::Returned => begin_block(last, at, word, NEW_BLOCK_GAP_MIN),
+        Phase::Returned => begin_block(scope, last, at, word, NEW_BLOCK_GAP_MIN),
         Phase::InRepeat(..) => cut_in(last, at, word),
-        Phase::InForeign if word.marked() => begin_block(last, at, word, WORD_GAP_MIN),
+        Phase::InForeign if word.marked() => begin_block(scope, last, at, word, WORD_GAP_MIN),
         Phase::InForeign => go_on_foreign(last, at, Line::Controller, word),
     }
 }
@@ -111,7 +128,8 @@ fn judge_peripheral(
     word: Word,
 ) -> Result<Judged, Rule>
     requires { OutOfOrder last.now (Event.Word at Line.Peripheral word) → ⊥ }
-    ensures judged { (levels : Levels) → IsJudged (record {
+    ensures judged { (scope : Scope) (levels : Levels) → IsJudged (record {
+      scope = scope;
       position = position_at place.now;
       last = last.now;
       levels = levels;
@@ -134,8 +152,13 @@ fn judge_peripheral(
 fn go_on_foreign(last: &Option<Event>, at: Time, line: Line, word: Word) -> Result<Judged, Rule>
     requires in_order { OutOfOrder last.now (Event.Word at line word) → ⊥ }
     requires further { IsForeignWord (Event.Word at line word) }
-    ensures judged { (levels : Levels)
-        → IsJudged (record { position = lists.InForeign; last = last.now; levels = levels })
+    ensures judged { (scope : Scope) (levels : Levels)
+        → IsJudged (record {
+          scope = scope;
+          position = lists.InForeign;
+          last = last.now;
+          levels = levels;
+        })
         (Event.Word at line word) result }
     ensures belongs { (here : Phase) (bytes : List ℕ) (row : Event)
         → IfOk result (Belongs here bytes row) }

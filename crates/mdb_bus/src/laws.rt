@@ -1,27 +1,32 @@
 //! Laws of act lists, of loss and of the rules of the link. Each function's contract is the law,
 //! and its body calls the laws that it rests on.
 
-ghost use Rattle.std.specs.Prelude.{◌≡◌, List, [], ◌∷◌, ◌++◌};
+ghost use Rattle.std.specs.Prelude.{◌≡◌, ◌↔◌, true, false, List, [], ◌∷◌, ◌++◌, Option, Some};
 ghost use Rattle.mdb_words.specs.declared.event.Event.{Event};
+ghost use Rattle.mdb_msgs.specs.declared.command.Device.{Device};
 ghost use Rattle.mdb_bus.specs.declared.act.Act.{Act};
 ghost use Rattle.mdb_bus.specs.declared.fault.Blame.{Blame};
 ghost use Rattle.mdb_bus.specs.declared.fault.Rule.{Rule};
+ghost use Rattle.mdb_bus.specs.declared.scope.Scope.{Scope};
 ghost use Rattle.mdb_bus.specs.Acts.{NamesAReply};
-ghost use Rattle.mdb_bus.specs.ActLists.{ArePieces, GoesOnFrom, HasActList, IsActList, Piece, Whole, events_of};
+ghost use Rattle.mdb_bus.specs.ActLists.{ArePieces, GoesOnFrom, HasActList, IsActList, Piece, Whole, acts_of, events_of, position_of};
 ghost use Rattle.mdb_bus.specs.Wish.{Wish, HearsFreeAsWished, HearsAsWished, nothing_told};
 ghost use Rattle.mdb_bus.specs.inner.Grammar.{Grammar};
-ghost use Rattle.mdb_bus.specs.LinkFaults.{IsFirstBroken, IsLinkFault, RowBreaks, situation_of};
+ghost use Rattle.mdb_bus.specs.LeavingOut.{CutBlocksTell, LeavesOutMore, acts_with, are_one, breaks_among, device_in, has_part, is_left_out, leave_out, position_without};
+ghost use Rattle.mdb_bus.specs.LinkFaults.{IsFirstBroken, IsLinkFault, RowBreaks, asked_device, blame_on, situation_of};
 ghost use Rattle.mdb_bus.specs.Loss.{IsExplained, Loss, LossFits};
+ghost use Rattle.mdb_bus.specs.Scopes.{IsFollowed, IsLeftOut};
 
 use mdb_msgs::laws as messages;
 
 /// What the grammars of commands and replies promise.
 fn grammar()
-    ensures { Grammar }
+    ensures { (scope : Scope) → Grammar scope }
 {
     messages::block_has_one_command();
     messages::command_has_what_it_needs();
     messages::first_bytes_tell_the_length();
+    messages::first_byte_tells_the_device();
     messages::what_it_needs_is_a_command();
     messages::need_leaves_a_command_open();
     messages::block_has_one_reply();
@@ -33,15 +38,16 @@ fn grammar()
 
 /// A transcript divides into acts in at most one way.
 pub fn transcripts_have_one_act_list()
-    ensures { (rows : List Event) (one other : List Piece) → IsActList one rows
-        → IsActList other rows → one ≡ other }
+    ensures { (scope : Scope) (rows : List Event) (one other : List Piece)
+        → IsActList scope one rows → IsActList scope other rows → one ≡ other }
 {
     grammar();
 }
 
 /// What was recorded up to any row of a possible transcript is possible too.
 pub fn fronts_of_act_lists_have_act_lists()
-    ensures { (rows more : List Event) → HasActList (rows ++ more) → HasActList rows }
+    ensures { (scope : Scope) (rows more : List Event) → HasActList scope (rows ++ more)
+        → HasActList scope rows }
 {
     grammar();
 }
@@ -49,28 +55,28 @@ pub fn fronts_of_act_lists_have_act_lists()
 /// An act list of rows and one more goes on from an act list of the rows: by the act that the row
 /// ends, if it ends one.
 pub fn act_lists_go_on_row_by_row()
-    ensures { (rows : List Event) (row : Event) (pieces : List Piece)
-        → IsActList pieces (rows ++ row ∷ []) → GoesOnFrom rows pieces }
+    ensures { (scope : Scope) (rows : List Event) (row : Event) (pieces : List Piece)
+        → IsActList scope pieces (rows ++ row ∷ []) → GoesOnFrom scope rows pieces }
 {
     grammar();
 }
 
 /// An act that repeats a reply, or answers it, is of a reply that its command may have.
 pub fn acts_name_replies_of_their_commands()
-    ensures { (act : Act) (events : List Event) (pieces : List Piece)
-        → ArePieces (Whole act events ∷ pieces) → NamesAReply act }
+    ensures { (scope : Scope) (act : Act) (events : List Event) (pieces : List Piece)
+        → ArePieces scope (Whole act events ∷ pieces) → NamesAReply act }
 {}
 
 /// Each act list has a loss that fits, whichever of its free acts are to be heard: nothing tells
 /// whether a free act was heard.
 pub fn free_acts_may_be_heard_or_not()
-    ensures { (pieces : List Piece) → ArePieces pieces → (wish : Wish) → (loss : Loss)
+    ensures { (scope : Scope) (pieces : List Piece) → ArePieces scope pieces → (wish : Wish) → (loss : Loss)
         × LossFits loss pieces × HearsFreeAsWished loss wish nothing_told pieces }
 {}
 
 /// Each act list has a loss that fits, whichever of its ACKs are to be heard.
 pub fn acks_may_be_heard_or_not()
-    ensures { (pieces : List Piece) → ArePieces pieces → (wish : Wish) → (loss : Loss)
+    ensures { (scope : Scope) (pieces : List Piece) → ArePieces scope pieces → (wish : Wish) → (loss : Loss)
         × LossFits loss pieces × HearsAsWished loss wish pieces }
 {
     free_acts_may_be_heard_or_not();
@@ -78,7 +84,7 @@ pub fn acks_may_be_heard_or_not()
 
 /// Each act list has a loss that fits.
 pub fn act_lists_have_a_fitting_loss()
-    ensures { (pieces : List Piece) → ArePieces pieces → (loss : Loss) × LossFits loss pieces }
+    ensures { (scope : Scope) (pieces : List Piece) → ArePieces scope pieces → (loss : Loss) × LossFits loss pieces }
 {
     free_acts_may_be_heard_or_not();
 }
@@ -86,9 +92,9 @@ pub fn act_lists_have_a_fitting_loss()
 /// After pieces, no act list goes on with a row that breaks a rule of the link, whichever rule
 /// that is.
 pub fn rows_that_break_a_rule_end_the_act_list()
-    ensures { (pieces : List Piece) (row : Event) (broken : Rule) → ArePieces pieces
-        → RowBreaks (situation_of pieces) row broken → HasActList (events_of pieces ++ row ∷ [])
-        → ⊥ }
+    ensures { (scope : Scope) (pieces : List Piece) (row : Event) (broken : Rule)
+        → ArePieces scope pieces → RowBreaks (situation_of scope pieces) row broken
+        → HasActList scope (events_of pieces ++ row ∷ []) → ⊥ }
 {
     grammar();
 }
@@ -96,16 +102,121 @@ pub fn rows_that_break_a_rule_end_the_act_list()
 /// After pieces, a row that no act list goes on with breaks some rule of the link: there is a
 /// first one to tell.
 pub fn rows_that_end_the_act_list_break_a_rule()
-    ensures { (pieces : List Piece) (row : Event) → ArePieces pieces
-        → (HasActList (events_of pieces ++ row ∷ []) → ⊥)
-        → (broken : Rule) × IsFirstBroken (situation_of pieces) row broken }
+    ensures { (scope : Scope) (pieces : List Piece) (row : Event) → ArePieces scope pieces
+        → (HasActList scope (events_of pieces ++ row ∷ []) → ⊥)
+        → (broken : Rule) × IsFirstBroken (situation_of scope pieces) row broken }
 {
     grammar();
 }
 
 /// After pieces, a row has at most one fault.
 pub fn rows_have_one_fault()
-    ensures { (pieces : List Piece) (row : Event) (r s : Rule) (a b : Blame)
-        → IsLinkFault pieces row r a
-        → IsLinkFault pieces row s b → (r ≡ s) × (a ≡ b) }
+    ensures { (scope : Scope) (pieces : List Piece) (row : Event) (r s : Rule) (a b : Blame)
+        → IsLinkFault scope pieces row r a
+        → IsLinkFault scope pieces row s b → (r ≡ s) × (a ≡ b) }
+{}
+
+/// An act of an act list names no device that is left out.
+pub fn acts_name_devices_that_are_followed()
+    ensures { (scope : Scope) (act : Act) (events : List Event) (pieces : List Piece)
+        (device : Device) → ArePieces scope (Whole act events ∷ pieces)
+        → device_in act ≡ Some device → IsFollowed scope device }
+{}
+
+/// After pieces, the device that was asked last is none that is left out.
+pub fn asked_devices_are_followed()
+    ensures { (scope : Scope) (pieces : List Piece) (device : Device) → ArePieces scope pieces
+        → asked_device pieces ≡ Some device → IsFollowed scope device }
+{}
+
+/// No fault of the link is blamed on a device that is left out.
+pub fn faults_are_blamed_on_devices_that_are_followed()
+    ensures { (scope : Scope) (pieces : List Piece) (row : Event) (broken : Rule) (blamed : Blame)
+        (device : Device) → ArePieces scope pieces → IsLinkFault scope pieces row broken blamed
+        → blamed ≡ blame_on (Some device) → IsFollowed scope device }
+{}
+
+/// Pieces in order are in order without further devices: each row of what is of these is a foreign
+/// act then, and all else stands as it did, with the same rows. The bus is where it was, but for
+/// foreign traffic after what is of a device that is left out.
+pub fn pieces_stay_in_order_without_further_devices()
+    ensures order { (less more : Scope) (pieces : List Piece) → LeavesOutMore less more
+        → ArePieces less pieces → ArePieces more (leave_out more pieces) }
+    ensures rows { (scope : Scope) (pieces : List Piece)
+        → events_of (leave_out scope pieces) ≡ events_of pieces }
+    ensures position { (less more : Scope) (pieces : List Piece) → ArePieces less pieces
+        → position_of more (leave_out more pieces) ≡ position_without more pieces }
+{
+    messages::first_byte_tells_the_device();
+}
+
+/// So an act list is one without further devices, of the same rows.
+pub fn act_lists_stay_without_further_devices()
+    ensures { (less more : Scope) (rows : List Event) (pieces : List Piece)
+        → LeavesOutMore less more → IsActList less pieces rows
+        → IsActList more (leave_out more pieces) rows }
+{
+    pieces_stay_in_order_without_further_devices();
+}
+
+/// What is possible with devices is possible without them.
+pub fn rows_keep_an_act_list_without_further_devices()
+    ensures { (less more : Scope) (rows : List Event) → LeavesOutMore less more
+        → HasActList less rows → HasActList more rows }
+{
+    act_lists_stay_without_further_devices();
+}
+
+/// Where rows have an act list with devices, the one that they have without them has all else as
+/// it stands there.
+pub fn act_lists_without_further_devices_are_what_is_left()
+    ensures { (less more : Scope) (rows : List Event) (pieces other : List Piece)
+        → LeavesOutMore less more → IsActList less pieces rows → IsActList more other rows
+        → other ≡ leave_out more pieces }
+{
+    act_lists_stay_without_further_devices();
+    transcripts_have_one_act_list();
+}
+
+/// A device that is followed has no part in an act that is left out, and an act that stays names no
+/// device that isn't followed.
+pub fn acts_that_stay_are_those_of_followed_devices()
+    ensures left_out { (scope : Scope) (act : Act) (events : List Event) (device : Device)
+        → is_left_out scope (Whole act events) ≡ true → IsFollowed scope device
+        → has_part device act ≡ false }
+    ensures stays { (scope : Scope) (act : Act) (events : List Event) (device : Device)
+        → is_left_out scope (Whole act events) ≡ false → device_in act ≡ Some device
+        → IsFollowed scope device }
+{}
+
+/// A device that is followed has a part in the same acts without further devices, and one that is
+/// left out has a part in the breaks alone.
+pub fn acts_of_followed_devices_stay()
+    ensures followed { (scope : Scope) (pieces : List Piece) (device : Device)
+        → IsFollowed scope device
+        → acts_with device (acts_of (leave_out scope pieces)) ≡ acts_with device (acts_of pieces) }
+    ensures left_out { (scope : Scope) (pieces : List Piece) (device : Device)
+        → IsLeftOut scope device
+        → acts_with device (acts_of (leave_out scope pieces)) ≡ breaks_among (acts_of pieces) }
+{}
+
+/// In an act list a device that is left out has a part in breaks alone.
+pub fn devices_left_out_have_a_part_in_breaks_alone()
+    ensures { (scope : Scope) (pieces : List Piece) (device : Device) → ArePieces scope pieces
+        → IsLeftOut scope device
+        → acts_with device (acts_of pieces) ≡ breaks_among (acts_of pieces) }
+{}
+
+/// Two devices are told to be one exactly where they are.
+pub fn one_device_is_told_to_be_one()
+    ensures { (one other : Device) → (are_one one other ≡ true) ↔ (one ≡ other) }
+{}
+
+/// A loss that fits pieces fits them without further devices, too, exactly where a block to one of
+/// these that was cut right after another device's reply tells that this reply wasn't heard: as a
+/// foreign block it does, and as the tail of an ask it doesn't.
+pub fn losses_fit_without_further_devices()
+    ensures { (less more : Scope) (pieces : List Piece) (loss : Loss) → LeavesOutMore less more
+        → ArePieces less pieces → LossFits loss pieces
+        → LossFits loss (leave_out more pieces) ↔ CutBlocksTell more loss pieces }
 {}

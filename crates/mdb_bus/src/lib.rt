@@ -16,8 +16,10 @@ pub mod laws;
 mod levels;
 mod phase;
 mod place;
+mod scope;
 mod spelled;
 
 pub use act::Act;
 pub use bus::Bus;
 pub use fault::{Blame, LinkFault, Rule};
+pub use scope::{Beginning, Scope};

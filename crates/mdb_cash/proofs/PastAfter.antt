@@ -1,45 +1,10 @@
-use Rattle.std.proofs.Common.{◌≡◌, ◌==◌, ◌||◌, ◌&&◌, not, ℕ, zero, suc, ◌<◌, Bool, true, false, List, [], ◌∷◌, Option, Some, None, refl, ap, ◌∙◌, arith, unwrap_or, bit_or, max, if◌then◌else◌}
-use Rattle.std.proofs.Math.Path.{fun_ext}
+use Rattle.std.proofs.Common.{◌≡◌, ◌==◌, ◌||◌, ℕ, zero, suc, ◌<◌, false, [], refl, ap, ◌∙◌, arith, bit_or, max}
 use Rattle.std.proofs.lemmas.Nat.Bits.{bit_at_or, bit_at-lt}
 use Rattle.std.specs.Int.{bit_at}
-use Rattle.std.specs.List.{list_any}
-use Rattle.mdb_msgs.specs.declared.command.Command.{Command}
-use Rattle.mdb_bus.specs.declared.act.Act.{Act}
-use Rattle.mdb_cash.specs.declared.kept.Part.{Part}
-use Rattle.mdb_cash.specs.declared.past.Effect.{Effect}
 use Rattle.mdb_cash.specs.declared.past.Effect.TheVariants as effects
 use Rattle.mdb_cash.specs.declared.past.Past.{Past}
-use Rattle.mdb_cash.specs.Kept.{has_reset, kept_of}
-use Rattle.mdb_cash.specs.Past.{PastFacts, acts_from, effect_by, enables, last_told, or_else, past_of, powers_on, unless_empty}
-use Rattle.mdb_cash.specs.PastValues.{past_after, past_in, past_with}
-
--- facts with the same fields
-same_past : {M : Type 0} {one other : PastFacts M} → ((kind : ℕ) → one.enabled kind ≡ other.enabled kind) → one.reset_owed ≡ other.reset_owed → one.last_kept ≡ other.last_kept → one ≡ other
-same_past {M} {one} {other} enabled reset_owed kept =
-    let masks : one.enabled ≡ other.enabled = fun_ext enabled in
-    let same : record one { last_kept = one.last_kept } ≡ record other { last_kept = other.last_kept } = cc (masks, reset_owed, kept) in
-    same
-
--- whether one of the acts from the last boundary on passes a test
-any_from : (p : Act → Bool) (act : Act) (rest : List Act) (b : Bool) → (p act || (if b then false else list_any p rest)) ≡ list_any p (act ∷ (if b then [] else rest))
-any_from p act rest true = refl
-any_from p act rest false = refl
-
-none_from : (p : Act → Bool) (act : Act) (rest : List Act) (b : Bool) → (not (p act) && (b || not (list_any p rest))) ≡ not (list_any p (act ∷ (if b then [] else rest)))
-none_from p act rest true = elim (p act) as (λ x. (not x && (true || not (list_any p rest))) ≡ not (x || list_any p [])) [ true ↦ refl | false ↦ refl ]
-none_from p act rest false = elim (p act) as (λ x. (not x && (false || not (list_any p rest))) ≡ not (x || list_any p rest)) [ true ↦ refl | false ↦ refl ]
-
-first_of_two : {X : Type 0} (first second : Option X) (x : X) → unwrap_or first (unwrap_or second x) ≡ unwrap_or (or_else first second) x
-first_of_two (Some y) second x = refl
-first_of_two None second x = refl
-
--- what counts after one act more, from what did before it
-pub past_more : {M : Type 0} (effect_of : Command → Effect) (parts_by : Act → List (Part M)) (act : Act) (acts : List Act)
-    → past_with effect_of parts_by act (past_of effect_of parts_by acts) ≡ past_of effect_of parts_by (act ∷ acts)
-past_more effect_of parts_by act acts =
-    same_past (λ kind. any_from (λ a. enables kind (effect_by effect_of a)) act (acts_from (powers_on effect_of) acts) (powers_on effect_of act))
-    (none_from (λ a. has_reset (parts_by a)) act (acts_from (powers_on effect_of) acts) (powers_on effect_of act))
-    (first_of_two (unless_empty (kept_of (parts_by act))) (last_told (λ a. unless_empty (kept_of (parts_by a))) acts) [])
+use Rattle.mdb_cash.specs.PastValues.{past_after, past_in}
+use Rattle.mdb_cash.specs.inner.PastWays.{same_past}
 
 -- a bit of two masks put together
 either_bit : (mask more coin : ℕ) → (bit_at (bit_or mask more) coin == 1) ≡ ((bit_at more coin == 1) || (bit_at mask coin == 1))

@@ -1,9 +1,10 @@
 -- A device and the controller, as states with codes and as steps. This serves the trait `Pair`.
-use Rattle.std.specs.Prelude.{◌≡◌, ◌≢◌, ◌⊎◌, ℕ, Option, Some, None}
+use Rattle.std.specs.Prelude.{◌≡◌, ◌≢◌, ◌⊎◌, ℕ, List, Option, Some, None}
 use Rattle.mdb_msgs.specs.Commands.{device_of}
 use Rattle.mdb_msgs.specs.declared.command.Device.{Device}
 use Rattle.mdb_bus.specs.declared.act.Act.{Act}
 use Rattle.mdb_bus.specs.declared.act.Act.TheVariants as acts
+use Rattle.mdb_bus.specs.LeavingOut.{acts_with}
 use Rattle.mdb_cash.specs.declared.choice.Choice.{Choice}
 use Rattle.mdb_cash.specs.declared.choice.Choice.TheVariants.{Plain}
 use Rattle.mdb_cash.specs.declared.gains.Gains.{Gains}
@@ -23,6 +24,15 @@ IsActOf device (acts.VmcRet command reply) = device_of command ≡ device
 IsActOf device (acts.Repeat command reply) = device_of command ≡ device
 IsActOf device acts.Foreign = ⊥
 IsActOf device (acts.Break length) = Unit {0}
+
+-- an act is a break
+abbrev pub IsBreak : Act → Type 0
+IsBreak (acts.Break length) = Unit {0}
+IsBreak act = ⊥
+
+-- a device's own acts: of acts those in which it has a part, in their order, so breaks too
+abbrev pub own_acts : Device → List Act → List Act
+own_acts device so_far = acts_with device so_far
 
 -- an act of another device alone: foreign traffic and a break are none
 abbrev pub IsOfAnother : Device → Act → Type 0

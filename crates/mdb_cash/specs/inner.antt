@@ -4,6 +4,7 @@ pub mod ChangerCodes
 pub mod ChangerWays
 pub mod KeeperPlain
 pub mod KeeperWays
+pub mod OwnWays
 pub mod PastWays
 pub mod PlainKept
 pub mod Sizes

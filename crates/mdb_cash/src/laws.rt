@@ -1,8 +1,10 @@
 //! Laws of kept messages, and of what counts of the acts so far. Each function's contract is the
 //! law.
 
-ghost use Rattle.std.specs.Prelude.{◌≡◌, ◌↔◌, List, ◌∷◌};
+ghost use Rattle.std.specs.Prelude.{◌≡◌, ◌↔◌, true, List, [], ◌∷◌, All};
 ghost use Rattle.mdb_msgs.specs.declared.command.Command.{Command};
+ghost use Rattle.mdb_msgs.specs.declared.command.Device.{Device};
+ghost use Rattle.mdb_msgs.specs.declared.command.Device.TheVariants as devices;
 ghost use Rattle.mdb_msgs.specs.Changer.{IsChangerMsg};
 ghost use Rattle.mdb_msgs.specs.declared.reply.changer.ChangerMsg.{ChangerMsg};
 ghost use Rattle.mdb_cash.specs.declared.changer.activity.ChangerActivity.{ChangerActivity};
@@ -10,6 +12,10 @@ ghost use Rattle.mdb_bus.specs.declared.act.Act.{Act};
 ghost use Rattle.mdb_cash.specs.declared.kept.Part.{Part};
 ghost use Rattle.mdb_cash.specs.declared.kept.Part.TheVariants as part;
 ghost use Rattle.mdb_cash.specs.declared.past.Effect.{Effect};
+ghost use Rattle.mdb_cash.specs.BillFacts as bill;
+ghost use Rattle.mdb_cash.specs.ChangerFacts as changer;
+ghost use Rattle.mdb_bus.specs.LeavingOut.{has_part};
+ghost use Rattle.mdb_cash.specs.Pair.{IsActOf, IsBreak, own_acts};
 ghost use Rattle.mdb_cash.specs.Past.{past_of};
 ghost use Rattle.mdb_cash.specs.PastValues.{past_with};
 ghost use Rattle.mdb_cash.specs.ChangerMessages.{first_byte, part_of};
@@ -28,4 +34,41 @@ pub fn what_counts_goes_on_act_by_act<M>()
         (act : Act) (acts : List Act)
         → past_with effect_of parts_by act (past_of effect_of parts_by acts)
         ≡ past_of effect_of parts_by (act ∷ acts) }
+{}
+
+/// A device's own acts are those in which it has a part, in their order; and the test that picks
+/// them says of each act whether it has.
+pub fn own_acts_are_those_that_a_device_has_a_part_in()
+    ensures own { (device : Device) (act : Act) (acts : List Act) → IsActOf device act
+        → own_acts device (act ∷ acts) ≡ act ∷ own_acts device acts }
+    ensures other { (device : Device) (act : Act) (acts : List Act) → (IsActOf device act → ⊥)
+        → own_acts device (act ∷ acts) ≡ own_acts device acts }
+    ensures test { (device : Device) (act : Act)
+        → (has_part device act ≡ true) ↔ IsActOf device act }
+{}
+
+/// What is known of the changer after acts depends on its own acts among them alone.
+pub fn the_changers_facts_are_of_its_own_acts()
+    ensures { (acts other : List Act)
+        → own_acts devices.Changer acts ≡ own_acts devices.Changer other
+        → changer.facts_of acts ≡ changer.facts_of other }
+{}
+
+/// What is known of the validator after acts depends on its own acts among them alone.
+pub fn the_validators_facts_are_of_its_own_acts()
+    ensures { (acts other : List Act)
+        → own_acts devices.Bill acts ≡ own_acts devices.Bill other
+        → bill.facts_of acts ≡ bill.facts_of other }
+{}
+
+/// Where the changer has a part in no acts but breaks, no more is known of it than after no act.
+pub fn breaks_tell_nothing_of_the_changer()
+    ensures { (acts : List Act) → All IsBreak (own_acts devices.Changer acts)
+        → changer.facts_of acts ≡ changer.facts_of [] }
+{}
+
+/// Where the validator has a part in no acts but breaks, no more is known of it than after no act.
+pub fn breaks_tell_nothing_of_the_validator()
+    ensures { (acts : List Act) → All IsBreak (own_acts devices.Bill acts)
+        → bill.facts_of acts ≡ bill.facts_of [] }
 {}

@@ -14,7 +14,7 @@ use Rattle.mdb_cashless.specs.ReaderMessages.{amount_in, begin_session, config_i
 use Rattle.mdb_cashless.specs.ReaderValues.{facts_with, last_after, taken, told}
 use Rattle.mdb_cashless.specs.Transactions.{transaction_of}
 use Rattle.mdb_cashless.specs.Units.{own}
-use Rattle.mdb_cashless.proofs.FactsAfter.{same_facts}
+use Rattle.mdb_cashless.specs.inner.ReaderWays.{same_fields}
 
 -- the facts after a reply, where it is known whether it refuses its command
 abbrev answered : ReaderUnit → Command → Bool → List ReaderMsg → Facts → Facts
@@ -69,7 +69,7 @@ last_is (reader.RequestId identity) begins last = refl
 
 own_answer : (its : ReaderCommand) (refused : Bool) (messages : List ReaderMsg) (old : Facts) → answered_own (Some its) refused messages old ≡ told messages (taken (if refused then None else Some its) old)
 own_answer its true messages old = refl
-own_answer its false messages old = same_facts refl refl (last_is its (begin_session messages) old.taken) refl refl
+own_answer its false messages old = same_fields refl refl (last_is its (begin_session messages) old.taken) refl refl
 
 -- the facts after a reply of this reader: it has taken its command or not, and has told messages
 pub replied : (unit : ReaderUnit) (command : Command) (its : ReaderCommand) (reply : Reply) (old mid new : Facts) → own unit command ≡ Some its

@@ -1,8 +1,9 @@
 //! Laws of the readers' machine. Each function's contract is the law.
 
-ghost use Rattle.std.specs.Prelude.{◌≡◌, ◌↔◌, ℕ, true, List, ◌∷◌, Some, None};
+ghost use Rattle.std.specs.Prelude.{◌≡◌, ◌↔◌, ℕ, true, List, [], ◌∷◌, Some, None, All};
 ghost use Rattle.mdb_msgs.specs.declared.command.Command.{Command};
 ghost use Rattle.mdb_msgs.specs.declared.command.Command.TheVariants as commands;
+ghost use Rattle.mdb_msgs.specs.declared.command.Device.TheVariants as devices;
 ghost use Rattle.mdb_msgs.specs.declared.command.ReaderCommand.{ReaderCommand};
 ghost use Rattle.mdb_msgs.specs.declared.command.ReaderCommand.TheVariants as readers;
 ghost use Rattle.mdb_msgs.specs.declared.command.ReaderUnit.{ReaderUnit};
@@ -11,6 +12,7 @@ ghost use Rattle.mdb_bus.specs.declared.act.Act.{Act};
 ghost use Rattle.mdb_bus.specs.declared.act.Act.TheVariants as acts;
 ghost use Rattle.mdb_cash.specs.declared.choice.Choice.{Choice};
 ghost use Rattle.mdb_cash.specs.declared.gains.Gains.{Gains};
+ghost use Rattle.mdb_cash.specs.Pair.{IsBreak, own_acts};
 ghost use Rattle.mdb_cashless.specs.declared.reader.state.ReaderState.{ReaderState};
 ghost use Rattle.mdb_cashless.specs.declared.reader.transaction.Transaction.{Transaction};
 ghost use Rattle.mdb_cashless.specs.Reader.{ReaderStep};
@@ -61,3 +63,17 @@ pub fn views_allow_approved_sales_alone()
 {
     transactions_with_the_same_fields_are_the_same();
 }
+
+/// What is known of a reader after acts depends on its own acts among them alone.
+pub fn a_readers_facts_are_of_its_own_acts()
+    ensures { (unit : ReaderUnit) (so_far other : List Act)
+        → own_acts (devices.Reader unit) so_far ≡ own_acts (devices.Reader unit) other
+        → facts_of unit so_far ≡ facts_of unit other }
+{}
+
+/// Where a reader has a part in no acts but breaks, no more is known of it than after no act.
+pub fn breaks_tell_nothing_of_a_reader()
+    ensures { (unit : ReaderUnit) (so_far : List Act)
+        → All IsBreak (own_acts (devices.Reader unit) so_far)
+        → facts_of unit so_far ≡ facts_of unit [] }
+{}

@@ -15,12 +15,13 @@ use Rattle.mdb_check.specs.declared.outcome.Outcome.TheVariants.{Yes, No}
 use Rattle.mdb_check.specs.declared.outcome.RunFault.{RunFault}
 use Rattle.mdb_check.specs.declared.outcome.RunFault.TheVariants.{BadRow, TooLong, Read, Write, Memory}
 use Rattle.mdb_check.specs.Verdict.{AreRows, IsAnswer, IsOwnAnswer, IsBadRow, IsImpossible, IsPossible, IsTooLong}
+use Rattle.mdb_bus.specs.declared.scope.Scope.{Scope}
 
 -- what the laws of runs say
-pub record RunLaws : Type 0 where
-  pub fronts : (rows more : List Event) → IsReached (rows ++ more) → IsReached rows
-  pub one_report : (rows : List Event) (a b : Report) → IsReport rows a → IsReport rows b → a ≡ b
-  pub one_offence : (rows : List Event) (row : Event) (a b : Offence) → IsOffence rows row a → IsOffence rows row b → a ≡ b
+pub record RunLaws (scope : Scope) : Type 0 where
+  pub fronts : (rows more : List Event) → IsReached scope (rows ++ more) → IsReached scope rows
+  pub one_report : (rows : List Event) (a b : Report) → IsReport scope rows a → IsReport scope rows b → a ≡ b
+  pub one_offence : (rows : List Event) (row : Event) (a b : Offence) → IsOffence scope rows row a → IsOffence scope rows row b → a ≡ b
 
 -- fields are a row of one event at most, and a row is never refused
 pub row_one : (fields : List (List ℕ)) (a b : Event) → IsRow fields a → IsRow fields b → a ≡ b
@@ -35,13 +36,13 @@ one_refusal fields a b p q = grind (arith, common_steps)
 
 -- The rows at the front of the records that are reached, where no more row goes on: there is no record after them, it is no
 -- row, it isn't reached, or it is one too many.
-record Front (limit : ℕ) (records : List (List (List ℕ))) (rows : List Event) (rest : List (List (List ℕ))) : Type 0 where
+record Front (scope : Scope) (limit : ℕ) (records : List (List (List ℕ))) (rows : List Event) (rest : List (List (List ℕ))) : Type 0 where
   done : List (List (List ℕ))
   split : records ≡ done ++ rest
   told : AreRows done rows
-  possible : IsReached rows
+  possible : IsReached scope rows
   few : length rows ≤ limit
-  ends : (fields : List (List ℕ)) (more : List (List (List ℕ))) (event : Event) → rest ≡ fields ∷ more → IsRow fields event → IsReached (rows ++ event ∷ []) → length rows < limit → ⊥
+  ends : (fields : List (List ℕ)) (more : List (List (List ℕ))) (event : Event) → rest ≡ fields ∷ more → IsRow fields event → IsReached scope (rows ++ event ∷ []) → length rows < limit → ⊥
 
 -- of two fronts of rows the longer one goes on after the shorter one, with a record that is a row
 pub record GoesOn (rows longer : List Event) (rest : List (List (List ℕ))) : Type 0 where
@@ -90,24 +91,24 @@ compared done [] rest left rows (event ∷ events) told heard same = absurd hear
 compared done (fields ∷ others) rest left rows [] told heard same = absurd heard
 
 -- no such front is longer than another one
-no_longer : RunLaws → (limit : ℕ) (records : List (List (List ℕ))) (rows events : List Event) (rest left : List (List (List ℕ))) → Front limit records rows rest → Front limit records events left → GoesOn rows events rest → ⊥
-no_longer laws limit records rows events rest left first second on =
+no_longer : (scope : Scope) → RunLaws scope → (limit : ℕ) (records : List (List (List ℕ))) (rows events : List Event) (rest left : List (List (List ℕ))) → Front scope limit records rows rest → Front scope limit records events left → GoesOn rows events rest → ⊥
+no_longer scope laws limit records rows events rest left first second on =
     let split : events ≡ (rows ++ on.event ∷ []) ++ on.more = on.longer_is ∙ sym (append_assoc rows (on.event ∷ []) on.more) in
     let long : length events ≡ length rows + length (on.event ∷ on.more) = ap length on.longer_is ∙ length-append rows (on.event ∷ on.more) in
-    first.ends on.fields on.after on.event on.record_is on.row (laws.fronts (rows ++ on.event ∷ []) on.more (subst IsReached split second.possible)) (omega (arith, second.few, long))
+    first.ends on.fields on.after on.event on.record_is on.row (laws.fronts (rows ++ on.event ∷ []) on.more (subst (IsReached scope) split second.possible)) (omega (arith, second.few, long))
 
 -- such a front of the records is one, and so is what stands after it
-one_front : RunLaws → (limit : ℕ) (records : List (List (List ℕ))) (rows events : List Event) (rest left : List (List (List ℕ))) → Front limit records rows rest → Front limit records events left → (rows ≡ events) × (rest ≡ left)
-one_front laws limit records rows events rest left first second = by_case (compared first.done second.done rest left rows events first.told second.told (sym first.split ∙ second.split))
+one_front : (scope : Scope) → RunLaws scope → (limit : ℕ) (records : List (List (List ℕ))) (rows events : List Event) (rest left : List (List (List ℕ))) → Front scope limit records rows rest → Front scope limit records events left → (rows ≡ events) × (rest ≡ left)
+one_front scope laws limit records rows events rest left first second = by_case (compared first.done second.done rest left rows events first.told second.told (sym first.split ∙ second.split))
   where
     by_case : ((rows ≡ events) × (rest ≡ left)) ⊎ (GoesOn rows events rest ⊎ GoesOn events rows left) → (rows ≡ events) × (rest ≡ left)
     by_case (inl same) = same
-    by_case (inr (inl on)) = absurd (no_longer laws limit records rows events rest left first second on)
-    by_case (inr (inr on)) = absurd (no_longer laws limit records events rows left rest second first on)
+    by_case (inr (inl on)) = absurd (no_longer scope laws limit records rows events rest left first second on)
+    by_case (inr (inr on)) = absurd (no_longer scope laws limit records events rows left rest second first on)
 
 -- the front of each answer
-yes_front : (limit : ℕ) (records : List (List (List ℕ))) (report : Report) (is : IsPossible limit records report) → Front limit records is.rows []
-yes_front limit records report is = record {
+yes_front : (scope : Scope) (limit : ℕ) (records : List (List (List ℕ))) (report : Report) (is : IsPossible scope limit records report) → Front scope limit records is.rows []
+yes_front scope limit records report is = record {
   done = records;
   split = sym (append-nil records);
   told = is.told;
@@ -116,8 +117,8 @@ yes_front limit records report is = record {
   ends = λ fields more event none row list below. cc;
 }
 
-no_front : RunLaws → (limit : ℕ) (records : List (List (List ℕ))) (offence : Offence) (is : IsImpossible limit records offence) → Front limit records is.rows (is.fields ∷ is.stops.rest)
-no_front laws limit records offence is = record {
+no_front : (scope : Scope) → RunLaws scope → (limit : ℕ) (records : List (List (List ℕ))) (offence : Offence) (is : IsImpossible scope limit records offence) → Front scope limit records is.rows (is.fields ∷ is.stops.rest)
+no_front scope laws limit records offence is = record {
   done = is.stops.done;
   split = is.stops.split;
   told = is.stops.told;
@@ -126,15 +127,15 @@ no_front laws limit records offence is = record {
   ends = λ fields more event same row list below. impossible_row fields event (cc) row list;
 }
   where
-    impossible_row : (fields : List (List ℕ)) (event : Event) → fields ≡ is.fields → IsRow fields event → IsReached (is.rows ++ event ∷ []) → ⊥
+    impossible_row : (fields : List (List ℕ)) (event : Event) → fields ≡ is.fields → IsRow fields event → IsReached scope (is.rows ++ event ∷ []) → ⊥
     impossible_row fields event same row list =
         let P : List (List ℕ) → Type 0 = λ f. IsRow f event in
         let one : event ≡ is.row = row_one is.fields event is.row (subst P same row) is.told in
-        let Q : Event → Type 0 = λ e. IsReached (is.rows ++ e ∷ []) in
+        let Q : Event → Type 0 = λ e. IsReached scope (is.rows ++ e ∷ []) in
         is.is.not_reached (subst Q one list)
 
-bad_front : (limit : ℕ) (records : List (List (List ℕ))) (row : ℕ) (fault : RowFault) (is : IsBadRow limit records row fault) → Front limit records is.rows (is.fields ∷ is.stops.rest)
-bad_front limit records row fault is = record {
+bad_front : (scope : Scope) (limit : ℕ) (records : List (List (List ℕ))) (row : ℕ) (fault : RowFault) (is : IsBadRow scope limit records row fault) → Front scope limit records is.rows (is.fields ∷ is.stops.rest)
+bad_front scope limit records row fault is = record {
   done = is.stops.done;
   split = is.stops.split;
   told = is.stops.told;
@@ -146,8 +147,8 @@ bad_front limit records row fault is = record {
     no_row : (fields : List (List ℕ)) (event : Event) → fields ≡ is.fields → IsRow fields event → ⊥
     no_row fields event same told = let P : List (List ℕ) → Type 0 = λ f. IsRow f event in row_not_refused is.fields event fault (subst P same told) is.refused
 
-long_front : (limit : ℕ) (records : List (List (List ℕ))) (is : IsTooLong limit records) → Front limit records is.rows (is.fields ∷ is.stops.rest)
-long_front limit records is = record {
+long_front : (scope : Scope) (limit : ℕ) (records : List (List (List ℕ))) (is : IsTooLong scope limit records) → Front scope limit records is.rows (is.fields ∷ is.stops.rest)
+long_front scope limit records is = record {
   done = is.stops.done;
   split = is.stops.split;
   told = is.stops.told;
@@ -157,21 +158,21 @@ long_front limit records is = record {
 }
 
 -- the offence after a front is one
-one_offence : RunLaws → (limit : ℕ) (records : List (List (List ℕ))) (a b : Offence) → IsImpossible limit records a → IsImpossible limit records b → a ≡ b
-one_offence laws limit records a b first second =
-    let same = one_front laws limit records _ _ _ _ (no_front laws limit records a first) (no_front laws limit records b second) in
+one_offence : (scope : Scope) → RunLaws scope → (limit : ℕ) (records : List (List (List ℕ))) (a b : Offence) → IsImpossible scope limit records a → IsImpossible scope limit records b → a ≡ b
+one_offence scope laws limit records a b first second =
+    let same = one_front scope laws limit records _ _ _ _ (no_front scope laws limit records a first) (no_front scope laws limit records b second) in
     let tails : first.fields ∷ first.stops.rest ≡ second.fields ∷ second.stops.rest = same.1 in
     let fields : second.fields ≡ first.fields = cc in
     let P : List (List ℕ) → Type 0 = λ f. IsRow f second.row in
     let event : second.row ≡ first.row = row_one first.fields second.row first.row (subst P fields second.told) first.told in
-    let After : List Event → Type 0 = λ rs. IsOffence rs second.row b in
-    let OfRow : Event → Type 0 = λ e. IsOffence first.rows e b in
+    let After : List Event → Type 0 = λ rs. IsOffence scope rs second.row b in
+    let OfRow : Event → Type 0 = λ e. IsOffence scope first.rows e b in
     laws.one_offence first.rows first.row a b first.is (subst OfRow event (subst After (sym same.0) second.is))
 
 -- the record that is no row is one, and so is its refusal
-one_bad_row : RunLaws → (limit : ℕ) (records : List (List (List ℕ))) (m n : ℕ) (a b : RowFault) → IsBadRow limit records m a → IsBadRow limit records n b → (m ≡ n) × (a ≡ b)
-one_bad_row laws limit records m n a b first second =
-    let same = one_front laws limit records _ _ _ _ (bad_front limit records m a first) (bad_front limit records n b second) in
+one_bad_row : (scope : Scope) → RunLaws scope → (limit : ℕ) (records : List (List (List ℕ))) (m n : ℕ) (a b : RowFault) → IsBadRow scope limit records m a → IsBadRow scope limit records n b → (m ≡ n) × (a ≡ b)
+one_bad_row scope laws limit records m n a b first second =
+    let same = one_front scope laws limit records _ _ _ _ (bad_front scope limit records m a first) (bad_front scope limit records n b second) in
     let tails : first.fields ∷ first.stops.rest ≡ second.fields ∷ second.stops.rest = same.1 in
     let fields : second.fields ≡ first.fields = cc in
     let P : List (List ℕ) → Type 0 = λ f. IsRefusal f b in (
@@ -180,69 +181,69 @@ one_bad_row laws limit records m n a b first second =
     )
 
 -- two answers of different kinds
-yes_or_no : RunLaws → (limit : ℕ) (records : List (List (List ℕ))) (report : Report) (offence : Offence) → IsPossible limit records report → IsImpossible limit records offence → ⊥
-yes_or_no laws limit records report offence first second =
-    let same = one_front laws limit records _ _ _ _ (yes_front limit records report first) (no_front laws limit records offence second) in
+yes_or_no : (scope : Scope) → RunLaws scope → (limit : ℕ) (records : List (List (List ℕ))) (report : Report) (offence : Offence) → IsPossible scope limit records report → IsImpossible scope limit records offence → ⊥
+yes_or_no scope laws limit records report offence first second =
+    let same = one_front scope laws limit records _ _ _ _ (yes_front scope limit records report first) (no_front scope laws limit records offence second) in
     let clash : [] ≡ second.fields ∷ second.stops.rest = same.1 in cc
 
-yes_or_bad : RunLaws → (limit : ℕ) (records : List (List (List ℕ))) (report : Report) (row : ℕ) (fault : RowFault) → IsPossible limit records report → IsBadRow limit records row fault → ⊥
-yes_or_bad laws limit records report row fault first second =
-    let same = one_front laws limit records _ _ _ _ (yes_front limit records report first) (bad_front limit records row fault second) in
+yes_or_bad : (scope : Scope) → RunLaws scope → (limit : ℕ) (records : List (List (List ℕ))) (report : Report) (row : ℕ) (fault : RowFault) → IsPossible scope limit records report → IsBadRow scope limit records row fault → ⊥
+yes_or_bad scope laws limit records report row fault first second =
+    let same = one_front scope laws limit records _ _ _ _ (yes_front scope limit records report first) (bad_front scope limit records row fault second) in
     let clash : [] ≡ second.fields ∷ second.stops.rest = same.1 in cc
 
-yes_or_long : RunLaws → (limit : ℕ) (records : List (List (List ℕ))) (report : Report) → IsPossible limit records report → IsTooLong limit records → ⊥
-yes_or_long laws limit records report first second =
-    let same = one_front laws limit records _ _ _ _ (yes_front limit records report first) (long_front limit records second) in
+yes_or_long : (scope : Scope) → RunLaws scope → (limit : ℕ) (records : List (List (List ℕ))) (report : Report) → IsPossible scope limit records report → IsTooLong scope limit records → ⊥
+yes_or_long scope laws limit records report first second =
+    let same = one_front scope laws limit records _ _ _ _ (yes_front scope limit records report first) (long_front scope limit records second) in
     let clash : [] ≡ second.fields ∷ second.stops.rest = same.1 in cc
 
-no_or_bad : RunLaws → (limit : ℕ) (records : List (List (List ℕ))) (offence : Offence) (row : ℕ) (fault : RowFault) → IsImpossible limit records offence → IsBadRow limit records row fault → ⊥
-no_or_bad laws limit records offence row fault first second =
-    let same = one_front laws limit records _ _ _ _ (no_front laws limit records offence first) (bad_front limit records row fault second) in
+no_or_bad : (scope : Scope) → RunLaws scope → (limit : ℕ) (records : List (List (List ℕ))) (offence : Offence) (row : ℕ) (fault : RowFault) → IsImpossible scope limit records offence → IsBadRow scope limit records row fault → ⊥
+no_or_bad scope laws limit records offence row fault first second =
+    let same = one_front scope laws limit records _ _ _ _ (no_front scope laws limit records offence first) (bad_front scope limit records row fault second) in
     let tails : first.fields ∷ first.stops.rest ≡ second.fields ∷ second.stops.rest = same.1 in
     let fields : second.fields ≡ first.fields = cc in
     let P : List (List ℕ) → Type 0 = λ f. IsRefusal f fault in
     row_not_refused first.fields first.row fault first.told (subst P fields second.refused)
 
-no_or_long : RunLaws → (limit : ℕ) (records : List (List (List ℕ))) (offence : Offence) → IsImpossible limit records offence → IsTooLong limit records → ⊥
-no_or_long laws limit records offence first second =
-    let same = one_front laws limit records _ _ _ _ (no_front laws limit records offence first) (long_front limit records second) in
+no_or_long : (scope : Scope) → RunLaws scope → (limit : ℕ) (records : List (List (List ℕ))) (offence : Offence) → IsImpossible scope limit records offence → IsTooLong scope limit records → ⊥
+no_or_long scope laws limit records offence first second =
+    let same = one_front scope laws limit records _ _ _ _ (no_front scope laws limit records offence first) (long_front scope limit records second) in
     omega (arith, ap length same.0, first.few, second.full)
 
-bad_or_long : RunLaws → (limit : ℕ) (records : List (List (List ℕ))) (row : ℕ) (fault : RowFault) → IsBadRow limit records row fault → IsTooLong limit records → ⊥
-bad_or_long laws limit records row fault first second =
-    let same = one_front laws limit records _ _ _ _ (bad_front limit records row fault first) (long_front limit records second) in
+bad_or_long : (scope : Scope) → RunLaws scope → (limit : ℕ) (records : List (List (List ℕ))) (row : ℕ) (fault : RowFault) → IsBadRow scope limit records row fault → IsTooLong scope limit records → ⊥
+bad_or_long scope laws limit records row fault first second =
+    let same = one_front scope laws limit records _ _ _ _ (bad_front scope limit records row fault first) (long_front scope limit records second) in
     omega (arith, ap length same.0, first.few, second.full)
 
 -- the report is one
-one_yes : RunLaws → (limit : ℕ) (records : List (List (List ℕ))) (a b : Report) → IsPossible limit records a → IsPossible limit records b → a ≡ b
-one_yes laws limit records a b first second =
-    let same = one_front laws limit records _ _ _ _ (yes_front limit records a first) (yes_front limit records b second) in
-    let After : List Event → Type 0 = λ rs. IsReport rs b in
+one_yes : (scope : Scope) → RunLaws scope → (limit : ℕ) (records : List (List (List ℕ))) (a b : Report) → IsPossible scope limit records a → IsPossible scope limit records b → a ≡ b
+one_yes scope laws limit records a b first second =
+    let same = one_front scope laws limit records _ _ _ _ (yes_front scope limit records a first) (yes_front scope limit records b second) in
+    let After : List Event → Type 0 = λ rs. IsReport scope rs b in
     laws.one_report first.rows a b first.is (subst After (sym same.0) second.is)
 
 -- the answer to the records of a text is one
-pub one_answer : RunLaws → (limit : ℕ) (records : List (List (List ℕ))) (a b : Result Outcome RunFault) → IsAnswer limit records a → IsAnswer limit records b → IsOwnAnswer a → IsOwnAnswer b → a ≡ b
-one_answer laws limit records (Ok (Yes a)) (Ok (Yes b)) p q s t = ap (λ report. Ok (Yes report)) (one_yes laws limit records a b p q)
-one_answer laws limit records (Ok (Yes a)) (Ok (No b)) p q s t = absurd (yes_or_no laws limit records a b p q)
-one_answer laws limit records (Ok (Yes a)) (Err (BadRow n b)) p q s t = absurd (yes_or_bad laws limit records a n b p q)
-one_answer laws limit records (Ok (Yes a)) (Err TooLong) p q s t = absurd (yes_or_long laws limit records a p q)
-one_answer laws limit records (Ok (No a)) (Ok (Yes b)) p q s t = absurd (yes_or_no laws limit records b a q p)
-one_answer laws limit records (Ok (No a)) (Ok (No b)) p q s t = ap (λ offence. Ok (No offence)) (one_offence laws limit records a b p q)
-one_answer laws limit records (Ok (No a)) (Err (BadRow n b)) p q s t = absurd (no_or_bad laws limit records a n b p q)
-one_answer laws limit records (Ok (No a)) (Err TooLong) p q s t = absurd (no_or_long laws limit records a p q)
-one_answer laws limit records (Err (BadRow m a)) (Ok (Yes b)) p q s t = absurd (yes_or_bad laws limit records b m a q p)
-one_answer laws limit records (Err (BadRow m a)) (Ok (No b)) p q s t = absurd (no_or_bad laws limit records b m a q p)
-one_answer laws limit records (Err (BadRow m a)) (Err (BadRow n b)) p q s t =
-    let same = one_bad_row laws limit records m n a b p q in
+pub one_answer : (scope : Scope) → RunLaws scope → (limit : ℕ) (records : List (List (List ℕ))) (a b : Result Outcome RunFault) → IsAnswer scope limit records a → IsAnswer scope limit records b → IsOwnAnswer a → IsOwnAnswer b → a ≡ b
+one_answer scope laws limit records (Ok (Yes a)) (Ok (Yes b)) p q s t = ap (λ report. Ok (Yes report)) (one_yes scope laws limit records a b p q)
+one_answer scope laws limit records (Ok (Yes a)) (Ok (No b)) p q s t = absurd (yes_or_no scope laws limit records a b p q)
+one_answer scope laws limit records (Ok (Yes a)) (Err (BadRow n b)) p q s t = absurd (yes_or_bad scope laws limit records a n b p q)
+one_answer scope laws limit records (Ok (Yes a)) (Err TooLong) p q s t = absurd (yes_or_long scope laws limit records a p q)
+one_answer scope laws limit records (Ok (No a)) (Ok (Yes b)) p q s t = absurd (yes_or_no scope laws limit records b a q p)
+one_answer scope laws limit records (Ok (No a)) (Ok (No b)) p q s t = ap (λ offence. Ok (No offence)) (one_offence scope laws limit records a b p q)
+one_answer scope laws limit records (Ok (No a)) (Err (BadRow n b)) p q s t = absurd (no_or_bad scope laws limit records a n b p q)
+one_answer scope laws limit records (Ok (No a)) (Err TooLong) p q s t = absurd (no_or_long scope laws limit records a p q)
+one_answer scope laws limit records (Err (BadRow m a)) (Ok (Yes b)) p q s t = absurd (yes_or_bad scope laws limit records b m a q p)
+one_answer scope laws limit records (Err (BadRow m a)) (Ok (No b)) p q s t = absurd (no_or_bad scope laws limit records b m a q p)
+one_answer scope laws limit records (Err (BadRow m a)) (Err (BadRow n b)) p q s t =
+    let same = one_bad_row scope laws limit records m n a b p q in
     ap (λ row. Err (BadRow row a)) same.0 ∙ ap (λ fault. Err (BadRow n fault)) same.1
-one_answer laws limit records (Err (BadRow m a)) (Err TooLong) p q s t = absurd (bad_or_long laws limit records m a p q)
-one_answer laws limit records (Err TooLong) (Ok (Yes b)) p q s t = absurd (yes_or_long laws limit records b q p)
-one_answer laws limit records (Err TooLong) (Ok (No b)) p q s t = absurd (no_or_long laws limit records b q p)
-one_answer laws limit records (Err TooLong) (Err (BadRow n b)) p q s t = absurd (bad_or_long laws limit records n b q p)
-one_answer laws limit records (Err TooLong) (Err TooLong) p q s t = refl
-one_answer laws limit records (Err Read) b p q s t = absurd s
-one_answer laws limit records (Err Write) b p q s t = absurd s
-one_answer laws limit records (Err Memory) b p q s t = absurd s
-one_answer laws limit records a (Err Read) p q s t = absurd t
-one_answer laws limit records a (Err Write) p q s t = absurd t
-one_answer laws limit records a (Err Memory) p q s t = absurd t
+one_answer scope laws limit records (Err (BadRow m a)) (Err TooLong) p q s t = absurd (bad_or_long scope laws limit records m a p q)
+one_answer scope laws limit records (Err TooLong) (Ok (Yes b)) p q s t = absurd (yes_or_long scope laws limit records b q p)
+one_answer scope laws limit records (Err TooLong) (Ok (No b)) p q s t = absurd (no_or_long scope laws limit records b q p)
+one_answer scope laws limit records (Err TooLong) (Err (BadRow n b)) p q s t = absurd (bad_or_long scope laws limit records n b q p)
+one_answer scope laws limit records (Err TooLong) (Err TooLong) p q s t = refl
+one_answer scope laws limit records (Err Read) b p q s t = absurd s
+one_answer scope laws limit records (Err Write) b p q s t = absurd s
+one_answer scope laws limit records (Err Memory) b p q s t = absurd s
+one_answer scope laws limit records a (Err Read) p q s t = absurd t
+one_answer scope laws limit records a (Err Write) p q s t = absurd t
+one_answer scope laws limit records a (Err Memory) p q s t = absurd t

@@ -10,6 +10,7 @@ use Rattle.mdb_check.specs.Written.{HasTaken}
 use Rattle.mdb_check.specs.declared.outcome.RunFault.{RunFault}
 use Rattle.mdb_check.specs.declared.outcome.RunFault.TheVariants.{Write}
 use Rattle.mdb_check.proofs.Texts.{appended}
+use Rattle.mdb_bus.specs.declared.scope.Scope.{Scope}
 
 grown_none : (a : Option (List ℕ)) → Appends a a []
 grown_none None = tt
@@ -43,17 +44,17 @@ break_both before now later first second one two = record {
 }
 
 -- The page is written out at last.
-pub written_out : (all : List (List (List ℕ))) (before later : Option (List ℕ)) (now : Output) (answer : Result (Option LinkFault) RunFault)
-    → PutsShowing all (begun before) now answer → (answer ≡ Err Write → ⊥) → Appends now.held later now.waiting → Shows all before later answer
-written_out all before later now answer (inl showing) not written =
+pub written_out : (scope : Scope) (all : List (List (List ℕ))) (before later : Option (List ℕ)) (now : Output) (answer : Result (Option LinkFault) RunFault)
+    → PutsShowing scope all (begun before) now answer → (answer ≡ Err Write → ⊥) → Appends now.held later now.waiting → Shows scope all before later answer
+written_out scope all before later now answer (inl showing) not written =
     let P : List ℕ → Type 0 = λ text. Appends before later text in
     inl (showing.0, showing.1, subst P (sym showing.2.parts) (appended before now.held later showing.2.taken now.waiting showing.2.grown written))
-written_out all before later now answer (inr broken) not written = absurd (not broken.0)
+written_out scope all before later now answer (inr broken) not written = absurd (not broken.0)
 
 -- the writer fails at the page
-pub page_broken : (all : List (List (List ℕ))) (before later : Option (List ℕ)) (now : Output) (answer : Result (Option LinkFault) RunFault)
-    → PutsShowing all (begun before) now answer → (answer ≡ Err Write → ⊥) → HasTaken now.held later now.waiting → IsCutShort all before later
-page_broken all before later now answer (inl showing) not taken = record {
+pub page_broken : (scope : Scope) (all : List (List (List ℕ))) (before later : Option (List ℕ)) (now : Output) (answer : Result (Option LinkFault) RunFault)
+    → PutsShowing scope all (begun before) now answer → (answer ≡ Err Write → ⊥) → HasTaken now.held later now.waiting → IsCutShort scope all before later
+page_broken scope all before later now answer (inl showing) not taken = record {
   answer = answer;
   text = showing.0;
   showing = showing.1;
@@ -64,19 +65,19 @@ page_broken all before later now answer (inl showing) not taken = record {
     grown = appended before now.held later showing.2.taken taken.front showing.2.grown taken.grown;
   };
 }
-page_broken all before later now answer (inr broken) not taken = absurd (not broken.0)
+page_broken scope all before later now answer (inr broken) not taken = absurd (not broken.0)
 
 -- it has failed before
-pub rows_broken : (all : List (List (List ℕ))) (before : Option (List ℕ)) (now : Output) (answer : Result (Option LinkFault) RunFault)
-    → PutsShowing all (begun before) now answer → answer ≡ Err Write → Shows all before now.held answer
-rows_broken all before now answer (inl showing) is =
-    let P : Result (Option LinkFault) RunFault → Type 0 = λ a. IsShowing all a showing.0 in
+pub rows_broken : (scope : Scope) (all : List (List (List ℕ))) (before : Option (List ℕ)) (now : Output) (answer : Result (Option LinkFault) RunFault)
+    → PutsShowing scope all (begun before) now answer → answer ≡ Err Write → Shows scope all before now.held answer
+rows_broken scope all before now answer (inl showing) is =
+    let P : Result (Option LinkFault) RunFault → Type 0 = λ a. IsShowing scope all a showing.0 in
     absurd (subst P is showing.1)
-rows_broken all before now answer (inr broken) is =
+rows_broken scope all before now answer (inr broken) is =
     inr (is, record { answer = broken.1.answer; text = broken.1.text; showing = broken.1.showing; taken = broken.1.broken })
 
 -- That is the answer then, handed on by `?`.
-pub cut_short : (all : List (List (List ℕ))) (before later : Option (List ℕ)) (fault : RunFault) (answer : Result (Option LinkFault) RunFault) → IsErrAnd answer (λ told. told ≡ fault)
-    → fault ≡ Write → IsCutShort all before later → Shows all before later answer
-cut_short all before later fault (Ok showing) is write cut = absurd is
-cut_short all before later fault (Err told) is write cut = inr (ap Err (is ∙ write), cut)
+pub cut_short : (scope : Scope) (all : List (List (List ℕ))) (before later : Option (List ℕ)) (fault : RunFault) (answer : Result (Option LinkFault) RunFault) → IsErrAnd answer (λ told. told ≡ fault)
+    → fault ≡ Write → IsCutShort scope all before later → Shows scope all before later answer
+cut_short scope all before later fault (Ok showing) is write cut = absurd is
+cut_short scope all before later fault (Err told) is write cut = inr (ap Err (is ∙ write), cut)

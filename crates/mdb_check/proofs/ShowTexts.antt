@@ -12,6 +12,7 @@ use Rattle.mdb_bus.specs.ActLists.{Piece, Whole, AskTail, ReplyTail, RepeatTail,
 use Rattle.mdb_bus.specs.Bus.{Grown}
 use Rattle.mdb_check.specs.inner.ShowSteps.{cut_text, ended_text}
 use Rattle.mdb_check.specs.ShowText.{act_text, bytes_text, closed_pieces, piece_line, piece_text, rows_line, show_text}
+use Rattle.mdb_bus.specs.declared.scope.Scope.{Scope}
 
 -- one byte more
 bytes_push : (bytes : List ℕ) (byte : ℕ) → bytes_text (bytes ++ byte ∷ []) ≡ bytes_text bytes ++ 32 ∷ digit_glyph true (byte / 16) ∷ digit_glyph true (byte % 16) ∷ []
@@ -101,12 +102,12 @@ only_a_break (ReplyTail command bytes events) position from to inside comes = ab
 only_a_break (RepeatTail command reply words events) position from to inside comes = absurd (subst IsInside comes.0 inside)
 
 -- so what is no break stands on pieces that are closed
-on_closed : (pieces : List Piece) (piece : Piece) → MayStand pieces piece → (IsBreakPiece piece → ⊥) → closed_pieces pieces ≡ pieces
-on_closed [] piece stands not = refl
-on_closed (Whole act events ∷ pieces) piece stands not = refl
-on_closed (AskTail bytes events ∷ pieces) piece stands not = absurd (not (only_a_break piece (InAsk bytes) _ _ tt stands.comes))
-on_closed (ReplyTail command bytes events ∷ pieces) piece stands not = absurd (not (only_a_break piece (InReply command bytes) _ _ tt stands.comes))
-on_closed (RepeatTail command reply words events ∷ pieces) piece stands not = absurd (not (only_a_break piece (InRepeat command reply words) _ _ tt stands.comes))
+on_closed : (scope : Scope) (pieces : List Piece) (piece : Piece) → MayStand scope pieces piece → (IsBreakPiece piece → ⊥) → closed_pieces pieces ≡ pieces
+on_closed scope [] piece stands not = refl
+on_closed scope (Whole act events ∷ pieces) piece stands not = refl
+on_closed scope (AskTail bytes events ∷ pieces) piece stands not = absurd (not (only_a_break piece (InAsk bytes) _ _ tt stands.comes))
+on_closed scope (ReplyTail command bytes events ∷ pieces) piece stands not = absurd (not (only_a_break piece (InReply command bytes) _ _ tt stands.comes))
+on_closed scope (RepeatTail command reply words events ∷ pieces) piece stands not = absurd (not (only_a_break piece (InRepeat command reply words) _ _ tt stands.comes))
 
 tail_no_break : (piece : Piece) → act_in piece ≡ None → IsBreakPiece piece → ⊥
 tail_no_break (Whole act events) none is = cc
@@ -127,18 +128,18 @@ none_tail (ReplyTail command bytes events) none = tt
 none_tail (RepeatTail command reply words events) none = tt
 
 -- a row that ends no act leaves the closed pieces as they were
-pub goes_on_closed : (pieces longer : List Piece) (row : Event) → Grown pieces row None longer → ArePieces longer → closed_pieces longer ≡ closed_pieces pieces
-goes_on_closed pieces longer row grown order = with_from grown.from
+pub goes_on_closed : (scope : Scope) (pieces longer : List Piece) (row : Event) → Grown pieces row None longer → ArePieces scope longer → closed_pieces longer ≡ closed_pieces pieces
+goes_on_closed scope pieces longer row grown order = with_from grown.from
   where
     after : closed_pieces longer ≡ grown.earlier
     after = ap closed_pieces grown.are ∙ closed_tail grown.newest grown.earlier (none_tail grown.newest grown.ends)
 
-    ordered : ArePieces (grown.newest ∷ grown.earlier)
-    ordered = subst ArePieces grown.are order
+    ordered : ArePieces scope (grown.newest ∷ grown.earlier)
+    ordered = subst (ArePieces scope) grown.are order
 
     with_from : ((grown.begun ≡ []) × (pieces ≡ grown.earlier)) ⊎ ((tail : Piece) × IsTail tail × (piece_events tail ≡ grown.begun) × (pieces ≡ tail ∷ grown.earlier)) → closed_pieces longer ≡ closed_pieces pieces
     with_from (inl new) =
-        after ∙ (sym (on_closed grown.earlier grown.newest ordered.1 (tail_no_break grown.newest grown.ends)) ∙ ap closed_pieces (sym new.1))
+        after ∙ (sym (on_closed scope grown.earlier grown.newest ordered.1 (tail_no_break grown.newest grown.ends)) ∙ ap closed_pieces (sym new.1))
     with_from (inr old) = after ∙ sym (ap closed_pieces old.3 ∙ closed_tail old.0 grown.earlier old.1)
 
 -- lines of rows in all
@@ -163,29 +164,29 @@ tail_said (ReplyTail command bytes events) is = refl
 tail_said (RepeatTail command reply words events) is = refl
 
 -- a tail has rows
-some_events : (pieces : List Piece) (piece : Piece) → MayStand pieces piece → 0 < length (piece_events piece)
-some_events pieces piece stands = let begins : piece_events piece ≡ stands.first ∷ stands.others = stands.begins in omega (arith, ap length begins)
+some_events : (scope : Scope) (pieces : List Piece) (piece : Piece) → MayStand scope pieces piece → 0 < length (piece_events piece)
+some_events scope pieces piece stands = let begins : piece_events piece ≡ stands.first ∷ stands.others = stands.begins in omega (arith, ap length begins)
 
-with_tail : (piece : Piece) (pieces : List Piece) → IsTail piece → MayStand pieces piece
+with_tail : (scope : Scope) (piece : Piece) (pieces : List Piece) → IsTail piece → MayStand scope pieces piece
     → show_text (piece ∷ pieces) ≡ show_text pieces ++ cut_text (length (events_of pieces)) (length (events_of (piece ∷ pieces)))
-with_tail piece pieces is stands =
+with_tail scope piece pieces is stands =
     let n : ℕ = length (events_of pieces) in
     let m : ℕ = length (piece_events piece) in
     let counted : length (events_of (piece ∷ pieces)) ≡ n + m = length-append (events_of pieces) (piece_events piece) in
     let said : piece_line n piece ≡ rows_line (n + 1) (n + m) (codes "cut") = ap (λ said. rows_line (n + 1) (n + m) said) (tail_said piece is) in
-    let cut : cut_text n (n + m) ≡ rows_line (n + 1) (n + m) (codes "cut") = cut_some n (n + m) (omega (arith, some_events pieces piece stands)) in
+    let cut : cut_text n (n + m) ≡ rows_line (n + 1) (n + m) (codes "cut") = cut_some n (n + m) (omega (arith, some_events scope pieces piece stands)) in
     ap (λ l. show_text pieces ++ l) (said ∙ (sym cut ∙ ap (λ k. cut_text n k) (sym counted)))
 
 -- the lines of all pieces are those of the closed ones, and that of a tail
-pub all_shown : (pieces : List Piece) → ArePieces pieces
+pub all_shown : (scope : Scope) (pieces : List Piece) → ArePieces scope pieces
     → show_text pieces ≡ show_text (closed_pieces pieces) ++ cut_text (length (events_of (closed_pieces pieces))) (length (events_of pieces))
-all_shown [] order = sym (append-nil _) ∙ ap (λ l. show_text [] ++ l) (sym (cut_none 0 0 refl))
-all_shown (Whole act events ∷ pieces) order =
+all_shown scope [] order = sym (append-nil _) ∙ ap (λ l. show_text [] ++ l) (sym (cut_none 0 0 refl))
+all_shown scope (Whole act events ∷ pieces) order =
     let n : ℕ = length (events_of (Whole act events ∷ pieces)) in
     sym (append-nil (show_text (Whole act events ∷ pieces))) ∙ ap (λ l. show_text (Whole act events ∷ pieces) ++ l) (sym (cut_none n n refl))
-all_shown (AskTail bytes events ∷ pieces) order = with_tail (AskTail bytes events) pieces tt order.1
-all_shown (ReplyTail command bytes events ∷ pieces) order = with_tail (ReplyTail command bytes events) pieces tt order.1
-all_shown (RepeatTail command reply words events ∷ pieces) order = with_tail (RepeatTail command reply words events) pieces tt order.1
+all_shown scope (AskTail bytes events ∷ pieces) order = with_tail scope (AskTail bytes events) pieces tt order.1
+all_shown scope (ReplyTail command bytes events ∷ pieces) order = with_tail scope (ReplyTail command bytes events) pieces tt order.1
+all_shown scope (RepeatTail command reply words events ∷ pieces) order = with_tail scope (RepeatTail command reply words events) pieces tt order.1
 
 -- an act is a break or not
 break_or_not : (act : Act) → IsBreakAct act ⊎ (IsBreakAct act → ⊥)
@@ -231,17 +232,17 @@ whole_of (AskTail bytes events) act is = cc
 whole_of (ReplyTail command bytes events) act is = cc
 whole_of (RepeatTail command reply words events) act is = cc
 
-break_short : (act : Act) (events : List Event) (pieces : List Piece) → ArePieces (Whole act events ∷ pieces) → IsBreakAct act → length events ≡ 1
-break_short (acts.Ask command) events pieces order is = absurd is
-break_short (acts.Ack command) events pieces order is = absurd is
-break_short (acts.Nak command) events pieces order is = absurd is
-break_short (acts.Reply command reply) events pieces order is = absurd is
-break_short (acts.VmcAck command reply) events pieces order is = absurd is
-break_short (acts.VmcNak command reply) events pieces order is = absurd is
-break_short (acts.VmcRet command reply) events pieces order is = absurd is
-break_short (acts.Repeat command reply) events pieces order is = absurd is
-break_short acts.Foreign events pieces order is = absurd is
-break_short (acts.Break len) events pieces order is = ap length order.0.said.1
+break_short : (scope : Scope) (act : Act) (events : List Event) (pieces : List Piece) → ArePieces scope (Whole act events ∷ pieces) → IsBreakAct act → length events ≡ 1
+break_short scope (acts.Ask command) events pieces order is = absurd is
+break_short scope (acts.Ack command) events pieces order is = absurd is
+break_short scope (acts.Nak command) events pieces order is = absurd is
+break_short scope (acts.Reply command reply) events pieces order is = absurd is
+break_short scope (acts.VmcAck command reply) events pieces order is = absurd is
+break_short scope (acts.VmcNak command reply) events pieces order is = absurd is
+break_short scope (acts.VmcRet command reply) events pieces order is = absurd is
+break_short scope (acts.Repeat command reply) events pieces order is = absurd is
+break_short scope acts.Foreign events pieces order is = absurd is
+break_short scope (acts.Break len) events pieces order is = ap length order.0.said.1
 
 -- the line of a piece with its rows
 whole_line : (act : Act) (events : List Event) (pieces : List Piece) (n last : ℕ) → length (events_of pieces) ≡ n → n + length events ≡ last
@@ -251,10 +252,10 @@ whole_line act events pieces n last counted end =
     ∙ ap (λ k. show_text pieces ++ rows_line (n + 1) k (act_text act)) end
 
 -- a row that ends an act adds the lines of that act
-pub ends_act : (pieces longer : List Piece) (row : Event) (act : Act) (shown rows : ℕ) → Grown pieces row (Some act) longer → ArePieces pieces → ArePieces longer
+pub ends_act : (scope : Scope) (pieces longer : List Piece) (row : Event) (act : Act) (shown rows : ℕ) → Grown pieces row (Some act) longer → ArePieces scope pieces → ArePieces scope longer
     → length (events_of (closed_pieces pieces)) ≡ shown → length (events_of pieces) ≡ rows
     → (closed_pieces longer ≡ longer) × (show_text longer ≡ show_text (closed_pieces pieces) ++ ended_text shown rows act)
-ends_act pieces longer row act shown rows grown before order closed counted = (stays, with_from grown.from)
+ends_act scope pieces longer row act shown rows grown before order closed counted = (stays, with_from grown.from)
   where
     events : List Event
     events = piece_events grown.newest
@@ -265,8 +266,8 @@ ends_act pieces longer row act shown rows grown before order closed counted = (s
     stays : closed_pieces longer ≡ longer
     stays = ap closed_pieces are ∙ sym are
 
-    ordered : ArePieces (Whole act events ∷ grown.earlier)
-    ordered = subst ArePieces are order
+    ordered : ArePieces scope (Whole act events ∷ grown.earlier)
+    ordered = subst (ArePieces scope) are order
 
     long : length events ≡ length grown.begun + 1
     long = ap length grown.events ∙ length-append grown.begun (row ∷ [])
@@ -281,7 +282,7 @@ ends_act pieces longer row act shown rows grown before order closed counted = (s
         let here : length (events_of grown.earlier) ≡ rows = ap (λ l. length (events_of l)) (sym same) ∙ counted in
         let this : show_text longer ≡ show_text grown.earlier ++ rows_line (rows + 1) (rows + 1) (act_text act) = lines rows (rows + 1) here (omega (arith, long, none_long)) in
         let all : show_text pieces ≡ show_text (closed_pieces pieces) ++ cut_text shown rows =
-        all_shown pieces before ∙ (ap (λ n. show_text (closed_pieces pieces) ++ cut_text n (length (events_of pieces))) closed
+        all_shown scope pieces before ∙ (ap (λ n. show_text (closed_pieces pieces) ++ cut_text n (length (events_of pieces))) closed
         ∙ ap (λ n. show_text (closed_pieces pieces) ++ cut_text shown n) counted) in
         this ∙ (ap (λ l. show_text l ++ rows_line (rows + 1) (rows + 1) (act_text act)) (sym same)
         ∙ (ap (λ l. l ++ rows_line (rows + 1) (rows + 1) (act_text act)) all
@@ -289,7 +290,7 @@ ends_act pieces longer row act shown rows grown before order closed counted = (s
         ∙ ap (λ l. show_text (closed_pieces pieces) ++ l) (sym (ended_break shown rows act is)))))
     alone none same (inr not) =
         let none_long : length grown.begun ≡ 0 = ap length none in
-        let shut : closed_pieces pieces ≡ pieces = ap closed_pieces same ∙ (on_closed grown.earlier (Whole act events) ordered.1 not ∙ sym same) in
+        let shut : closed_pieces pieces ≡ pieces = ap closed_pieces same ∙ (on_closed scope grown.earlier (Whole act events) ordered.1 not ∙ sym same) in
         let both : shown ≡ rows = sym closed ∙ (ap (λ l. length (events_of l)) shut ∙ counted) in
         let earlier : grown.earlier ≡ closed_pieces pieces = sym same ∙ sym shut in
         let here : length (events_of grown.earlier) ≡ shown = ap (λ l. length (events_of l)) earlier ∙ closed in
@@ -301,9 +302,9 @@ ends_act pieces longer row act shown rows grown before order closed counted = (s
     of_tail : (tail : Piece) → IsTail tail → piece_events tail ≡ grown.begun → pieces ≡ tail ∷ grown.earlier → IsBreakAct act ⊎ (IsBreakAct act → ⊥)
         → show_text longer ≡ show_text (closed_pieces pieces) ++ ended_text shown rows act
     of_tail tail is said same (inl broken) =
-        let tail_order : ArePieces (tail ∷ grown.earlier) = subst ArePieces same before in
+        let tail_order : ArePieces scope (tail ∷ grown.earlier) = subst (ArePieces scope) same before in
         let said_long : length (piece_events tail) ≡ length grown.begun = ap length said in
-        absurd (omega (arith, break_short act events grown.earlier ordered broken, long, said_long, some_events grown.earlier tail tail_order.1))
+        absurd (omega (arith, break_short scope act events grown.earlier ordered broken, long, said_long, some_events scope grown.earlier tail tail_order.1))
     of_tail tail is said same (inr not) =
         let said_long : length (piece_events tail) ≡ length grown.begun = ap length said in
         let earlier : grown.earlier ≡ closed_pieces pieces = sym (ap closed_pieces same ∙ closed_tail tail grown.earlier is) in

@@ -5,8 +5,8 @@ use Rattle.std.specs.Result.{result_transpose}
 use Rattle.mdb_words.specs.declared.event.Event.{Event}
 use Rattle.mdb_words.specs.Row.{IsRefusal, IsRow}
 use Rattle.mdb_bus.specs.declared.fault.LinkFault.{LinkFault}
-use Rattle.mdb_bus.specs.ActLists.{events_of}
-use Rattle.mdb_bus.specs.Bus.{StandsFor}
+use Rattle.mdb_bus.specs.ActLists.{ArePieces, events_of}
+use Rattle.mdb_bus.specs.Bus.{StandsFor, scope_of}
 use Rattle.mdb_follow.specs.declared.follower.TheConstants.{ROWS_MAX}
 use Rattle.mdb_check.specs.declared.outcome.RunFault.{RunFault}
 use Rattle.mdb_check.specs.declared.outcome.RunFault.TheVariants.{BadRow, TooLong, Read, Write, Memory}
@@ -20,13 +20,15 @@ use Rattle.mdb_check.specs.Verdict.{AreRows}
 use Rattle.mdb_check.proofs.Outputs.{break_both, put_both, put_none}
 use Rattle.mdb_check.proofs.Rows.{IsReadBefore, IsReadUpTo, are_rows, read_before, read_up_to}
 use Rattle.mdb_check.proofs.ShowTexts.{all_shown}
+use Rattle.mdb_bus.specs.declared.scope.Scope.{Scope}
 
 -- before the first row
-pub begins : (lines : Lines) (page : Page) → StandsFor lines.bus [] → lines.rows ≡ 0 → lines.shown ≡ 0 → page.lines.items ≡ []
-    → (contents : Option (List ℕ)) → HasShown lines (begun contents) (output contents page) []
-begins lines page stands no_rows none empty contents =
+pub begins : (scope : Scope) (lines : Lines) (page : Page) → scope_of lines.bus ≡ scope → StandsFor lines.bus [] → lines.rows ≡ 0 → lines.shown ≡ 0 → page.lines.items ≡ []
+    → (contents : Option (List ℕ)) → HasShown scope lines (begun contents) (output contents page) []
+begins scope lines page is stands no_rows none empty contents =
     let P : List ℕ → Type 0 = λ waiting. Puts (begun contents) (record { held = contents; waiting = waiting }) [] in
     record {
+      in_scope = is;
       pieces = [];
       stands = stands;
       are = refl;
@@ -37,99 +39,99 @@ begins lines page stands no_rows none empty contents =
     }
 
 -- The lines of rows are added, or they end at one of them.
-pub added : (lines : Lines) (before after : Output) (earlier rows : List Event) (answer : Result (Option LinkFault) RunFault) (stop : Option (Result LinkFault RunFault)) → stop ≡ result_transpose answer
-    → HasAdded lines before after earlier rows answer → HasTaken (HasShown lines before after) (HasStopped lines before after) earlier rows stop
-added lines before after earlier rows (Ok None) stop is adds =
-    let P : Option (Result LinkFault RunFault) → Type 0 = λ s. HasTaken (HasShown lines before after) (HasStopped lines before after) earlier rows s in
+pub added : (scope : Scope) (lines : Lines) (before after : Output) (earlier rows : List Event) (answer : Result (Option LinkFault) RunFault) (stop : Option (Result LinkFault RunFault)) → stop ≡ result_transpose answer
+    → HasAdded scope lines before after earlier rows answer → HasTaken (HasShown scope lines before after) (HasStopped scope lines before after) earlier rows stop
+added scope lines before after earlier rows (Ok None) stop is adds =
+    let P : Option (Result LinkFault RunFault) → Type 0 = λ s. HasTaken (HasShown scope lines before after) (HasStopped scope lines before after) earlier rows s in
     subst P (sym is) adds
-added lines before after earlier rows (Ok (Some fault)) stop is adds =
-    let P : Option (Result LinkFault RunFault) → Type 0 = λ s. HasTaken (HasShown lines before after) (HasStopped lines before after) earlier rows s in
+added scope lines before after earlier rows (Ok (Some fault)) stop is adds =
+    let P : Option (Result LinkFault RunFault) → Type 0 = λ s. HasTaken (HasShown scope lines before after) (HasStopped scope lines before after) earlier rows s in
     subst P (sym is) adds
-added lines before after earlier rows (Err fault) stop is adds =
-    let P : Option (Result LinkFault RunFault) → Type 0 = λ s. HasTaken (HasShown lines before after) (HasStopped lines before after) earlier rows s in
+added scope lines before after earlier rows (Err fault) stop is adds =
+    let P : Option (Result LinkFault RunFault) → Type 0 = λ s. HasTaken (HasShown scope lines before after) (HasStopped scope lines before after) earlier rows s in
     subst P (sym is) adds
 
 -- the pieces of the rows that were read
-shown_of : (all : List (List (List ℕ))) (rows : List Event) (rest : List (List (List ℕ))) (lines : Lines) (before now : Output) (has : HasShown lines before now rows) → AreRead IsRow all rows rest
-    → AreShown all has.pieces rest
-shown_of all rows rest lines before now has read =
+shown_of : (scope : Scope) (all : List (List (List ℕ))) (rows : List Event) (rest : List (List (List ℕ))) (lines : Lines) (before now : Output) (has : HasShown scope lines before now rows) → AreRead IsRow all rows rest
+    → AreShown scope all has.pieces rest
+shown_of scope all rows rest lines before now has read =
     let P : List Event → Type 0 = λ l. AreRows read.done l in
-    record { done = read.done; split = read.split; told = subst P (sym has.are) (are_rows read.done rows read.told); in_order = has.stands.in_order }
+    record { done = read.done; split = read.split; told = subst P (sym has.are) (are_rows read.done rows read.told); in_order = subst (λ s. ArePieces s has.pieces) has.in_scope has.stands.in_order }
 
 -- so many rows
-count_of : (rows : List Event) (lines : Lines) (before now : Output) (has : HasShown lines before now rows) → length (events_of has.pieces) ≡ length rows
-count_of rows lines before now has = ap length has.are
+count_of : (scope : Scope) (rows : List Event) (lines : Lines) (before now : Output) (has : HasShown scope lines before now rows) → length (events_of has.pieces) ≡ length rows
+count_of scope rows lines before now has = ap length has.are
 
 -- all records are shown, with the line of a tail
-whole_showing : (all : List (List (List ℕ))) (lines : Lines) (before now : Output) (ended : IsTakenWhole IsRow (HasShown lines before now) ROWS_MAX all)
-    → IsShownWhole all (show_text (closed_pieces ended.has.pieces) ++ cut_text lines.shown lines.rows)
-whole_showing all lines before now ended =
-    let has : HasShown lines before now ended.rows = ended.has in
+whole_showing : (scope : Scope) (all : List (List (List ℕ))) (lines : Lines) (before now : Output) (ended : IsTakenWhole IsRow (HasShown scope lines before now) ROWS_MAX all)
+    → IsShownWhole scope all (show_text (closed_pieces ended.has.pieces) ++ cut_text lines.shown lines.rows)
+whole_showing scope all lines before now ended =
+    let has : HasShown scope lines before now ended.rows = ended.has in
     let counted : length (events_of has.pieces) ≡ lines.rows = ap length has.are ∙ has.counted in
     let text : show_text has.pieces ≡ show_text (closed_pieces has.pieces) ++ cut_text lines.shown lines.rows =
-    all_shown has.pieces has.stands.in_order
+    all_shown (scope_of lines.bus) has.pieces has.stands.in_order
     ∙ (ap (λ n. show_text (closed_pieces has.pieces) ++ cut_text n (length (events_of has.pieces))) has.closed ∙ ap (λ n. show_text (closed_pieces has.pieces) ++ cut_text lines.shown n) counted) in
     record {
       pieces = has.pieces;
-      shown = shown_of all ended.rows [] lines before now has ended.read;
-      few = omega (arith, count_of ended.rows lines before now has, ended.few);
+      shown = shown_of scope all ended.rows [] lines before now has ended.read;
+      few = omega (arith, count_of scope ended.rows lines before now has, ended.few);
       lines = sym text;
     }
 
 -- the text ends
-pub whole : (all : List (List (List ℕ))) (lines : Lines) (before now later : Output) → IsTakenWhole IsRow (HasShown lines before now) ROWS_MAX all → Puts now later (cut_text lines.shown lines.rows)
-    → PutsShowing all before later (Ok None)
-whole all lines before now later ended cut =
+pub whole : (scope : Scope) (all : List (List (List ℕ))) (lines : Lines) (before now later : Output) → IsTakenWhole IsRow (HasShown scope lines before now) ROWS_MAX all → Puts now later (cut_text lines.shown lines.rows)
+    → PutsShowing scope all before later (Ok None)
+whole scope all lines before now later ended cut =
     let lines_text : List ℕ = show_text (closed_pieces ended.has.pieces) in
     inl (
       lines_text ++ cut_text lines.shown lines.rows,
-      whole_showing all lines before now ended,
+      whole_showing scope all lines before now ended,
       put_both before now later lines_text (cut_text lines.shown lines.rows) ended.has.written cut,
     )
 
 -- the line of a tail isn't put there
-untaken : (all : List (List (List ℕ))) (lines : Lines) (before now later : Output) → IsTakenWhole IsRow (HasShown lines before now) ROWS_MAX all
-    → (fault : RunFault) → IsNotTaken fault now later (cut_text lines.shown lines.rows) → PutsShowing all before later (Err fault)
-untaken all lines before now later ended (BadRow row fault) not_taken = absurd not_taken
-untaken all lines before now later ended TooLong not_taken = absurd not_taken
-untaken all lines before now later ended Read not_taken = absurd not_taken
-untaken all lines before now later ended Write not_taken =
+untaken : (scope : Scope) (all : List (List (List ℕ))) (lines : Lines) (before now later : Output) → IsTakenWhole IsRow (HasShown scope lines before now) ROWS_MAX all
+    → (fault : RunFault) → IsNotTaken fault now later (cut_text lines.shown lines.rows) → PutsShowing scope all before later (Err fault)
+untaken scope all lines before now later ended (BadRow row fault) not_taken = absurd not_taken
+untaken scope all lines before now later ended TooLong not_taken = absurd not_taken
+untaken scope all lines before now later ended Read not_taken = absurd not_taken
+untaken scope all lines before now later ended Write not_taken =
     let text : List ℕ = show_text (closed_pieces ended.has.pieces) in
     inr (
       refl,
       record {
         answer = Ok None;
         text = text ++ cut_text lines.shown lines.rows;
-        showing = whole_showing all lines before now ended;
+        showing = whole_showing scope all lines before now ended;
         broken = break_both before now later text (cut_text lines.shown lines.rows) ended.has.written not_taken;
       },
     )
-untaken all lines before now later ended Memory not_taken =
-    let P : Output → Type 0 = λ bytes. PutsShowing all before bytes (Err Memory) in
-    let shown : AreShown all ended.has.pieces [] = shown_of all ended.rows [] lines before now ended.has ended.read in
+untaken scope all lines before now later ended Memory not_taken =
+    let P : Output → Type 0 = λ bytes. PutsShowing scope all before bytes (Err Memory) in
+    let shown : AreShown scope all ended.has.pieces [] = shown_of scope all ended.rows [] lines before now ended.has ended.read in
     subst P (sym not_taken)
     (inl (show_text (closed_pieces ended.has.pieces), record { pieces = ended.has.pieces; rest = []; shown = shown; lines = refl }, ended.has.written))
 
-pub cut_refused : (all : List (List (List ℕ))) (lines : Lines) (before now later : Output) → IsTakenWhole IsRow (HasShown lines before now) ROWS_MAX all
+pub cut_refused : (scope : Scope) (all : List (List (List ℕ))) (lines : Lines) (before now later : Output) → IsTakenWhole IsRow (HasShown scope lines before now) ROWS_MAX all
     → (fault : RunFault) → IsNotTaken fault now later (cut_text lines.shown lines.rows)
-    → (answer : Result (Option LinkFault) RunFault) → IsErrAnd answer (λ told. told ≡ fault) → PutsShowing all before later answer
-cut_refused all lines before now later ended fault not_taken (Ok showing) told_is = absurd told_is
-cut_refused all lines before now later ended fault not_taken (Err told) told_is =
-    let P : RunFault → Type 0 = λ f. PutsShowing all before later (Err f) in
-    subst P (sym told_is) (untaken all lines before now later ended fault not_taken)
+    → (answer : Result (Option LinkFault) RunFault) → IsErrAnd answer (λ told. told ≡ fault) → PutsShowing scope all before later answer
+cut_refused scope all lines before now later ended fault not_taken (Ok showing) told_is = absurd told_is
+cut_refused scope all lines before now later ended fault not_taken (Err told) told_is =
+    let P : RunFault → Type 0 = λ f. PutsShowing scope all before later (Err f) in
+    subst P (sym told_is) (untaken scope all lines before now later ended fault not_taken)
 
 -- a record isn't taken, or can't be read
-refused_by : (all : List (List (List ℕ))) (lines : Lines) (before now : Output) (fault : RunFault)
-    → HasEnded IsRow IsRefusal (HasShown lines before now) (HasStopped lines before now) ROWS_MAX all (Err fault) → PutsShowing all before now (Err fault)
-refused_by all lines before now (BadRow row fault) ended =
-    let has : HasShown lines before now ended.rows = ended.has in
-    let counted : length (events_of has.pieces) ≡ length ended.rows = count_of ended.rows lines before now has in inl (
+refused_by : (scope : Scope) (all : List (List (List ℕ))) (lines : Lines) (before now : Output) (fault : RunFault)
+    → HasEnded IsRow IsRefusal (HasShown scope lines before now) (HasStopped scope lines before now) ROWS_MAX all (Err fault) → PutsShowing scope all before now (Err fault)
+refused_by scope all lines before now (BadRow row fault) ended =
+    let has : HasShown scope lines before now ended.rows = ended.has in
+    let counted : length (events_of has.pieces) ≡ length ended.rows = count_of scope ended.rows lines before now has in inl (
       show_text (closed_pieces has.pieces),
       record {
         pieces = has.pieces;
         fields = ended.fields;
         rest = ended.rest;
-        shown = shown_of all ended.rows (ended.fields ∷ ended.rest) lines before now has ended.read;
+        shown = shown_of scope all ended.rows (ended.fields ∷ ended.rest) lines before now has ended.read;
         few = omega (arith, counted, ended.few);
         number = omega (arith, counted, ended.number);
         refused = ended.refused;
@@ -137,42 +139,42 @@ refused_by all lines before now (BadRow row fault) ended =
       },
       has.written,
     )
-refused_by all lines before now TooLong ended =
-    let has : HasShown lines before now ended.rows = ended.has in inl (
+refused_by scope all lines before now TooLong ended =
+    let has : HasShown scope lines before now ended.rows = ended.has in inl (
       show_text (closed_pieces has.pieces),
       record {
         pieces = has.pieces;
         fields = ended.fields;
         rest = ended.rest;
-        shown = shown_of all ended.rows (ended.fields ∷ ended.rest) lines before now has ended.read;
-        full = count_of ended.rows lines before now has ∙ ended.full;
+        shown = shown_of scope all ended.rows (ended.fields ∷ ended.rest) lines before now has ended.read;
+        full = count_of scope ended.rows lines before now has ∙ ended.full;
         lines = refl;
       },
       has.written,
     )
-refused_by all lines before now Read ended =
-    let shown : AreShown all ended.has.pieces ended.rest = shown_of all ended.rows ended.rest lines before now ended.has ended.read in
+refused_by scope all lines before now Read ended =
+    let shown : AreShown scope all ended.has.pieces ended.rest = shown_of scope all ended.rows ended.rest lines before now ended.has ended.read in
     inl (show_text (closed_pieces ended.has.pieces), record { pieces = ended.has.pieces; rest = ended.rest; shown = shown; lines = refl }, ended.has.written)
-refused_by all lines before now Memory ended =
-    let shown : AreShown all ended.has.pieces ended.rest = shown_of all ended.rows ended.rest lines before now ended.has ended.read in
+refused_by scope all lines before now Memory ended =
+    let shown : AreShown scope all ended.has.pieces ended.rest = shown_of scope all ended.rows ended.rest lines before now ended.has ended.read in
     inl (show_text (closed_pieces ended.has.pieces), record { pieces = ended.has.pieces; rest = ended.rest; shown = shown; lines = refl }, ended.has.written)
-refused_by all lines before now Write ended = absurd ended
+refused_by scope all lines before now Write ended = absurd ended
 
-pub refused : (all : List (List (List ℕ))) (lines : Lines) (before now : Output) (fault : RunFault)
-    → HasEnded IsRow IsRefusal (HasShown lines before now) (HasStopped lines before now) ROWS_MAX all (Err fault)
-    → (answer : Result (Option LinkFault) RunFault) → IsErrAnd answer (λ told. told ≡ fault) → PutsShowing all before now answer
-refused all lines before now fault ended (Ok showing) told_is = absurd told_is
-refused all lines before now fault ended (Err told) told_is =
-    let P : RunFault → Type 0 = λ f. PutsShowing all before now (Err f) in
-    subst P (sym told_is) (refused_by all lines before now fault ended)
+pub refused : (scope : Scope) (all : List (List (List ℕ))) (lines : Lines) (before now : Output) (fault : RunFault)
+    → HasEnded IsRow IsRefusal (HasShown scope lines before now) (HasStopped scope lines before now) ROWS_MAX all (Err fault)
+    → (answer : Result (Option LinkFault) RunFault) → IsErrAnd answer (λ told. told ≡ fault) → PutsShowing scope all before now answer
+refused scope all lines before now fault ended (Ok showing) told_is = absurd told_is
+refused scope all lines before now fault ended (Err told) told_is =
+    let P : RunFault → Type 0 = λ f. PutsShowing scope all before now (Err f) in
+    subst P (sym told_is) (refused_by scope all lines before now fault ended)
 
 -- Where they end at one of the later rows.
 
 -- the pieces up to a row that breaks a rule of the link, and its text, are of the records
-fault_showing : (all : List (List (List ℕ))) (earlier later : List Event) (rest : List (List (List ℕ))) → AreRead IsRow all (earlier ++ later) rest → length (earlier ++ later) ≤ ROWS_MAX
-    → (fault : LinkFault) (text : List ℕ) → IsAddedToFault earlier later fault text → IsShownToFault all fault text
-fault_showing all earlier later rest read few fault text added =
-    let lead : LeadInto earlier later added.pieces = added.lead in
+fault_showing : (scope : Scope) (all : List (List (List ℕ))) (earlier later : List Event) (rest : List (List (List ℕ))) → AreRead IsRow all (earlier ++ later) rest → length (earlier ++ later) ≤ ROWS_MAX
+    → (fault : LinkFault) (text : List ℕ) → IsAddedToFault scope earlier later fault text → IsShownToFault scope all fault text
+fault_showing scope all earlier later rest read few fault text added =
+    let lead : LeadInto scope earlier later added.pieces = added.lead in
     let parts : earlier ++ later ≡ (earlier ++ lead.front) ++ added.row ∷ added.after =
     ap (λ l. earlier ++ l) (lead.parts ∙ ap (λ l. lead.front ++ l) added.next) ∙ sym (append_assoc earlier lead.front (added.row ∷ added.after)) in
     let P : List Event → Type 0 = λ l. AreRead IsRow all l rest in
@@ -192,9 +194,9 @@ fault_showing all earlier later rest read few fault text added =
     }
 
 -- and so are those of some of the rows
-part_showing : (all : List (List (List ℕ))) (earlier later : List Event) (rest : List (List (List ℕ))) → AreRead IsRow all (earlier ++ later) rest → (text : List ℕ) → IsAddedInPart earlier later text → IsShownInPart all text
-part_showing all earlier later rest read text added =
-    let lead : LeadInto earlier later added.pieces = added.lead in
+part_showing : (scope : Scope) (all : List (List (List ℕ))) (earlier later : List Event) (rest : List (List (List ℕ))) → AreRead IsRow all (earlier ++ later) rest → (text : List ℕ) → IsAddedInPart scope earlier later text → IsShownInPart scope all text
+part_showing scope all earlier later rest read text added =
+    let lead : LeadInto scope earlier later added.pieces = added.lead in
     let parts : earlier ++ later ≡ (earlier ++ lead.front) ++ lead.rest = ap (λ l. earlier ++ l) lead.parts ∙ sym (append_assoc earlier lead.front lead.rest) in
     let P : List Event → Type 0 = λ l. AreRead IsRow all l rest in
     let before : IsReadBefore IsRow all (earlier ++ lead.front) lead.rest = read_before IsRow all (earlier ++ lead.front) lead.rest rest (subst P parts read) in
@@ -207,34 +209,34 @@ part_showing all earlier later rest read text added =
     }
 
 -- a text that these rows may come to is one of the records
-showing_of : (all : List (List (List ℕ))) (earlier later : List Event) (rest : List (List (List ℕ))) → AreRead IsRow all (earlier ++ later) rest → length (earlier ++ later) ≤ ROWS_MAX
-    → (text : List ℕ) → IsAdded earlier later text → (answer : Result (Option LinkFault) RunFault) × IsShowing all answer text
-showing_of all earlier later rest read few text (inl part) = (Err Memory, part_showing all earlier later rest read text part)
-showing_of all earlier later rest read few text (inr to_fault) = (Ok (Some to_fault.0), fault_showing all earlier later rest read few to_fault.0 text to_fault.1)
+showing_of : (scope : Scope) (all : List (List (List ℕ))) (earlier later : List Event) (rest : List (List (List ℕ))) → AreRead IsRow all (earlier ++ later) rest → length (earlier ++ later) ≤ ROWS_MAX
+    → (text : List ℕ) → IsAdded scope earlier later text → (answer : Result (Option LinkFault) RunFault) × IsShowing scope all answer text
+showing_of scope all earlier later rest read few text (inl part) = (Err Memory, part_showing scope all earlier later rest read text part)
+showing_of scope all earlier later rest read few text (inr to_fault) = (Ok (Some to_fault.0), fault_showing scope all earlier later rest read few to_fault.0 text to_fault.1)
 
 -- a row breaks a rule of the link
-pub at_fault : (all : List (List (List ℕ))) (lines : Lines) (before after : Output) (fault : LinkFault)
-    → IsStopped IsRow (λ earlier later. HasStopped lines before after earlier later (Ok fault)) ROWS_MAX all → PutsShowing all before after (Ok (Some fault))
-at_fault all lines before after fault ended =
-    let added : (text : List ℕ) × IsAddedToFault ended.earlier ended.later fault text × Puts before after text = ended.stops in
-    inl (added.0, fault_showing all ended.earlier ended.later ended.rest ended.read ended.few fault added.0 added.1, added.2)
+pub at_fault : (scope : Scope) (all : List (List (List ℕ))) (lines : Lines) (before after : Output) (fault : LinkFault)
+    → IsStopped IsRow (λ earlier later. HasStopped scope lines before after earlier later (Ok fault)) ROWS_MAX all → PutsShowing scope all before after (Ok (Some fault))
+at_fault scope all lines before after fault ended =
+    let added : (text : List ℕ) × IsAddedToFault scope ended.earlier ended.later fault text × Puts before after text = ended.stops in
+    inl (added.0, fault_showing scope all ended.earlier ended.later ended.rest ended.read ended.few fault added.0 added.1, added.2)
 
 -- a line isn't taken
-untaken_by : (all : List (List (List ℕ))) (lines : Lines) (before after : Output) (fault : RunFault)
-    → IsStopped IsRow (λ earlier later. HasStopped lines before after earlier later (Err fault)) ROWS_MAX all → PutsShowing all before after (Err fault)
-untaken_by all lines before after (BadRow row fault) ended = absurd ended.stops
-untaken_by all lines before after TooLong ended = absurd ended.stops
-untaken_by all lines before after Read ended = absurd ended.stops
-untaken_by all lines before after Write ended =
-    let would : (answer : Result (Option LinkFault) RunFault) × IsShowing all answer ended.stops.0 = showing_of all ended.earlier ended.later ended.rest ended.read ended.few ended.stops.0 ended.stops.1 in
+untaken_by : (scope : Scope) (all : List (List (List ℕ))) (lines : Lines) (before after : Output) (fault : RunFault)
+    → IsStopped IsRow (λ earlier later. HasStopped scope lines before after earlier later (Err fault)) ROWS_MAX all → PutsShowing scope all before after (Err fault)
+untaken_by scope all lines before after (BadRow row fault) ended = absurd ended.stops
+untaken_by scope all lines before after TooLong ended = absurd ended.stops
+untaken_by scope all lines before after Read ended = absurd ended.stops
+untaken_by scope all lines before after Write ended =
+    let would : (answer : Result (Option LinkFault) RunFault) × IsShowing scope all answer ended.stops.0 = showing_of scope all ended.earlier ended.later ended.rest ended.read ended.few ended.stops.0 ended.stops.1 in
     inr (refl, record { answer = would.0; text = ended.stops.0; showing = would.1; broken = ended.stops.2 })
-untaken_by all lines before after Memory ended =
-    inl (ended.stops.0, part_showing all ended.earlier ended.later ended.rest ended.read ended.stops.0 ended.stops.1, ended.stops.2)
+untaken_by scope all lines before after Memory ended =
+    inl (ended.stops.0, part_showing scope all ended.earlier ended.later ended.rest ended.read ended.stops.0 ended.stops.1, ended.stops.2)
 
-pub line_untaken : (all : List (List (List ℕ))) (lines : Lines) (before after : Output) (fault : RunFault)
-    → IsStopped IsRow (λ earlier later. HasStopped lines before after earlier later (Err fault)) ROWS_MAX all
-    → (answer : Result (Option LinkFault) RunFault) → IsErrAnd answer (λ told. told ≡ fault) → PutsShowing all before after answer
-line_untaken all lines before after fault ended (Ok showing) is = absurd is
-line_untaken all lines before after fault ended (Err told) is =
-    let P : RunFault → Type 0 = λ f. PutsShowing all before after (Err f) in
-    subst P (sym is) (untaken_by all lines before after fault ended)
+pub line_untaken : (scope : Scope) (all : List (List (List ℕ))) (lines : Lines) (before after : Output) (fault : RunFault)
+    → IsStopped IsRow (λ earlier later. HasStopped scope lines before after earlier later (Err fault)) ROWS_MAX all
+    → (answer : Result (Option LinkFault) RunFault) → IsErrAnd answer (λ told. told ≡ fault) → PutsShowing scope all before after answer
+line_untaken scope all lines before after fault ended (Ok showing) is = absurd is
+line_untaken scope all lines before after fault ended (Err told) is =
+    let P : RunFault → Type 0 = λ f. PutsShowing scope all before after (Err f) in
+    subst P (sym is) (untaken_by scope all lines before after fault ended)

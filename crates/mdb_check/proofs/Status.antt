@@ -14,38 +14,39 @@ use Rattle.mdb_check.specs.Show.{Shows}
 use Rattle.mdb_check.specs.Text.{IsCutReport, report_text}
 use Rattle.mdb_check.specs.Verdict.{IsAnswer, IsNoYes}
 use Rattle.mdb_check.specs.Written.{HasTaken}
+use Rattle.mdb_bus.specs.declared.scope.Scope.{Scope}
 
-says_checked : {W : Type 0} (contents : W → Option (List ℕ)) (all : List (List (List ℕ))) (old new : W) (answer : Result Outcome RunFault)
-    → IsAnswer ROWS_MAX all answer
-    → IfOk answer (λ outcome. Appends (contents old) (contents new) (report_text outcome))
-    → IfErr answer (λ fault. fault ≢ Write → new ≡ old) → (answer ≡ Err Write → IsCutReport ROWS_MAX all (contents old) (contents new))
-    → SaysChecked all (contents old) (contents new) (status_of answer)
-says_checked contents all old new (Ok (Yes report)) is written kept cut =
+says_checked : (scope : Scope) {W : Type 0} (contents : W → Option (List ℕ)) (all : List (List (List ℕ))) (old new : W) (answer : Result Outcome RunFault)
+    → IsAnswer scope ROWS_MAX all answer
+    → IfOk answer (λ outcome. Appends (contents old) (contents new) (report_text scope outcome))
+    → IfErr answer (λ fault. fault ≢ Write → new ≡ old) → (answer ≡ Err Write → IsCutReport scope ROWS_MAX all (contents old) (contents new))
+    → SaysChecked scope all (contents old) (contents new) (status_of answer)
+says_checked scope contents all old new (Ok (Yes report)) is written kept cut =
     record { possible = λ e. (report, is, written); impossible = λ e. absurd (omega (arith, e)); unanswered = λ e. absurd (omega (arith, e)) }
-says_checked contents all old new (Ok (No offence)) is written kept cut =
+says_checked scope contents all old new (Ok (No offence)) is written kept cut =
     record { possible = λ e. absurd (omega (arith, e)); impossible = λ e. (offence, is, written); unanswered = λ e. absurd (omega (arith, e)) }
-says_checked contents all old new (Err Write) is written kept cut =
+says_checked scope contents all old new (Err Write) is written kept cut =
     record { possible = λ e. absurd (omega (arith, e)); impossible = λ e. absurd (omega (arith, e)); unanswered = λ e. inr (cut refl) }
-says_checked contents all old new (Err fault) is written kept cut =
+says_checked scope contents all old new (Err fault) is written kept cut =
     record { possible = λ e. absurd (omega (arith, e)); impossible = λ e. absurd (omega (arith, e)); unanswered = λ e. inl (ap contents (kept (λ same. absurd (cc)))) }
 
 -- a text that was written whole is a front of itself
 taken_whole : (before after : Option (List ℕ)) (text : List ℕ) → Appends before after text → HasTaken before after text
 taken_whole before after text written = record { front = text; rest = []; parts = sym (append-nil text); grown = written }
 
-says_shown : (all : List (List (List ℕ))) (before after : Option (List ℕ)) (answer : Result (Option LinkFault) RunFault) → Shows all before after answer → SaysShown all before after (show_status_of answer)
-says_shown all before after (Ok None) (inl shows) =
+says_shown : (scope : Scope) (all : List (List (List ℕ))) (before after : Option (List ℕ)) (answer : Result (Option LinkFault) RunFault) → Shows scope all before after answer → SaysShown scope all before after (show_status_of answer)
+says_shown scope all before after (Ok None) (inl shows) =
     record { whole = λ e. shows; to_fault = λ e. absurd (omega (arith, e)); unanswered = λ e. absurd (omega (arith, e)) }
-says_shown all before after (Ok (Some fault)) (inl shows) =
+says_shown scope all before after (Ok (Some fault)) (inl shows) =
     record { whole = λ e. absurd (omega (arith, e)); to_fault = λ e. (fault, shows.0, shows.1, shows.2); unanswered = λ e. absurd (omega (arith, e)) }
-says_shown all before after (Ok showing) (inr cut) = absurd (cc (cut.0))
-says_shown all before after (Err fault) (inl shows) =
+says_shown scope all before after (Ok showing) (inr cut) = absurd (cc (cut.0))
+says_shown scope all before after (Err fault) (inl shows) =
     record {
       whole = λ e. absurd (omega (arith, e));
       to_fault = λ e. absurd (omega (arith, e));
       unanswered = λ e. record { answer = Err fault; text = shows.0; showing = shows.1; taken = taken_whole before after shows.0 shows.2 };
     }
-says_shown all before after (Err fault) (inr cut) =
+says_shown scope all before after (Err fault) (inr cut) =
     record { whole = λ e. absurd (omega (arith, e)); to_fault = λ e. absurd (omega (arith, e)); unanswered = λ e. cut.1 }
 
 -- a text that isn't one of a yes has another status, and so has one that isn't shown whole
@@ -66,29 +67,29 @@ too_long None limit status over other = tt
 too_long (Some text) limit status over other = λ long. other (over long)
 
 -- what the status of a checked text says
-pub checked_says : {W : Type 0} (contents : W → Option (List ℕ)) (known : Option (List ℕ)) (old new : W) (answer : Result Outcome RunFault) (status : ℕ)
-    → IfSome known (λ text. IsAnswer ROWS_MAX (records default_config (strip_bom text)) answer)
-    → IfOk answer (λ outcome. Appends (contents old) (contents new) (report_text outcome))
+pub checked_says : (scope : Scope) {W : Type 0} (contents : W → Option (List ℕ)) (known : Option (List ℕ)) (old new : W) (answer : Result Outcome RunFault) (status : ℕ)
+    → IfSome known (λ text. IsAnswer scope ROWS_MAX (records default_config (strip_bom text)) answer)
+    → IfOk answer (λ outcome. Appends (contents old) (contents new) (report_text scope outcome))
     → IfErr answer (λ fault. fault ≢ Write → new ≡ old)
-    → IfSome known (λ text. answer ≡ Err Write → IsCutReport ROWS_MAX (records default_config (strip_bom text)) (contents old) (contents new))
+    → IfSome known (λ text. answer ≡ Err Write → IsCutReport scope ROWS_MAX (records default_config (strip_bom text)) (contents old) (contents new))
     → status ≡ status_of answer
-    → IfSome known (λ text. SaysChecked (records default_config (strip_bom text)) (contents old) (contents new) status)
-checked_says contents None old new answer status is written kept cut same = tt
-checked_says contents (Some text) old new answer status is written kept cut same =
+    → IfSome known (λ text. SaysChecked scope (records default_config (strip_bom text)) (contents old) (contents new) status)
+checked_says scope contents None old new answer status is written kept cut same = tt
+checked_says scope contents (Some text) old new answer status is written kept cut same =
     let all : List (List (List ℕ)) = records default_config (strip_bom text) in
-    let P : ℕ → Type 0 = λ n. SaysChecked all (contents old) (contents new) n in
-    subst P (sym same) (says_checked contents all old new answer is written kept cut)
+    let P : ℕ → Type 0 = λ n. SaysChecked scope all (contents old) (contents new) n in
+    subst P (sym same) (says_checked scope contents all old new answer is written kept cut)
 
 -- what the status of a text that was shown says
-pub shown_says : (known : Option (List ℕ)) (before after : Option (List ℕ)) (answer : Result (Option LinkFault) RunFault) (status : ℕ)
-    → IfSome known (λ text. Shows (records default_config (strip_bom text)) before after answer)
+pub shown_says : (scope : Scope) (known : Option (List ℕ)) (before after : Option (List ℕ)) (answer : Result (Option LinkFault) RunFault) (status : ℕ)
+    → IfSome known (λ text. Shows scope (records default_config (strip_bom text)) before after answer)
     → status ≡ show_status_of answer
-    → IfSome known (λ text. SaysShown (records default_config (strip_bom text)) before after status)
-shown_says None before after answer status shows same = tt
-shown_says (Some text) before after answer status shows same =
+    → IfSome known (λ text. SaysShown scope (records default_config (strip_bom text)) before after status)
+shown_says scope None before after answer status shows same = tt
+shown_says scope (Some text) before after answer status shows same =
     let all : List (List (List ℕ)) = records default_config (strip_bom text) in
-    let P : ℕ → Type 0 = λ n. SaysShown all before after n in
-    subst P (sym same) (says_shown all before after answer shows)
+    let P : ℕ → Type 0 = λ n. SaysShown scope all before after n in
+    subst P (sym same) (says_shown scope all before after answer shows)
 
 -- what the status of a refused command line says
 pub refused_says : (known : Option (List ℕ)) (words : List (List ℕ)) (before after : Option (List ℕ)) (status : ℕ) → status ≡ 2 → after ≡ before

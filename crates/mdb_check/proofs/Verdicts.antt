@@ -7,7 +7,7 @@ use Rattle.mdb_words.specs.declared.event.Event.{Event}
 use Rattle.mdb_words.specs.Row.{IsRefusal, IsRow}
 use Rattle.mdb_follow.specs.declared.follower.Follower.{Follower}
 use Rattle.mdb_follow.specs.declared.offence.Offence.{Offence}
-use Rattle.mdb_follow.specs.Follower.{StandsFor, rows_of}
+use Rattle.mdb_follow.specs.Follower.{StandsFor, rows_of, scope_of}
 use Rattle.mdb_follow.specs.Offences.{HasOffence}
 use Rattle.mdb_follow.specs.Runs.{IsReached}
 use Rattle.mdb_follow.specs.Sales.{SalesFollowApprovals}
@@ -18,31 +18,32 @@ use Rattle.mdb_check.specs.declared.outcome.RunFault.TheVariants.{BadRow, TooLon
 use Rattle.mdb_check.specs.inner.Ending.{AreRead, HasEnded, HasFollowed, HasTaken, IsStopped, IsTakenWhole}
 use Rattle.mdb_check.specs.Verdict.{AreRows, IsAnswer, IsImpossible, IsYes}
 use Rattle.mdb_check.proofs.Rows.{IsReadUpTo, are_rows, read_up_to}
+use Rattle.mdb_bus.specs.declared.scope.Scope.{Scope}
 
 -- what a follower stands for is reached
 abbrev pub Reaches : Type 0
-Reaches = (follower : Follower) (rows : List Event) → StandsFor follower rows → IsReached rows
+Reaches = (follower : Follower) (rows : List Event) → StandsFor follower rows → IsReached (scope_of follower) rows
 
 -- The follower has taken rows, or stops at one of them.
-pub followed : (old new : Follower) (rows : List Event) (answer : Result Unit Offence) (stop : Option Offence) → stop ≡ result_err answer
+pub followed : (scope : Scope) (old new : Follower) (rows : List Event) (answer : Result Unit Offence) (stop : Option Offence) → stop ≡ result_err answer
     → ((before : List Event) → StandsFor old before → IfOk answer (λ _. StandsFor new (before ++ rows))) → IfOk answer (λ _. rows_of new ≡ rows_of old + length rows)
-    → ((before : List Event) → StandsFor old before → IfErr answer (HasOffence before rows)) → (earlier : List Event) → HasFollowed old earlier → HasTaken (HasFollowed new) HasOffence earlier rows stop
-followed old new rows (Ok done) stop is reached counted offends earlier has =
-    let P : Option Offence → Type 0 = λ s. HasTaken (HasFollowed new) HasOffence earlier rows s in
-    subst P (sym is) (record { stands = reached earlier has.stands; counted = omega (arith, counted, has.counted, length-append earlier rows) })
-followed old new rows (Err offence) stop is reached counted offends earlier has =
-    let P : Option Offence → Type 0 = λ s. HasTaken (HasFollowed new) HasOffence earlier rows s in
+    → ((before : List Event) → StandsFor old before → IfErr answer (HasOffence scope before rows)) → scope_of new ≡ scope_of old → (earlier : List Event) → HasFollowed scope old earlier → HasTaken (HasFollowed scope new) (HasOffence scope) earlier rows stop
+followed scope old new rows (Ok done) stop is reached counted offends kept earlier has =
+    let P : Option Offence → Type 0 = λ s. HasTaken (HasFollowed scope new) (HasOffence scope) earlier rows s in
+    subst P (sym is) (record { in_scope = kept ∙ has.in_scope; stands = reached earlier has.stands; counted = omega (arith, counted, has.counted, length-append earlier rows) })
+followed scope old new rows (Err offence) stop is reached counted offends kept earlier has =
+    let P : Option Offence → Type 0 = λ s. HasTaken (HasFollowed scope new) (HasOffence scope) earlier rows s in
     subst P (sym is) (offends earlier has.stands)
 
 -- the text ends
-pub whole : ((rows : List Event) → SalesFollowApprovals rows) → (limit : ℕ) (all : List (List (List ℕ))) (follower : Follower) → IsTakenWhole IsRow (HasFollowed follower) limit all
-    → (outcome : Outcome) → ((rows : List Event) → StandsFor follower rows → IsYes rows outcome) → IsAnswer limit all (Ok outcome)
-whole sales limit all follower ended outcome tells_yes = told outcome (tells_yes ended.rows ended.has.stands)
+pub whole : (scope : Scope) → ((rows : List Event) → SalesFollowApprovals scope rows) → (limit : ℕ) (all : List (List (List ℕ))) (follower : Follower) → IsTakenWhole IsRow (HasFollowed scope follower) limit all
+    → (outcome : Outcome) → ((rows : List Event) → StandsFor follower rows → IsYes scope rows outcome) → IsAnswer scope limit all (Ok outcome)
+whole scope sales limit all follower ended outcome tells_yes = told outcome (tells_yes ended.rows ended.has.stands)
   where
     Told : List (List (List ℕ)) → Type 0
     Told l = AreRows l ended.rows
 
-    told : (outcome : Outcome) → IsYes ended.rows outcome → IsAnswer limit all (Ok outcome)
+    told : (outcome : Outcome) → IsYes scope ended.rows outcome → IsAnswer scope limit all (Ok outcome)
     told (Yes report) is_report = record {
       rows = ended.rows;
       told = subst Told (sym (append-nil ended.read.done) ∙ sym ended.read.split) (are_rows ended.read.done ended.rows ended.read.told);
@@ -53,9 +54,9 @@ whole sales limit all follower ended outcome tells_yes = told outcome (tells_yes
     told (No offence) never = absurd never
 
 -- a row cannot be
-pub impossible : (limit : ℕ) (all : List (List (List ℕ))) (offence : Offence) → IsStopped IsRow (λ earlier rows. HasOffence earlier rows offence) limit all → IsImpossible limit all offence
-impossible limit all offence ended =
-    let has : HasOffence ended.earlier ended.later offence = ended.stops in
+pub impossible : (scope : Scope) (limit : ℕ) (all : List (List (List ℕ))) (offence : Offence) → IsStopped IsRow (λ earlier rows. HasOffence scope earlier rows offence) limit all → IsImpossible scope limit all offence
+impossible scope limit all offence ended =
+    let has : HasOffence scope ended.earlier ended.later offence = ended.stops in
     let parts : ended.earlier ++ ended.later ≡ (ended.earlier ++ has.front) ++ has.row ∷ has.rest =
     ap (λ l. ended.earlier ++ l) has.parts ∙ sym (append_assoc ended.earlier has.front (has.row ∷ has.rest)) in
     let Read : List Event → Type 0 = λ l. AreRead IsRow all l ended.rest in
@@ -72,29 +73,29 @@ impossible limit all offence ended =
     }
 
 -- a record isn't taken, or can't be read
-refused_by : {Stop : Type 0} → Reaches → (limit : ℕ) (all : List (List (List ℕ))) (follower : Follower) (Stops : List Event → List Event → Stop → Type 0) (fault : RunFault)
-    → HasEnded IsRow IsRefusal (HasFollowed follower) Stops limit all (Err fault) → IsAnswer limit all (Err fault)
-refused_by reaches limit all follower Stops (BadRow row fault) ended = record {
+refused_by : (scope : Scope) {Stop : Type 0} → Reaches → (limit : ℕ) (all : List (List (List ℕ))) (follower : Follower) (Stops : List Event → List Event → Stop → Type 0) (fault : RunFault)
+    → HasEnded IsRow IsRefusal (HasFollowed scope follower) Stops limit all (Err fault) → IsAnswer scope limit all (Err fault)
+refused_by scope reaches limit all follower Stops (BadRow row fault) ended = record {
   rows = ended.rows;
   fields = ended.fields;
-  stops = record { done = ended.read.done; rest = ended.rest; split = ended.read.split; told = are_rows ended.read.done ended.rows ended.read.told; possible = reaches follower ended.rows ended.has.stands };
+  stops = record { done = ended.read.done; rest = ended.rest; split = ended.read.split; told = are_rows ended.read.done ended.rows ended.read.told; possible = subst (λ s. IsReached s ended.rows) ended.has.in_scope (reaches follower ended.rows ended.has.stands) };
   few = ended.few;
   number = ended.number;
   refused = ended.refused;
 }
-refused_by reaches limit all follower Stops TooLong ended = record {
+refused_by scope reaches limit all follower Stops TooLong ended = record {
   rows = ended.rows;
   fields = ended.fields;
-  stops = record { done = ended.read.done; rest = ended.rest; split = ended.read.split; told = are_rows ended.read.done ended.rows ended.read.told; possible = reaches follower ended.rows ended.has.stands };
+  stops = record { done = ended.read.done; rest = ended.rest; split = ended.read.split; told = are_rows ended.read.done ended.rows ended.read.told; possible = subst (λ s. IsReached s ended.rows) ended.has.in_scope (reaches follower ended.rows ended.has.stands) };
   full = ended.full;
 }
-refused_by reaches limit all follower Stops Read ended = tt
-refused_by reaches limit all follower Stops Write ended = tt
-refused_by reaches limit all follower Stops Memory ended = tt
+refused_by scope reaches limit all follower Stops Read ended = tt
+refused_by scope reaches limit all follower Stops Write ended = tt
+refused_by scope reaches limit all follower Stops Memory ended = tt
 
-pub refused : {Stop : Type 0} → Reaches → (limit : ℕ) (all : List (List (List ℕ))) (follower : Follower) (Stops : List Event → List Event → Stop → Type 0) (fault : RunFault)
-    → HasEnded IsRow IsRefusal (HasFollowed follower) Stops limit all (Err fault) → (answer : Result Outcome RunFault) → IsErrAnd answer (λ other. other ≡ fault) → IsAnswer limit all answer
-refused reaches limit all follower Stops fault ended (Ok outcome) handed = absurd handed
-refused reaches limit all follower Stops fault ended (Err other) handed =
-    let P : RunFault → Type 0 = λ f. IsAnswer limit all (Err f) in
-    subst P (sym handed) (refused_by reaches limit all follower Stops fault ended)
+pub refused : (scope : Scope) {Stop : Type 0} → Reaches → (limit : ℕ) (all : List (List (List ℕ))) (follower : Follower) (Stops : List Event → List Event → Stop → Type 0) (fault : RunFault)
+    → HasEnded IsRow IsRefusal (HasFollowed scope follower) Stops limit all (Err fault) → (answer : Result Outcome RunFault) → IsErrAnd answer (λ other. other ≡ fault) → IsAnswer scope limit all answer
+refused scope reaches limit all follower Stops fault ended (Ok outcome) handed = absurd handed
+refused scope reaches limit all follower Stops fault ended (Err other) handed =
+    let P : RunFault → Type 0 = λ f. IsAnswer scope limit all (Err f) in
+    subst P (sym handed) (refused_by scope reaches limit all follower Stops fault ended)

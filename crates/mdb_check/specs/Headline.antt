@@ -23,6 +23,7 @@ use Rattle.mdb_check.specs.declared.outcome.Outcome.{Outcome}
 use Rattle.mdb_check.specs.declared.outcome.Outcome.TheVariants.{Yes, No}
 use Rattle.mdb_check.specs.Accounts.{AccountSide, range_of, value_of}
 use Rattle.mdb_check.specs.Verdict.{AreRows}
+use Rattle.mdb_bus.specs.declared.scope.Scope.{Scope}
 
 -- the first so many records of a text are rows, and these are their events
 pub record AreFirstRows (records : List (List (List ℕ))) (count : ℕ)
@@ -31,11 +32,11 @@ pub record AreFirstRows (records : List (List (List ℕ))) (count : ℕ)
   pub number : length rows ≡ count
 
 -- the first so many records are rows, and some run reaches them
-pub record HaveRun (records : List (List (List ℕ))) (count : ℕ) : Type 0 where
+pub record HaveRun (scope : Scope) (records : List (List (List ℕ))) (count : ℕ) : Type 0 where
   pub rows : List Event
   pub are : AreFirstRows records count rows
   pub sums : AllSums
-  pub run : Run rows sums
+  pub run : Run scope rows sums
 
 -- the outcome is a yes
 abbrev pub SaysYes : Outcome → Type 0
@@ -54,33 +55,33 @@ IfNo (No offence) Holds = Holds offence
 
 -- In each run of the records every sale at either reader has its approval before it. (By `yes` the
 -- records are rows.)
-abbrev pub HasApprovedSales : List (List (List ℕ)) → Type 0
-HasApprovedSales records =
-    (rows : List Event) → AreRows records rows → SalesFollowApprovals rows
+abbrev pub HasApprovedSales : Scope → List (List (List ℕ)) → Type 0
+HasApprovedSales scope records =
+    (rows : List Event) → AreRows records rows → SalesFollowApprovals scope rows
 
 -- Each range of the report, of each account and side, is as tight as it can be: some run of the
 -- records comes to either end, and none goes beyond. (By `yes` the records are rows.)
-abbrev pub HasBounds : List (List (List ℕ)) → Report → Type 0
-HasBounds records report =
+abbrev pub HasBounds : Scope → List (List (List ℕ)) → Report → Type 0
+HasBounds scope records report =
     (rows : List Event) → AreRows records rows → (account : AccountName) (side : AccountSide)
-    → IsRange (Run rows) (λ sums. value_of side (sums_of account sums))
+    → IsRange (Run scope rows) (λ sums. value_of side (sums_of account sums))
     (range_of side (account_of account report))
 
 -- The runs end before the row that is named: a row with its number is there, the rows up to it have
 -- no run, any fewer have one, and rule and blame are those of this row.
-pub record NamesFirstRow (records : List (List (List ℕ))) (offence : Offence) : Type 0 where
+pub record NamesFirstRow (scope : Scope) (records : List (List (List ℕ))) (offence : Offence) : Type 0 where
   pub before : List Event
   pub row : Event
   pub there : AreFirstRows records offence.row (before ++ row ∷ [])
-  pub no_run : HaveRun records offence.row → ⊥
-  pub fewer : (count : ℕ) → count < offence.row → HaveRun records count
-  pub why : IsOffence before row offence
+  pub no_run : HaveRun scope records offence.row → ⊥
+  pub fewer : (count : ℕ) → count < offence.row → HaveRun scope records count
+  pub why : IsOffence scope before row offence
 
 -- the headline, of the records of a text, where it may have so many rows, and the outcome that they
 -- were answered with
-pub record Headline (limit : ℕ) (records : List (List (List ℕ)))
+pub record Headline (scope : Scope) (limit : ℕ) (records : List (List (List ℕ)))
     (outcome : Outcome) : Type 0 where
-  pub yes : SaysYes outcome ↔ (length records ≤ limit) × HaveRun records (length records)
-  pub sales : IfYes outcome (λ report. HasApprovedSales records)
-  pub bounds : IfYes outcome (HasBounds records)
-  pub first_row : IfNo outcome (NamesFirstRow records)
+  pub yes : SaysYes outcome ↔ (length records ≤ limit) × HaveRun scope records (length records)
+  pub sales : IfYes outcome (λ report. HasApprovedSales scope records)
+  pub bounds : IfYes outcome (HasBounds scope records)
+  pub first_row : IfNo outcome (NamesFirstRow scope records)

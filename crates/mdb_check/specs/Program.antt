@@ -1,6 +1,12 @@
 -- What the words of a command line name, and what the program's exit status says.
-use Rattle.std.specs.Prelude.{◌≡◌, ◌⊎◌, ℕ, List, [], ◌∷◌, codes, Option, Some, None, Result, Ok, Err}
+use Rattle.std.specs.Prelude.{◌≡◌, ◌⊎◌, ◌++◌, ℕ, List, [], ◌∷◌, codes, Option, Some, None, Result}
+use Rattle.std.specs.Prelude.{Ok, Err}
 use Rattle.std.specs.Io.KnownBytes.{Appends}
+use Rattle.mdb_msgs.specs.declared.command.Device.{Device}
+use Rattle.mdb_msgs.specs.declared.device_set.DeviceSet.{DeviceSet}
+use Rattle.mdb_msgs.specs.declared.device_set.TheConstants.DeviceSet.{NONE}
+use Rattle.mdb_msgs.specs.Devices.{device_word}
+use Rattle.mdb_msgs.specs.DeviceSets.{with_device}
 use Rattle.mdb_bus.specs.declared.fault.LinkFault.{LinkFault}
 use Rattle.mdb_follow.specs.declared.follower.TheConstants.{ROWS_MAX}
 use Rattle.mdb_follow.specs.declared.offence.Offence.{Offence}
@@ -11,44 +17,64 @@ use Rattle.mdb_check.specs.Verdict.{IsImpossible, IsPossible}
 use Rattle.mdb_check.specs.declared.outcome.Outcome.{Outcome}
 use Rattle.mdb_check.specs.declared.outcome.Outcome.TheVariants.{Yes, No}
 use Rattle.mdb_check.specs.declared.outcome.RunFault.{RunFault}
+use Rattle.mdb_bus.specs.declared.scope.Scope.{Scope}
+use Rattle.mdb_bus.specs.Scopes.{leaving_out}
 
--- The words of a command line, the program's name first, name a task that has no options: they are
--- its word, and after it nothing, or `--`, where the options of a command end.
-abbrev pub NamesTask : List (List ℕ) → List ℕ → Type 0
-NamesTask words task = (program : List ℕ)
-    × ((words ≡ program ∷ task ∷ []) ⊎ (words ≡ program ∷ task ∷ codes "--" ∷ []))
+-- These words are the options of a task, which leave out these devices. An option is `--without`
+-- and a device's word after it, or both in one word with `=` between them. It may stand again, for
+-- another device or for the same, which is left out once. At the end may stand `--`, where the
+-- options of a command end.
+pub data AreOptions : List (List ℕ) → DeviceSet → Type 0 where
+  end : AreOptions [] NONE
+  dashes : AreOptions (codes "--" ∷ []) NONE
+  without : (device : Device) {more : List (List ℕ)} {left_out : DeviceSet}
+      → AreOptions more left_out
+      → AreOptions (codes "--without" ∷ device_word device ∷ more) (with_device left_out device)
+  without_in_one : (device : Device) {more : List (List ℕ)} {left_out : DeviceSet}
+      → AreOptions more left_out
+      → AreOptions ((codes "--without=" ++ device_word device) ∷ more)
+      (with_device left_out device)
+
+-- The words of a command line, the program's name first, name a task with these devices left out:
+-- they are its word, and after it its options.
+abbrev pub NamesTask : List (List ℕ) → List ℕ → DeviceSet → Type 0
+NamesTask words task left_out = (program : List ℕ) × (options : List (List ℕ))
+    × (words ≡ program ∷ task ∷ options) × AreOptions options left_out
 
 -- they name one of the tasks
 abbrev pub NameATask : List (List ℕ) → Type 0
-NameATask words = NamesTask words (codes "check") ⊎ NamesTask words (codes "show")
+NameATask words = (left_out : DeviceSet)
+    × (NamesTask words (codes "check") left_out ⊎ NamesTask words (codes "show") left_out)
 
 -- What the statuses of `check` say of the records of a text, and of the bytes that the writer held
 -- before and after. At 2 nothing was written, or the writer failed, and took a front of the text of
 -- the verdict that there is.
-pub record SaysChecked (records : List (List (List ℕ))) (before after : Option (List ℕ))
+pub record SaysChecked (scope : Scope) (records : List (List (List ℕ))) (before after : Option (List ℕ))
     (status : ℕ) : Type 0 where
-  pub possible : status ≡ 0 → (report : Report) × IsPossible ROWS_MAX records report
-      × Appends before after (report_text (Yes report))
-  pub impossible : status ≡ 1 → (offence : Offence) × IsImpossible ROWS_MAX records offence
-      × Appends before after (report_text (No offence))
-  pub unanswered : status ≡ 2 → (after ≡ before) ⊎ IsCutReport ROWS_MAX records before after
+  pub possible : status ≡ 0 → (report : Report) × IsPossible scope ROWS_MAX records report
+      × Appends before after (report_text scope (Yes report))
+  pub impossible : status ≡ 1 → (offence : Offence) × IsImpossible scope ROWS_MAX records offence
+      × Appends before after (report_text scope (No offence))
+  pub unanswered : status ≡ 2 → (after ≡ before) ⊎ IsCutReport scope ROWS_MAX records before after
 
 -- The same of `show`. At 2 a front of a text was written that the records are shown with: its lines
 -- up to the fault, or fewer, where the writer failed.
-pub record SaysShown (records : List (List (List ℕ))) (before after : Option (List ℕ))
+pub record SaysShown (scope : Scope) (records : List (List (List ℕ))) (before after : Option (List ℕ))
     (status : ℕ) : Type 0 where
-  pub whole : status ≡ 0 → (text : List ℕ) × IsShownWhole records text × Appends before after text
+  pub whole : status ≡ 0 → (text : List ℕ) × IsShownWhole scope records text × Appends before after text
   pub to_fault : status ≡ 1 → (fault : LinkFault) × (text : List ℕ)
-      × IsShownToFault records fault text × Appends before after text
-  pub unanswered : status ≡ 2 → IsCutShort records before after
+      × IsShownToFault scope records fault text × Appends before after text
+  pub unanswered : status ≡ 2 → IsCutShort scope records before after
 
 -- What the status of the program says: what it says of the task that the words name. Words that
 -- name none are refused, and so are others where there is no memory to read them.
 pub data Says (words : List (List ℕ)) (records : List (List (List ℕ)))
     (before after : Option (List ℕ)) (status : ℕ) : Type 0 where
-  checked : NamesTask words (codes "check") → SaysChecked records before after status
+  checked : (left_out : DeviceSet) → NamesTask words (codes "check") left_out
+      → SaysChecked (leaving_out left_out) records before after status
       → Says words records before after status
-  shown : NamesTask words (codes "show") → SaysShown records before after status
+  shown : (left_out : DeviceSet) → NamesTask words (codes "show") left_out
+      → SaysShown (leaving_out left_out) records before after status
       → Says words records before after status
   refused : status ≡ 2 → after ≡ before → Says words records before after status
 

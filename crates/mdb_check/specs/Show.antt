@@ -13,45 +13,46 @@ use Rattle.mdb_check.specs.declared.outcome.RunFault.TheVariants.{BadRow, TooLon
 use Rattle.mdb_check.specs.ShowText.{closed_pieces, fault_line, show_text}
 use Rattle.mdb_check.specs.Verdict.{AreRows}
 use Rattle.mdb_check.specs.Written.{HasTaken}
+use Rattle.mdb_bus.specs.declared.scope.Scope.{Scope}
 
 -- The records up to the rest are rows, and these pieces are their act list.
-pub record AreShown (records : List (List (List ℕ))) (pieces : List Piece)
+pub record AreShown (scope : Scope) (records : List (List (List ℕ))) (pieces : List Piece)
     (rest : List (List (List ℕ))) : Type 0 where
   pub done : List (List (List ℕ))
   pub split : records ≡ done ++ rest
   pub told : AreRows done (events_of pieces)
-  pub in_order : ArePieces pieces
+  pub in_order : ArePieces scope pieces
 
 -- All records are rows of an act list. Its lines are the text, that of a tail at its end too.
-pub record IsShownWhole (records : List (List (List ℕ))) (text : List ℕ) : Type 0 where
+pub record IsShownWhole (scope : Scope) (records : List (List (List ℕ))) (text : List ℕ) : Type 0 where
   pub pieces : List Piece
-  pub shown : AreShown records pieces []
+  pub shown : AreShown scope records pieces []
   pub few : length (events_of pieces) ≤ ROWS_MAX
   pub lines : text ≡ show_text pieces
 
 -- A record is a row that breaks a rule of the link, after rows of an act list. The text is the
 -- lines of these, without one for a tail that is still open, and the line of the fault.
-pub record IsShownToFault (records : List (List (List ℕ))) (fault : LinkFault)
+pub record IsShownToFault (scope : Scope) (records : List (List (List ℕ))) (fault : LinkFault)
     (text : List ℕ) : Type 0 where
   pub pieces : List Piece
   pub fields : List (List ℕ)
   pub rest : List (List (List ℕ))
-  pub shown : AreShown records pieces (fields ∷ rest)
+  pub shown : AreShown scope records pieces (fields ∷ rest)
   pub few : length (events_of pieces) < ROWS_MAX
   pub row : Event
   pub row_told : IsRow fields row
-  pub is : IsLinkFault pieces row fault.rule fault.blame
+  pub is : IsLinkFault scope pieces row fault.rule fault.blame
   pub lines : text ≡ show_text (closed_pieces pieces)
       ++ fault_line (length (events_of pieces) + 1) fault
 
 -- A record is no row, after rows of an act list. The text is the lines of these, without one for a
 -- tail that is still open.
-pub record IsShownToBadRow (records : List (List (List ℕ))) (row : ℕ) (fault : RowFault)
+pub record IsShownToBadRow (scope : Scope) (records : List (List (List ℕ))) (row : ℕ) (fault : RowFault)
     (text : List ℕ) : Type 0 where
   pub pieces : List Piece
   pub fields : List (List ℕ)
   pub rest : List (List (List ℕ))
-  pub shown : AreShown records pieces (fields ∷ rest)
+  pub shown : AreShown scope records pieces (fields ∷ rest)
   pub few : length (events_of pieces) < ROWS_MAX
   pub number : row ≡ length (events_of pieces) + 1
   pub refused : IsRefusal fields fault
@@ -59,48 +60,48 @@ pub record IsShownToBadRow (records : List (List (List ℕ))) (row : ℕ) (fault
 
 -- There is a record after as many rows as there may be, which are of an act list. The text is the
 -- lines of these, without one for a tail that is still open.
-pub record IsShownTooLong (records : List (List (List ℕ))) (text : List ℕ) : Type 0 where
+pub record IsShownTooLong (scope : Scope) (records : List (List (List ℕ))) (text : List ℕ) : Type 0 where
   pub pieces : List Piece
   pub fields : List (List ℕ)
   pub rest : List (List (List ℕ))
-  pub shown : AreShown records pieces (fields ∷ rest)
+  pub shown : AreShown scope records pieces (fields ∷ rest)
   pub full : length (events_of pieces) ≡ ROWS_MAX
   pub lines : text ≡ show_text (closed_pieces pieces)
 
 -- Some first records are rows of an act list. The text is the lines of these, without one for a
 -- tail that is still open.
-pub record IsShownInPart (records : List (List (List ℕ))) (text : List ℕ) : Type 0 where
+pub record IsShownInPart (scope : Scope) (records : List (List (List ℕ))) (text : List ℕ) : Type 0 where
   pub pieces : List Piece
   pub rest : List (List (List ℕ))
-  pub shown : AreShown records pieces rest
+  pub shown : AreShown scope records pieces rest
   pub lines : text ≡ show_text (closed_pieces pieces)
 
 -- The answer to the records of a text, and the text that is written of them. A refused read or
 -- memory may come after any row. That the writer failed is none of these answers.
-abbrev pub IsShowing : List (List (List ℕ)) → Result (Option LinkFault) RunFault → List ℕ → Type 0
-IsShowing records (Ok None) text = IsShownWhole records text
-IsShowing records (Ok (Some fault)) text = IsShownToFault records fault text
-IsShowing records (Err (BadRow row fault)) text = IsShownToBadRow records row fault text
-IsShowing records (Err TooLong) text = IsShownTooLong records text
-IsShowing records (Err Read) text = IsShownInPart records text
-IsShowing records (Err Memory) text = IsShownInPart records text
-IsShowing records (Err Write) text = ⊥
+abbrev pub IsShowing : Scope → List (List (List ℕ)) → Result (Option LinkFault) RunFault → List ℕ → Type 0
+IsShowing scope records (Ok None) text = IsShownWhole scope records text
+IsShowing scope records (Ok (Some fault)) text = IsShownToFault scope records fault text
+IsShowing scope records (Err (BadRow row fault)) text = IsShownToBadRow scope records row fault text
+IsShowing scope records (Err TooLong) text = IsShownTooLong scope records text
+IsShowing scope records (Err Read) text = IsShownInPart scope records text
+IsShowing scope records (Err Memory) text = IsShownInPart scope records text
+IsShowing scope records (Err Write) text = ⊥
 
 -- The writer took a front of a text that is written of the records, with whatever answer.
-pub record IsCutShort (records : List (List (List ℕ))) (before after : Option (List ℕ))
+pub record IsCutShort (scope : Scope) (records : List (List (List ℕ))) (before after : Option (List ℕ))
     : Type 0 where
   pub answer : Result (Option LinkFault) RunFault
   pub text : List ℕ
-  pub showing : IsShowing records answer text
+  pub showing : IsShowing scope records answer text
   pub taken : HasTaken before after text
 
 -- The same of the bytes that a writer held before and after. It took the text of the answer; or the
 -- answer is that it failed, and it took a front of a text.
-abbrev pub Shows : List (List (List ℕ)) → Option (List ℕ) → Option (List ℕ)
+abbrev pub Shows : Scope → List (List (List ℕ)) → Option (List ℕ) → Option (List ℕ)
     → Result (Option LinkFault) RunFault → Type 0
-Shows records before after answer =
-    ((text : List ℕ) × IsShowing records answer text × Appends before after text)
-    ⊎ ((answer ≡ Err Write) × IsCutShort records before after)
+Shows scope records before after answer =
+    ((text : List ℕ) × IsShowing scope records answer text × Appends before after text)
+    ⊎ ((answer ≡ Err Write) × IsCutShort scope records before after)
 
 -- an answer that the records themselves have: every one but a refused read, write or memory
 abbrev pub IsOwnShowing : Result (Option LinkFault) RunFault → Type 0

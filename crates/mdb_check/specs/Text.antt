@@ -1,13 +1,16 @@
 -- The text of an outcome.
-use Rattle.std.specs.Prelude.{ℕ, List, [], ◌∷◌, ◌++◌, Option, Some, None, Ok, codes}
+use Rattle.std.specs.Prelude.{ℕ, List, [], ◌∷◌, ◌++◌, Option, Some, None, Ok, codes, if◌then◌else◌}
 use Rattle.std.specs.Fmt.{decimal, signed_decimal}
 use Rattle.std.specs.List.{flat_map}
 use Rattle.mdb_msgs.specs.declared.command.Device.{Device}
+use Rattle.mdb_msgs.specs.declared.device_set.DeviceSet.{DeviceSet}
+use Rattle.mdb_msgs.specs.DeviceSets.{has}
 use Rattle.mdb_msgs.specs.Devices.{device_word}
 use Rattle.mdb_bus.specs.FaultWords.{blame_word, rule_word}
 use Rattle.mdb_follow.specs.declared.account_name.AccountName.{AccountName}
 use Rattle.mdb_follow.specs.declared.account_name.TheConstants.AccountName.{ALL}
 use Rattle.mdb_follow.specs.declared.account.Account.{Account}
+use Rattle.mdb_follow.specs.declared.offence.Offence.{Offence}
 use Rattle.mdb_follow.specs.declared.range.Range.{Range}
 use Rattle.mdb_follow.specs.declared.report.Report.{Report}
 use Rattle.mdb_follow.specs.declared.report.TheConstants.Report.{DEVICES}
@@ -18,6 +21,7 @@ use Rattle.mdb_check.specs.declared.outcome.Outcome.TheVariants.{Yes, No}
 use Rattle.mdb_check.specs.Accounts.{OfController, OfDevice, OfDifference, range_of, side_word}
 use Rattle.mdb_check.specs.Verdict.{IsAnswer}
 use Rattle.mdb_check.specs.Written.{HasTaken}
+use Rattle.mdb_bus.specs.declared.scope.Scope.{Scope}
 
 -- a line of a text
 abbrev pub line : List ℕ → List ℕ
@@ -66,18 +70,40 @@ accounts_text report = flat_map (λ name. account_line name (account_of name rep
 abbrev pub head_text : ℕ → List ℕ
 head_text rows = line (codes "verdict yes") ++ line (codes "rows " ++ decimal rows)
 
--- what is written for an outcome
-abbrev pub report_text : Outcome → List ℕ
-report_text (Yes report) =
-    head_text report.rows ++ decimals_line report ++ accounts_text report ++ silences_line report
-report_text (No offence) =
+-- the word of a device, if it is one of a set
+abbrev pub word_in : DeviceSet → Device → List ℕ
+word_in set device = if has set device then codes " " ++ device_word device else []
+
+-- the words of the devices of a set, in the order of a report
+abbrev pub devices_text : DeviceSet → List ℕ
+devices_text set = flat_map (word_in set) DEVICES
+
+-- the line of these words, if there are any
+abbrev pub line_of_devices : List ℕ → List ℕ
+line_of_devices [] = []
+line_of_devices (byte ∷ bytes) = line (codes "without" ++ byte ∷ bytes)
+
+-- the line of the devices that are left out; there is none where none is
+abbrev pub without_line : Scope → List ℕ
+without_line scope = line_of_devices (devices_text scope.without)
+
+-- the four lines of a no
+abbrev pub offence_text : Offence → List ℕ
+offence_text offence =
     line (codes "verdict no") ++ line (codes "row " ++ decimal offence.row)
     ++ line (codes "rule " ++ rule_word offence.rule)
     ++ line (codes "blame " ++ blame_word offence.blame)
 
+-- what is written for an outcome
+abbrev pub report_text : Scope → Outcome → List ℕ
+report_text scope (Yes report) =
+    head_text report.rows ++ decimals_line report ++ accounts_text report ++ silences_line report
+    ++ without_line scope
+report_text scope (No offence) = offence_text offence
+
 -- The records of a text have a verdict, and a writer took a front of its text.
-pub record IsCutReport (limit : ℕ) (records : List (List (List ℕ)))
+pub record IsCutReport (scope : Scope) (limit : ℕ) (records : List (List (List ℕ)))
     (before after : Option (List ℕ)) : Type 0 where
   pub outcome : Outcome
-  pub is : IsAnswer limit records (Ok outcome)
-  pub taken : HasTaken before after (report_text outcome)
+  pub is : IsAnswer scope limit records (Ok outcome)
+  pub taken : HasTaken before after (report_text scope outcome)

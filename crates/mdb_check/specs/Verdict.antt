@@ -15,6 +15,7 @@ use Rattle.mdb_check.specs.declared.outcome.Outcome.{Outcome}
 use Rattle.mdb_check.specs.declared.outcome.Outcome.TheVariants.{Yes, No}
 use Rattle.mdb_check.specs.declared.outcome.RunFault.{RunFault}
 use Rattle.mdb_check.specs.declared.outcome.RunFault.TheVariants.{BadRow, TooLong, Read, Write, Memory}
+use Rattle.mdb_bus.specs.declared.scope.Scope.{Scope}
 
 -- each record is a row, and these are their events
 abbrev pub AreRows : List (List (List ℕ)) → List Event → Type 0
@@ -26,61 +27,61 @@ AreRows (fields ∷ records) [] = ⊥
 -- All records are rows, and the controller and its peripherals can have said these words at these
 -- times: the rows have a run. The report is what their runs tell, and in each of them every sale at
 -- a reader follows its approval.
-pub record IsPossible (limit : ℕ) (records : List (List (List ℕ)))
+pub record IsPossible (scope : Scope) (limit : ℕ) (records : List (List (List ℕ)))
     (report : Report) : Type 0 where
   pub rows : List Event
   pub told : AreRows records rows
   pub few : length rows ≤ limit
-  pub is : IsReport rows report
-  pub sales : SalesFollowApprovals rows
+  pub is : IsReport scope rows report
+  pub sales : SalesFollowApprovals scope rows
 
 -- Rows that can be lead up to a record.
-pub record LeadUpTo (records : List (List (List ℕ))) (rows : List Event)
+pub record LeadUpTo (scope : Scope) (records : List (List (List ℕ))) (rows : List Event)
     (fields : List (List ℕ)) : Type 0 where
   pub done : List (List (List ℕ))
   pub rest : List (List (List ℕ))
   pub split : records ≡ done ++ fields ∷ rest
   pub told : AreRows done rows
-  pub possible : IsReached rows
+  pub possible : IsReached scope rows
 
 -- The first row that cannot follow the rows before it, the rule that it breaks, and who is to
 -- blame.
-pub record IsImpossible (limit : ℕ) (records : List (List (List ℕ)))
+pub record IsImpossible (scope : Scope) (limit : ℕ) (records : List (List (List ℕ)))
     (offence : Offence) : Type 0 where
   pub rows : List Event
   pub row : Event
   pub fields : List (List ℕ)
-  pub stops : LeadUpTo records rows fields
+  pub stops : LeadUpTo scope records rows fields
   pub told : IsRow fields row
   pub few : length rows < limit
-  pub is : IsOffence rows row offence
+  pub is : IsOffence scope rows row offence
 
 -- The first record that is no row, after rows that can be.
-pub record IsBadRow (limit : ℕ) (records : List (List (List ℕ))) (row : ℕ)
+pub record IsBadRow (scope : Scope) (limit : ℕ) (records : List (List (List ℕ))) (row : ℕ)
     (fault : RowFault) : Type 0 where
   pub rows : List Event
   pub fields : List (List ℕ)
-  pub stops : LeadUpTo records rows fields
+  pub stops : LeadUpTo scope records rows fields
   pub few : length rows < limit
   pub number : row ≡ length rows + 1
   pub refused : IsRefusal fields fault
 
 -- As many rows as there may be, which can be, and then a record, whatever it holds.
-pub record IsTooLong (limit : ℕ) (records : List (List (List ℕ))) : Type 0 where
+pub record IsTooLong (scope : Scope) (limit : ℕ) (records : List (List (List ℕ))) : Type 0 where
   pub rows : List Event
   pub fields : List (List ℕ)
-  pub stops : LeadUpTo records rows fields
+  pub stops : LeadUpTo scope records rows fields
   pub full : length rows ≡ limit
 
 -- The answer to the records of a text. Of a refused read, write or memory the records say nothing.
-abbrev pub IsAnswer : ℕ → List (List (List ℕ)) → Result Outcome RunFault → Type 0
-IsAnswer limit records (Ok (Yes report)) = IsPossible limit records report
-IsAnswer limit records (Ok (No offence)) = IsImpossible limit records offence
-IsAnswer limit records (Err (BadRow row fault)) = IsBadRow limit records row fault
-IsAnswer limit records (Err TooLong) = IsTooLong limit records
-IsAnswer limit records (Err Read) = ⊤
-IsAnswer limit records (Err Write) = ⊤
-IsAnswer limit records (Err Memory) = ⊤
+abbrev pub IsAnswer : Scope → ℕ → List (List (List ℕ)) → Result Outcome RunFault → Type 0
+IsAnswer scope limit records (Ok (Yes report)) = IsPossible scope limit records report
+IsAnswer scope limit records (Ok (No offence)) = IsImpossible scope limit records offence
+IsAnswer scope limit records (Err (BadRow row fault)) = IsBadRow scope limit records row fault
+IsAnswer scope limit records (Err TooLong) = IsTooLong scope limit records
+IsAnswer scope limit records (Err Read) = ⊤
+IsAnswer scope limit records (Err Write) = ⊤
+IsAnswer scope limit records (Err Memory) = ⊤
 
 -- an answer that the records themselves have: every one but a refused read, write or memory
 abbrev pub IsOwnAnswer : Result Outcome RunFault → Type 0
@@ -92,9 +93,9 @@ IsOwnAnswer (Err Write) = ⊥
 IsOwnAnswer (Err Memory) = ⊥
 
 -- a yes with the report on these rows; this serves a private function
-abbrev pub IsYes : List Event → Outcome → Type 0
-IsYes rows (Yes report) = IsReport rows report
-IsYes rows (No offence) = ⊥
+abbrev pub IsYes : Scope → List Event → Outcome → Type 0
+IsYes scope rows (Yes report) = IsReport scope rows report
+IsYes scope rows (No offence) = ⊥
 
 -- an answer that isn't yes
 abbrev pub IsNoYes : Result Outcome RunFault → Type 0

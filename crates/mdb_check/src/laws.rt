@@ -2,8 +2,10 @@
 //! on.
 
 ghost use Rattle.std.specs.Prelude.{◌≡◌, ◌+◌, ℕ, List, Option, Result, Ok, length};
+ghost use Rattle.mdb_msgs.specs.declared.device_set.DeviceSet.{DeviceSet};
 ghost use Rattle.mdb_bus.specs.ActLists.{events_of};
 ghost use Rattle.mdb_bus.specs.declared.fault.LinkFault.{LinkFault};
+ghost use Rattle.mdb_bus.specs.declared.scope.Scope.{Scope};
 ghost use Rattle.mdb_follow.specs.declared.follower.TheConstants.{ROWS_MAX};
 ghost use Rattle.mdb_check.specs.declared.verdict.TheConstants.{BYTES_MAX};
 ghost use Rattle.mdb_check.specs.declared.outcome.Outcome.{Outcome};
@@ -24,8 +26,8 @@ use mdb_follow::laws;
 /// each, and none goes beyond. After a no, the rows have a run up to the one before the row that
 /// it names, and no further.
 pub fn verdicts_say_the_headline()
-    ensures { (limit : ℕ) (records : List (List (List ℕ))) (outcome : Outcome)
-        → IsAnswer limit records (Ok outcome) → Headline limit records outcome }
+    ensures { (scope : Scope) (limit : ℕ) (records : List (List (List ℕ))) (outcome : Outcome)
+        → IsAnswer scope limit records (Ok outcome) → Headline scope limit records outcome }
 {
     laws::fronts_of_reached_rows_are_reached();
     laws::reports_name_the_accounts_of_runs();
@@ -36,8 +38,9 @@ pub fn verdicts_say_the_headline()
 ///
 /// So where one of these is the answer, no other one would be right.
 pub fn texts_have_one_answer()
-    ensures { (limit : ℕ) (records : List (List (List ℕ))) (a b : Result Outcome RunFault)
-        → IsAnswer limit records a → IsAnswer limit records b → IsOwnAnswer a → IsOwnAnswer b
+    ensures { (scope : Scope) (limit : ℕ) (records : List (List (List ℕ)))
+        (a b : Result Outcome RunFault)
+        → IsAnswer scope limit records a → IsAnswer scope limit records b → IsOwnAnswer a → IsOwnAnswer b
         → a ≡ b }
 {
     laws::fronts_of_reached_rows_are_reached();
@@ -48,8 +51,9 @@ pub fn texts_have_one_answer()
 /// The records of a text are shown in at most one way of their own: what is answered, and what is
 /// written.
 pub fn texts_are_shown_in_one_way()
-    ensures { (records : List (List (List ℕ))) (a b : Result (Option LinkFault) RunFault)
-        (s t : List ℕ) → IsShowing records a s → IsShowing records b t → IsOwnShowing a
+    ensures { (scope : Scope) (records : List (List (List ℕ)))
+        (a b : Result (Option LinkFault) RunFault) (s t : List ℕ)
+        → IsShowing scope records a s → IsShowing scope records b t → IsOwnShowing a
         → IsOwnShowing b → (a ≡ b) × (s ≡ t) }
 {
     links::fronts_of_act_lists_have_act_lists();
@@ -62,9 +66,9 @@ pub fn texts_are_shown_in_one_way()
 /// row, the rule and the blame of that fault, or with an earlier row, where it is a device or the
 /// controller that did what it can't have done.
 pub fn shown_faults_are_those_of_verdicts()
-    ensures { (records : List (List (List ℕ))) (fault : LinkFault) (text : List ℕ)
-        (answer : Result Outcome RunFault) → (shown : IsShownToFault records fault text)
-        → IsAnswer ROWS_MAX records answer → IsOwnAnswer answer
+    ensures { (scope : Scope) (records : List (List (List ℕ))) (fault : LinkFault) (text : List ℕ)
+        (answer : Result Outcome RunFault) → (shown : IsShownToFault scope records fault text)
+        → IsAnswer scope ROWS_MAX records answer → IsOwnAnswer answer
         → IsNoUpTo (length (events_of shown.pieces) + 1) fault answer }
 {
     links::fronts_of_act_lists_have_act_lists();
@@ -73,13 +77,14 @@ pub fn shown_faults_are_those_of_verdicts()
     links::rows_that_break_a_rule_end_the_act_list();
 }
 
-/// The words of a command line name one task at most.
+/// The words of a command line name one task at most, with one set of devices that are left out.
 ///
-/// So where they name one, the status of the program says what it says of that task, or the words
-/// weren't read for want of memory.
+/// So where they name one, the status of the program says what it says of that task with that set,
+/// or the words weren't read for want of memory.
 pub fn command_lines_name_one_task()
-    ensures { (words : List (List ℕ)) (a b : List ℕ) → NamesTask words a → NamesTask words b
-        → a ≡ b }
+    ensures { (words : List (List ℕ)) (a b : List ℕ) (left_out_a left_out_b : DeviceSet)
+        → NamesTask words a left_out_a → NamesTask words b left_out_b
+        → (a ≡ b) × (left_out_a ≡ left_out_b) }
 {}
 
 /// The limits of a transcript (this profile).

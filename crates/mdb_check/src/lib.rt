@@ -6,6 +6,7 @@
 #![tactic(auto)]
 
 mod batch;
+mod command_line;
 mod complaint;
 pub mod laws;
 mod outcome;
@@ -19,11 +20,11 @@ mod text;
 mod verdict;
 mod writing;
 
-pub use mdb_bus::{Blame, LinkFault, Rule};
+pub use mdb_bus::{Beginning, Blame, LinkFault, Rule, Scope};
 pub use mdb_follow::{Account, AccountName, Offence, ROWS_MAX, Range, Report};
-pub use mdb_msgs::{Device, ReaderUnit};
+pub use mdb_msgs::{Device, DeviceSet, ReaderUnit};
 pub use outcome::{Outcome, RunFault};
 pub use program::run;
-pub use showing::show;
-pub use text::text_of;
-pub use verdict::{BYTES_MAX, check, check_within};
+pub use showing::{show, show_scoped};
+pub use text::{text_of, text_scoped};
+pub use verdict::{BYTES_MAX, check, check_scoped, check_scoped_within, check_within};

@@ -1,30 +1,23 @@
 //! The program over its words.
 
-ghost use Rattle.std.specs.Prelude.{◌≡◌, ◌≢◌, ◌<◌, ◌⊎◌, IfErr, IfOk, IfSome, length, map, string_bytes};
-ghost use Rattle.clap.specs.Words.{FailsBy, app_of, fault_of, kind_of};
-ghost use Rattle.mdb_check.specs.inner.CommandLine.{AsksFor, mdbcheck};
+ghost use Rattle.std.specs.Prelude.{◌≡◌, ◌≢◌, ◌<◌, ◌⊎◌, IfSome, length, map, string_bytes};
+ghost use Rattle.mdb_bus.specs.Scopes.{leaving_out};
 ghost use Rattle.mdb_check.specs.Program.{NameATask, Says, SaysChecked, SaysShown, show_status_of, status_of};
 ghost use Rattle.mdb_check.specs.declared.verdict.TheConstants.{BYTES_MAX};
 ghost use Rattle.mdb_records.specs.ToCome.{IsOverLimit, ToCome, limit_of};
 ghost use Rattle.csv.specs.Reading.{default_config, records, strip_bom};
 
+use super::command_line::{Task, USAGE, VERSION, task_of};
 use super::complaint::complain;
 use super::outcome::{Outcome, RunFault};
 use super::showing::show_records;
 use super::verdict::{BYTES_MAX, check_records, records_of};
-use clap::Command;
-use clap::error::{Error, ErrorKind};
-use mdb_bus::LinkFault;
+use clap::error::ErrorKind;
+use mdb_bus::{LinkFault, Scope};
 use mdb_follow::ROWS_MAX;
 use mdb_records::Records;
-use std::alloc::{AllocError, Global};
+use std::alloc::Global;
 use std::io::{Read, Write};
-
-/// The line that says how the program is called.
-const USAGE: &str = "usage: mdbcheck check|show < TRANSCRIPT";
-
-/// The program's version.
-const VERSION: &str = "0.1.0";
 
 /// The status of a transcript that can have been, or has no link fault.
 const POSSIBLE: u8 = 0;
@@ -34,15 +27,6 @@ const IMPOSSIBLE: u8 = 1;
 
 /// The status where there is no verdict, and the acts aren't shown to the end.
 const NO_VERDICT: u8 = 2;
-
-/// What the words of a command line ask for.
-#[derive(Clone, Copy, PartialEq, Eq, Debug)]
-enum Task {
-    /// `check`: the verdict on the transcript that the reader gives.
-    Check,
-    /// `show`: its acts.
-    Show,
-}
 
 /// Runs the program over its words, the program's name first, and answers its exit status.
 ///
@@ -76,21 +60,22 @@ pub fn run<R: Read + Drop, W: Write, E: Write>(
     ensures silent { result < 2 → err.new ≡ err.old }
 {
     match task_of(alloc, words.as_slice()) {
-        Ok(Task::Check) => run_check(alloc, reader, out, err),
-        Ok(Task::Show) => run_show(alloc, reader, out, err),
-        Err(error) => refuse(error.kind(), err),
+        Ok(Task::Check(options)) => run_check(alloc, options.scope(), reader, out, err),
+        Ok(Task::Show(options)) => run_show(alloc, options.scope(), reader, out, err),
+        Err(kind) => refuse(kind, err),
     }
 }
 
 /// Gives the verdict on the text that the reader has left.
 fn run_check<R: Read + Drop, W: Write, E: Write>(
     alloc: Global,
+    scope: Scope,
     reader: R,
     out: &mut W,
     err: &mut E,
 ) -> u8
     ensures status { result < 3 }
-    ensures says { IfSome (R.remaining reader) (λ text. SaysChecked
+    ensures says { IfSome (R.remaining reader) (λ text. SaysChecked scope
         (records default_config (strip_bom text)) (W.contents out.old) (W.contents out.new)
         result) }
     ensures whole { IfSome (R.remaining reader) (λ text. BYTES_MAX < length text
@@ -98,19 +83,20 @@ fn run_check<R: Read + Drop, W: Write, E: Write>(
     ensures silent { result < 2 → err.new ≡ err.old }
 {
     let mut records = input_of(alloc, reader);
-    let answer = check_records(alloc, &mut records, out, ROWS_MAX);
+    let answer = check_records(alloc, scope, &mut records, out, ROWS_MAX);
     finish_check(alloc, answer, &records, err)
 }
 
 /// Shows the acts of the text that the reader has left.
 fn run_show<R: Read + Drop, W: Write, E: Write>(
     alloc: Global,
+    scope: Scope,
     reader: R,
     out: &mut W,
     err: &mut E,
 ) -> u8
     ensures status { result < 3 }
-    ensures says { IfSome (R.remaining reader) (λ text. SaysShown
+    ensures says { IfSome (R.remaining reader) (λ text. SaysShown scope
         (records default_config (strip_bom text)) (W.contents out.old) (W.contents out.new)
         result) }
     ensures whole { IfSome (R.remaining reader) (λ text. BYTES_MAX < length text
@@ -118,7 +104,7 @@ fn run_show<R: Read + Drop, W: Write, E: Write>(
     ensures silent { result < 2 → err.new ≡ err.old }
 {
     let mut records = input_of(alloc, reader);
-    let answer = show_records(alloc, &mut records, out);
+    let answer = show_records(alloc, scope, &mut records, out);
     finish_show(alloc, answer, &records, err)
 }
 
@@ -131,35 +117,6 @@ fn input_of<R: Read + Drop>(alloc: Global, reader: R) -> Records<R>
     ensures limit { limit_of result ≡ BYTES_MAX }
 {
     records_of(alloc, reader, BYTES_MAX)
-}
-
-/// What the words ask for, as `clap` reads them. Those that it refuses are no task's, unless memory
-/// was refused.
-fn task_of(alloc: Global, words: &[String]) -> Result<Task, Error>
-    ensures asked { IfOk result (AsksFor (map string_bytes words.now)) }
-    ensures refused { IfErr result (λ error. (task : Task)
-        → AsksFor (map string_bytes words.now) task → kind_of error ≡ ErrorKind.OutOfMemory) }
-    ensures faults { FailsBy (fault_of mdbcheck (map string_bytes words.now)) result }
-{
-    let matches = command(alloc)?.try_get_matches_from(words)?;
-    match matches.subcommand() {
-        Some(("check", _)) => Ok(Task::Check),
-        Some(("show", _)) => Ok(Task::Show),
-        _ => unreachable!(),
-    }
-}
-
-/// The program's command, as `clap` has it.
-fn command<'a>(alloc: Global) -> Result<Command<'a>, AllocError>
-    ensures { IfOk result (λ command. app_of command ≡ mdbcheck) }
-{
-    let check = Command::new(alloc, "check");
-    let show = Command::new(alloc, "show");
-    Command::new(alloc, "mdbcheck")
-        .version(VERSION)
-        .subcommand_required(true)
-        .subcommand(check)?
-        .subcommand(show)
 }
 
 /// The status of a verdict; a fault is told.

@@ -2,6 +2,7 @@
 
 ghost use Rattle.std.specs.Prelude.{◌≡◌, ◌+◌, ◌^◌, ◌<◌, ◌≤◌, ◌≢◌, List, ℕ, [], IfErr, IfOk, IfSome, IsErr, IsErrOf, None, Ok, Option, length};
 ghost use Rattle.mdb_records.specs.ToCome.{IsOverLimit, ToCome, fault_of};
+ghost use Rattle.mdb_bus.specs.declared.scope.Scope.{Scope};
 ghost use Rattle.mdb_check.specs.inner.Ending.{EndsAfter, HasEnded, HasTaken, IsHeard, IsStop, IsToldEnd, goes_on_by};
 ghost use Rattle.mdb_check.specs.Verdict.{run_fault_of};
 
@@ -26,6 +27,9 @@ pub(crate) trait TakeRows<O> {
     /// How many rows it has taken.
     ghost count: { Self → ℕ };
 
+    /// How the recording is taken whose rows it takes.
+    ghost scope: { Self → Scope };
+
     /// It has taken these rows and no others. What it tells to was in the first state before them,
     /// and is in the second.
     ghost has: { Self → O → O → List Self.Row → Type 0 };
@@ -42,9 +46,10 @@ pub(crate) trait TakeRows<O> {
         requires begun { (before : O) × (earlier : List Self.Row)
             × has self.old before out.old earlier }
         requires room { count self.old + length rows.now ≤ most }
-        ensures { (before : O) (earlier : List Self.Row) → has self.old before out.old earlier
+        ensures taken { (before : O) (earlier : List Self.Row) → has self.old before out.old earlier
             → HasTaken (has self.new before out.new) (stops self.new before out.new) earlier
-            rows.now result };
+            rows.now result }
+        ensures same_scope { scope self.new ≡ scope self.old };
 
     /// Which rows it has taken tells how many.
     ghost counts: { (taker : Self) (before after : O) (rows : List Self.Row)
@@ -79,6 +84,7 @@ pub(crate) fn read_rows<R: Read + Drop, O, T: TakeRows<O>>(
     ensures heard { IfErr result (IsHeard (fault_of records.new)) }
     ensures met { fault_of records.old ≡ None → IfSome (fault_of records.new)
         (λ fault. IsToldEnd fault result) }
+    ensures same_scope { T.scope taker.new ≡ T.scope taker.old }
 {
     while taker.rows_taken() < rows_max {
         let next = batch.refill(records, rows_max - taker.rows_taken());

@@ -5,6 +5,9 @@ ghost use Rattle.csv.specs.Reading.{default_config, records, strip_bom};
 ghost use Rattle.mdb_records.specs.ToCome.{IsOverLimit, ToCome, fault_of};
 ghost use Rattle.mdb_records.specs.declared.ReadFault.{ReadFault};
 ghost use Rattle.mdb_check.specs.declared.verdict.TheConstants.{BYTES_MAX};
+ghost use Rattle.mdb_bus.specs.Bus.{scope_of};
+ghost use Rattle.mdb_bus.specs.declared.scope.Scope.{Scope};
+ghost use Rattle.mdb_bus.specs.declared.scope.TheConstants.Scope.{POWER_ON};
 ghost use Rattle.mdb_check.specs.Show.{Shows};
 ghost use Rattle.mdb_check.specs.inner.ShowSteps.{HasShown, IsShownAs, PutsShowing, begun, output};
 
@@ -13,7 +16,7 @@ use super::outcome::RunFault;
 use super::page::Page;
 use super::reading::{TakeRows, read_rows};
 use super::verdict::{BYTES_MAX, records_of};
-use mdb_bus::{Act, Bus, LinkFault, laws};
+use mdb_bus::{Act, Bus, LinkFault, Scope, laws};
 use mdb_follow::ROWS_MAX;
 use mdb_records::Records;
 use mdb_words::Event;
@@ -23,7 +26,8 @@ use std::io::{Read, Write};
 /// Reads a transcript, and writes a line for each act that was done, as it reads: its first and its
 /// last row, and the act with the bytes of its block. A block that a break or the end of the
 /// transcript cuts has a line too, and so has the first row that breaks a rule of the link. That
-/// row ends the reading, and is answered.
+/// row ends the reading, and is answered. Recording began at power-on or at a break, and all devices
+/// are followed: this is [`show_scoped`] of [`Scope::POWER_ON`].
 ///
 /// The rows are those of `check`. Nothing is said of coins, bills and sales: a transcript that is
 /// shown to its end may still be one that cannot have been.
@@ -42,27 +46,49 @@ pub fn show<R: Read + Drop, W: Write>(
     writer: &mut W,
 ) -> Result<Option<LinkFault>, RunFault>
     ensures shows { IfSome (R.remaining reader) (λ text.
-        Shows (records default_config (strip_bom text)) (W.contents writer.old)
+        Shows POWER_ON (records default_config (strip_bom text)) (W.contents writer.old)
+        (W.contents writer.new) result) }
+    ensures whole { IfSome (R.remaining reader) (λ text.
+        BYTES_MAX < length text → result ≢ Ok None) }
+{
+    show_scoped(alloc, Scope::POWER_ON, reader, writer)
+}
+
+/// Does as [`show`] does, of a recording that is taken as `scope` says: each row of what is said to
+/// a device that is left out, and of what it answers, is a foreign act of its own.
+///
+/// # Errors
+///
+/// Those of `show`.
+pub fn show_scoped<R: Read + Drop, W: Write>(
+    alloc: Global,
+    scope: Scope,
+    reader: R,
+    writer: &mut W,
+) -> Result<Option<LinkFault>, RunFault>
+    ensures shows { IfSome (R.remaining reader) (λ text.
+        Shows scope (records default_config (strip_bom text)) (W.contents writer.old)
         (W.contents writer.new) result) }
     ensures whole { IfSome (R.remaining reader) (λ text.
         BYTES_MAX < length text → result ≢ Ok None) }
 {
     let mut records = records_of(alloc, reader, BYTES_MAX);
-    show_records(alloc, &mut records, writer)
+    show_records(alloc, scope, &mut records, writer)
 }
 
 /// Shows the records that are still to come. What they tell of where the reading ended is still to
 /// be asked then.
 pub(crate) fn show_records<R: Read + Drop, W: Write>(
     alloc: Global,
+    scope: Scope,
     records: &mut Records<R>,
     writer: &mut W,
 ) -> Result<Option<LinkFault>, RunFault>
     ensures shows { (all : List (List (List ℕ))) → ToCome R.remaining records.old all
-        → Shows all (W.contents writer.old) (W.contents writer.new) result }
+        → Shows scope all (W.contents writer.old) (W.contents writer.new) result }
     ensures whole { IsOverLimit R.remaining records.old → result ≢ Ok None }
 {
-    let mut showing = Showing::new(alloc);
+    let mut showing = Showing::new(alloc, scope);
     let answer = show_rows(records, &mut showing, writer);
     if answer != Err(RunFault::Write) {
         showing.page.write_out(writer)?;
@@ -76,10 +102,10 @@ fn show_rows<R: Read + Drop, W: Write>(
     showing: &mut Showing,
     writer: &mut W,
 ) -> Result<Option<LinkFault>, RunFault>
-    requires { HasShown showing.old.lines (begun (W.contents writer.old))
+    requires { HasShown (scope_of showing.old.lines.bus) showing.old.lines (begun (W.contents writer.old))
         (output (W.contents writer.old) showing.old.page) [] }
     ensures shows { (all : List (List (List ℕ))) → ToCome R.remaining records.old all
-        → PutsShowing all (begun (W.contents writer.old))
+        → PutsShowing (scope_of showing.old.lines.bus) all (begun (W.contents writer.old))
         (output (W.contents writer.new) showing.new.page) result }
     ensures whole { IsOverLimit R.remaining records.old → result ≢ Ok None }
     ensures heard { IfErr result (λ fault. fault ≡ RunFault.Read
@@ -107,12 +133,13 @@ impl Showing {
     ghost use Rattle.mdb_check.specs.inner.ShowSteps.{HasShown, begun, output};
 
     /// Before the first row.
-    fn new(alloc: Global) -> Showing
-        ensures { (contents : Option (List ℕ))
-            → HasShown result.lines (begun contents) (output contents result.page) [] }
+    fn new(alloc: Global, scope: Scope) -> Showing
+        ensures shown { (contents : Option (List ℕ))
+            → HasShown scope result.lines (begun contents) (output contents result.page) [] }
+        ensures scope { scope_of result.lines.bus ≡ scope }
     {
         Showing {
-            lines: Lines::new(),
+            lines: Lines::new(scope),
             page: Page::new(alloc),
         }
     }
@@ -132,11 +159,13 @@ impl<W: Write> TakeRows<W> for Showing {
 
     ghost count = { λ showing. showing.lines.rows };
 
-    ghost has = { λ showing before after rows. HasShown showing.lines (begun (W.contents before))
-        (output (W.contents after) showing.page) rows };
+    ghost scope = { λ showing. scope_of showing.lines.bus };
 
-    ghost stops = { λ showing before after. HasStopped showing.lines (begun (W.contents before))
-        (output (W.contents after) showing.page) };
+    ghost has = { λ showing before after rows. HasShown (scope_of showing.lines.bus) showing.lines
+        (begun (W.contents before)) (output (W.contents after) showing.page) rows };
+
+    ghost stops = { λ showing before after. HasStopped (scope_of showing.lines.bus) showing.lines
+        (begun (W.contents before)) (output (W.contents after) showing.page) };
 
     fn rows_taken(&self) -> u64 {
         self.lines.rows
@@ -163,17 +192,18 @@ struct Lines {
 impl Lines {
     ghost use Rattle.std.specs.Prelude.{◌≤◌, ◌+◌, []};
     ghost use Rattle.mdb_words.specs.declared.event.Event.{Event};
-    ghost use Rattle.mdb_bus.specs.Bus.{StandsFor};
+    ghost use Rattle.mdb_bus.specs.Bus.{StandsFor, scope_of};
     ghost use Rattle.mdb_check.specs.inner.ShowSteps.{HasAdded, HasPieces, HasShown, Output};
 
     /// No lines: before the first row.
-    fn new() -> Lines
+    fn new(scope: Scope) -> Lines
+        ensures scope { scope_of result.bus ≡ scope }
         ensures stands { StandsFor result.bus [] }
         ensures rows { result.rows ≡ 0 }
         ensures shown { result.shown ≡ 0 }
     {
         Lines {
-            bus: Bus::new(),
+            bus: Bus::scoped(scope),
             rows: 0,
             shown: 0,
             act: Act::Foreign,
@@ -191,10 +221,12 @@ impl Lines {
         requires stands { HasPieces self.old.bus }
         requires few { self.old.shown ≤ self.old.rows }
         requires room { self.old.rows + length events.now ≤ ROWS_MAX }
-        ensures { (before : Output) (earlier : List Event)
-            → HasShown self.old before (output (W.contents writer.old) page.old) earlier
-            → HasAdded self.new before (output (W.contents writer.new) page.new) earlier events.now
-            result }
+        ensures added { (before : Output) (earlier : List Event)
+            → HasShown (scope_of self.old.bus) self.old before
+            (output (W.contents writer.old) page.old) earlier
+            → HasAdded (scope_of self.old.bus) self.new before
+            (output (W.contents writer.new) page.new) earlier events.now result }
+        ensures scope { scope_of self.new.bus ≡ scope_of self.old.bus }
     {
         laws::acts_name_replies_of_their_commands();
         for event in events {

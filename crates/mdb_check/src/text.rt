@@ -2,11 +2,14 @@
 
 ghost use Rattle.std.specs.Prelude.{◌≡◌, IfOk, OnOk};
 ghost use Rattle.std.specs.Io.KnownBytes.{Appends};
-ghost use Rattle.mdb_check.specs.Text.{account_line, accounts_text, count_text, decimals_line, head_text, places_text, report_text, side_text, silences_line};
+ghost use Rattle.mdb_check.specs.Text.{account_line, accounts_text, count_text, decimals_line, head_text, devices_text, line_of_devices, offence_text, places_text, report_text, side_text, silences_line, word_in};
+ghost use Rattle.mdb_bus.specs.declared.scope.Scope.{Scope};
+ghost use Rattle.mdb_bus.specs.declared.scope.TheConstants.Scope.{POWER_ON};
 
 use super::outcome::Outcome;
+use mdb_bus::Scope;
 use mdb_follow::{Account, AccountName, Offence, Range, Report};
-use mdb_msgs::Device;
+use mdb_msgs::{Device, DeviceSet};
 use std::alloc::Global;
 use std::io;
 use std::io::Write;
@@ -14,34 +17,43 @@ use std::io::Write;
 /// The text of an outcome as bytes: what `check` writes of it. Only want of memory is an error
 /// here.
 pub fn text_of(alloc: Global, outcome: &Outcome) -> io::Result<Vec<u8>>
-    ensures { IfOk result (λ text. text.items ≡ report_text outcome.now) }
+    ensures { IfOk result (λ text. text.items ≡ report_text POWER_ON outcome.now) }
+{
+    text_scoped(alloc, Scope::POWER_ON, outcome)
+}
+
+/// The text of an outcome of a recording that is taken so: what `check_scoped` writes of it. Only
+/// want of memory is an error here.
+pub fn text_scoped(alloc: Global, scope: Scope, outcome: &Outcome) -> io::Result<Vec<u8>>
+    ensures { IfOk result (λ text. text.items ≡ report_text scope outcome.now) }
 {
     let mut text = Vec::new(alloc);
-    write_outcome(&mut text, outcome)?;
+    write_outcome(&mut text, scope, outcome)?;
     Ok(text)
 }
 
 /// Writes the text of an outcome, line by line.
-fn write_outcome<W: Write>(writer: &mut W, outcome: &Outcome) -> io::Result<()>
+fn write_outcome<W: Write>(writer: &mut W, scope: Scope, outcome: &Outcome) -> io::Result<()>
     ensures { OnOk result
-        (Appends (W.contents writer.old) (W.contents writer.new) (report_text outcome.now)) }
+        (Appends (W.contents writer.old) (W.contents writer.new) (report_text scope outcome.now)) }
 {
     match outcome {
-        Outcome::Yes(report) => write_report(writer, report),
+        Outcome::Yes(report) => write_report(writer, scope, report),
         Outcome::No(offence) => write_offence(writer, offence),
     }
 }
 
 /// Writes the lines of a yes.
-fn write_report<W: Write>(writer: &mut W, report: &Report) -> io::Result<()>
+fn write_report<W: Write>(writer: &mut W, scope: Scope, report: &Report) -> io::Result<()>
     ensures { OnOk result
         (Appends (W.contents writer.old)
-        (W.contents writer.new) (report_text (Outcome.Yes report.now))) }
+        (W.contents writer.new) (report_text scope (Outcome.Yes report.now))) }
 {
     write_head(writer, report.rows)?;
     write_decimals(writer, report)?;
     write_accounts(writer, report)?;
-    write_silences(writer, report)
+    write_silences(writer, report)?;
+    write_without(writer, scope.without)
 }
 
 /// Writes the first two lines of a yes.
@@ -134,11 +146,44 @@ fn write_count<W: Write>(writer: &mut W, device: Device, count: u64) -> io::Resu
     write!(writer, " {device} {count}")
 }
 
+/// Writes which devices are left out, if one is.
+fn write_without<W: Write>(writer: &mut W, left_out: DeviceSet) -> io::Result<()>
+    ensures { OnOk result
+        (Appends (W.contents writer.old)
+        (W.contents writer.new) (line_of_devices (devices_text left_out))) }
+{
+    if left_out == DeviceSet::NONE {
+        return Ok(());
+    }
+    write!(writer, "without")?;
+    for device in Report::DEVICES {
+        write_if_left_out(writer, left_out, device)?;
+    }
+    write!(writer, "\n")
+}
+
+/// Writes the word of a device that is left out.
+fn write_if_left_out<W: Write>(
+    writer: &mut W,
+    left_out: DeviceSet,
+    device: Device,
+) -> io::Result<()>
+    ensures { OnOk result
+        (Appends (W.contents writer.old)
+        (W.contents writer.new) (word_in left_out device)) }
+{
+    if left_out.has(device) {
+        write!(writer, " {device}")
+    } else {
+        Ok(())
+    }
+}
+
 /// Writes the four lines of a no.
 fn write_offence<W: Write>(writer: &mut W, offence: &Offence) -> io::Result<()>
     ensures { OnOk result
         (Appends (W.contents writer.old)
-        (W.contents writer.new) (report_text (Outcome.No offence.now))) }
+        (W.contents writer.new) (offence_text offence.now)) }
 {
     let Offence { row, rule, blame } = *offence;
     write!(

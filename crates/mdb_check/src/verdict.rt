@@ -8,16 +8,19 @@ ghost use Rattle.mdb_check.specs.Headline.{Headline};
 ghost use Rattle.mdb_check.specs.Text.{IsCutReport, report_text};
 ghost use Rattle.mdb_check.specs.Verdict.{IsAnswer, IsYes, HasMet, IsNoYes, IsToldAs};
 ghost use Rattle.mdb_check.specs.inner.Ending.{HasFollowed};
-ghost use Rattle.mdb_follow.specs.Follower.{StandsFor, rows_of};
+ghost use Rattle.mdb_follow.specs.Follower.{StandsFor, rows_of, scope_of};
 ghost use Rattle.mdb_follow.specs.Offences.{HasOffence};
+ghost use Rattle.mdb_bus.specs.declared.scope.Scope.{Scope};
+ghost use Rattle.mdb_bus.specs.declared.scope.TheConstants.Scope.{POWER_ON};
 ghost use Rattle.mdb_words.specs.declared.event.Event.{Event};
 
 use super::batch::Batch;
 use super::laws::verdicts_say_the_headline;
 use super::outcome::{Outcome, RunFault};
 use super::reading::{TakeRows, read_rows};
-use super::text::text_of;
+use super::text::text_scoped;
 use super::writing::write_text;
+use mdb_bus::Scope;
 use mdb_follow::{Follower, Offence, ROWS_MAX, laws};
 use mdb_records::Records;
 use mdb_words::Event;
@@ -27,7 +30,8 @@ use std::io::{Read, Write};
 /// The most bytes of an input (this profile).
 pub const BYTES_MAX: u64 = 6_400_000_000;
 
-/// Reads a transcript, writes the text of its verdict, and answers it.
+/// Reads a transcript, writes the text of its verdict, and answers it. Recording began at power-on
+/// or at a break, and all devices are followed: this is [`check_scoped`] of [`Scope::POWER_ON`].
 ///
 /// The rows are the records of the input as `csv` reads them, without a header: start in
 /// microseconds, line (`M`, `S` or `B`), and word or length of the break. The first record that is
@@ -46,19 +50,19 @@ pub fn check<R: Read + Drop, W: Write>(
     writer: &mut W,
 ) -> Result<Outcome, RunFault>
     ensures answer { IfSome (R.remaining reader)
-        (λ text. IsAnswer ROWS_MAX (records default_config (strip_bom text)) result) }
-    ensures headline { IfSome (R.remaining reader)
-        (λ text. IfOk result (Headline ROWS_MAX (records default_config (strip_bom text)))) }
+        (λ text. IsAnswer POWER_ON ROWS_MAX (records default_config (strip_bom text)) result) }
+    ensures headline { IfSome (R.remaining reader) (λ text.
+        IfOk result (Headline POWER_ON ROWS_MAX (records default_config (strip_bom text)))) }
     ensures whole { IfSome (R.remaining reader) (λ text. BYTES_MAX < length text → IsNoYes result) }
     ensures written { IfOk result (λ outcome. Appends (W.contents writer.old)
-        (W.contents writer.new) (report_text outcome)) }
+        (W.contents writer.new) (report_text POWER_ON outcome)) }
     ensures nothing_written { IfErr result (λ fault. fault ≢ RunFault.Write
         → writer.new ≡ writer.old) }
     ensures cut { IfSome (R.remaining reader) (λ text. result ≡ Err RunFault.Write
-        → IsCutReport ROWS_MAX (records default_config (strip_bom text)) (W.contents writer.old)
-        (W.contents writer.new)) }
+        → IsCutReport POWER_ON ROWS_MAX (records default_config (strip_bom text))
+        (W.contents writer.old) (W.contents writer.new)) }
 {
-    check_within(alloc, reader, writer, ROWS_MAX, BYTES_MAX)
+    check_scoped(alloc, Scope::POWER_ON, reader, writer)
 }
 
 /// Does as [`check`] does, with other limits: at most `rows_max` rows and `bytes_max` bytes, where
@@ -79,47 +83,108 @@ pub fn check_within<R: Read + Drop, W: Write>(
     requires rows { rows_max ≤ ROWS_MAX }
     requires bytes { bytes_max ≤ BYTES_MAX }
     ensures answer { IfSome (R.remaining reader)
-        (λ text. IsAnswer rows_max (records default_config (strip_bom text)) result) }
-    ensures headline { IfSome (R.remaining reader)
-        (λ text. IfOk result (Headline rows_max (records default_config (strip_bom text)))) }
+        (λ text. IsAnswer POWER_ON rows_max (records default_config (strip_bom text)) result) }
+    ensures headline { IfSome (R.remaining reader) (λ text.
+        IfOk result (Headline POWER_ON rows_max (records default_config (strip_bom text)))) }
     ensures whole { IfSome (R.remaining reader) (λ text. bytes_max < length text → IsNoYes result) }
     ensures written { IfOk result (λ outcome. Appends (W.contents writer.old)
-        (W.contents writer.new) (report_text outcome)) }
+        (W.contents writer.new) (report_text POWER_ON outcome)) }
     ensures nothing_written { IfErr result (λ fault. fault ≢ RunFault.Write
         → writer.new ≡ writer.old) }
     ensures cut { IfSome (R.remaining reader) (λ text. result ≡ Err RunFault.Write
-        → IsCutReport rows_max (records default_config (strip_bom text)) (W.contents writer.old)
-        (W.contents writer.new)) }
+        → IsCutReport POWER_ON rows_max (records default_config (strip_bom text))
+        (W.contents writer.old) (W.contents writer.new)) }
+{
+    check_scoped_within(alloc, Scope::POWER_ON, reader, writer, rows_max, bytes_max)
+}
+
+/// Does as [`check`] does, of a recording that is taken as `scope` says: what is said to a device
+/// that is left out is foreign traffic, whatever it is, and the text of a yes names that device in
+/// one line more, its last.
+///
+/// # Errors
+///
+/// Those of `check`.
+pub fn check_scoped<R: Read + Drop, W: Write>(
+    alloc: Global,
+    scope: Scope,
+    reader: R,
+    writer: &mut W,
+) -> Result<Outcome, RunFault>
+    ensures answer { IfSome (R.remaining reader)
+        (λ text. IsAnswer scope ROWS_MAX (records default_config (strip_bom text)) result) }
+    ensures headline { IfSome (R.remaining reader) (λ text.
+        IfOk result (Headline scope ROWS_MAX (records default_config (strip_bom text)))) }
+    ensures whole { IfSome (R.remaining reader) (λ text. BYTES_MAX < length text → IsNoYes result) }
+    ensures written { IfOk result (λ outcome. Appends (W.contents writer.old)
+        (W.contents writer.new) (report_text scope outcome)) }
+    ensures nothing_written { IfErr result (λ fault. fault ≢ RunFault.Write
+        → writer.new ≡ writer.old) }
+    ensures cut { IfSome (R.remaining reader) (λ text. result ≡ Err RunFault.Write
+        → IsCutReport scope ROWS_MAX (records default_config (strip_bom text))
+        (W.contents writer.old) (W.contents writer.new)) }
+{
+    check_scoped_within(alloc, scope, reader, writer, ROWS_MAX, BYTES_MAX)
+}
+
+/// Does as [`check_scoped`] does, with other limits, as [`check_within`] has them.
+///
+/// # Errors
+///
+/// Those of `check_within`.
+pub fn check_scoped_within<R: Read + Drop, W: Write>(
+    alloc: Global,
+    scope: Scope,
+    reader: R,
+    writer: &mut W,
+    rows_max: u64,
+    bytes_max: u64,
+) -> Result<Outcome, RunFault>
+    requires rows { rows_max ≤ ROWS_MAX }
+    requires bytes { bytes_max ≤ BYTES_MAX }
+    ensures answer { IfSome (R.remaining reader)
+        (λ text. IsAnswer scope rows_max (records default_config (strip_bom text)) result) }
+    ensures headline { IfSome (R.remaining reader) (λ text.
+        IfOk result (Headline scope rows_max (records default_config (strip_bom text)))) }
+    ensures whole { IfSome (R.remaining reader) (λ text. bytes_max < length text → IsNoYes result) }
+    ensures written { IfOk result (λ outcome. Appends (W.contents writer.old)
+        (W.contents writer.new) (report_text scope outcome)) }
+    ensures nothing_written { IfErr result (λ fault. fault ≢ RunFault.Write
+        → writer.new ≡ writer.old) }
+    ensures cut { IfSome (R.remaining reader) (λ text. result ≡ Err RunFault.Write
+        → IsCutReport scope rows_max (records default_config (strip_bom text))
+        (W.contents writer.old) (W.contents writer.new)) }
 {
     let mut records = records_of(alloc, reader, bytes_max);
-    check_records(alloc, &mut records, writer, rows_max)
+    check_records(alloc, scope, &mut records, writer, rows_max)
 }
 
 /// Checks the records that are still to come, at most so many, and writes the text of the verdict.
 /// What the records tell of where the reading ended is still to be asked then.
 pub(crate) fn check_records<R: Read + Drop, W: Write>(
     alloc: Global,
+    scope: Scope,
     records: &mut Records<R>,
     writer: &mut W,
     rows_max: u64,
 ) -> Result<Outcome, RunFault>
     requires { rows_max ≤ ROWS_MAX }
     ensures answer { (all : List (List (List ℕ))) → ToCome R.remaining records.old all
-        → IsAnswer rows_max all result }
+        → IsAnswer scope rows_max all result }
     ensures headline { (all : List (List (List ℕ))) → ToCome R.remaining records.old all
-        → IfOk result (Headline rows_max all) }
+        → IfOk result (Headline scope rows_max all) }
     ensures whole { IsOverLimit R.remaining records.old → IsNoYes result }
     ensures written { IfOk result (λ outcome. Appends (W.contents writer.old)
-        (W.contents writer.new) (report_text outcome)) }
+        (W.contents writer.new) (report_text scope outcome)) }
     ensures nothing_written { IfErr result (λ fault. fault ≢ RunFault.Write
         → writer.new ≡ writer.old) }
     ensures cut { (all : List (List (List ℕ))) → ToCome R.remaining records.old all
         → result ≡ Err RunFault.Write
-        → IsCutReport rows_max all (W.contents writer.old) (W.contents writer.new) }
+        → IsCutReport scope rows_max all (W.contents writer.old) (W.contents writer.new) }
 {
     verdicts_say_the_headline();
-    let outcome = verdict_on(records, rows_max)?;
-    let Ok(text) = text_of(alloc, &outcome) else {
+    let outcome = verdict_on(scope, records, rows_max)?;
+    let Ok(text) = text_scoped(alloc, scope, &outcome) else {
         return Err(RunFault::Memory);
     };
     write_text(writer, text.as_slice())?;
@@ -141,10 +206,14 @@ pub(crate) fn records_of<R: Read + Drop>(alloc: Global, reader: R, bytes_max: u6
 }
 
 /// The verdict on the records that are still to come, at most so many.
-fn verdict_on<R: Read + Drop>(records: &mut Records<R>, rows_max: u64) -> Result<Outcome, RunFault>
+fn verdict_on<R: Read + Drop>(
+    scope: Scope,
+    records: &mut Records<R>,
+    rows_max: u64,
+) -> Result<Outcome, RunFault>
     requires { rows_max ≤ ROWS_MAX }
     ensures answer { (all : List (List (List ℕ))) → ToCome R.remaining records.old all
-        → IsAnswer rows_max all result }
+        → IsAnswer scope rows_max all result }
     ensures whole { IsOverLimit R.remaining records.old → IsNoYes result }
     ensures heard { IfErr result (HasMet (fault_of records.new)) }
     ensures met { fault_of records.old ≡ None → IfSome (fault_of records.new)
@@ -153,7 +222,7 @@ fn verdict_on<R: Read + Drop>(records: &mut Records<R>, rows_max: u64) -> Result
 {
     laws::followers_stand_for_reached_rows();
     laws::sales_follow_their_approvals();
-    let mut follower = Follower::new();
+    let mut follower = Follower::scoped(scope);
     match read_rows(records, &mut Batch::new(), &mut follower, &mut (), rows_max)? {
         None => Ok(outcome_of(&follower)),
         Some(offence) => Ok(Outcome::No(offence)),
@@ -172,9 +241,11 @@ impl TakeRows<()> for Follower {
 
     ghost count = { rows_of };
 
-    ghost has = { λ follower before after. HasFollowed follower };
+    ghost scope = { scope_of };
 
-    ghost stops = { λ follower before after. HasOffence };
+    ghost has = { λ follower before after. HasFollowed (scope_of follower) follower };
+
+    ghost stops = { λ follower before after. HasOffence (scope_of follower) };
 
     fn rows_taken(&self) -> u64 {
         Follower::rows(self)
@@ -189,7 +260,8 @@ impl TakeRows<()> for Follower {
 
 /// What the rows that a follower has taken come to.
 fn outcome_of(follower: &Follower) -> Outcome
-    ensures { (rows : List Event) → StandsFor follower.now rows → IsYes rows result }
+    ensures { (rows : List Event) → StandsFor follower.now rows
+        → IsYes (scope_of follower.now) rows result }
 {
     match follower.report() {
         Ok(report) => Outcome::Yes(report),

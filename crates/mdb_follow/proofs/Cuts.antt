@@ -8,6 +8,7 @@ use Rattle.mdb_follow.specs.Offences.{HasOffence, IsOffence}
 use Rattle.mdb_follow.specs.Report.{IsReport}
 use Rattle.mdb_follow.specs.Slices.{Tells, TellsInSlices, joined}
 use Rattle.mdb_follow.proofs.Slices.{Fronts, Longer, later}
+use Rattle.mdb_bus.specs.declared.scope.Scope.{Scope}
 
 -- a place in rows after a slice of them: what stands between the slice and the place
 record After (slice more front : List Event) (row : Event) (rest : List Event) : Type 0 where
@@ -43,9 +44,9 @@ not_empty [] row rest same = absurd (cc same)
 not_empty (x ∷ front) row rest same = absurd (cc same)
 
 -- the offence of a slice is one of it and more
-with-more : (earlier slice more : List Event) (o : Offence) → HasOffence earlier slice o
-    → HasOffence earlier (slice ++ more) o
-with-more earlier slice more o p = record {
+with-more : (scope : Scope) (earlier slice more : List Event) (o : Offence) → HasOffence scope earlier slice o
+    → HasOffence scope earlier (slice ++ more) o
+with-more scope earlier slice more o p = record {
   front = p.front;
   row = p.row;
   rest = p.rest ++ more;
@@ -54,20 +55,20 @@ with-more earlier slice more o p = record {
 }
 
 -- and so is that of what comes after the slice
-with-slice : (earlier slice more : List Event) (o : Offence) → HasOffence (earlier ++ slice) more o
-    → HasOffence earlier (slice ++ more) o
-with-slice earlier slice more o p = record {
+with-slice : (scope : Scope) (earlier slice more : List Event) (o : Offence) → HasOffence scope (earlier ++ slice) more o
+    → HasOffence scope earlier (slice ++ more) o
+with-slice scope earlier slice more o p = record {
   front = slice ++ p.front;
   row = p.row;
   rest = p.rest;
   parts = ap (λ rows. slice ++ rows) p.parts ∙ sym (append_assoc slice p.front (p.row ∷ p.rest));
-  is = subst (λ rows. IsOffence rows p.row o) (append_assoc earlier slice p.front) p.is;
+  is = subst (λ rows. IsOffence scope rows p.row o) (append_assoc earlier slice p.front) p.is;
 }
 
 -- there is no other
-either : (earlier slice more : List Event) (o : Offence) → HasOffence earlier (slice ++ more) o
-    → HasOffence earlier slice o ⊎ HasOffence (earlier ++ slice) more o
-either earlier slice more o p =
+either : (scope : Scope) (earlier slice more : List Event) (o : Offence) → HasOffence scope earlier (slice ++ more) o
+    → HasOffence scope earlier slice o ⊎ HasOffence scope (earlier ++ slice) more o
+either scope earlier slice more o p =
     elim (parted slice more p.front p.row p.rest p.parts) [
       | inl longer ↦ inl (record {
         front = p.front;
@@ -81,65 +82,65 @@ either earlier slice more o p =
         row = p.row;
         rest = p.rest;
         parts = place.more_is;
-        is = subst (λ rows. IsOffence rows p.row o)
+        is = subst (λ rows. IsOffence scope rows p.row o)
             (ap (λ front. earlier ++ front) place.front_is
             ∙ sym (append_assoc earlier slice place.between)) p.is;
       })
     ]
 
 -- what is told of slices is told of the whole
-pub whole : (earlier : List Event) (slices : List (List Event)) (answer : Result Report Offence)
-    → TellsInSlices earlier slices answer → Tells earlier (joined slices) answer
-whole earlier [] (Ok report) told =
-    subst (λ rows. IsReport rows report) (sym (append-nil earlier)) told
-whole earlier [] (Err offence) told = absurd told
-whole earlier (slice ∷ slices) (Ok report) told =
-    subst (λ rows. IsReport rows report) (append_assoc earlier slice (joined slices))
-    (whole (earlier ++ slice) slices (Ok report) told.1)
-whole earlier (slice ∷ slices) (Err offence) (inl p) =
-    with-more earlier slice (joined slices) offence p
-whole earlier (slice ∷ slices) (Err offence) (inr p) =
-    with-slice earlier slice (joined slices) offence
-    (whole (earlier ++ slice) slices (Err offence) p.1)
+pub whole : (scope : Scope) (earlier : List Event) (slices : List (List Event)) (answer : Result Report Offence)
+    → TellsInSlices scope earlier slices answer → Tells scope earlier (joined slices) answer
+whole scope earlier [] (Ok report) told =
+    subst (λ rows. IsReport scope rows report) (sym (append-nil earlier)) told
+whole scope earlier [] (Err offence) told = absurd told
+whole scope earlier (slice ∷ slices) (Ok report) told =
+    subst (λ rows. IsReport scope rows report) (append_assoc earlier slice (joined slices))
+    (whole scope (earlier ++ slice) slices (Ok report) told.1)
+whole scope earlier (slice ∷ slices) (Err offence) (inl p) =
+    with-more scope earlier slice (joined slices) offence p
+whole scope earlier (slice ∷ slices) (Err offence) (inr p) =
+    with-slice scope earlier slice (joined slices) offence
+    (whole scope (earlier ++ slice) slices (Err offence) p.1)
 
 -- and what is told of the whole is told of the slices
-pub in-slices : Fronts → (earlier : List Event) (slices : List (List Event))
-    (answer : Result Report Offence) → Tells earlier (joined slices) answer
-    → TellsInSlices earlier slices answer
-in-slices fronts earlier [] (Ok report) told =
-    subst (λ rows. IsReport rows report) (append-nil earlier) told
-in-slices fronts earlier [] (Err offence) told =
+pub in-slices : (scope : Scope) → Fronts scope → (earlier : List Event) (slices : List (List Event))
+    (answer : Result Report Offence) → Tells scope earlier (joined slices) answer
+    → TellsInSlices scope earlier slices answer
+in-slices scope fronts earlier [] (Ok report) told =
+    subst (λ rows. IsReport scope rows report) (append-nil earlier) told
+in-slices scope fronts earlier [] (Err offence) told =
     not_empty told.front told.row told.rest told.parts
-in-slices fronts earlier (slice ∷ slices) (Ok report) told =
-    let longer : IsReport ((earlier ++ slice) ++ joined slices) report
-    = subst (λ rows. IsReport rows report)
+in-slices scope fronts earlier (slice ∷ slices) (Ok report) told =
+    let longer : IsReport scope ((earlier ++ slice) ++ joined slices) report
+    = subst (λ rows. IsReport scope rows report)
     (sym (append_assoc earlier slice (joined slices))) told in (
       fronts (earlier ++ slice) (joined slices) longer.reached,
-      in-slices fronts (earlier ++ slice) slices (Ok report) longer,
+      in-slices scope fronts (earlier ++ slice) slices (Ok report) longer,
     )
-in-slices fronts earlier (slice ∷ slices) (Err offence) told =
-    elim (either earlier slice (joined slices) offence told) [
+in-slices scope fronts earlier (slice ∷ slices) (Err offence) told =
+    elim (either scope earlier slice (joined slices) offence told) [
       | inl p ↦ inl p
       | inr p ↦ inr (
         fronts (earlier ++ slice) p.front p.is.reached,
-        in-slices fronts (earlier ++ slice) slices (Err offence) p,
+        in-slices scope fronts (earlier ++ slice) slices (Err offence) p,
       )
     ]
 
 -- one answer is told of rows
-pub one-answer : Fronts
-    → ((rows : List Event) (a b : Report) → IsReport rows a → IsReport rows b → a ≡ b)
-    → ((earlier rows : List Event) (a b : Offence) → HasOffence earlier rows a
-    → HasOffence earlier rows b → a ≡ b)
-    → (earlier rows : List Event) (a b : Result Report Offence) → Tells earlier rows a
-    → Tells earlier rows b → a ≡ b
-one-answer fronts reports offences earlier rows (Ok a) (Ok b) p q =
+pub one-answer : (scope : Scope) → Fronts scope
+    → ((rows : List Event) (a b : Report) → IsReport scope rows a → IsReport scope rows b → a ≡ b)
+    → ((earlier rows : List Event) (a b : Offence) → HasOffence scope earlier rows a
+    → HasOffence scope earlier rows b → a ≡ b)
+    → (earlier rows : List Event) (a b : Result Report Offence) → Tells scope earlier rows a
+    → Tells scope earlier rows b → a ≡ b
+one-answer scope fronts reports offences earlier rows (Ok a) (Ok b) p q =
     ap Ok (reports (earlier ++ rows) a b p q)
-one-answer fronts reports offences earlier rows (Err a) (Err b) p q =
+one-answer scope fronts reports offences earlier rows (Err a) (Err b) p q =
     ap Err (offences earlier rows a b p q)
-one-answer fronts reports offences earlier rows (Ok a) (Err b) p q =
-    absurd (later fronts earlier q.front rows q.row (record { more = q.rest; is = q.parts })
+one-answer scope fronts reports offences earlier rows (Ok a) (Err b) p q =
+    absurd (later scope fronts earlier q.front rows q.row (record { more = q.rest; is = q.parts })
     q.is.not_reached p.reached)
-one-answer fronts reports offences earlier rows (Err a) (Ok b) p q =
-    absurd (later fronts earlier p.front rows p.row (record { more = p.rest; is = p.parts })
+one-answer scope fronts reports offences earlier rows (Err a) (Ok b) p q =
+    absurd (later scope fronts earlier p.front rows p.row (record { more = p.rest; is = p.parts })
     p.is.not_reached q.reached)

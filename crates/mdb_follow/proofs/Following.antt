@@ -28,7 +28,7 @@ use Rattle.mdb_follow.specs.declared.follower.Follower.{Follower}
 use Rattle.mdb_follow.specs.declared.offence.Offence.{Offence}
 use Rattle.mdb_follow.specs.declared.range.Range.{Range}
 use Rattle.mdb_follow.specs.declared.report.Report.{Report}
-use Rattle.mdb_follow.specs.Follower.{StandsFor}
+use Rattle.mdb_follow.specs.Follower.{StandsFor, scope_of}
 use Rattle.mdb_follow.specs.inner.FollowerSteps.{HasFollowed, HasStopped}
 use Rattle.mdb_follow.specs.Ranges.{IsAccount, IsCell, IsRange}
 use Rattle.mdb_follow.specs.Sums.{AccountSums, Sums}
@@ -48,11 +48,12 @@ use Rattle.mdb_follow.proofs.Asks.{asks-go-on, asks-stay}
 use Rattle.mdb_follow.proofs.Machines.{with_one, with_one-same}
 use Rattle.mdb_follow.proofs.Reaching.{Joins, SomeArrive, SomeWay, run_of}
 use Rattle.mdb_follow.proofs.Joining.{split}
+use Rattle.mdb_bus.specs.declared.scope.Scope.{Scope}
 
 -- a transcript divides into acts in at most one way
-abbrev pub OneActList : Type 0
-OneActList = (rows : List Event) (one other : List Piece) → IsActList one rows
-    → IsActList other rows → one ≡ other
+abbrev pub OneActList : (scope : Scope) → Type 0
+OneActList scope = (rows : List Event) (one other : List Piece) → IsActList scope one rows
+    → IsActList scope other rows → one ≡ other
 
 -- what holds of a part of an answer
 pub if-ok : {T E : Type 0} (r : Result T E) (P Q : T → Type 0) → ((x : T) → P x → Q x)
@@ -85,23 +86,23 @@ if-err-is (Err x) e P is h = subst P (sym is) h
 
 -- the act list of the events
 pub list-of : (follower : Follower) (events : List Event) (on : StandsFor follower events)
-    → IsActList on.pieces events
+    → IsActList (scope_of follower) on.pieces events
 list-of follower events on = record { in_order = on.on_bus.in_order; whole = on.whole }
 
 -- the act list of the events with one more
 list-on : (bus : Bus) (events : List Event) (row : Event) (pieces : List Piece)
     (act : Option Act) → events_of pieces ≡ events → (goes : GoesOn bus pieces row act)
-    → IsActList goes.longer (events ++ row ∷ [])
+    → IsActList (link.scope_of bus) goes.longer (events ++ row ∷ [])
 list-on bus events row pieces act whole goes = record {
   in_order = goes.stands.in_order;
   whole = goes.rows ∙ ap (λ rows. rows ++ row ∷ []) whole;
 }
 
 -- each device's way of a run leads through the acts of an act list of its rows
-arrived : OneActList → (rows : List Event) (pieces : List Piece) (sums : AllSums)
-    → IsActList pieces rows → (run : Run rows sums)
+arrived : (scope : Scope) → OneActList scope → (rows : List Event) (pieces : List Piece) (sums : AllSums)
+    → IsActList scope pieces rows → (run : Run scope rows sums)
     → EachArrives (acts_of pieces) run.states sums
-arrived one rows pieces sums list run =
+arrived scope one rows pieces sums list run =
     subst (λ ps. EachArrives (acts_of ps) run.states sums)
     (one rows run.pieces pieces run.act_list list)
     (split run.loss run.pieces run.states sums run.way)
@@ -117,12 +118,12 @@ pub some-ways : (follower : Follower) (events : List Event) (on : StandsFor foll
 some-ways follower events on device = some-in (on.sides device).table
 
 -- so its rows are reached
-pub reached-by : Joins → (follower : Follower) (events : List Event)
-    → StandsFor follower events → IsReached events
+pub reached-by : ((scope : Scope) → Joins scope) → (follower : Follower) (events : List Event)
+    → StandsFor follower events → IsReached (scope_of follower) events
 reached-by joins follower events on =
     let some = some-ways follower events on in (
       (λ device. (some device).sums),
-      run_of joins events on.pieces (λ device. (some device).state) (λ device. (some device).sums)
+      run_of (scope_of follower) (joins (scope_of follower)) events on.pieces (λ device. (some device).state) (λ device. (some device).sums)
           (list-of follower events on) (λ device. (some device).way),
     )
 
@@ -135,11 +136,11 @@ stuck rule act before stops states sums ways =
     (states stops.device) way.gains way.step
 
 -- and rows with such acts aren't reached
-unreached : OneActList → (rows : List Event) (pieces : List Piece) → IsActList pieces rows
+unreached : (scope : Scope) → OneActList scope → (rows : List Event) (pieces : List Piece) → IsActList scope pieces rows
     → ((states : States) (sums : AllSums) → EachArrives (acts_of pieces) states sums → ⊥)
-    → IsReached rows → ⊥
-unreached one rows pieces list none reached =
-    none reached.1.states reached.0 (arrived one rows pieces reached.0 list reached.1)
+    → IsReached scope rows → ⊥
+unreached scope one rows pieces list none reached =
+    none reached.1.states reached.0 (arrived scope one rows pieces reached.0 list reached.1)
 
 -- no act ended
 pub stands-still : (old new : Follower) (bus : Bus) (events : List Event) (row : Event)
@@ -188,11 +189,11 @@ stands-on old mid new events row act on goes same_sides same_silences same_rows 
     }
 
 -- a row breaks a rule of the link
-pub link-offence : Joins → (old : Follower) (events : List Event) (row : Event)
+pub link-offence : ((scope : Scope) → Joins scope) → (old : Follower) (events : List Event) (row : Event)
     (on : StandsFor old events) (fault : LinkFault) (offence : Offence)
-    → IsLinkFault on.pieces row fault.rule fault.blame
-    → (HasActList (events_of on.pieces ++ row ∷ []) → ⊥) → offence.row ≡ old.rows + 1
-    → offence.rule ≡ fault.rule → offence.blame ≡ fault.blame → IsOffence events row offence
+    → IsLinkFault (scope_of old) on.pieces row fault.rule fault.blame
+    → (HasActList (scope_of old) (events_of on.pieces ++ row ∷ []) → ⊥) → offence.row ≡ old.rows + 1
+    → offence.rule ≡ fault.rule → offence.blame ≡ fault.blame → IsOffence (scope_of old) events row offence
 link-offence joins old events row on fault offence is impossible number rule blame = record {
   reached = reached-by joins old events on;
   not_reached = λ reached. impossible (
@@ -206,8 +207,8 @@ link-offence joins old events row on fault offence is impossible number rule bla
   why = inl (record {
     pieces = on.pieces;
     act_list = list-of old events on;
-    fault = subst (λ r. IsLinkFault on.pieces row r offence.blame) (sym rule)
-        (subst (λ b. IsLinkFault on.pieces row fault.rule b) (sym blame) is);
+    fault = subst (λ r. IsLinkFault (scope_of old) on.pieces row r offence.blame) (sym rule)
+        (subst (λ b. IsLinkFault (scope_of old) on.pieces row fault.rule b) (sym blame) is);
   });
 }
 
@@ -225,13 +226,18 @@ last-alike : (act : Act) (acts more : List Act) → act ∷ acts ≡ act ∷ mor
 last-alike act acts more same = cc same
 
 -- a machine has no step by an act
-pub machine-offence : OneActList → Joins → (old mid new : Follower) (events : List Event)
+pub machine-offence : ((scope : Scope) → OneActList scope) → ((scope : Scope) → Joins scope)
+    → (old mid new : Follower) (events : List Event)
     (row : Event) (act : Act) (offence : Offence) (on : StandsFor old events)
-    → GoesOn mid.bus on.pieces row (Some act) → mid.sides ≡ old.sides → mid.rows ≡ old.rows
-    → HasStopped mid act new offence → IsOffence events row offence
-machine-offence one joins old mid new events row act offence on goes same_sides same_rows has =
-    let list : IsActList goes.longer (events ++ row ∷ []) =
-    list-on mid.bus events row on.pieces (Some act) on.whole goes in
+    → GoesOn mid.bus on.pieces row (Some act) → link.scope_of mid.bus ≡ scope_of old
+    → mid.sides ≡ old.sides → mid.rows ≡ old.rows
+    → HasStopped mid act new offence → IsOffence (scope_of old) events row offence
+machine-offence one joins old mid new events row act offence on goes same_scope same_sides
+    same_rows has =
+    let scope : Scope = scope_of old in
+    let list : IsActList scope goes.longer (events ++ row ∷ []) =
+    subst (λ s. IsActList s goes.longer (events ++ row ∷ [])) same_scope
+    (list-on mid.bus events row on.pieces (Some act) on.whole goes) in
     let none : NoStep offence.rule act (acts_of on.pieces) = record {
       device = has.none.0;
       rule = has.none.1.rule;
@@ -247,7 +253,7 @@ machine-offence one joins old mid new events row act offence on goes same_sides 
     (acts_of grown.earlier) (sym goes.acts ∙ ap acts_of are) in
     record {
       reached = reached-by joins old events on;
-      not_reached = unreached one (events ++ row ∷ []) goes.longer list
+      not_reached = unreached scope (one scope) (events ++ row ∷ []) goes.longer list
           (λ states sums ways. stuck offence.rule act (acts_of on.pieces) none states sums
           (subst (λ acts. EachArrives acts states sums) goes.acts ways));
       number = has.number ∙ ap (λ n. n + 1) (same_rows ∙ on.rows);
@@ -255,22 +261,22 @@ machine-offence one joins old mid new events row act offence on goes same_sides 
         act = act;
         begun = grown.begun;
         earlier = grown.earlier;
-        act_list = subst (λ ps. IsActList ps (events ++ row ∷ [])) are list;
+        act_list = subst (λ ps. IsActList scope ps (events ++ row ∷ [])) are list;
         no_step = subst (NoStep offence.rule act) same none;
         blame = has.blame;
       });
     }
 
 -- The sums of a device, where a run has them, and where its ways come to them: the same ones.
-record AreOf (rows : List Event) (Kind : Sums → Type 0) (of : AllSums → Sums) : Type 0 where
-  lift : (sums : Sums) → Kind sums → (all : AllSums) × (of all ≡ sums) × Run rows all
-  lower : (all : AllSums) → Run rows all → Kind (of all)
+record AreOf (scope : Scope) (rows : List Event) (Kind : Sums → Type 0) (of : AllSums → Sums) : Type 0 where
+  lift : (sums : Sums) → Kind sums → (all : AllSums) × (of all ≡ sums) × Run scope rows all
+  lower : (all : AllSums) → Run scope rows all → Kind (of all)
 
 -- then their ranges are those of the runs
-range-of-runs : (rows : List Event) (Kind : Sums → Type 0) (of : AllSums → Sums)
-    → AreOf rows Kind of → (value : Sums → ℤ) (range : Range) → IsRange Kind value range
-    → IsRange (Run rows) (λ sums. value (of sums)) range
-range-of-runs rows Kind of are value range is =
+range-of-runs : (scope : Scope) (rows : List Event) (Kind : Sums → Type 0) (of : AllSums → Sums)
+    → AreOf scope rows Kind of → (value : Sums → ℤ) (range : Range) → IsRange Kind value range
+    → IsRange (Run scope rows) (λ sums. value (of sums)) range
+range-of-runs scope rows Kind of are value range is =
     let least = are.lift is.least.0 is.least.1 in
     let greatest = are.lift is.greatest.0 is.greatest.1 in
     record {
@@ -281,25 +287,25 @@ range-of-runs rows Kind of are value range is =
     }
 
 -- and so are the three ranges of an account
-account-of-runs : (rows : List Event) (Kind : Sums → Type 0) (of : AllSums → Sums)
-    → AreOf rows Kind of → (account : Sums → AccountSums) (ranges : Account)
-    → IsAccount Kind account ranges → IsAccount (Run rows) (λ sums. account (of sums)) ranges
-account-of-runs rows Kind of are account ranges is = record {
-  device = range-of-runs rows Kind of are (λ sums. pos (account sums).device) ranges.device
+account-of-runs : (scope : Scope) (rows : List Event) (Kind : Sums → Type 0) (of : AllSums → Sums)
+    → AreOf scope rows Kind of → (account : Sums → AccountSums) (ranges : Account)
+    → IsAccount Kind account ranges → IsAccount (Run scope rows) (λ sums. account (of sums)) ranges
+account-of-runs scope rows Kind of are account ranges is = record {
+  device = range-of-runs scope rows Kind of are (λ sums. pos (account sums).device) ranges.device
       is.device;
-  controller = range-of-runs rows Kind of are (λ sums. pos (account sums).controller)
+  controller = range-of-runs scope rows Kind of are (λ sums. pos (account sums).controller)
       ranges.controller is.controller;
-  difference = range-of-runs rows Kind of are
+  difference = range-of-runs scope rows Kind of are
       (λ sums. pos (account sums).device -ℤ pos (account sums).controller) ranges.difference
       is.difference;
 }
 
 -- A way of one device is one of all, beside some way of each other device.
-device-is : OneActList → Joins → (rows : List Event) (pieces : List Piece)
-    → IsActList pieces rows → SomeArrive (acts_of pieces) → (device : Device)
-    → AreOf rows (ArrivesAnywhere (Arrives (machine_of device) (acts_of pieces)))
+device-is : (scope : Scope) → OneActList scope → Joins scope → (rows : List Event) (pieces : List Piece)
+    → IsActList scope pieces rows → SomeArrive (acts_of pieces) → (device : Device)
+    → AreOf scope rows (ArrivesAnywhere (Arrives (machine_of device) (acts_of pieces)))
     (λ sums. sums device)
-device-is one joins rows pieces list some device = record {
+device-is scope one joins rows pieces list some device = record {
   lift = λ sums at.
       let its : SomeWay (machine_of device) (acts_of pieces) =
       record { state = at.state; sums = sums; way = at.way } in
@@ -308,12 +314,12 @@ device-is one joins rows pieces list some device = record {
         (λ d. (all d).sums),
         ap (λ way. way.sums)
             (with_one-same (λ d. SomeWay (machine_of d) (acts_of pieces)) device its some),
-        run_of joins rows pieces (λ d. (all d).state) (λ d. (all d).sums) list
+        run_of scope joins rows pieces (λ d. (all d).state) (λ d. (all d).sums) list
             (λ d. (all d).way),
       );
   lower = λ all run. record {
     state = run.states device;
-    way = arrived one rows pieces all list run device;
+    way = arrived scope one rows pieces all list run device;
   };
 }
 
@@ -326,34 +332,35 @@ accounts_in cells (Approved unit) = (cells (devices.Reader unit)).first
 accounts_in cells (Sold unit) = (cells (devices.Reader unit)).second
 
 -- a cell has the ranges of the sums that a device has in runs
-abbrev pub IsCellOf : List Event → (AllSums → Sums) → Cell → Type 0
-IsCellOf rows of cell =
-    IsAccount (Run rows) (λ sums. (of sums).first) cell.first
-    × IsAccount (Run rows) (λ sums. (of sums).second) cell.second
+abbrev pub IsCellOf : (scope : Scope) → List Event → (AllSums → Sums) → Cell → Type 0
+IsCellOf scope rows of cell =
+    IsAccount (Run scope rows) (λ sums. (of sums).first) cell.first
+    × IsAccount (Run scope rows) (λ sums. (of sums).second) cell.second
 
-cell-of-runs : (rows : List Event) (Kind : Sums → Type 0) (of : AllSums → Sums)
-    → AreOf rows Kind of → (cell : Cell) → IsCell Kind cell → IsCellOf rows of cell
-cell-of-runs rows Kind of are cell is = (
-  account-of-runs rows Kind of are (λ sums. sums.first) cell.first is.first,
-  account-of-runs rows Kind of are (λ sums. sums.second) cell.second is.second,
+cell-of-runs : (scope : Scope) (rows : List Event) (Kind : Sums → Type 0) (of : AllSums → Sums)
+    → AreOf scope rows Kind of → (cell : Cell) → IsCell Kind cell → IsCellOf scope rows of cell
+cell-of-runs scope rows Kind of are cell is = (
+  account-of-runs scope rows Kind of are (λ sums. sums.first) cell.first is.first,
+  account-of-runs scope rows Kind of are (λ sums. sums.second) cell.second is.second,
 )
 
 -- so the accounts are those of the runs
-accounts-of-cells : (rows : List Event) (cells : Device → Cell)
-    → ((device : Device) → IsCellOf rows (λ sums. sums device) (cells device))
-    → AreAccounts (Run rows) (accounts_in cells)
-accounts-of-cells rows cells are CoinsIn = (are devices.Changer).0
-accounts-of-cells rows cells are BillsIn = (are devices.Bill).0
-accounts-of-cells rows cells are PaidOut = (are devices.Changer).1
-accounts-of-cells rows cells are (Approved unit) = (are (devices.Reader unit)).0
-accounts-of-cells rows cells are (Sold unit) = (are (devices.Reader unit)).1
+accounts-of-cells : (scope : Scope) (rows : List Event) (cells : Device → Cell)
+    → ((device : Device) → IsCellOf scope rows (λ sums. sums device) (cells device))
+    → AreAccounts (Run scope rows) (accounts_in cells)
+accounts-of-cells scope rows cells are CoinsIn = (are devices.Changer).0
+accounts-of-cells scope rows cells are BillsIn = (are devices.Bill).0
+accounts-of-cells scope rows cells are PaidOut = (are devices.Changer).1
+accounts-of-cells scope rows cells are (Approved unit) = (are (devices.Reader unit)).0
+accounts-of-cells scope rows cells are (Sold unit) = (are (devices.Reader unit)).1
 
 -- what a follower reports
-pub reported : OneActList → Joins → (follower : Follower) (events : List Event)
+pub reported : ((scope : Scope) → OneActList scope) → ((scope : Scope) → Joins scope)
+    → (follower : Follower) (events : List Event)
     (report : Report) (cells : Device → Cell) (on : StandsFor follower events)
     → ((device : Device)
     → IsCell (ArrivesAnywhere (Arrives (machine_of device) (acts_of on.pieces))) (cells device))
-    → report ≡ report_of follower.rows on.pieces (accounts_in cells) → IsReport events report
+    → report ≡ report_of follower.rows on.pieces (accounts_in cells) → IsReport (scope_of follower) events report
 reported one joins follower events report cells on are telling =
     let list = list-of follower events on in
     let some = some-ways follower events on in
@@ -362,8 +369,9 @@ reported one joins follower events report cells on are telling =
       pieces = on.pieces;
       act_list = list;
       accounts = accounts_in cells;
-      of_runs = accounts-of-cells events cells (λ device.
-          cell-of-runs events _ _ (device-is one joins events on.pieces list some device)
+      of_runs = accounts-of-cells (scope_of follower) events cells (λ device.
+          cell-of-runs (scope_of follower) events _ _ (device-is (scope_of follower) (one (scope_of follower))
+          (joins (scope_of follower)) events on.pieces list some device)
           (cells device) (are device));
       telling = telling ∙ ap (λ rows. report_of rows on.pieces (accounts_in cells)) on.rows;
     }
@@ -372,6 +380,7 @@ reported one joins follower events report cells on are telling =
 pub record HasFed (old : Follower) (events : List Event) (count : ℕ) (new : Follower) : Type 0 where
   pub rows : new.rows ≡ old.rows + count
   pub going : new.offence ≡ None
+  pub scope : scope_of new ≡ scope_of old
   pub still : count ≡ 0 → new ≡ old
   pub stands : (earlier : List Event) → StandsFor old earlier → StandsFor new (earlier ++ events)
 
@@ -387,12 +396,14 @@ fed-all old new events i low high has =
 -- one event more was taken
 pub fed-more : (old mid new : Follower) (events : List Event) (i : ℕ) (d : Event)
     → i < length events → HasFed old (take i events) i mid → new.rows ≡ mid.rows + 1
-    → new.offence ≡ None → ((earlier : List Event) → StandsFor mid earlier
+    → new.offence ≡ None → scope_of new ≡ scope_of mid
+    → ((earlier : List Event) → StandsFor mid earlier
     → StandsFor new (earlier ++ get_or events i d ∷ []))
     → HasFed old (take (i + 1) events) (i + 1) new
-fed-more old mid new events i d within has more going stands = record {
+fed-more old mid new events i d within has more going same stands = record {
   rows = omega (arith, more, has.rows);
   going = going;
+  scope = same ∙ has.scope;
   still = λ none. absurd (omega (arith, none));
   stands = λ earlier on. subst (StandsFor new)
       (append_assoc earlier (take i events) (get_or events i d ∷ [])
@@ -404,12 +415,13 @@ fed-more old mid new events i d within has more going stands = record {
 pub fed-refused : (old mid : Follower) (events earlier : List Event) (i : ℕ) (d : Event)
     (offence : Offence) → i < length events → HasFed old (take i events) i mid
     → ((before : List Event) → StandsFor mid before
-    → IsOffence before (get_or events i d) offence)
-    → StandsFor old earlier → HasOffence earlier events offence
+    → IsOffence (scope_of mid) before (get_or events i d) offence)
+    → StandsFor old earlier → HasOffence (scope_of old) earlier events offence
 fed-refused old mid events earlier i d offence within has refused on = record {
   front = take i events;
   row = get_or events i d;
   rest = drop (i + 1) events;
   parts = rw add-one (split_at events i d within);
-  is = refused (earlier ++ take i events) (has.stands earlier on);
+  is = subst (λ s. IsOffence s (earlier ++ take i events) (get_or events i d) offence) has.scope
+      (refused (earlier ++ take i events) (has.stands earlier on));
 }

@@ -21,6 +21,7 @@ use Rattle.mdb_follow.specs.Runs.{AllSums, Goes, HearSameAcks, IsWay, States}
 use Rattle.mdb_follow.proofs.Choosing.{Choices, Follows, FollowsBy, chosen, follows_as, merged}
 use Rattle.mdb_follow.proofs.Choosing.{merged_agrees}
 use Rattle.mdb_follow.proofs.Machines.{is_machine_of}
+use Rattle.mdb_bus.specs.declared.scope.Scope.{Scope}
 
 -- a way of a device goes on by a step
 by_one : {State : Type 0} (machine : Machine State) (acts : List Act) (act : Act)
@@ -104,15 +105,15 @@ Agrees loss (AskTail bytes events ∷ pieces) choices = Agrees loss pieces choic
 Agrees loss (ReplyTail command bytes events ∷ pieces) choices = Agrees loss pieces choices
 Agrees loss (RepeatTail command reply words events ∷ pieces) choices = Agrees loss pieces choices
 
-agrees : (choice : ℕ → Bool) (loss : Loss) (pieces : List Piece)
+agrees : (scope : Scope) (choice : ℕ → Bool) (loss : Loss) (pieces : List Piece)
     (choices : Choices (acts_of pieces))
-    → ArePieces pieces
+    → ArePieces scope pieces
     → ((before : ℕ) → before < length (events_of pieces)
     → choice before ≡ chosen_at pieces choices before)
     → HearsAsWished loss choice pieces → Agrees loss pieces choices
 unfolding chosen_at
-agrees choice loss [] choices are same hears = tt
-agrees choice loss (Whole act events ∷ pieces) choices are same hears =
+agrees scope choice loss [] choices are same hears = tt
+agrees scope choice loss (Whole act events ∷ pieces) choices are same hears =
     let rows : length (events_of pieces ++ events) ≡ length (events_of pieces) + length events =
     length-append (events_of pieces) events in
     let some : length events ≡ suc (length are.1.others) = ap length are.1.begins in
@@ -120,22 +121,22 @@ agrees choice loss (Whole act events ∷ pieces) choices are same hears =
     same (length (events_of pieces)) (omega (arith, rows, some))
     ∙ pick_same (length (events_of pieces)) (is_heard choices.choice) _ in (
       (λ ack. ((λ h. sym here ∙ (hears.0 ack).0 h), (λ h. (hears.0 ack).1 (here ∙ h)))),
-      agrees choice loss pieces choices.before are.2
+      agrees scope choice loss pieces choices.before are.2
           (λ before less. same before (omega (arith, less, rows))
           ∙ pick_other before (length (events_of pieces)) (is_heard choices.choice) _ less)
           hears.1,
     )
-agrees choice loss (AskTail bytes events ∷ pieces) choices are same hears =
+agrees scope choice loss (AskTail bytes events ∷ pieces) choices are same hears =
     let rows = length-append (events_of pieces) events in
-    agrees choice loss pieces choices are.2
+    agrees scope choice loss pieces choices are.2
     (λ before less. same before (omega (arith, less, rows))) hears
-agrees choice loss (ReplyTail command bytes events ∷ pieces) choices are same hears =
+agrees scope choice loss (ReplyTail command bytes events ∷ pieces) choices are same hears =
     let rows = length-append (events_of pieces) events in
-    agrees choice loss pieces choices are.2
+    agrees scope choice loss pieces choices are.2
     (λ before less. same before (omega (arith, less, rows))) hears
-agrees choice loss (RepeatTail command reply words events ∷ pieces) choices are same hears =
+agrees scope choice loss (RepeatTail command reply words events ∷ pieces) choices are same hears =
     let rows = length-append (events_of pieces) events in
-    agrees choice loss pieces choices are.2
+    agrees scope choice loss pieces choices are.2
     (λ before less. same before (omega (arith, less, rows))) hears
 
 -- each device has a way with the same choices
@@ -183,12 +184,12 @@ as_merged device machine is acts all state sums way =
     (merged_agrees acts all device) state sums way
 
 -- and there is such a loss
-pub joined : ((pieces : List Piece) → ArePieces pieces → (choice : ℕ → Bool)
+pub joined : (scope : Scope) → ((pieces : List Piece) → ArePieces scope pieces → (choice : ℕ → Bool)
     → (loss : Loss) × LossFits loss pieces × HearsAsWished loss choice pieces)
-    → (pieces : List Piece) (states : States) (sums : AllSums) → ArePieces pieces
+    → (pieces : List Piece) (states : States) (sums : AllSums) → ArePieces scope pieces
     → EachArrives (acts_of pieces) states sums
     → (loss : Loss) × LossFits loss pieces × IsWay loss pieces states sums
-joined law pieces states sums are ways =
+joined scope law pieces states sums are ways =
     let own : (device : Device) → (choices : Choices (acts_of pieces))
     × Follows (machine_of device) (acts_of pieces) choices (states device) (sums device) =
     λ device. chosen (machine_of device) (acts_of pieces) (states device) (sums device)
@@ -196,7 +197,7 @@ joined law pieces states sums are ways =
     let all : Device → Choices (acts_of pieces) = λ device. (own device).0 in
     let choices = merged (acts_of pieces) all in
     let found = law pieces are (chosen_at pieces choices) in
-    let agree = agrees (chosen_at pieces choices) found.0 pieces choices are
+    let agree = agrees scope (chosen_at pieces choices) found.0 pieces choices are
     (λ before less. refl) found.2 in (
       found.0,
       found.1,

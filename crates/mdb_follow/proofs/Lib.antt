@@ -7,12 +7,16 @@ pub mod Ends
 pub mod Following
 pub mod Joining
 pub mod Kept
+pub mod LeavingOut
 pub mod Led
 pub mod Limits
 pub mod Listed
 pub mod Machines
 pub mod OneAnswer
+pub mod OwnWays
 pub mod Places
+pub mod ReportsWithout
+pub mod SilencesWithout
 pub mod Reaching
 pub mod Sales
 pub mod Sided

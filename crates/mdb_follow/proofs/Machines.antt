@@ -46,7 +46,7 @@ with_one-same P (devices.Reader First) one others = refl
 with_one-same P (devices.Reader Second) one others = refl
 
 -- an act is a device's, or it isn't
-of_or_not : (device : Device) (act : Act) → IsActOf device act ⊎ (IsActOf device act → ⊥)
+pub of_or_not : (device : Device) (act : Act) → IsActOf device act ⊎ (IsActOf device act → ⊥)
 of_or_not device (kinds.Ask command) = same_or_not (device_of command) device
 of_or_not device (kinds.Ack command) = same_or_not (device_of command) device
 of_or_not device (kinds.Nak command) = same_or_not (device_of command) device

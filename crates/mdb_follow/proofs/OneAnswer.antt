@@ -31,6 +31,7 @@ use Rattle.mdb_follow.specs.Offences.{NoStep, rule_of}
 use Rattle.mdb_follow.proofs.Following.{OneActList}
 use Rattle.mdb_follow.proofs.Machines.{is_machine_of, whose, whose_none}
 use Rattle.mdb_follow.proofs.Reaching.{GoOnRowByRow, SomeArrive, before_last, some_of}
+use Rattle.mdb_bus.specs.declared.scope.Scope.{Scope}
 
 -- two ends that lie within each other are one
 one-end : (a b : ℤ) → a ≤ℤ b → b ≤ℤ a → a ≡ b
@@ -49,7 +50,7 @@ one-range Kind value a b p q =
     let made : ℤ → ℤ → Range = λ l g. record { least = l; greatest = g } in
     ap (λ l. made l a.greatest) least ∙ ap (λ g. made b.least g) greatest
 
-one-account : {S : Type 0} (Kind : S → Type 0) (account : S → AccountSums) (a b : Account)
+pub one-account : {S : Type 0} (Kind : S → Type 0) (account : S → AccountSums) (a b : Account)
     → IsAccount Kind account a → IsAccount Kind account b → a ≡ b
 one-account Kind account a b p q =
     let device = one-range Kind _ a.device b.device p.device q.device in
@@ -85,34 +86,34 @@ named rows pieces accounts (Sold First) = refl
 named rows pieces accounts (Approved Second) = refl
 named rows pieces accounts (Sold Second) = refl
 
-pub named-account : (rows : List Event) (report : Report) → IsReport rows report
-    → (account : AccountName) → IsAccount (Run rows) (sums_of account) (account_of account report)
-named-account rows report is account =
-    subst (IsAccount (Run rows) (sums_of account))
+pub named-account : (scope : Scope) (rows : List Event) (report : Report) → IsReport scope rows report
+    → (account : AccountName) → IsAccount (Run scope rows) (sums_of account) (account_of account report)
+named-account scope rows report is account =
+    subst (IsAccount (Run scope rows) (sums_of account))
     (sym (ap (account_of account) is.telling
     ∙ named (length rows) is.pieces is.accounts account)) (is.of_runs account)
 
 abbrev with_accounts : Report → List Account → Report
 with_accounts report accounts = record report { accounts = accounts }
 
-pub one-report : OneActList → (rows : List Event) (a b : Report) → IsReport rows a
-    → IsReport rows b → a ≡ b
-one-report one rows a b p q =
+pub one-report : (scope : Scope) → OneActList scope → (rows : List Event) (a b : Report) → IsReport scope rows a
+    → IsReport scope rows b → a ≡ b
+one-report scope one rows a b p q =
     p.telling
     ∙ (ap (λ pieces. report_of (length rows) pieces p.accounts)
     (one rows p.pieces q.pieces p.act_list q.act_list)
     ∙ (ap (with_accounts (report_of (length rows) q.pieces p.accounts))
-    (one-list (Run rows) p.accounts q.accounts p.of_runs q.of_runs) ∙ sym q.telling))
+    (one-list (Run scope rows) p.accounts q.accounts p.of_runs q.of_runs) ∙ sym q.telling))
 
 -- what the laws of the bus say
-pub record BusLaws : Type 0 where
-  pub one : OneActList
+pub record BusLaws (scope : Scope) : Type 0 where
+  pub one : OneActList scope
   pub one_fault : (pieces : List Piece) (row : Event) (r s : Rule) (a b : Blame)
-      → IsLinkFault pieces row r a → IsLinkFault pieces row s b → (r ≡ s) × (a ≡ b)
-  pub ends : (pieces : List Piece) (row : Event) (broken : Rule) → ArePieces pieces
-      → RowBreaks (situation_of pieces) row broken
-      → HasActList (events_of pieces ++ row ∷ []) → ⊥
-  pub goes : GoOnRowByRow
+      → IsLinkFault scope pieces row r a → IsLinkFault scope pieces row s b → (r ≡ s) × (a ≡ b)
+  pub ends : (pieces : List Piece) (row : Event) (broken : Rule) → ArePieces scope pieces
+      → RowBreaks (situation_of scope pieces) row broken
+      → HasActList scope (events_of pieces ++ row ∷ []) → ⊥
+  pub goes : GoOnRowByRow scope
 
 -- after acts of reached rows, and before an act of the next, each device has some way
 cut : (more : Option Act) (acts : List Act) (act : Act) (before : List Act)
@@ -122,16 +123,16 @@ cut (Some last) acts act before same some =
     let rest : acts ≡ before = cc same in
     subst SomeArrive rest some
 
-some-before-act : BusLaws → (events : List Event) (row : Event) → IsReached events
-    → (pieces : List Piece) → IsActList pieces (events ++ row ∷ []) → (act : Act)
+some-before-act : (scope : Scope) → BusLaws scope → (events : List Event) (row : Event) → IsReached scope events
+    → (pieces : List Piece) → IsActList scope pieces (events ++ row ∷ []) → (act : Act)
     (before : List Act) → acts_of pieces ≡ act ∷ before → SomeArrive before
-some-before-act laws events row reached pieces list act before ends =
+some-before-act scope laws events row reached pieces list act before ends =
     let run = reached.1 in
     let from = laws.goes events row pieces list in
     cut from.act (acts_of from.before) act before (sym from.acts ∙ ends)
     (subst (λ ps. SomeArrive (acts_of ps))
     (laws.one events run.pieces from.before run.act_list from.act_list)
-    (some_of events reached.0 run))
+    (some_of scope events reached.0 run))
 
 -- a machine without a step by an act is that of the one device that has a part in it
 whose_rule : (broken : Rule) (act : Act) (before : List Act) → NoStep broken act before
@@ -143,58 +144,58 @@ whose_rule broken act before stops some =
     ∙ sym stops.rule
 
 -- the act list up to a row that ends an act by which a machine has no step
-abbrev broken-list : (events : List Event) (row : Event) (r : Rule) (a : Blame)
-    → BreaksMachine events row r a → List Piece
-broken-list events row r a p = Whole p.act (p.begun ++ row ∷ []) ∷ p.earlier
+abbrev broken-list : (scope : Scope) (events : List Event) (row : Event) (r : Rule) (a : Blame)
+    → BreaksMachine scope events row r a → List Piece
+broken-list scope events row r a p = Whole p.act (p.begun ++ row ∷ []) ∷ p.earlier
 
 -- a row that breaks a rule of the link ends no act
-link-or-machine : BusLaws → (events : List Event) (row : Event) (r s : Rule) (a b : Blame)
-    → BreaksLink events row r a → BreaksMachine events row s b → ⊥
-link-or-machine laws events row r s a b p q =
+link-or-machine : (scope : Scope) → BusLaws scope → (events : List Event) (row : Event) (r s : Rule) (a b : Blame)
+    → BreaksLink scope events row r a → BreaksMachine scope events row s b → ⊥
+link-or-machine scope laws events row r s a b p q =
     laws.ends p.pieces row r p.act_list.in_order p.fault.rule.breaks (
-      broken-list events row s b q,
-      subst (λ es. IsActList (broken-list events row s b q) (es ++ row ∷ []))
+      broken-list scope events row s b q,
+      subst (λ es. IsActList scope (broken-list scope events row s b q) (es ++ row ∷ []))
           (sym p.act_list.whole) q.act_list,
     )
 
-one-why : BusLaws → (events : List Event) (row : Event) → IsReached events → (r s : Rule)
-    (a b : Blame) → BreaksLink events row r a ⊎ BreaksMachine events row r a
-    → BreaksLink events row s b ⊎ BreaksMachine events row s b → (r ≡ s) × (a ≡ b)
-one-why laws events row reached r s a b (inl p) (inl q) =
+one-why : (scope : Scope) → BusLaws scope → (events : List Event) (row : Event) → IsReached scope events → (r s : Rule)
+    (a b : Blame) → BreaksLink scope events row r a ⊎ BreaksMachine scope events row r a
+    → BreaksLink scope events row s b ⊎ BreaksMachine scope events row s b → (r ≡ s) × (a ≡ b)
+one-why scope laws events row reached r s a b (inl p) (inl q) =
     laws.one_fault p.pieces row r s a b p.fault
-    (subst (λ ps. IsLinkFault ps row s b)
+    (subst (λ ps. IsLinkFault scope ps row s b)
     (laws.one events q.pieces p.pieces q.act_list p.act_list) q.fault)
-one-why laws events row reached r s a b (inl p) (inr q) =
-    absurd (link-or-machine laws events row r s a b p q)
-one-why laws events row reached r s a b (inr p) (inl q) =
-    absurd (link-or-machine laws events row s r b a q p)
-one-why laws events row reached r s a b (inr p) (inr q) =
-    let one = broken-list events row r a p in
-    let other = broken-list events row s b q in
+one-why scope laws events row reached r s a b (inl p) (inr q) =
+    absurd (link-or-machine scope laws events row r s a b p q)
+one-why scope laws events row reached r s a b (inr p) (inl q) =
+    absurd (link-or-machine scope laws events row s r b a q p)
+one-why scope laws events row reached r s a b (inr p) (inr q) =
+    let one = broken-list scope events row r a p in
+    let other = broken-list scope events row s b q in
     let same : one ≡ other = laws.one (events ++ row ∷ []) one other p.act_list q.act_list in
     let acts : p.act ∷ acts_of p.earlier ≡ q.act ∷ acts_of q.earlier = ap acts_of same in
     let act : p.act ≡ q.act = cc acts in
     let by-p : rule_of (whose p.act) ≡ r = whose_rule r p.act (acts_of p.earlier) p.no_step
-    (some-before-act laws events row reached one p.act_list p.act (acts_of p.earlier) refl) in
+    (some-before-act scope laws events row reached one p.act_list p.act (acts_of p.earlier) refl) in
     let by-q : rule_of (whose q.act) ≡ s = whose_rule s q.act (acts_of q.earlier) q.no_step
-    (some-before-act laws events row reached other q.act_list q.act (acts_of q.earlier) refl) in (
+    (some-before-act scope laws events row reached other q.act_list q.act (acts_of q.earlier) refl) in (
       sym by-p ∙ (ap (λ x. rule_of (whose x)) act ∙ by-q),
       p.blame ∙ (ap sender_of act ∙ sym q.blame),
     )
 
-pub one-offence : BusLaws → (events : List Event) (row : Event) (a b : Offence)
-    → IsOffence events row a → IsOffence events row b → a ≡ b
-one-offence laws events row a b p q =
-    let why = one-why laws events row p.reached a.rule b.rule a.blame b.blame p.why q.why in
+pub one-offence : (scope : Scope) → BusLaws scope → (events : List Event) (row : Event) (a b : Offence)
+    → IsOffence scope events row a → IsOffence scope events row b → a ≡ b
+one-offence scope laws events row a b p q =
+    let why = one-why scope laws events row p.reached a.rule b.rule a.blame b.blame p.why q.why in
     let number : a.row ≡ b.row = p.number ∙ sym q.number in
     let made : ℕ → Rule → Blame → Offence = λ n r w. record { row = n; rule = r; blame = w } in
     ap (λ n. made n a.rule a.blame) number
     ∙ (ap (λ r. made b.row r a.blame) why.0 ∙ ap (λ w. made b.row b.rule w) why.1)
 
 -- any first rows of reached ones are reached
-pub fronts : ((rows : List Event) (row : Event) → IsReached (rows ++ row ∷ []) → IsReached rows)
-    → (rows more : List Event) → IsReached (rows ++ more) → IsReached rows
-fronts shorter rows [] reached = subst IsReached (append-nil rows) reached
-fronts shorter rows (row ∷ more) reached =
-    shorter rows row (fronts shorter (rows ++ row ∷ []) more
-    (subst IsReached (sym (append_assoc rows (row ∷ []) more)) reached))
+pub fronts : (scope : Scope) → ((rows : List Event) (row : Event) → IsReached scope (rows ++ row ∷ []) → IsReached scope rows)
+    → (rows more : List Event) → IsReached scope (rows ++ more) → IsReached scope rows
+fronts scope shorter rows [] reached = subst (IsReached scope) (append-nil rows) reached
+fronts scope shorter rows (row ∷ more) reached =
+    shorter rows row (fronts scope shorter (rows ++ row ∷ []) more
+    (subst (IsReached scope) (sym (append_assoc rows (row ∷ []) more)) reached))

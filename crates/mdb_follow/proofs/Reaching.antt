@@ -11,17 +11,18 @@ use Rattle.mdb_follow.specs.Machines.{machine_of}
 use Rattle.mdb_follow.specs.Runs.{AllSums, IsReached, IsWay, Run, States}
 use Rattle.mdb_follow.specs.Sums.{Sums}
 use Rattle.mdb_follow.proofs.Joining.{split}
+use Rattle.mdb_bus.specs.declared.scope.Scope.{Scope}
 
 -- ways of each device are together a way of all
-abbrev pub Joins : Type 0
-Joins = (pieces : List Piece) (states : States) (sums : AllSums) → ArePieces pieces
+abbrev pub Joins : (scope : Scope) → Type 0
+Joins scope = (pieces : List Piece) (states : States) (sums : AllSums) → ArePieces scope pieces
     → EachArrives (acts_of pieces) states sums
     → (loss : Loss) × LossFits loss pieces × IsWay loss pieces states sums
 
 -- the act list of rows goes on from that of the rows before the last
-abbrev pub GoOnRowByRow : Type 0
-GoOnRowByRow = (rows : List Event) (row : Event) (pieces : List Piece)
-    → IsActList pieces (rows ++ row ∷ []) → GoesOnFrom rows pieces
+abbrev pub GoOnRowByRow : (scope : Scope) → Type 0
+GoOnRowByRow scope = (rows : List Event) (row : Event) (pieces : List Piece)
+    → IsActList scope pieces (rows ++ row ∷ []) → GoesOnFrom scope rows pieces
 
 -- a machine has some way through acts
 pub record SomeWay {State : Type 0} (machine : Machine State) (acts : List Act) : Type 0 where
@@ -45,9 +46,9 @@ some_before None before some = some
 some_before (Some act) before some = before_last act before some
 
 -- the run of an act list with a way of each device
-pub run_of : Joins → (rows : List Event) (pieces : List Piece) (states : States) (sums : AllSums)
-    → IsActList pieces rows → EachArrives (acts_of pieces) states sums → Run rows sums
-run_of joins rows pieces states sums list ways =
+pub run_of : (scope : Scope) → Joins scope → (rows : List Event) (pieces : List Piece) (states : States) (sums : AllSums)
+    → IsActList scope pieces rows → EachArrives (acts_of pieces) states sums → Run scope rows sums
+run_of scope joins rows pieces states sums list ways =
     let found = joins pieces states sums list.in_order ways in
     record {
       pieces = pieces;
@@ -59,22 +60,22 @@ run_of joins rows pieces states sums list ways =
     }
 
 -- the ways of a run's devices
-pub some_of : (rows : List Event) (sums : AllSums) (run : Run rows sums)
+pub some_of : (scope : Scope) (rows : List Event) (sums : AllSums) (run : Run scope rows sums)
     → SomeArrive (acts_of run.pieces)
-some_of rows sums run device = record {
+some_of scope rows sums run device = record {
   state = run.states device;
   sums = sums device;
   way = split run.loss run.pieces run.states sums run.way device;
 }
 
-pub without_last : Joins → GoOnRowByRow → (rows : List Event) (row : Event)
-    → IsReached (rows ++ row ∷ []) → IsReached rows
-without_last joins goes rows row reached =
+pub without_last : (scope : Scope) → Joins scope → GoOnRowByRow scope → (rows : List Event) (row : Event)
+    → IsReached scope (rows ++ row ∷ []) → IsReached scope rows
+without_last scope joins goes rows row reached =
     let run = reached.1 in
     let from = goes rows row run.pieces run.act_list in
     let earlier = some_before from.act (acts_of from.before)
-    (subst SomeArrive from.acts (some_of (rows ++ row ∷ []) reached.0 run)) in (
+    (subst SomeArrive from.acts (some_of scope (rows ++ row ∷ []) reached.0 run)) in (
       (λ device. (earlier device).sums),
-      run_of joins rows from.before (λ device. (earlier device).state)
+      run_of scope joins rows from.before (λ device. (earlier device).state)
           (λ device. (earlier device).sums) from.act_list (λ device. (earlier device).way),
     )

@@ -11,7 +11,7 @@ use Rattle.mdb_msgs.specs.declared.reply.Reply.{Reply}
 use Rattle.mdb_bus.specs.declared.act.Act.{Act}
 use Rattle.mdb_bus.specs.declared.act.Act.TheVariants as acts
 use Rattle.mdb_bus.specs.ActLists.{ArePieces, Piece, Position, Whole, AskTail, ReplyTail}
-use Rattle.mdb_bus.specs.ActLists.{RepeatTail, Replied, Returned, acts_of, position_of}
+use Rattle.mdb_bus.specs.ActLists.{RepeatTail, Replied, Returned, acts_of, first_position, position_of}
 use Rattle.mdb_cash.specs.declared.gains.Gains.{Gains}
 use Rattle.mdb_cash.specs.declared.choice.Choice.{Choice}
 use Rattle.mdb_cashless.specs.declared.reader.state.ReaderState.{ReaderState}
@@ -24,6 +24,9 @@ use Rattle.mdb_follow.specs.Arrivals.{Arrives}
 use Rattle.mdb_follow.specs.Sales.{SalesFollowApprovals}
 use Rattle.mdb_follow.specs.Sums.{Sums}
 use Rattle.mdb_follow.proofs.Joining.{split}
+use Rattle.mdb_bus.specs.declared.scope.Beginning.{Beginning}
+use Rattle.mdb_bus.specs.declared.scope.Beginning.TheVariants.{PowerOn}
+use Rattle.mdb_bus.specs.declared.scope.Scope.{Scope}
 
 -- a reply, RET for it, or its repeat
 abbrev IsOfReply : Command → Reply → Act → Type 0
@@ -45,12 +48,17 @@ again command reply act so_far of ends = record {
   repeats = All-cons (IsOfReply command reply) act ends.again of ends.repeats;
 }
 
+-- a recording begins with no reply open
+first_closed : (command : Command) (reply : Reply) (begins : Beginning)
+    → IsOpen command reply (first_position begins) → ⊥
+first_closed command reply PowerOn (inl e) = cc
+first_closed command reply PowerOn (inr e) = cc
+
 -- pieces where a reply is open end in it
-ends_in : (command : Command) (reply : Reply) (pieces : List Piece) → ArePieces pieces
-    → IsOpen command reply (position_of pieces) → EndsInReply command reply (acts_of pieces)
-ends_in command reply [] are (inl e) = absurd cc
-ends_in command reply [] are (inr e) = absurd cc
-ends_in command reply (Whole (acts.Reply c r) events ∷ pieces) are (inl e) = record {
+ends_in : (scope : Scope) (command : Command) (reply : Reply) (pieces : List Piece) → ArePieces scope pieces
+    → IsOpen command reply (position_of scope pieces) → EndsInReply command reply (acts_of pieces)
+ends_in scope command reply [] are here = absurd (first_closed command reply scope.begins here)
+ends_in scope command reply (Whole (acts.Reply c r) events ∷ pieces) are (inl e) = record {
   again = [];
   before = acts_of pieces;
   order =
@@ -58,59 +66,59 @@ ends_in command reply (Whole (acts.Reply c r) events ∷ pieces) are (inl e) = r
       ap (λ (a : Act). a ∷ acts_of pieces) same;
   repeats = All-nil (IsOfReply command reply);
 }
-ends_in command reply (Whole (acts.Repeat c r) events ∷ pieces) are (inl e) =
+ends_in scope command reply (Whole (acts.Repeat c r) events ∷ pieces) are (inl e) =
     let before = are.1.comes.0 in
     again command reply (acts.Repeat c r) (acts_of pieces) (inr cc)
-    (ends_in command reply pieces are.2 (inr cc))
-ends_in command reply (Whole (acts.VmcRet c r) events ∷ pieces) are (inr e) =
+    (ends_in scope command reply pieces are.2 (inr cc))
+ends_in scope command reply (Whole (acts.VmcRet c r) events ∷ pieces) are (inr e) =
     let before = are.1.comes.0 in
     again command reply (acts.VmcRet c r) (acts_of pieces) (inl cc)
-    (ends_in command reply pieces are.2 (inl cc))
-ends_in command reply (Whole (acts.Reply c r) events ∷ pieces) are (inr e) = absurd cc
-ends_in command reply (Whole (acts.Repeat c r) events ∷ pieces) are (inr e) = absurd cc
-ends_in command reply (Whole (acts.VmcRet c r) events ∷ pieces) are (inl e) = absurd cc
-ends_in command reply (Whole (acts.Ask c) events ∷ pieces) are (inl e) = absurd cc
-ends_in command reply (Whole (acts.Ask c) events ∷ pieces) are (inr e) = absurd cc
-ends_in command reply (Whole (acts.Ack c) events ∷ pieces) are (inl e) = absurd cc
-ends_in command reply (Whole (acts.Ack c) events ∷ pieces) are (inr e) = absurd cc
-ends_in command reply (Whole (acts.Nak c) events ∷ pieces) are (inl e) = absurd cc
-ends_in command reply (Whole (acts.Nak c) events ∷ pieces) are (inr e) = absurd cc
-ends_in command reply (Whole (acts.VmcAck c r) events ∷ pieces) are (inl e) = absurd cc
-ends_in command reply (Whole (acts.VmcAck c r) events ∷ pieces) are (inr e) = absurd cc
-ends_in command reply (Whole (acts.VmcNak c r) events ∷ pieces) are (inl e) = absurd cc
-ends_in command reply (Whole (acts.VmcNak c r) events ∷ pieces) are (inr e) = absurd cc
-ends_in command reply (Whole acts.Foreign events ∷ pieces) are (inl e) = absurd cc
-ends_in command reply (Whole acts.Foreign events ∷ pieces) are (inr e) = absurd cc
-ends_in command reply (Whole (acts.Break n) events ∷ pieces) are (inl e) = absurd cc
-ends_in command reply (Whole (acts.Break n) events ∷ pieces) are (inr e) = absurd cc
-ends_in command reply (AskTail bytes events ∷ pieces) are (inl e) = absurd cc
-ends_in command reply (AskTail bytes events ∷ pieces) are (inr e) = absurd cc
-ends_in command reply (ReplyTail c bytes events ∷ pieces) are (inl e) = absurd cc
-ends_in command reply (ReplyTail c bytes events ∷ pieces) are (inr e) = absurd cc
-ends_in command reply (RepeatTail c r words events ∷ pieces) are (inl e) = absurd cc
-ends_in command reply (RepeatTail c r words events ∷ pieces) are (inr e) = absurd cc
+    (ends_in scope command reply pieces are.2 (inl cc))
+ends_in scope command reply (Whole (acts.Reply c r) events ∷ pieces) are (inr e) = absurd cc
+ends_in scope command reply (Whole (acts.Repeat c r) events ∷ pieces) are (inr e) = absurd cc
+ends_in scope command reply (Whole (acts.VmcRet c r) events ∷ pieces) are (inl e) = absurd cc
+ends_in scope command reply (Whole (acts.Ask c) events ∷ pieces) are (inl e) = absurd cc
+ends_in scope command reply (Whole (acts.Ask c) events ∷ pieces) are (inr e) = absurd cc
+ends_in scope command reply (Whole (acts.Ack c) events ∷ pieces) are (inl e) = absurd cc
+ends_in scope command reply (Whole (acts.Ack c) events ∷ pieces) are (inr e) = absurd cc
+ends_in scope command reply (Whole (acts.Nak c) events ∷ pieces) are (inl e) = absurd cc
+ends_in scope command reply (Whole (acts.Nak c) events ∷ pieces) are (inr e) = absurd cc
+ends_in scope command reply (Whole (acts.VmcAck c r) events ∷ pieces) are (inl e) = absurd cc
+ends_in scope command reply (Whole (acts.VmcAck c r) events ∷ pieces) are (inr e) = absurd cc
+ends_in scope command reply (Whole (acts.VmcNak c r) events ∷ pieces) are (inl e) = absurd cc
+ends_in scope command reply (Whole (acts.VmcNak c r) events ∷ pieces) are (inr e) = absurd cc
+ends_in scope command reply (Whole acts.Foreign events ∷ pieces) are (inl e) = absurd cc
+ends_in scope command reply (Whole acts.Foreign events ∷ pieces) are (inr e) = absurd cc
+ends_in scope command reply (Whole (acts.Break n) events ∷ pieces) are (inl e) = absurd cc
+ends_in scope command reply (Whole (acts.Break n) events ∷ pieces) are (inr e) = absurd cc
+ends_in scope command reply (AskTail bytes events ∷ pieces) are (inl e) = absurd cc
+ends_in scope command reply (AskTail bytes events ∷ pieces) are (inr e) = absurd cc
+ends_in scope command reply (ReplyTail c bytes events ∷ pieces) are (inl e) = absurd cc
+ends_in scope command reply (ReplyTail c bytes events ∷ pieces) are (inr e) = absurd cc
+ends_in scope command reply (RepeatTail c r words events ∷ pieces) are (inl e) = absurd cc
+ends_in scope command reply (RepeatTail c r words events ∷ pieces) are (inr e) = absurd cc
 
 -- each ACK of the controller stands after the reply that it acknowledges
 abbrev AcksFit : List Act → Type 0
 AcksFit [] = Unit {0}
 AcksFit (act ∷ so_far) = AcksLastReply act so_far × AcksFit so_far
 
-acks_fit : (pieces : List Piece) → ArePieces pieces → AcksFit (acts_of pieces)
-acks_fit [] are = tt
-acks_fit (Whole (acts.Ask c) events ∷ pieces) are = (tt, acks_fit pieces are.2)
-acks_fit (Whole (acts.Ack c) events ∷ pieces) are = (tt, acks_fit pieces are.2)
-acks_fit (Whole (acts.Nak c) events ∷ pieces) are = (tt, acks_fit pieces are.2)
-acks_fit (Whole (acts.Reply c r) events ∷ pieces) are = (tt, acks_fit pieces are.2)
-acks_fit (Whole (acts.VmcAck c r) events ∷ pieces) are =
-    (ends_in c r pieces are.2 (inl are.1.comes.0), acks_fit pieces are.2)
-acks_fit (Whole (acts.VmcNak c r) events ∷ pieces) are = (tt, acks_fit pieces are.2)
-acks_fit (Whole (acts.VmcRet c r) events ∷ pieces) are = (tt, acks_fit pieces are.2)
-acks_fit (Whole (acts.Repeat c r) events ∷ pieces) are = (tt, acks_fit pieces are.2)
-acks_fit (Whole acts.Foreign events ∷ pieces) are = (tt, acks_fit pieces are.2)
-acks_fit (Whole (acts.Break n) events ∷ pieces) are = (tt, acks_fit pieces are.2)
-acks_fit (AskTail bytes events ∷ pieces) are = acks_fit pieces are.2
-acks_fit (ReplyTail c bytes events ∷ pieces) are = acks_fit pieces are.2
-acks_fit (RepeatTail c r words events ∷ pieces) are = acks_fit pieces are.2
+acks_fit : (scope : Scope) (pieces : List Piece) → ArePieces scope pieces → AcksFit (acts_of pieces)
+acks_fit scope [] are = tt
+acks_fit scope (Whole (acts.Ask c) events ∷ pieces) are = (tt, acks_fit scope pieces are.2)
+acks_fit scope (Whole (acts.Ack c) events ∷ pieces) are = (tt, acks_fit scope pieces are.2)
+acks_fit scope (Whole (acts.Nak c) events ∷ pieces) are = (tt, acks_fit scope pieces are.2)
+acks_fit scope (Whole (acts.Reply c r) events ∷ pieces) are = (tt, acks_fit scope pieces are.2)
+acks_fit scope (Whole (acts.VmcAck c r) events ∷ pieces) are =
+    (ends_in scope c r pieces are.2 (inl are.1.comes.0), acks_fit scope pieces are.2)
+acks_fit scope (Whole (acts.VmcNak c r) events ∷ pieces) are = (tt, acks_fit scope pieces are.2)
+acks_fit scope (Whole (acts.VmcRet c r) events ∷ pieces) are = (tt, acks_fit scope pieces are.2)
+acks_fit scope (Whole (acts.Repeat c r) events ∷ pieces) are = (tt, acks_fit scope pieces are.2)
+acks_fit scope (Whole acts.Foreign events ∷ pieces) are = (tt, acks_fit scope pieces are.2)
+acks_fit scope (Whole (acts.Break n) events ∷ pieces) are = (tt, acks_fit scope pieces are.2)
+acks_fit scope (AskTail bytes events ∷ pieces) are = acks_fit scope pieces are.2
+acks_fit scope (ReplyTail c bytes events ∷ pieces) are = acks_fit scope pieces are.2
+acks_fit scope (RepeatTail c r words events ∷ pieces) are = acks_fit scope pieces are.2
 
 -- the laws of the views
 pub record ViewLaws : Type 0 where
@@ -161,9 +169,9 @@ all_sold laws unit (act ∷ so_far) state sums fit way =
           earlier.1,
     )
 
-pub sales_follow : ViewLaws → (rows : List Event) → SalesFollowApprovals rows
-sales_follow laws rows sums run unit =
+pub sales_follow : (scope : Scope) → ViewLaws → (rows : List Event) → SalesFollowApprovals scope rows
+sales_follow scope laws rows sums run unit =
     let ways = split run.loss run.pieces run.states sums run.way in
     let device = devices.Reader unit in
     (all_sold laws unit (acts_of run.pieces) (run.states device) (sums device)
-    (acks_fit run.pieces run.act_list.in_order) (ways device)).1
+    (acks_fit scope run.pieces run.act_list.in_order) (ways device)).1

@@ -5,6 +5,7 @@ use Rattle.mdb_words.specs.declared.event.Event.{Event}
 use Rattle.mdb_follow.specs.declared.offence.Offence.{Offence}
 use Rattle.mdb_follow.specs.Offences.{HasOffence, IsOffence}
 use Rattle.mdb_follow.specs.Runs.{IsReached}
+use Rattle.mdb_bus.specs.declared.scope.Scope.{Scope}
 
 -- a list that goes on after a front and a row of another
 pub record Longer (front : List Event) (row : Event) (other : List Event) : Type 0 where
@@ -33,32 +34,32 @@ places (x ∷ one) (y ∷ other) row last rest tail same =
           inr (inr (record { more = longer.more; is = cc (first, its) })))
     ]
 
-abbrev pub Fronts : Type 0
-Fronts = (rows more : List Event) → IsReached (rows ++ more) → IsReached rows
+abbrev pub Fronts : (scope : Scope) → Type 0
+Fronts scope = (rows more : List Event) → IsReached scope (rows ++ more) → IsReached scope rows
 
 -- rows after a row that isn't reached aren't either
-pub later : Fronts → (earlier front other : List Event) (row : Event) → Longer front row other
-    → (IsReached ((earlier ++ front) ++ row ∷ []) → ⊥) → IsReached (earlier ++ other) → ⊥
-later fronts earlier front other row longer not_reached reached =
+pub later : (scope : Scope) → Fronts scope → (earlier front other : List Event) (row : Event) → Longer front row other
+    → (IsReached scope ((earlier ++ front) ++ row ∷ []) → ⊥) → IsReached scope (earlier ++ other) → ⊥
+later scope fronts earlier front other row longer not_reached reached =
     not_reached (fronts ((earlier ++ front) ++ row ∷ []) longer.more
-    (subst IsReached
+    (subst (IsReached scope)
     (ap (λ rows. earlier ++ rows) longer.is
     ∙ (sym (append_assoc earlier front (row ∷ longer.more))
     ∙ sym (append_assoc (earlier ++ front) (row ∷ []) longer.more)))
     reached))
 
-pub one-of-rows : Fronts
-    → ((rows : List Event) (row : Event) (a b : Offence) → IsOffence rows row a
-    → IsOffence rows row b → a ≡ b)
-    → (earlier rows : List Event) (a b : Offence) → HasOffence earlier rows a
-    → HasOffence earlier rows b → a ≡ b
-one-of-rows fronts one earlier rows a b p q =
+pub one-of-rows : (scope : Scope) → Fronts scope
+    → ((rows : List Event) (row : Event) (a b : Offence) → IsOffence scope rows row a
+    → IsOffence scope rows row b → a ≡ b)
+    → (earlier rows : List Event) (a b : Offence) → HasOffence scope earlier rows a
+    → HasOffence scope earlier rows b → a ≡ b
+one-of-rows scope fronts one earlier rows a b p q =
     elim (places p.front q.front p.row q.row p.rest q.rest (sym p.parts ∙ q.parts)) [
       | inl same ↦ one (earlier ++ q.front) q.row a b
-          (subst (λ row. IsOffence (earlier ++ q.front) row a) same.1
-          (subst (λ front. IsOffence (earlier ++ front) p.row a) same.0 p.is)) q.is
-      | inr (inl longer) ↦ absurd (later fronts earlier p.front q.front p.row longer
+          (subst (λ row. IsOffence scope (earlier ++ q.front) row a) same.1
+          (subst (λ front. IsOffence scope (earlier ++ front) p.row a) same.0 p.is)) q.is
+      | inr (inl longer) ↦ absurd (later scope fronts earlier p.front q.front p.row longer
           p.is.not_reached q.is.reached)
-      | inr (inr longer) ↦ absurd (later fronts earlier q.front p.front q.row longer
+      | inr (inr longer) ↦ absurd (later scope fronts earlier q.front p.front q.row longer
           q.is.not_reached p.is.reached)
     ]

@@ -12,6 +12,7 @@ use Rattle.mdb_follow.specs.Report.{IsReport, decimals_of, device_decimals, devi
 use Rattle.mdb_follow.specs.Report.{report_of}
 use Rattle.mdb_follow.specs.Silences.{silences}
 use Rattle.mdb_follow.proofs.Following.{OneActList}
+use Rattle.mdb_bus.specs.declared.scope.Scope.{Scope}
 
 told-decimals : (rows : ℕ) (pieces : List Piece) (accounts : AccountName → Account)
     (device : Device)
@@ -29,19 +30,19 @@ told-silences rows pieces accounts Bill = refl
 told-silences rows pieces accounts (Reader First) = refl
 told-silences rows pieces accounts (Reader Second) = refl
 
-pub decimals-told : OneActList → (rows : List Event) (report : Report) (pieces : List Piece)
-    → IsReport rows report → IsActList pieces rows → (device : Device)
+pub decimals-told : (scope : Scope) → OneActList scope → (rows : List Event) (report : Report) (pieces : List Piece)
+    → IsReport scope rows report → IsActList scope pieces rows → (device : Device)
     → device_decimals device report ≡ decimals_of device (acts_of pieces)
-decimals-told one rows report pieces is list device =
+decimals-told scope one rows report pieces is list device =
     ap (device_decimals device) is.telling
     ∙ (told-decimals (length rows) is.pieces is.accounts device
     ∙ ap (λ (p : List Piece). decimals_of device (acts_of p))
     (one rows is.pieces pieces is.act_list list))
 
-pub silences-told : OneActList → (rows : List Event) (report : Report) (pieces : List Piece)
-    → IsReport rows report → IsActList pieces rows → (device : Device)
+pub silences-told : (scope : Scope) → OneActList scope → (rows : List Event) (report : Report) (pieces : List Piece)
+    → IsReport scope rows report → IsActList scope pieces rows → (device : Device)
     → device_silences device report ≡ silences device pieces
-silences-told one rows report pieces is list device =
+silences-told scope one rows report pieces is list device =
     ap (device_silences device) is.telling
     ∙ (told-silences (length rows) is.pieces is.accounts device
     ∙ ap (silences device) (one rows is.pieces pieces is.act_list list))

@@ -79,7 +79,8 @@ table-led {State} code_of machine act acts from into apart table led =
     })
     led
 
-no-gains : (sums : Sums) → sums ≡ added sums no_gains
+-- no gains add nothing
+pub no-gains : (sums : Sums) → sums ≡ added sums no_gains
 no-gains sums = simp add-zero
 
 -- An act that changes nothing wherever a way leads leaves what arrives.

@@ -2,6 +2,7 @@
 use Rattle.std.specs.Prelude.{◌≡◌, ℕ, List, length, Option, None}
 use Rattle.mdb_words.specs.declared.event.Event.{Event}
 use Rattle.mdb_bus.specs.ActLists.{Piece, acts_of, events_of}
+use Rattle.mdb_bus.specs.declared.scope.Scope.{Scope}
 use Rattle.mdb_bus.specs.Bus as bus
 use Rattle.mdb_follow.specs.declared.follower.Follower.{Follower}
 use Rattle.mdb_follow.specs.declared.offence.Offence.{Offence}
@@ -9,7 +10,11 @@ use Rattle.mdb_follow.specs.Sides.{AreSides}
 use Rattle.mdb_follow.specs.Silences.{asks_of}
 use Rattle.mdb_follow.specs.SilencesKept.{AllStandForAsks}
 
--- how many rows it has accepted, and the offence that it has met
+-- how the recording is taken that it is fed, how many rows it has accepted, and the offence that it
+-- has met
+abbrev pub scope_of : Follower → Scope
+scope_of follower = bus.scope_of follower.bus
+
 abbrev pub rows_of : Follower → ℕ
 rows_of follower = follower.rows
 

@@ -2,6 +2,7 @@ pub mod AccountNames
 pub mod Arrivals
 pub mod Devices
 pub mod Follower
+pub mod LeavingOut
 pub mod Machines
 pub mod Offences
 pub mod Ranges

@@ -19,13 +19,14 @@ use Rattle.mdb_follow.specs.Sums.{Sums}
 use Rattle.mdb_follow.specs.declared.offence.Offence.{Offence}
 use Rattle.mdb_follow.specs.Runs.{IsReached}
 use Rattle.mdb_follow.specs.Senders.{sender_of}
+use Rattle.mdb_bus.specs.declared.scope.Scope.{Scope}
 
 -- a row breaks a rule of the link, after rows that have an act list
-pub record BreaksLink (events : List Event) (row : Event) (broken : Rule)
+pub record BreaksLink (scope : Scope) (events : List Event) (row : Event) (broken : Rule)
     (blamed : Blame) : Type 0 where
   pub pieces : List Piece
-  pub act_list : IsActList pieces events
-  pub fault : IsLinkFault pieces row broken blamed
+  pub act_list : IsActList scope pieces events
+  pub fault : IsLinkFault scope pieces row broken blamed
 
 -- From no state to which a way through the acts before leads is there a step by an act, whatever
 -- its rows leave open: whether an ACK was heard, and whether a reply tells of a restart.
@@ -48,28 +49,28 @@ pub record NoStep (broken : Rule) (act : Act) (before : List Act) : Type 0 where
   pub none : HasNoStep (machine_of device) act before
 
 -- The act that a row ends can't have been done by its device and the controller.
-pub record BreaksMachine (events : List Event) (row : Event) (broken : Rule)
+pub record BreaksMachine (scope : Scope) (events : List Event) (row : Event) (broken : Rule)
     (blamed : Blame) : Type 0 where
   pub act : Act
   -- its rows before this one
   pub begun : List Event
   pub earlier : List Piece
-  pub act_list : IsActList (Whole act (begun ++ row ∷ []) ∷ earlier) (events ++ row ∷ [])
+  pub act_list : IsActList scope (Whole act (begun ++ row ∷ []) ∷ earlier) (events ++ row ∷ [])
   pub no_step : NoStep broken act (acts_of earlier)
   pub blame : blamed ≡ sender_of act
 
 -- the offence of a row after rows that are reached: the row isn't
-pub record IsOffence (events : List Event) (row : Event) (offence : Offence) : Type 0 where
-  pub reached : IsReached events
-  pub not_reached : IsReached (events ++ row ∷ []) → ⊥
+pub record IsOffence (scope : Scope) (events : List Event) (row : Event) (offence : Offence) : Type 0 where
+  pub reached : IsReached scope events
+  pub not_reached : IsReached scope (events ++ row ∷ []) → ⊥
   pub number : offence.row ≡ length events + 1
-  pub why : BreaksLink events row offence.rule offence.blame
-      ⊎ BreaksMachine events row offence.rule offence.blame
+  pub why : BreaksLink scope events row offence.rule offence.blame
+      ⊎ BreaksMachine scope events row offence.rule offence.blame
 
 -- the offence of some row of these events, after the earlier ones and those before it
-pub record HasOffence (earlier events : List Event) (offence : Offence) : Type 0 where
+pub record HasOffence (scope : Scope) (earlier events : List Event) (offence : Offence) : Type 0 where
   pub front : List Event
   pub row : Event
   pub rest : List Event
   pub parts : events ≡ front ++ row ∷ rest
-  pub is : IsOffence (earlier ++ front) row offence
+  pub is : IsOffence scope (earlier ++ front) row offence

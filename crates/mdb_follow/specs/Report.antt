@@ -19,6 +19,7 @@ use Rattle.mdb_follow.specs.Devices.{device_place}
 use Rattle.mdb_follow.specs.Ranges.{IsAccount}
 use Rattle.mdb_follow.specs.Runs.{AllSums, IsReached, Run}
 use Rattle.mdb_follow.specs.Silences.{silences}
+use Rattle.mdb_bus.specs.declared.scope.Scope.{Scope}
 
 -- what stands for an account that a list lacks; a report lacks none
 abbrev pub no_range : Range
@@ -65,10 +66,10 @@ report_of rows pieces accounts = record {
 
 -- The report on rows that are reached: each end of each range is the value of some run, and no
 -- run's lies outside. Decimals and silences are those of the act list.
-pub record IsReport (events : List Event) (report : Report) : Type 0 where
-  pub reached : IsReached events
+pub record IsReport (scope : Scope) (events : List Event) (report : Report) : Type 0 where
+  pub reached : IsReached scope events
   pub pieces : List Piece
-  pub act_list : IsActList pieces events
+  pub act_list : IsActList scope pieces events
   pub accounts : AccountName → Account
-  pub of_runs : AreAccounts (Run events) accounts
+  pub of_runs : AreAccounts (Run scope events) accounts
   pub telling : report ≡ report_of (length events) pieces accounts

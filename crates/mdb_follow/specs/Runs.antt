@@ -13,6 +13,7 @@ use Rattle.mdb_cash.specs.declared.gains.Gains.{Gains}
 use Rattle.mdb_cash.specs.Choices.{CanStand}
 use Rattle.mdb_follow.specs.Machines.{StateOf, machine_of}
 use Rattle.mdb_follow.specs.Sums.{Sums, added, no_sums}
+use Rattle.mdb_bus.specs.declared.scope.Scope.{Scope}
 
 -- a state of each device and the controller's dealings with it
 abbrev pub States : Type 0
@@ -68,14 +69,14 @@ HearSameAcks one other (Whole act events ∷ pieces) =
 HearSameAcks one other (piece ∷ pieces) = HearSameAcks one other pieces
 
 -- a run of a transcript, and what the accounts come to in it
-pub record Run (events : List Event) (sums : AllSums) : Type 0 where
+pub record Run (scope : Scope) (events : List Event) (sums : AllSums) : Type 0 where
   pub pieces : List Piece
-  pub act_list : IsActList pieces events
+  pub act_list : IsActList scope pieces events
   pub loss : Loss
   pub fits : LossFits loss pieces
   pub states : States
   pub way : IsWay loss pieces states sums
 
 -- rows are reached where they have a run
-abbrev pub IsReached : List Event → Type 0
-IsReached events = (sums : AllSums) × Run events sums
+abbrev pub IsReached : Scope → List Event → Type 0
+IsReached scope events = (sums : AllSums) × Run scope events sums

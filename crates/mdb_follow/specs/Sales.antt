@@ -5,8 +5,9 @@ use Rattle.mdb_msgs.specs.declared.command.ReaderUnit.{ReaderUnit}
 use Rattle.mdb_bus.specs.ActLists.{acts_of}
 use Rattle.mdb_cashless.specs.Sales.{SalesAreApproved}
 use Rattle.mdb_follow.specs.Runs.{AllSums, Run}
+use Rattle.mdb_bus.specs.declared.scope.Scope.{Scope}
 
 -- In every run of the rows, each sale at either reader follows its approval.
-abbrev pub SalesFollowApprovals : List Event → Type 0
-SalesFollowApprovals rows = (sums : AllSums) (run : Run rows sums) (unit : ReaderUnit)
+abbrev pub SalesFollowApprovals : Scope → List Event → Type 0
+SalesFollowApprovals scope rows = (sums : AllSums) (run : Run scope rows sums) (unit : ReaderUnit)
     → SalesAreApproved unit (acts_of run.pieces)

@@ -6,6 +6,7 @@ use Rattle.mdb_follow.specs.declared.report.Report.{Report}
 use Rattle.mdb_follow.specs.Offences.{HasOffence}
 use Rattle.mdb_follow.specs.Report.{IsReport}
 use Rattle.mdb_follow.specs.Runs.{IsReached}
+use Rattle.mdb_bus.specs.declared.scope.Scope.{Scope}
 
 -- the rows of the slices in order
 abbrev pub joined : List (List Event) → List Event
@@ -13,18 +14,18 @@ joined [] = []
 joined (slice ∷ slices) = slice ++ joined slices
 
 -- What is told of rows after earlier ones: the report on all, or the offence of one of these rows.
-abbrev pub Tells : List Event → List Event → Result Report Offence → Type 0
-Tells earlier rows (Ok report) = IsReport (earlier ++ rows) report
-Tells earlier rows (Err offence) = HasOffence earlier rows offence
+abbrev pub Tells : Scope → List Event → List Event → Result Report Offence → Type 0
+Tells scope earlier rows (Ok report) = IsReport scope (earlier ++ rows) report
+Tells scope earlier rows (Err offence) = HasOffence scope earlier rows offence
 
 -- What is told of slices that are fed one by one after earlier rows, as `feed_all` and `report` say
 -- of each call: the offence of the first slice that has one, and where none has, the report after
 -- the last. Each slice comes after the earlier rows and all slices before it, which are reached.
-abbrev pub TellsInSlices : List Event → List (List Event) → Result Report Offence → Type 0
-TellsInSlices earlier [] (Ok report) = IsReport earlier report
-TellsInSlices earlier [] (Err offence) = ⊥
-TellsInSlices earlier (slice ∷ slices) (Ok report) =
-    IsReached (earlier ++ slice) × TellsInSlices (earlier ++ slice) slices (Ok report)
-TellsInSlices earlier (slice ∷ slices) (Err offence) =
-    HasOffence earlier slice offence
-    ⊎ (IsReached (earlier ++ slice) × TellsInSlices (earlier ++ slice) slices (Err offence))
+abbrev pub TellsInSlices : Scope → List Event → List (List Event) → Result Report Offence → Type 0
+TellsInSlices scope earlier [] (Ok report) = IsReport scope earlier report
+TellsInSlices scope earlier [] (Err offence) = ⊥
+TellsInSlices scope earlier (slice ∷ slices) (Ok report) =
+    IsReached scope (earlier ++ slice) × TellsInSlices scope (earlier ++ slice) slices (Ok report)
+TellsInSlices scope earlier (slice ∷ slices) (Err offence) =
+    HasOffence scope earlier slice offence
+    ⊎ (IsReached scope (earlier ++ slice) × TellsInSlices scope (earlier ++ slice) slices (Err offence))

@@ -14,7 +14,7 @@ ghost use Rattle.mdb_follow.specs.inner.SilenceSteps.{AreFew};
 use crate::sides::Sides;
 use crate::silence::Silences;
 use crate::{Offence, Report, laws};
-use mdb_bus::{Act, Blame, Bus, LinkFault, laws as bus_laws};
+use mdb_bus::{Act, Blame, Bus, LinkFault, Scope, laws as bus_laws};
 use mdb_msgs::{Device, ReaderUnit};
 use mdb_words::{Event, Time};
 
@@ -44,19 +44,31 @@ impl Follower {
     ghost use Rattle.mdb_bus.specs.Bus.{GoesOn};
     ghost use Rattle.mdb_bus.specs.ActLists.{Piece};
     ghost use Rattle.mdb_follow.specs.Runs.{IsReached};
-    ghost use Rattle.mdb_follow.specs.Follower.{StandsFor, offence_of, rows_of};
+    ghost use Rattle.mdb_bus.specs.declared.scope.TheConstants.Scope.{POWER_ON};
+    ghost use Rattle.mdb_follow.specs.Follower.{StandsFor, offence_of, rows_of, scope_of};
     ghost use Rattle.mdb_follow.specs.inner.FollowerSteps.{HasFollowed, HasStopped};
     ghost use Rattle.mdb_follow.specs.Offences.{HasOffence, IsOffence};
     ghost use Rattle.mdb_follow.specs.Report.{IsReport};
     ghost use Rattle.mdb_follow.specs.Sales.{SalesFollowApprovals};
 
-    /// The follower before the first row: recording began at power-on or at a break.
+    /// The follower before the first row: recording began at power-on or at a break, and all devices
+    /// are followed.
     pub fn new() -> Follower
         ensures stands { StandsFor result [] }
         ensures empty { rows_of result ≡ 0 }
+        ensures scope { scope_of result ≡ POWER_ON }
+    {
+        Follower::scoped(Scope::POWER_ON)
+    }
+
+    /// The follower before the first row, of a recording that is taken so.
+    pub fn scoped(scope: Scope) -> Follower
+        ensures stands { StandsFor result [] }
+        ensures empty { rows_of result ≡ 0 }
+        ensures scope { scope_of result ≡ scope }
     {
         Follower {
-            bus: Bus::new(),
+            bus: Bus::scoped(scope),
             sides: Sides::start(),
             silences: Silences::NONE,
             rows: 0,
@@ -85,17 +97,18 @@ impl Follower {
         ensures reached { (events : List Event) → StandsFor self.old events
             → IfOk result (λ _. StandsFor self.new (events ++ event ∷ [])) }
         ensures is_reached { (events : List Event) → StandsFor self.old events
-            → IfOk result (λ _. IsReached (events ++ event ∷ [])) }
+            → IfOk result (λ _. IsReached (scope_of self.old) (events ++ event ∷ [])) }
         ensures sales { (events : List Event) → StandsFor self.old events
-            → IfOk result (λ _. SalesFollowApprovals (events ++ event ∷ [])) }
+            → IfOk result (λ _. SalesFollowApprovals (scope_of self.old) (events ++ event ∷ [])) }
         ensures offence { (events : List Event) → StandsFor self.old events
-            → IfErr result (IsOffence events event) }
+            → IfErr result (IsOffence (scope_of self.old) events event) }
         ensures noted { IfErr result (λ offence. offence_of self.new ≡ Some offence) }
         ensures numbered { IfErr result (λ offence. offence.row ≡ rows_of self.new + 1) }
         ensures counted { IfOk result (λ _. rows_of self.new ≡ rows_of self.old + 1) }
         ensures uncounted { OnErr result (rows_of self.new ≡ rows_of self.old) }
         ensures repeats { IfSome (offence_of self.old) (λ offence.
             (result ≡ Err offence) × (self.new ≡ self.old)) }
+        ensures scope { scope_of self.new ≡ scope_of self.old }
     {
         laws::ways_join();
         laws::sales_follow_their_approvals();
@@ -119,11 +132,11 @@ impl Follower {
         ensures reached { (before : List Event) → StandsFor self.old before
             → IfOk result (λ _. StandsFor self.new (before ++ events.now)) }
         ensures is_reached { (before : List Event) → StandsFor self.old before
-            → IfOk result (λ _. IsReached (before ++ events.now)) }
+            → IfOk result (λ _. IsReached (scope_of self.old) (before ++ events.now)) }
         ensures sales { (before : List Event) → StandsFor self.old before
-            → IfOk result (λ _. SalesFollowApprovals (before ++ events.now)) }
+            → IfOk result (λ _. SalesFollowApprovals (scope_of self.old) (before ++ events.now)) }
         ensures offence { (before : List Event) → StandsFor self.old before
-            → IfErr result (HasOffence before events.now) }
+            → IfErr result (HasOffence (scope_of self.old) before events.now) }
         ensures noted { IfErr result (λ offence. offence_of self.new ≡ Some offence) }
         ensures numbered { IfErr result (λ offence. offence.row ≡ rows_of self.new + 1) }
         ensures counted { IfOk result
@@ -133,6 +146,7 @@ impl Follower {
             (result ≡ Err offence) × (self.new ≡ self.old)) }
         ensures still { events.now ≡ [] → self.new ≡ self.old }
         ensures idle { events.now ≡ [] → offence_of self.old ≡ None → IsOk result }
+        ensures scope { scope_of self.new ≡ scope_of self.old }
     {
         laws::ways_join();
         laws::sales_follow_their_approvals();
@@ -158,7 +172,9 @@ impl Follower {
         ensures going { OnTrue result (offence_of self.new ≡ None) }
         ensures counted { OnTrue result (rows_of self.new ≡ rows_of self.old + 1) }
         ensures offence { OnFalse result (IsSomeAnd (offence_of self.new) (λ offence.
-            (events : List Event) → StandsFor self.old events → IsOffence events event offence)) }
+            (events : List Event) → StandsFor self.old events
+            → IsOffence (scope_of self.old) events event offence)) }
+        ensures scope { scope_of self.new ≡ scope_of self.old }
         ensures uncounted { OnFalse result (rows_of self.new ≡ rows_of self.old) }
     {
         laws::ways_join();
@@ -184,6 +200,7 @@ impl Follower {
         ensures followed { OnTrue result (HasFollowed self.old self.old.act at self.new) }
         ensures stopped { OnFalse result
             (IsSomeAnd (offence_of self.new) (HasStopped self.old self.old.act self.new)) }
+        ensures scope { scope_of self.new ≡ scope_of self.old }
     {
         match self.sides.lead(&self.act) {
             Ok(()) => {
@@ -220,7 +237,7 @@ impl Follower {
     /// The offence of a row that cannot be.
     pub fn report(&self) -> Result<Report, Offence>
         ensures report { (events : List Event) → StandsFor self.now events
-            → IfOk result (IsReport events) }
+            → IfOk result (IsReport (scope_of self.now) events) }
         ensures answers { (events : List Event) → StandsFor self.now events → IsOk result }
         ensures offence { IfSome (offence_of self.now) (λ offence. result ≡ Err offence) }
     {

@@ -1,13 +1,17 @@
 //! What follows from the definitions of runs alone.
 
-ghost use Rattle.std.specs.Prelude.{◌≡◌, ◌↔◌, List, [], ◌∷◌, ◌++◌, Result};
+ghost use Rattle.std.specs.Prelude.{◌≡◌, ◌↔◌, List, [], ◌∷◌, ◌++◌, Result, Some};
 ghost use Rattle.mdb_words.specs.declared.event.Event.{Event};
 ghost use Rattle.mdb_msgs.specs.declared.command.Device.{Device};
 ghost use Rattle.mdb_bus.specs.ActLists.{ArePieces, IsActList, Piece, acts_of};
+ghost use Rattle.mdb_bus.specs.declared.scope.Scope.{Scope};
+ghost use Rattle.mdb_bus.specs.LeavingOut.{LeavesOutMore};
+ghost use Rattle.mdb_bus.specs.LinkFaults.{blame_on};
+ghost use Rattle.mdb_bus.specs.Scopes.{IsFollowed, IsLeftOut};
 ghost use Rattle.mdb_bus.specs.Loss.{Loss, LossFits};
 ghost use Rattle.mdb_follow.specs.AccountNames.{sums_of};
 ghost use Rattle.mdb_follow.specs.Arrivals.{EachArrives};
-ghost use Rattle.mdb_follow.specs.Follower.{StandsFor};
+ghost use Rattle.mdb_follow.specs.Follower.{StandsFor, scope_of};
 ghost use Rattle.mdb_follow.specs.declared.account_name.AccountName.{AccountName};
 ghost use Rattle.mdb_follow.specs.declared.follower.Follower.{Follower};
 ghost use Rattle.mdb_follow.specs.declared.offence.Offence.{Offence};
@@ -16,6 +20,8 @@ ghost use Rattle.mdb_follow.specs.declared.silence.TheConstants.{BILL_SILENCE_MA
 ghost use Rattle.mdb_follow.specs.declared.silence.TheConstants.{CHANGER_SILENCE_MAX};
 ghost use Rattle.mdb_follow.specs.declared.silence.TheConstants.{MICROS_PER_SECOND};
 ghost use Rattle.mdb_follow.specs.declared.silence.TheConstants.{READER_SILENCE_MAX};
+ghost use Rattle.mdb_follow.specs.LeavingOut.{AreSumsWithout, HasNothingLeftOut};
+ghost use Rattle.mdb_follow.specs.LeavingOut.{HaveSameFollowed};
 ghost use Rattle.mdb_follow.specs.Offences.{HasOffence, IsOffence};
 ghost use Rattle.mdb_follow.specs.Ranges.{IsAccount};
 ghost use Rattle.mdb_follow.specs.Report.{IsReport, account_of, decimals_of};
@@ -23,9 +29,11 @@ ghost use Rattle.mdb_follow.specs.Report.{device_decimals, device_silences};
 ghost use Rattle.mdb_follow.specs.Runs.{AllSums, HearSameAcks, IsReached, IsWay, Run, States};
 ghost use Rattle.mdb_follow.specs.Sales.{SalesFollowApprovals};
 ghost use Rattle.mdb_follow.specs.Silences.{silences};
+ghost use Rattle.mdb_follow.specs.Sums.{no_sums};
 ghost use Rattle.mdb_follow.specs.Slices.{Tells, TellsInSlices, joined};
 
 use mdb_bus::laws;
+use mdb_cash::laws as cash_laws;
 use mdb_cashless::laws as cashless_laws;
 
 /// Each way of all is a way of each device.
@@ -36,7 +44,8 @@ pub fn ways_split()
 
 /// Ways of each device are together a way of all, under one loss that fits.
 pub fn ways_join()
-    ensures { (pieces : List Piece) (states : States) (sums : AllSums) → ArePieces pieces
+    ensures { (scope : Scope) (pieces : List Piece) (states : States) (sums : AllSums)
+        → ArePieces scope pieces
         → EachArrives (acts_of pieces) states sums
         → (loss : Loss) × LossFits loss pieces × IsWay loss pieces states sums }
 {
@@ -53,7 +62,8 @@ pub fn only_the_loss_of_an_ack_matters()
 
 /// Where rows are reached, the rows before the last are too.
 pub fn reached_rows_stay_reached_without_the_last()
-    ensures { (rows : List Event) (row : Event) → IsReached (rows ++ row ∷ []) → IsReached rows }
+    ensures { (scope : Scope) (rows : List Event) (row : Event)
+        → IsReached scope (rows ++ row ∷ []) → IsReached scope rows }
 {
     laws::act_lists_go_on_row_by_row();
     ways_join();
@@ -61,33 +71,35 @@ pub fn reached_rows_stay_reached_without_the_last()
 
 /// Where rows are reached, any first rows of them are.
 pub fn fronts_of_reached_rows_are_reached()
-    ensures { (rows more : List Event) → IsReached (rows ++ more) → IsReached rows }
+    ensures { (scope : Scope) (rows more : List Event) → IsReached scope (rows ++ more)
+        → IsReached scope rows }
 {
     reached_rows_stay_reached_without_the_last();
 }
 
 /// Rows have one report: each of its ends is the least or the greatest of all runs.
 pub fn rows_have_one_report()
-    ensures { (rows : List Event) (a b : Report) → IsReport rows a → IsReport rows b → a ≡ b }
+    ensures { (scope : Scope) (rows : List Event) (a b : Report) → IsReport scope rows a
+        → IsReport scope rows b → a ≡ b }
 {
     laws::transcripts_have_one_act_list();
 }
 
 /// What a report has of each account are the exact ranges of its sums in the runs of the rows.
 pub fn reports_name_the_accounts_of_runs()
-    ensures { (rows : List Event) (report : Report) → IsReport rows report
+    ensures { (scope : Scope) (rows : List Event) (report : Report) → IsReport scope rows report
         → (account : AccountName)
-        → IsAccount (Run rows) (sums_of account) (account_of account report) }
+        → IsAccount (Run scope rows) (sums_of account) (account_of account report) }
 {}
 
 /// What a report has of each device are the decimal places that it has told in the act list of the
 /// rows, and its silences there.
 pub fn reports_name_the_decimals_and_silences_of_devices()
-    ensures decimals { (rows : List Event) (report : Report) (pieces : List Piece)
-        → IsReport rows report → IsActList pieces rows → (device : Device)
+    ensures decimals { (scope : Scope) (rows : List Event) (report : Report)
+        (pieces : List Piece) → IsReport scope rows report → IsActList scope pieces rows → (device : Device)
         → device_decimals device report ≡ decimals_of device (acts_of pieces) }
-    ensures silences { (rows : List Event) (report : Report) (pieces : List Piece)
-        → IsReport rows report → IsActList pieces rows → (device : Device)
+    ensures silences { (scope : Scope) (rows : List Event) (report : Report)
+        (pieces : List Piece) → IsReport scope rows report → IsActList scope pieces rows → (device : Device)
         → device_silences device report ≡ silences device pieces }
 {
     laws::transcripts_have_one_act_list();
@@ -95,8 +107,8 @@ pub fn reports_name_the_decimals_and_silences_of_devices()
 
 /// A row has one offence: one number, one rule and one blame.
 pub fn rows_have_one_offence()
-    ensures { (rows : List Event) (row : Event) (a b : Offence) → IsOffence rows row a
-        → IsOffence rows row b → a ≡ b }
+    ensures { (scope : Scope) (rows : List Event) (row : Event) (a b : Offence)
+        → IsOffence scope rows row a → IsOffence scope rows row b → a ≡ b }
 {
     laws::transcripts_have_one_act_list();
     laws::rows_have_one_fault();
@@ -106,8 +118,8 @@ pub fn rows_have_one_offence()
 
 /// A list of rows has one offence: no two places in it end at one, so it is that of one row.
 pub fn lists_have_one_offence()
-    ensures { (earlier rows : List Event) (a b : Offence) → HasOffence earlier rows a
-        → HasOffence earlier rows b → a ≡ b }
+    ensures { (scope : Scope) (earlier rows : List Event) (a b : Offence)
+        → HasOffence scope earlier rows a → HasOffence scope earlier rows b → a ≡ b }
 {
     fronts_of_reached_rows_are_reached();
     rows_have_one_offence();
@@ -117,12 +129,12 @@ pub fn lists_have_one_offence()
 /// that is fed the whole, and it is one answer: the report on all rows, or the offence of one. What
 /// a follower tells of slices is so by the clauses of `Follower::feed_all` and `Follower::report`.
 pub fn cuts_change_no_answer()
-    ensures whole { (earlier : List Event) (slices : List (List Event))
+    ensures whole { (scope : Scope) (earlier : List Event) (slices : List (List Event))
         (answer : Result Report Offence)
-        → TellsInSlices earlier slices answer ↔ Tells earlier (joined slices) answer }
-    ensures alike { (earlier : List Event) (one other : List (List Event))
+        → TellsInSlices scope earlier slices answer ↔ Tells scope earlier (joined slices) answer }
+    ensures alike { (scope : Scope) (earlier : List Event) (one other : List (List Event))
         (a b : Result Report Offence) → joined one ≡ joined other
-        → TellsInSlices earlier one a → TellsInSlices earlier other b → a ≡ b }
+        → TellsInSlices scope earlier one a → TellsInSlices scope earlier other b → a ≡ b }
 {
     fronts_of_reached_rows_are_reached();
     rows_have_one_report();
@@ -132,7 +144,7 @@ pub fn cuts_change_no_answer()
 /// The rows that a follower stands for are reached.
 pub fn followers_stand_for_reached_rows()
     ensures { (follower : Follower) (rows : List Event) → StandsFor follower rows
-        → IsReached rows }
+        → IsReached (scope_of follower) rows }
 {
     ways_join();
 }
@@ -141,7 +153,7 @@ pub fn followers_stand_for_reached_rows()
 /// the controller has requested a sale, the reader has approved one, and the controller has
 /// acknowledged that.
 pub fn sales_follow_their_approvals()
-    ensures { (rows : List Event) → SalesFollowApprovals rows }
+    ensures { (scope : Scope) (rows : List Event) → SalesFollowApprovals scope rows }
 {
     cashless_laws::views_tell_of_the_sale();
     cashless_laws::views_allow_approved_sales_alone();
@@ -155,3 +167,86 @@ pub fn limits_of_silences_are_those_of_the_standard()
     ensures reader { READER_SILENCE_MAX ≡ 5000000 }
     ensures second { MICROS_PER_SECOND ≡ 1000000 }
 {}
+
+/// Each run gives one without further devices: the others' sums are the same, and theirs nothing.
+pub fn runs_go_on_without_further_devices()
+    ensures { (less more : Scope) (rows : List Event) (sums : AllSums) → LeavesOutMore less more
+        → Run less rows sums
+        → (other : AllSums) × AreSumsWithout more sums other × Run more rows other }
+{
+    ways_join();
+    laws::act_lists_stay_without_further_devices();
+    laws::act_lists_without_further_devices_are_what_is_left();
+    laws::acts_of_followed_devices_stay();
+    cash_laws::own_acts_are_those_that_a_device_has_a_part_in();
+}
+
+/// Where rows are reached, each run of them without further devices comes from a run with these.
+pub fn runs_without_further_devices_come_from_runs()
+    ensures { (less more : Scope) (rows : List Event) (other : AllSums) → LeavesOutMore less more
+        → IsReached less rows → Run more rows other
+        → (sums : AllSums) × AreSumsWithout more sums other × Run less rows sums }
+{
+    ways_join();
+    laws::act_lists_stay_without_further_devices();
+    laws::act_lists_without_further_devices_are_what_is_left();
+    laws::acts_of_followed_devices_stay();
+    cash_laws::own_acts_are_those_that_a_device_has_a_part_in();
+}
+
+/// Rows that are reached are reached without further devices.
+pub fn reached_rows_stay_reached_without_further_devices()
+    ensures { (less more : Scope) (rows : List Event) → LeavesOutMore less more
+        → IsReached less rows → IsReached more rows }
+{
+    runs_go_on_without_further_devices();
+}
+
+/// In every run, the sums of a device that is left out are nothing.
+pub fn runs_add_nothing_of_devices_left_out()
+    ensures { (scope : Scope) (rows : List Event) (sums : AllSums) → Run scope rows sums
+        → (device : Device) → IsLeftOut scope device → sums device ≡ no_sums }
+{
+    laws::devices_left_out_have_a_part_in_breaks_alone();
+    cash_laws::own_acts_are_those_that_a_device_has_a_part_in();
+}
+
+/// A report on rows is, without further devices, the same of those that are followed still.
+pub fn reports_stay_without_further_devices()
+    ensures { (less more : Scope) (rows : List Event) (one other : Report)
+        → LeavesOutMore less more → IsReport less rows one → IsReport more rows other
+        → HaveSameFollowed more one other }
+{
+    laws::act_lists_stay_without_further_devices();
+    laws::acts_of_followed_devices_stay();
+    laws::transcripts_have_one_act_list();
+    cash_laws::the_changers_facts_are_of_its_own_acts();
+    cash_laws::the_validators_facts_are_of_its_own_acts();
+    cashless_laws::a_readers_facts_are_of_its_own_acts();
+    runs_go_on_without_further_devices();
+    runs_without_further_devices_come_from_runs();
+}
+
+/// A report has nothing of the devices that are left out.
+pub fn reports_have_nothing_of_devices_left_out()
+    ensures { (scope : Scope) (rows : List Event) (report : Report) → IsReport scope rows report
+        → HasNothingLeftOut scope report }
+{
+    laws::acts_name_devices_that_are_followed();
+    laws::devices_left_out_have_a_part_in_breaks_alone();
+    laws::transcripts_have_one_act_list();
+    cash_laws::breaks_tell_nothing_of_the_changer();
+    cash_laws::breaks_tell_nothing_of_the_validator();
+    cashless_laws::breaks_tell_nothing_of_a_reader();
+    runs_add_nothing_of_devices_left_out();
+}
+
+/// No offence is blamed on a device that is left out.
+pub fn offences_are_blamed_on_devices_that_are_followed()
+    ensures { (scope : Scope) (rows : List Event) (row : Event) (offence : Offence)
+        (device : Device) → IsOffence scope rows row offence
+        → offence.blame ≡ blame_on (Some device) → IsFollowed scope device }
+{
+    laws::acts_name_devices_that_are_followed();
+    laws::faults_are_blamed_on_devices_that_are_followed();
+}

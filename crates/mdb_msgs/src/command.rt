@@ -1,6 +1,6 @@
 //! Commands of the controller, device by device.
 
-ghost use Rattle.std.specs.Prelude.{◌≡◌, Some};
+ghost use Rattle.std.specs.Prelude.{◌≡◌, IfSome, Some};
 ghost use Rattle.mdb_msgs.specs.Commands.{device_of, poll_of, reader_address};
 ghost use Rattle.mdb_msgs.specs.Devices.{device_word};
 
@@ -43,6 +43,21 @@ impl Device {
             Device::Bill => "bill",
             Device::Reader(ReaderUnit::First) => "cashless",
             Device::Reader(ReaderUnit::Second) => "cashless-2",
+        }
+    }
+
+    /// The device that has this word, if one has.
+    pub fn named(word: &str) -> Option<Device>
+        ensures found { IfSome result (λ device. word.now ≡ device_word device) }
+        ensures only { (device : Device) → word.now ≡ device_word device
+            → result ≡ Some device }
+    {
+        match word {
+            "changer" => Some(Device::Changer),
+            "bill" => Some(Device::Bill),
+            "cashless" => Some(Device::Reader(ReaderUnit::First)),
+            "cashless-2" => Some(Device::Reader(ReaderUnit::Second)),
+            _ => None,
         }
     }
 }

@@ -1,7 +1,7 @@
 //! Sets of devices.
 
 ghost use Rattle.std.specs.Prelude.{◌≡◌, ◌≢◌, true};
-ghost use Rattle.mdb_msgs.specs.DeviceSets.{has};
+ghost use Rattle.mdb_msgs.specs.DeviceSets.{has, with_device};
 ghost use Rattle.mdb_msgs.specs.Needs.{is_to_one_of};
 ghost use Rattle.mdb_msgs.specs.declared.command.Device.{Device};
 
@@ -27,6 +27,7 @@ impl DeviceSet {
 
     /// These devices and one more; the same where it is one of them.
     pub fn with(self, device: Device) -> DeviceSet
+        ensures set { result ≡ with_device self device }
         ensures more { has result device ≡ true }
         ensures others { (other : Device) → other ≢ device → has result other ≡ has self other }
     {

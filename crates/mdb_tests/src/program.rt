@@ -25,25 +25,34 @@ const CHECK: &str = "mdbcheck check";
 const SHOW: &str = "mdbcheck show";
 
 /// What is told of a command line that asks for help.
-const USAGE: &[u8] = b"usage: mdbcheck check|show < TRANSCRIPT\n";
+const USAGE: &[u8] = b"usage: mdbcheck check|show [--without DEVICE].. < TRANSCRIPT; \
+DEVICE is changer, bill, cashless or cashless-2\n";
 
 /// What is told of one that asks for nothing.
 const NO_COMMAND: &[u8] = b"mdbcheck: a subcommand is required but one was not provided; \
-usage: mdbcheck check|show < TRANSCRIPT\n";
+usage: mdbcheck check|show [--without DEVICE].. < TRANSCRIPT; \
+DEVICE is changer, bill, cashless or cashless-2\n";
 
 /// What is told of one that asks for what isn't known.
-const UNKNOWN: &[u8] =
-    b"mdbcheck: unrecognized subcommand; usage: mdbcheck check|show < TRANSCRIPT\n";
+const UNKNOWN: &[u8] = b"mdbcheck: unrecognized subcommand; \
+usage: mdbcheck check|show [--without DEVICE].. < TRANSCRIPT; \
+DEVICE is changer, bill, cashless or cashless-2\n";
 
 /// What is told of one with a word or a flag too many.
-const UNEXPECTED: &[u8] =
-    b"mdbcheck: unexpected argument found; usage: mdbcheck check|show < TRANSCRIPT\n";
+const UNEXPECTED: &[u8] = b"mdbcheck: unexpected argument found; \
+usage: mdbcheck check|show [--without DEVICE].. < TRANSCRIPT; \
+DEVICE is changer, bill, cashless or cashless-2\n";
+
+/// What is told of one with an option that has no value, or none of its own.
+const INVALID: &[u8] = b"mdbcheck: one of the values isn't valid for an argument; \
+usage: mdbcheck check|show [--without DEVICE].. < TRANSCRIPT; \
+DEVICE is changer, bill, cashless or cashless-2\n";
 
 /// What is told of one that asks for the version.
 const VERSION: &[u8] = b"mdbcheck 0.1.0\n";
 
 /// Runs of the program.
-static RUNS: [Run; 28] = [
+static RUNS: [Run; 51] = [
     // Recordings with a verdict.
     (CHECK, ROWS, (0, REPORT, b"")),
     (CHECK, WRONG_SUM, (1, WRONG_SUM_REPORT, b"")),
@@ -189,6 +198,60 @@ static RUNS: [Run; 28] = [
     ("mdbcheck check --help", ROWS, (2, b"", USAGE)),
     ("mdbcheck show extra", ROWS, (2, b"", UNEXPECTED)),
     ("mdbcheck show --help", ROWS, (2, b"", USAGE)),
+    // Options without a value, or with one that is no device's word.
+    ("mdbcheck check --without", ROWS, (2, b"", INVALID)),
+    ("mdbcheck check --without --", ROWS, (2, b"", INVALID)),
+    ("mdbcheck check --without=", ROWS, (2, b"", INVALID)),
+    ("mdbcheck check --without hopper", ROWS, (2, b"", INVALID)),
+    ("mdbcheck show --without=hopper", ROWS, (2, b"", INVALID)),
+    ("mdbcheck show --without Changer", ROWS, (2, b"", INVALID)),
+    (
+        "mdbcheck check --without=changer,bill",
+        ROWS,
+        (2, b"", INVALID),
+    ),
+    ("mdbcheck check --without show", ROWS, (2, b"", INVALID)),
+    ("mdbcheck check --without -", ROWS, (2, b"", INVALID)),
+    (
+        "mdbcheck check --without --without bill",
+        ROWS,
+        (2, b"", INVALID),
+    ),
+    ("mdbcheck check --without --help", ROWS, (2, b"", INVALID)),
+    (
+        "mdbcheck check --without bill --without hopper",
+        ROWS,
+        (2, b"", INVALID),
+    ),
+    // Words that are no option of the task, or stand where none may.
+    ("mdbcheck check --without -x", ROWS, (2, b"", UNEXPECTED)),
+    ("mdbcheck check -without bill", ROWS, (2, b"", UNEXPECTED)),
+    ("mdbcheck check --with bill", ROWS, (2, b"", UNEXPECTED)),
+    ("mdbcheck --without bill check", ROWS, (2, b"", UNEXPECTED)),
+    ("mdbcheck check bill", ROWS, (2, b"", UNEXPECTED)),
+    (
+        "mdbcheck check --without bill cashless",
+        ROWS,
+        (2, b"", UNEXPECTED),
+    ),
+    (
+        "mdbcheck check --without hopper show",
+        ROWS,
+        (2, b"", UNEXPECTED),
+    ),
+    (
+        "mdbcheck check -- --without bill",
+        ROWS,
+        (2, b"", UNEXPECTED),
+    ),
+    ("mdbcheck check -- --", ROWS, (2, b"", UNEXPECTED)),
+    // Requests for help among options.
+    (
+        "mdbcheck check --without bill --help",
+        ROWS,
+        (2, b"", USAGE),
+    ),
+    ("mdbcheck show --without hopper -h", ROWS, (2, b"", USAGE)),
 ];
 
 #[test]
@@ -196,6 +259,27 @@ fn runs_have_their_status_and_their_texts(rt: HostRuntime) {
     for (words, text, wanted) in &RUNS {
         let mut reader = Pieces::new(*text, usize::MAX);
         run_gives(&rt, rt.alloc(), *words, &mut reader, *wanted);
+    }
+}
+
+/// Command lines with options that the program knows.
+static KNOWN: [&str; 9] = [
+    "mdbcheck check --",
+    "mdbcheck show --",
+    "mdbcheck check --without changer",
+    "mdbcheck check --without=bill",
+    "mdbcheck show --without cashless",
+    "mdbcheck show --without=cashless-2 --",
+    "mdbcheck check --without bill --without=bill",
+    "mdbcheck check --without changer --without=cashless --without cashless-2",
+    "mdbcheck show --without=bill --without changer --without=cashless-2 --without cashless --",
+];
+
+#[test]
+fn known_options_are_taken(rt: HostRuntime) {
+    for words in &KNOWN {
+        let mut reader = Pieces::new(BAD_ROW, usize::MAX);
+        run_gives(&rt, rt.alloc(), *words, &mut reader, (2, b"", BAD_ROW_TOLD));
     }
 }
 
@@ -224,6 +308,10 @@ const NOT_WRITTEN: &[u8] = b"mdbcheck: the output can't be written\n";
 
 /// A text whose row can't be read.
 const BAD_ROW: &[u8] = b"12,M,200\n";
+
+/// What is told of it.
+const BAD_ROW_TOLD: &[u8] =
+    b"mdbcheck: row 1: BadValue: wanted TIME,LINE,VALUE, found \"12,M,200\"\n";
 
 /// Command lines and texts, whether the first write to standard output fails, or that to standard
 /// error, and what is told.

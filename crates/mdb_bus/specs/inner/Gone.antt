@@ -10,6 +10,7 @@ use Rattle.mdb_bus.specs.inner.Steps.{HasAdvanced, asked_after, levels_after_ste
 -- A bus has gone a step by a row.
 pub record HasGone (old : Bus) (next : Step) (row : Event) (new : Bus)
     (act : Option Act) : Type 0 where
+  pub scope : new.scope ≡ old.scope
   pub advanced : HasAdvanced (position_at old.place) next (position_at new.place) act
   pub last : new.last ≡ Some row
   pub levels : new.levels ≡ levels_after_step old.levels next

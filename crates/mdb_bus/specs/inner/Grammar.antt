@@ -1,37 +1,44 @@
--- What mdb_msgs promises of commands and replies, as its laws say it.
+-- What mdb_msgs promises of commands and replies, as its laws say it, of the devices that are
+-- followed.
 use Rattle.std.specs.Prelude.{◌≡◌, ◌≢◌, ◌+◌, ◌<◌, ℕ, List, [], ◌++◌, ◌⊎◌, length, All}
 use Rattle.mdb_blocks.specs.Block.{IsContent, block_of}
 use Rattle.mdb_msgs.specs.declared.command.Command.{Command}
 use Rattle.mdb_msgs.specs.declared.fault.MsgFault.{MsgFault}
 use Rattle.mdb_msgs.specs.declared.need.Need.TheVariants.{Exactly, More}
 use Rattle.mdb_msgs.specs.declared.reply.Reply.{Reply}
-use Rattle.mdb_msgs.specs.Commands.{IsByte, Spells}
-use Rattle.mdb_msgs.specs.Laws.{OpenIsAFront}
-use Rattle.mdb_msgs.specs.Needs.{TellsLength, needed}
+use Rattle.mdb_msgs.specs.Commands.{IsByte}
+use Rattle.mdb_msgs.specs.Needs.{IsShort, IsTold}
 use Rattle.mdb_msgs.specs.Replies.{IsReadFault, IsReplyTo, reply_bytes}
 use Rattle.mdb_msgs.specs.Answers.{HasDataAnswer}
+use Rattle.mdb_bus.specs.declared.scope.Scope.{Scope}
+use Rattle.mdb_bus.specs.Scopes.{Asks, needed_in}
 
-pub record Grammar : Type 0 where
+-- open bytes are the front of some command's block
+abbrev pub OpenIsAFront : Scope → Type 0
+OpenIsAFront scope = (bytes : List ℕ) → All IsByte bytes → IsShort (needed_in scope bytes) (length bytes)
+    → (command : Command) × (rest : List ℕ) × (rest ≢ []) × Asks scope command (bytes ++ rest)
+
+pub record Grammar (scope : Scope) : Type 0 where
   -- a block has at most one command
-  pub one_command : (block : List ℕ) (one other : Command) → Spells one block → Spells other block
+  pub one_command : (block : List ℕ) (one other : Command) → Asks scope one block → Asks scope other block
       → one ≡ other
   -- the first two bytes of a command's block tell its length
-  pub needs : (block : List ℕ) (command : Command) → Spells command block
-      → needed block ≡ Exactly (length block)
+  pub needs : (block : List ℕ) (command : Command) → Asks scope command block
+      → needed_in scope block ≡ Exactly (length block)
   -- its first bytes tell it, or leave it to the second
   pub tells : (prefix rest : List ℕ) (command : Command) → 0 < length prefix
-      → Spells command (prefix ++ rest)
-      → TellsLength prefix (length (prefix ++ rest))
+      → Asks scope command (prefix ++ rest)
+      → IsTold (needed_in scope prefix) (length prefix) (length (prefix ++ rest))
   -- bytes that are as long as they need to be are those of a command
   pub is_command : (content : List ℕ) → All IsByte content
-      → needed content ≡ Exactly (length content + 1)
-      → (command : Command) × Spells command (block_of content)
+      → needed_in scope content ≡ Exactly (length content + 1)
+      → (command : Command) × Asks scope command (block_of content)
   -- bytes that need more are the front of a command's block
   pub opens : (bytes : List ℕ) → 0 < length bytes → All IsByte bytes
-      → ((needed bytes ≡ More) × (length bytes ≡ 1))
-      ⊎ ((n : ℕ) × (needed bytes ≡ Exactly n) × (length bytes < n))
-      → (command : Command) × (rest : List ℕ) × (rest ≢ []) × Spells command (bytes ++ rest)
-  pub open_front : OpenIsAFront
+      → ((needed_in scope bytes ≡ More) × (length bytes ≡ 1))
+      ⊎ ((n : ℕ) × (needed_in scope bytes ≡ Exactly n) × (length bytes < n))
+      → (command : Command) × (rest : List ℕ) × (rest ≢ []) × Asks scope command (bytes ++ rest)
+  pub open_front : OpenIsAFront scope
   -- for a command, data bytes have at most one reply
   pub one_reply : (command : Command) (one other : Reply) → IsReplyTo command one
       → IsReplyTo command other

@@ -29,8 +29,10 @@ use Rattle.mdb_bus.specs.declared.judged.Judged.{Judged}
 use Rattle.mdb_bus.specs.declared.judged.Judged.TheVariants as judged
 use Rattle.mdb_bus.specs.inner.Step.{Step, SomeStep, word_in}
 use Rattle.mdb_bus.specs.inner.Step as step
+use Rattle.mdb_bus.specs.declared.scope.Scope.{Scope}
+use Rattle.mdb_bus.specs.Scopes.{Asks}
 use Rattle.mdb_bus.specs.Acts.{IsForeignOpening, IsReply, reply_words}
-use Rattle.mdb_bus.specs.ActLists.{Piece, Whole, AskTail, ReplyTail, RepeatTail, Position, Quiet, InAsk, Asked, InReply, Replied, Returned, InRepeat, InForeign, BlockMayCome, BreakMayCome, InTime, IsAskFront, IsLow, IsRepeatFront, IsReplyFront, NotBefore, act_in, level_for, levels_after, position_of, tells_high}
+use Rattle.mdb_bus.specs.ActLists.{Piece, Whole, AskTail, ReplyTail, RepeatTail, Position, Quiet, InAsk, Asked, InReply, Replied, Returned, InRepeat, InForeign, BlockMayCome, BreakMayCome, InTime, IsAskFront, IsLow, IsRepeatFront, IsReplyFront, NotBefore, act_in, left_by, level_for, levels_after, position_of, tells_high}
 use Rattle.mdb_bus.specs.LinkFaults.{HasHighLevels, IsBefore, IsAfter, IsFirstBroken, IsOutside, Situation}
 
 -- the rule of time that a row breaks which doesn't come in time: it is early, or it is late by this
@@ -41,22 +43,22 @@ IsUntimely late most from to broken =
     ⊎ ((broken ≡ late) × ¬ IsBefore WORD_GAP_MIN from to × IsAfter most from to)
 
 -- a marked word of the controller begins a block
-abbrev pub Opens : Position → Option Event → Event → ℕ → Step → Type 0
-Opens position from to word (step.AskByte byte) =
-    (word ≡ 256 + byte) × IsAskFront (byte ∷ []) × BlockMayCome position from to
-Opens position from to word step.Foreign =
-    (byte : ℕ) × (word ≡ 256 + byte) × IsForeignOpening (byte ∷ []) × BlockMayCome position from to
-Opens position from to word _ = ⊥
+abbrev pub Opens : Scope → Position → Option Event → Event → ℕ → Step → Type 0
+Opens scope position from to word (step.AskByte byte) =
+    (word ≡ 256 + byte) × IsAskFront scope (byte ∷ []) × BlockMayCome position from to
+Opens scope position from to word step.Foreign =
+    (byte : ℕ) × (word ≡ 256 + byte) × IsForeignOpening scope (byte ∷ []) × BlockMayCome position from to
+Opens scope position from to word _ = ⊥
 
 -- a word goes on with a block of the controller, or ends it
-abbrev pub GoesOnAsking : List ℕ → Option Event → Event → ℕ → Step → Type 0
-GoesOnAsking bytes from to word (step.AskByte byte) =
-    (word ≡ byte) × (word < 256) × IsAskFront (bytes ++ byte ∷ []) × InTime BLOCK_GAP_MAX from to
-GoesOnAsking bytes from to word (step.Ask command) =
-    (word < 256) × Spells command (bytes ++ word ∷ []) × InTime BLOCK_GAP_MAX from to
-GoesOnAsking bytes from to word step.Foreign =
-    (word < 256) × IsForeignOpening (bytes ++ word ∷ []) × InTime BLOCK_GAP_MAX from to
-GoesOnAsking bytes from to word _ = ⊥
+abbrev pub GoesOnAsking : Scope → List ℕ → Option Event → Event → ℕ → Step → Type 0
+GoesOnAsking scope bytes from to word (step.AskByte byte) =
+    (word ≡ byte) × (word < 256) × IsAskFront scope (bytes ++ byte ∷ []) × InTime BLOCK_GAP_MAX from to
+GoesOnAsking scope bytes from to word (step.Ask command) =
+    (word < 256) × Asks scope command (bytes ++ word ∷ []) × InTime BLOCK_GAP_MAX from to
+GoesOnAsking scope bytes from to word step.Foreign =
+    (word < 256) × IsForeignOpening scope (bytes ++ word ∷ []) × InTime BLOCK_GAP_MAX from to
+GoesOnAsking scope bytes from to word _ = ⊥
 
 -- a word answers a command, or begins to
 abbrev pub Answers : Command → Option Event → Event → ℕ → Step → Type 0
@@ -78,14 +80,14 @@ GoesOnReplying command bytes from levels to word (step.Reply reply) =
 GoesOnReplying command bytes from levels to word _ = ⊥
 
 -- a word of the controller answers a reply, or begins a block
-abbrev pub AnswersReply : Command → Reply → Option Event → Event → ℕ → Step → Type 0
-AnswersReply command reply from to word step.VmcAck =
+abbrev pub AnswersReply : Scope → Command → Reply → Option Event → Event → ℕ → Step → Type 0
+AnswersReply scope command reply from to word step.VmcAck =
     (word ≡ answer_word Controller answers.Ack) × InTime ANSWER_GAP_MAX from to
-AnswersReply command reply from to word step.VmcNak =
+AnswersReply scope command reply from to word step.VmcNak =
     (word ≡ answer_word Controller answers.Nak) × InTime ANSWER_GAP_MAX from to
-AnswersReply command reply from to word step.VmcRet =
+AnswersReply scope command reply from to word step.VmcRet =
     (word ≡ answer_word Controller answers.Ret) × InTime ANSWER_GAP_MAX from to
-AnswersReply command reply from to word next = Opens (Replied command reply) from to word next
+AnswersReply scope command reply from to word next = Opens scope (Replied command reply) from to word next
 
 -- a word begins a repeat
 abbrev pub BeginsRepeat : Reply → Option Event → Event → ℕ → Step → Type 0
@@ -107,35 +109,35 @@ GoesOnForeign from to step.Foreign = NotBefore WORD_GAP_MIN from to
 GoesOnForeign from to _ = ⊥
 
 -- where a word leads
-abbrev pub WordLeads : Position → Option Event → Levels → Event → Line → ℕ → Step → Type 0
-WordLeads Quiet from levels to Controller word next = Opens Quiet from to word next
-WordLeads Quiet from levels to Peripheral word next = ⊥
-WordLeads (InAsk bytes) from levels to Controller word next = GoesOnAsking bytes from to word next
-WordLeads (InAsk bytes) from levels to Peripheral word next = ⊥
-WordLeads (Asked command) from levels to Controller word next =
-    Opens (Asked command) from to word next
-WordLeads (Asked command) from levels to Peripheral word next = Answers command from to word next
-WordLeads (InReply command bytes) from levels to Controller word next = ⊥
-WordLeads (InReply command bytes) from levels to Peripheral word next =
+abbrev pub WordLeads : Scope → Position → Option Event → Levels → Event → Line → ℕ → Step → Type 0
+WordLeads scope Quiet from levels to Controller word next = Opens scope Quiet from to word next
+WordLeads scope Quiet from levels to Peripheral word next = ⊥
+WordLeads scope (InAsk bytes) from levels to Controller word next = GoesOnAsking scope bytes from to word next
+WordLeads scope (InAsk bytes) from levels to Peripheral word next = ⊥
+WordLeads scope (Asked command) from levels to Controller word next =
+    Opens scope (Asked command) from to word next
+WordLeads scope (Asked command) from levels to Peripheral word next = Answers command from to word next
+WordLeads scope (InReply command bytes) from levels to Controller word next = ⊥
+WordLeads scope (InReply command bytes) from levels to Peripheral word next =
     GoesOnReplying command bytes from levels to word next
-WordLeads (Replied command reply) from levels to Controller word next =
-    AnswersReply command reply from to word next
-WordLeads (Replied command reply) from levels to Peripheral word next = ⊥
-WordLeads (Returned command reply) from levels to Controller word next =
-    Opens (Returned command reply) from to word next
-WordLeads (Returned command reply) from levels to Peripheral word next =
+WordLeads scope (Replied command reply) from levels to Controller word next =
+    AnswersReply scope command reply from to word next
+WordLeads scope (Replied command reply) from levels to Peripheral word next = ⊥
+WordLeads scope (Returned command reply) from levels to Controller word next =
+    Opens scope (Returned command reply) from to word next
+WordLeads scope (Returned command reply) from levels to Peripheral word next =
     BeginsRepeat reply from to word next
-WordLeads (InRepeat command reply words) from levels to Controller word next = ⊥
-WordLeads (InRepeat command reply words) from levels to Peripheral word next =
+WordLeads scope (InRepeat command reply words) from levels to Controller word next = ⊥
+WordLeads scope (InRepeat command reply words) from levels to Peripheral word next =
     GoesOnRepeating reply words from to word next
-WordLeads InForeign from levels to Controller word next =
-    Opens InForeign from to word next ⊎ ((word < 256) × GoesOnForeign from to next)
-WordLeads InForeign from levels to Peripheral word next = GoesOnForeign from to next
+WordLeads scope InForeign from levels to Controller word next =
+    Opens scope InForeign from to word next ⊎ ((word < 256) × GoesOnForeign from to next)
+WordLeads scope InForeign from levels to Peripheral word next = GoesOnForeign from to next
 
 -- where a row leads
 abbrev pub Leads : Situation → Event → Step → Type 0
 Leads s (Word at line word) next =
-    WordLeads s.position s.last s.levels (Word at line word) line word next
+    WordLeads s.scope s.position s.last s.levels (Word at line word) line word next
 Leads s (Break at length) (step.Break lasted) =
     (lasted ≡ length) × (BREAK_LENGTH_MIN ≤ length) × BreakMayCome s.last (Break at length)
 Leads s (Break at length) _ = ⊥
@@ -181,23 +183,39 @@ rule_of reading.Profile = rule.Profile
 rule_of reading.Answer = rule.Answer
 
 -- what is made of a word of the controller where a block may begin so long after the row before
-abbrev pub IsOpened : ℕ → Option Event → Event → ℕ → Result Judged Rule → Type 0
-IsOpened least from to word (Ok judged.AskByte) =
-    (word ≡ 256 + word % 256) × IsAskFront (word % 256 ∷ []) × NotBefore least from to
-IsOpened least from to word (Ok judged.Foreign) =
-    (byte : ℕ) × (word ≡ 256 + byte) × IsForeignOpening (byte ∷ []) × NotBefore least from to
-IsOpened least from to word (Ok _) = ⊥
-IsOpened least from to word (Err rule.Mode) = word < 256
-IsOpened least from to word (Err rule.Early) = (256 ≤ word) × IsBefore least from to
-IsOpened least from to word (Err rule.Profile) = IsOutside word × NotBefore least from to
-IsOpened least from to word (Err _) = ⊥
+abbrev pub IsOpened : Scope → ℕ → Option Event → Event → ℕ → Result Judged Rule → Type 0
+IsOpened scope least from to word (Ok judged.AskByte) =
+    (word ≡ 256 + word % 256) × IsAskFront scope (word % 256 ∷ []) × NotBefore least from to
+IsOpened scope least from to word (Ok judged.Foreign) =
+    (byte : ℕ) × (word ≡ 256 + byte) × IsForeignOpening scope (byte ∷ []) × NotBefore least from to
+IsOpened scope least from to word (Ok _) = ⊥
+IsOpened scope least from to word (Err rule.Mode) = word < 256
+IsOpened scope least from to word (Err rule.Early) = (256 ≤ word) × IsBefore least from to
+IsOpened scope least from to word (Err rule.Profile) = IsOutside scope word × NotBefore least from to
+IsOpened scope least from to word (Err _) = ⊥
 
--- what is made of an unmarked word that comes in time inside a block of the controller
+-- bytes that begin a command's block, whoever it is to, and don't end it
+pub record IsCommandFront (bytes : List ℕ) : Type 0 where
+  pub some : bytes ≢ []
+  pub command : Command
+  pub rest : List ℕ
+  pub open_end : rest ≢ []
+  pub spelled : Spells command (bytes ++ rest)
+
+-- the first byte of an EXPANSION, and a subcommand that this profile doesn't know
+abbrev pub IsUnknownExpansion : List ℕ → Type 0
+IsUnknownExpansion (first ∷ second ∷ []) =
+    (needed (first ∷ []) ≡ need.More) × (needed (first ∷ second ∷ []) ≡ need.Foreign)
+    × (second < 256)
+IsUnknownExpansion _ = ⊥
+
+-- what is made of an unmarked word that comes in time inside a block of the controller, whoever it
+-- is to
 abbrev pub IsGoingOn : List ℕ → ℕ → Result Judged Rule → Type 0
 IsGoingOn bytes word (Ok judged.AskByte) =
-    (word ≡ word % 256) × IsAskFront (bytes ++ word % 256 ∷ [])
+    (word ≡ word % 256) × IsCommandFront (bytes ++ word % 256 ∷ [])
 IsGoingOn bytes word (Ok judged.Ask) = (command : Command) × Spells command (bytes ++ word ∷ [])
-IsGoingOn bytes word (Ok judged.Foreign) = IsForeignOpening (bytes ++ word ∷ [])
+IsGoingOn bytes word (Ok judged.Foreign) = IsUnknownExpansion (bytes ++ word ∷ [])
 IsGoingOn bytes word (Ok _) = ⊥
 IsGoingOn bytes word (Err rule.Sum) =
     (needed bytes ≡ need.Exactly (length bytes + 1)) × (word ≢ sum bytes % 256)
@@ -216,10 +234,10 @@ IsReplyEnd command bytes word (Err rule.Sum) =
 IsReplyEnd command bytes word (Err _) = ⊥
 
 -- a position that the bus can be in: a block has begun well
-abbrev pub IsSound : Position → Type 0
-IsSound (InAsk bytes) = IsAskFront bytes
-IsSound (InReply command bytes) = IsReplyFront command bytes
-IsSound _ = Unit {0}
+abbrev pub IsSound : Scope → Position → Type 0
+IsSound scope (InAsk bytes) = IsAskFront scope bytes
+IsSound scope (InReply command bytes) = IsReplyFront command bytes
+IsSound scope _ = Unit {0}
 
 -- a block of the controller may go on by a byte that isn't its last, or begin with it
 abbrev pub MayAsk : Phase → List ℕ → ℕ → Type 0
@@ -297,13 +315,13 @@ grown (RepeatTail command reply words events ∷ pieces) row piece =
 grown pieces row piece = piece (row ∷ []) ∷ pieces
 
 -- pieces after a step: a break stands after a tail too
-abbrev pub pieces_after : List Piece → Event → Step → List Piece
-pieces_after pieces row (step.Break length) = Whole (acts.Break length) (row ∷ []) ∷ pieces
-pieces_after pieces row next = grown pieces row (piece_after (position_of pieces) next)
+abbrev pub pieces_after : Scope → List Piece → Event → Step → List Piece
+pieces_after scope pieces row (step.Break length) = Whole (acts.Break length) (row ∷ []) ∷ pieces
+pieces_after scope pieces row next = grown pieces row (piece_after (position_of scope pieces) next)
 
 -- where the bus is after a step
 abbrev pub position_after : Position → Step → Position
-position_after position next = position_of (piece_after position next [] ∷ [])
+position_after position next = left_by (piece_after position next [])
 
 -- the act that a step ends
 abbrev pub act_after : Position → Step → Option Act

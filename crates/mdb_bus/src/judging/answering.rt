@@ -5,6 +5,7 @@ ghost use Rattle.mdb_words.specs.declared.event.Event.{Event};
 ghost use Rattle.mdb_msgs.specs.declared.command.Command.{Command};
 ghost use Rattle.mdb_msgs.specs.declared.reply.Reply.{Reply};
 ghost use Rattle.mdb_bus.specs.declared.levels.Levels.{Levels};
+ghost use Rattle.mdb_bus.specs.declared.scope.Scope.{Scope};
 ghost use Rattle.mdb_bus.specs.ActLists as lists;
 ghost use Rattle.mdb_bus.specs.LinkFaults.{OutOfOrder};
 ghost use Rattle.mdb_bus.specs.inner.Steps.{Belongs, IsJudged};
@@ -25,8 +26,13 @@ pub(crate) fn answer(
     word: Word,
 ) -> Result<Judged, Rule>
     requires { OutOfOrder last.now (Event.Word at Line.Peripheral word) → ⊥ }
-    ensures judged { (levels : Levels)
-        → IsJudged (record { position = lists.Asked command.now; last = last.now; levels = levels })
+    ensures judged { (scope : Scope) (levels : Levels)
+        → IsJudged (record {
+          scope = scope;
+          position = lists.Asked command.now;
+          last = last.now;
+          levels = levels;
+        })
         (Event.Word at Line.Peripheral word) result }
     ensures belongs { (bytes : List ℕ)
         → IfOk result (Belongs Phase.Asked bytes (Event.Word at Line.Peripheral word)) }
@@ -51,8 +57,9 @@ pub(crate) fn answer(
 pub(crate) fn answer_reply(last: &Option<Event>, at: Time, word: Word) -> Result<Judged, Rule>
     requires in_order { OutOfOrder last.now (Event.Word at Line.Controller word) → ⊥ }
     requires unmarked { word < 256 }
-    ensures judged { (levels : Levels) (command : Command) (reply : Reply)
+    ensures judged { (scope : Scope) (levels : Levels) (command : Command) (reply : Reply)
         → IsJudged (record {
+          scope = scope;
           position = lists.Replied command reply;
           last = last.now;
           levels = levels;

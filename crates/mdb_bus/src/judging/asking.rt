@@ -1,10 +1,11 @@
 //! Words of the controller that begin a block, and those that go on with one.
 
-ghost use Rattle.std.specs.Prelude.{◌≡◌, ◌+◌, ◌<◌, ◌≤◌, ◌^◌, ◌∷◌, [], ℕ, List, length, IfOk};
+ghost use Rattle.std.specs.Prelude.{◌≡◌, ◌+◌, ◌<◌, ◌≤◌, ◌^◌, ◌∷◌, [], ℕ, List, false, length, slice_index, IfOk};
 ghost use Rattle.mdb_words.specs.declared.event.Event.{Event};
 ghost use Rattle.mdb_msgs.specs.declared.need.Need.TheVariants.{Exactly};
-ghost use Rattle.mdb_msgs.specs.Needs.{IsOpen, needed};
+ghost use Rattle.mdb_msgs.specs.Needs.{IsOpen, is_to_one_of, needed};
 ghost use Rattle.mdb_bus.specs.declared.levels.Levels.{Levels};
+ghost use Rattle.mdb_bus.specs.declared.scope.Scope.{Scope};
 ghost use Rattle.mdb_bus.specs.declared.phase.Phase.{Phase};
 ghost use Rattle.mdb_bus.specs.ActLists as lists;
 ghost use Rattle.mdb_bus.specs.LinkFaults.{OutOfOrder};
@@ -15,19 +16,21 @@ use crate::fault::Rule;
 use crate::gaps::{in_block_time, is_sooner_than, word_row};
 use crate::judged::Judged;
 use crate::phase::Phase;
+use crate::scope::Scope;
 use mdb_blocks::sum_of;
-use mdb_msgs::{Need, laws, need_of};
+use mdb_msgs::{Need, laws, need_of, need_without};
 use mdb_words::{Event, Line, Time, Word};
 
 /// A word of the controller where a block may begin, at least so long after the row before it.
 pub(crate) fn begin_block(
+    scope: &Scope,
     last: &Option<Event>,
     at: Time,
     word: Word,
     least: u64,
 ) -> Result<Judged, Rule>
     requires { least < 2 ^ 32 }
-    ensures opened { IsOpened least last.now (Event.Word at Line.Controller word) word result }
+    ensures opened { IsOpened scope.now least last.now (Event.Word at Line.Controller word) word result }
     ensures belongs { (here : Phase) (bytes : List ℕ) → (here ≡ Phase.InAsk → ⊥)
         → IfOk result (Belongs here bytes (Event.Word at Line.Controller word)) }
 {
@@ -40,14 +43,15 @@ pub(crate) fn begin_block(
     }
     laws::need_leaves_a_command_open();
     laws::front_of_a_command_is_open();
-    match need_of(&[word.byte()]) {
+    laws::first_byte_tells_the_device();
+    match need_without(scope.without, &[word.byte()]) {
         Need::Outside => Err(Rule::Profile),
         Need::Foreign => Ok(Judged::Foreign),
         Need::More | Need::Exactly(_) => Ok(Judged::AskByte),
     }
 }
 
-/// A word of the controller inside its block.
+/// A word of the controller inside its block, which is to a device that is followed.
 #[inline(always)]
 pub(crate) fn go_on_asking(
     bytes: &Begun,
@@ -57,8 +61,14 @@ pub(crate) fn go_on_asking(
 ) -> Result<Judged, Rule>
     requires in_order { OutOfOrder last.now (Event.Word at Line.Controller word) → ⊥ }
     requires begun { IsOpen bytes.now }
-    ensures judged { (levels : Levels)
-        → IsJudged (record { position = lists.InAsk bytes.now; last = last.now; levels = levels })
+    ensures judged { (scope : Scope) (levels : Levels)
+        → is_to_one_of scope.without (slice_index bytes.now 0) ≡ false
+        → IsJudged (record {
+          scope = scope;
+          position = lists.InAsk bytes.now;
+          last = last.now;
+          levels = levels;
+        })
         (Event.Word at Line.Controller word) result }
     ensures belongs { IfOk result
         (Belongs Phase.InAsk bytes.now (Event.Word at Line.Controller word)) }
@@ -69,6 +79,7 @@ pub(crate) fn go_on_asking(
     }
     in_block_time(last, &row)?;
     laws::front_of_a_command_is_open();
+    laws::first_byte_tells_the_device();
     match bytes.as_slice() {
         [first] => second_byte(bytes, *first, word),
         more => further_byte(bytes, more, word),

@@ -4,6 +4,7 @@ ghost use Rattle.std.specs.Prelude.{◌≡◌, ◌<◌, ℕ, List, IfOk, take};
 ghost use Rattle.mdb_words.specs.declared.event.Event.{Event};
 ghost use Rattle.mdb_msgs.specs.declared.command.Command.{Command};
 ghost use Rattle.mdb_bus.specs.declared.levels.Levels.{Levels};
+ghost use Rattle.mdb_bus.specs.declared.scope.Scope.{Scope};
 ghost use Rattle.mdb_bus.specs.Acts.{reply_words};
 ghost use Rattle.mdb_bus.specs.ActLists as lists;
 ghost use Rattle.mdb_bus.specs.LinkFaults.{OutOfOrder};
@@ -24,8 +25,9 @@ pub(crate) fn begin_repeat(
     word: Word,
 ) -> Result<Judged, Rule>
     requires { OutOfOrder last.now (Event.Word at Line.Peripheral word) → ⊥ }
-    ensures judged { (levels : Levels) (command : Command)
+    ensures judged { (scope : Scope) (levels : Levels) (command : Command)
         → IsJudged (record {
+          scope = scope;
           position = lists.Returned command last_reply.now.reply;
           last = last.now;
           levels = levels;
@@ -52,9 +54,10 @@ pub(crate) fn go_on_repeating(
     word: Word,
 ) -> Result<Judged, Rule>
     requires { OutOfOrder last.now (Event.Word at Line.Peripheral word) → ⊥ }
-    ensures judged { (levels : Levels) (command : Command)
+    ensures judged { (scope : Scope) (levels : Levels) (command : Command)
         → IsJudged
         (record {
+          scope = scope;
           position = lists.InRepeat command last_reply.now.reply
               (take said (reply_words last_reply.now.reply));
           last = last.now;

@@ -5,6 +5,7 @@ ghost use Rattle.mdb_words.specs.declared.event.Event.{Event};
 ghost use Rattle.mdb_msgs.specs.declared.command.Command.{Command};
 ghost use Rattle.mdb_msgs.specs.declared.reply.Reply.{Reply};
 ghost use Rattle.mdb_bus.specs.declared.levels.Levels.{Levels};
+ghost use Rattle.mdb_bus.specs.declared.scope.Scope.{Scope};
 ghost use Rattle.mdb_bus.specs.ActLists as lists;
 ghost use Rattle.mdb_bus.specs.LinkFaults.{OutOfOrder};
 ghost use Rattle.mdb_bus.specs.inner.Steps.{Belongs, IsJudged, IsReplyEnd};
@@ -27,7 +28,8 @@ pub(crate) fn go_on_replying(
     word: Word,
 ) -> Result<Judged, Rule>
     requires { OutOfOrder last.now (Event.Word at Line.Peripheral word) → ⊥ }
-    ensures judged { (levels : Levels) → IsJudged (record {
+    ensures judged { (scope : Scope) (levels : Levels) → IsJudged (record {
+      scope = scope;
       position = lists.InReply command.now bytes.now;
       last = last.now;
       levels = levels;
@@ -67,15 +69,17 @@ fn judge_end_of_reply(command: &Command, bytes: &Begun, word: Word) -> Result<Ju
 /// A word of the controller inside a peripheral's block.
 pub(crate) fn cut_in(last: &Option<Event>, at: Time, word: Word) -> Result<Judged, Rule>
     requires { OutOfOrder last.now (Event.Word at Line.Controller word) → ⊥ }
-    ensures reply { (levels : Levels) (command : Command) (bytes : List ℕ)
+    ensures reply { (scope : Scope) (levels : Levels) (command : Command) (bytes : List ℕ)
         → IsJudged (record {
+          scope = scope;
           position = lists.InReply command bytes;
           last = last.now;
           levels = levels;
         })
         (Event.Word at Line.Controller word) result }
-    ensures repeat { (levels : Levels) (command : Command) (reply : Reply) (words : List ℕ)
+    ensures repeat { (scope : Scope) (levels : Levels) (command : Command) (reply : Reply) (words : List ℕ)
         → IsJudged (record {
+          scope = scope;
           position = lists.InRepeat command reply words;
           last = last.now;
           levels = levels;

@@ -1,7 +1,8 @@
--- That acts of other devices change nothing and tell nothing. This proves laws of the trait `Pair`
--- for the readers.
+-- That acts of other devices change nothing and tell nothing, so that a reader's facts and steps
+-- depend on its own acts alone. This proves laws of the trait `Pair` for the readers.
 use Rattle.std.specs.Prelude.{◌≡◌, ◌↔◌, Bool, true, false, ◌||◌, List, [], ◌∷◌, map, Option, Some, None, refl, unwrap_or, if◌then◌else◌}
-use Rattle.std.proofs.Common.{ap, sym, ◌∙◌}
+use Rattle.std.specs.List.{All}
+use Rattle.std.proofs.Common.{ap, subst, sym, ◌∙◌}
 use Rattle.mdb_msgs.specs.declared.command.Command.{Command}
 use Rattle.mdb_msgs.specs.declared.command.Command.TheVariants as commands
 use Rattle.mdb_msgs.specs.declared.command.Device.TheVariants as devices
@@ -17,16 +18,19 @@ use Rattle.mdb_cash.specs.declared.choice.Choice.{Choice}
 use Rattle.mdb_cash.specs.declared.gains.Gains.{Gains}
 use Rattle.mdb_cash.specs.Gains.{no_gains}
 use Rattle.mdb_cash.specs.Machine.{IsMachineOf}
-use Rattle.mdb_cash.specs.Pair.{IsActOf}
+use Rattle.mdb_cash.specs.Pair.{IsActOf, IsBreak, own_acts}
 use Rattle.mdb_cashless.specs.declared.reader.state.ReaderState.{ReaderState}
 use Rattle.mdb_cashless.specs.Reader.{ForOwn, ReaderStep, machine, power_on}
 use Rattle.mdb_cash.specs.declared.past.Effect.TheVariants as effects
 use Rattle.mdb_cash.specs.Past.{PastFacts, effect_by, last_told, or_else, past_of, powers_on, resets, tells_out_of_sequence}
+use Rattle.mdb_cash.specs.PastValues.{past_with}
+use Rattle.mdb_cash.specs.inner.OwnWays.{IsOfOwn, known_of_none, same_known}
 use Rattle.mdb_cash.specs.inner.PastWays as past_ways
 use Rattle.mdb_cashless.specs.declared.reader.messages.ReaderActivity.{ReaderActivity}
 use Rattle.mdb_cashless.specs.declared.reader.transaction.Transaction.{Transaction}
 use Rattle.mdb_cashless.specs.inner.PlainReader.{as_plain}
 use Rattle.mdb_cashless.specs.ReaderFacts.{Facts, amount_by, asked_by, config_by, effect_of, effect_of_own, facts_of, last_taken, messages_by, own_of, own_transaction, parts_by, transaction_taken_by}
+use Rattle.mdb_cashless.specs.ReaderValues.{facts_with}
 use Rattle.mdb_cashless.specs.ReaderMessages.{amount_in, begin_session, config_in, last_said, messages_of, part_of}
 use Rattle.mdb_cashless.specs.Units.{own}
 
@@ -74,14 +78,6 @@ elsewhere unit facts (acts.Repeat c r) choice before after gains other =
 elsewhere unit facts acts.Foreign choice before after gains other =
     (λ step. step, λ step. step)
 elsewhere unit facts (acts.Break n) choice before after gains other = absurd (other tt)
-
--- the machine is one of the device
-pub is_machine : (unit : ReaderUnit) → IsMachineOf (devices.Reader unit) (machine unit)
-is_machine unit = record {
-  elsewhere = λ acts. elsewhere unit (facts_of unit acts);
-  breaks = λ acts length choice before. (power_on, no_gains, (refl, refl));
-  as_plain = λ acts. as_plain unit (facts_of unit acts);
-}
 
 -- the facts after one act more, by what that act is to the reader
 abbrev known_more : ReaderUnit → List Act → List ReaderMsg → Option Transaction
@@ -159,3 +155,58 @@ pub unmoved : (unit : ReaderUnit) (known : Facts) (before : List Act) (act : Act
     → (IsActOf (devices.Reader unit) act → ⊥) → known ≡ facts_of unit before
     → known ≡ facts_of unit (act ∷ before)
 unmoved unit known before act other is = is ∙ facts_still unit before act other
+
+-- facts are the same where their fields are
+pub same_fields : {one other : Facts} → one.config ≡ other.config → one.asked ≡ other.asked
+    → one.taken ≡ other.taken → one.amount ≡ other.amount → one.past ≡ other.past → one ≡ other
+same_fields {one} {other} config asked taken amount past =
+    let same : record one { config = one.config } ≡ record other { config = other.config } =
+    cc (config, asked, taken, amount, past) in
+    same
+
+first_of_two : {X : Type 0} (first second : Option X) (x : X)
+    → unwrap_or first (unwrap_or second x) ≡ unwrap_or (or_else first second) x
+first_of_two (Some y) second x = refl
+first_of_two None second x = refl
+
+-- the facts after one act more, from those before it, where what counts of the acts goes on so
+pub facts_more : (unit : ReaderUnit) (act : Act) (so_far : List Act)
+    → past_with (effect_of unit) (parts_by unit) act
+    (past_of (effect_of unit) (parts_by unit) so_far)
+    ≡ past_of (effect_of unit) (parts_by unit) (act ∷ so_far)
+    → facts_with unit act (facts_of unit so_far) ≡ facts_of unit (act ∷ so_far)
+facts_more unit act so_far past =
+    same_fields refl refl refl
+    (first_of_two (amount_by unit act) (last_told (amount_by unit) so_far) 0) past
+
+-- so the facts depend on the reader's own acts alone
+of_own : (unit : ReaderUnit) → IsOfOwn (devices.Reader unit) (facts_of unit)
+of_own unit = record {
+  more = facts_with unit;
+  goes_on = λ act so_far. facts_more unit act so_far
+      (past_ways.past_more (effect_of unit) (parts_by unit) act so_far);
+  still = λ act so_far. facts_still unit so_far act;
+}
+
+pub same_facts : (unit : ReaderUnit) (so_far other : List Act)
+    → own_acts (devices.Reader unit) so_far ≡ own_acts (devices.Reader unit) other
+    → facts_of unit so_far ≡ facts_of unit other
+same_facts unit = same_known (facts_of unit) (of_own unit)
+
+-- after breaks alone they are those of no act
+pub no_facts : (unit : ReaderUnit) (so_far : List Act)
+    → All IsBreak (own_acts (devices.Reader unit) so_far)
+    → facts_of unit so_far ≡ facts_of unit []
+no_facts unit = known_of_none (facts_of unit) (of_own unit) (λ length. refl)
+
+-- the machine is one of the device
+pub is_machine : (unit : ReaderUnit) → IsMachineOf (devices.Reader unit) (machine unit)
+is_machine unit = record {
+  elsewhere = λ acts. elsewhere unit (facts_of unit acts);
+  own = λ acts other act choice before after gains same step.
+      subst (λ facts. ReaderStep unit facts act choice before after gains)
+      (same_facts unit acts other same) step;
+  breaks = λ acts length choice before. (power_on, no_gains, (refl, refl));
+  starts_over = λ acts length choice before after gains step. step;
+  as_plain = λ acts. as_plain unit (facts_of unit acts);
+}

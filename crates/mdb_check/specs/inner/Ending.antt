@@ -8,13 +8,14 @@ use Rattle.mdb_words.specs.declared.row.RowFault.{RowFault}
 use Rattle.mdb_records.specs.declared.ReadFault.{ReadFault}
 use Rattle.mdb_records.specs.declared.ReadFault.TheVariants as reading
 use Rattle.mdb_follow.specs.declared.follower.Follower.{Follower}
-use Rattle.mdb_follow.specs.Follower.{StandsFor, rows_of}
+use Rattle.mdb_follow.specs.Follower.{StandsFor, rows_of, scope_of}
 use Rattle.mdb_check.specs.declared.batch.Next.{Next}
 use Rattle.mdb_check.specs.declared.batch.Next.TheVariants as next
 use Rattle.mdb_check.specs.declared.outcome.RunFault.{RunFault}
 use Rattle.mdb_check.specs.declared.outcome.RunFault.TheVariants.{BadRow, TooLong, Read, Write, Memory}
 use Rattle.mdb_check.specs.inner.Batch.{AreAll}
 use Rattle.mdb_check.specs.Verdict.{run_fault_of}
+use Rattle.mdb_bus.specs.declared.scope.Scope.{Scope}
 
 -- the later rows were taken after the earlier ones, or one of them was stopped at
 abbrev pub HasTaken : {Row Stop : Type 0} → (List Row → Type 0)
@@ -27,7 +28,8 @@ abbrev pub IsStop : {Row Stop : Type 0} → (List Row → List Row → Stop → 
 IsStop {Row = Row} Stops stop = (earlier later : List Row) × Stops earlier later stop
 
 -- a follower has taken these rows
-pub record HasFollowed (follower : Follower) (rows : List Event) : Type 0 where
+pub record HasFollowed (scope : Scope) (follower : Follower) (rows : List Event) : Type 0 where
+  pub in_scope : scope_of follower ≡ scope
   pub stands : StandsFor follower rows
   pub counted : rows_of follower ≡ length rows
 

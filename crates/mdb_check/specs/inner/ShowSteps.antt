@@ -8,7 +8,7 @@ use Rattle.mdb_bus.specs.declared.act.Act.TheVariants as acts
 use Rattle.mdb_bus.specs.declared.bus.Bus.{Bus}
 use Rattle.mdb_bus.specs.declared.fault.LinkFault.{LinkFault}
 use Rattle.mdb_bus.specs.ActLists.{ArePieces, Piece, events_of}
-use Rattle.mdb_bus.specs.Bus.{StandsFor}
+use Rattle.mdb_bus.specs.Bus.{StandsFor, scope_of}
 use Rattle.mdb_bus.specs.LinkFaults.{IsLinkFault}
 use Rattle.mdb_records.specs.declared.ReadFault.{ReadFault}
 use Rattle.mdb_records.specs.declared.ReadFault.TheVariants as reading
@@ -19,6 +19,7 @@ use Rattle.mdb_check.specs.declared.showing.Lines.{Lines}
 use Rattle.mdb_check.specs.Show.{IsShowing}
 use Rattle.mdb_check.specs.Written.{HasTaken}
 use Rattle.mdb_check.specs.ShowText.{act_text, closed_pieces, fault_line, rows_line, show_text}
+use Rattle.mdb_bus.specs.declared.scope.Scope.{Scope}
 
 -- the line of a tail, if there is one: of `rows` rows only the first `shown` are in pieces that are
 -- closed
@@ -69,7 +70,8 @@ HasPieces bus = (pieces : List Piece) × StandsFor bus pieces
 
 -- The rows so far are those of pieces for which the bus stands. The lines of the closed ones, which
 -- have the first `shown` rows, are on their way.
-pub record HasShown (lines : Lines) (before after : Output) (rows : List Event) : Type 0 where
+pub record HasShown (scope : Scope) (lines : Lines) (before after : Output) (rows : List Event) : Type 0 where
+  pub in_scope : scope_of lines.bus ≡ scope
   pub pieces : List Piece
   pub stands : StandsFor lines.bus pieces
   pub are : events_of pieces ≡ rows
@@ -79,73 +81,73 @@ pub record HasShown (lines : Lines) (before after : Output) (rows : List Event) 
   pub written : Puts before after (show_text (closed_pieces pieces))
 
 -- pieces of earlier rows and of the first of some rows
-pub record LeadInto (earlier rows : List Event) (pieces : List Piece) : Type 0 where
+pub record LeadInto (scope : Scope) (earlier rows : List Event) (pieces : List Piece) : Type 0 where
   pub front : List Event
   pub rest : List Event
   pub parts : rows ≡ front ++ rest
   pub are : events_of pieces ≡ earlier ++ front
-  pub in_order : ArePieces pieces
+  pub in_order : ArePieces scope pieces
 
 -- The text is the lines of the closed pieces of earlier rows and of the first of some rows.
-pub record IsAddedInPart (earlier rows : List Event) (text : List ℕ) : Type 0 where
+pub record IsAddedInPart (scope : Scope) (earlier rows : List Event) (text : List ℕ) : Type 0 where
   pub pieces : List Piece
-  pub lead : LeadInto earlier rows pieces
+  pub lead : LeadInto scope earlier rows pieces
   pub lines : text ≡ show_text (closed_pieces pieces)
 
 -- One of some rows breaks a rule of the link. The text is the lines of the closed pieces before it,
 -- and its own.
-pub record IsAddedToFault (earlier rows : List Event) (fault : LinkFault)
+pub record IsAddedToFault (scope : Scope) (earlier rows : List Event) (fault : LinkFault)
     (text : List ℕ) : Type 0 where
   pub pieces : List Piece
   pub row : Event
   pub after : List Event
-  pub lead : LeadInto earlier rows pieces
+  pub lead : LeadInto scope earlier rows pieces
   pub next : lead.rest ≡ row ∷ after
-  pub is : IsLinkFault pieces row fault.rule fault.blame
+  pub is : IsLinkFault scope pieces row fault.rule fault.blame
   pub lines : text ≡ show_text (closed_pieces pieces)
       ++ fault_line (length (events_of pieces) + 1) fault
 
 -- a text that the adding of the lines of some rows may come to
-abbrev pub IsAdded : List Event → List Event → List ℕ → Type 0
-IsAdded earlier rows text =
-    IsAddedInPart earlier rows text
-    ⊎ ((fault : LinkFault) × IsAddedToFault earlier rows fault text)
+abbrev pub IsAdded : Scope → List Event → List Event → List ℕ → Type 0
+IsAdded scope earlier rows text =
+    IsAddedInPart scope earlier rows text
+    ⊎ ((fault : LinkFault) × IsAddedToFault scope earlier rows fault text)
 
 -- what the adding of the lines of some rows after earlier ones comes to
-abbrev pub HasAdded : Lines → Output → Output → List Event → List Event
+abbrev pub HasAdded : Scope → Lines → Output → Output → List Event → List Event
     → Result (Option LinkFault) RunFault → Type 0
-HasAdded lines before after earlier rows (Ok None) = HasShown lines before after (earlier ++ rows)
-HasAdded lines before after earlier rows (Ok (Some fault)) =
-    (text : List ℕ) × IsAddedToFault earlier rows fault text × Puts before after text
-HasAdded lines before after earlier rows (Err (BadRow row fault)) = ⊥
-HasAdded lines before after earlier rows (Err TooLong) = ⊥
-HasAdded lines before after earlier rows (Err Read) = ⊥
-HasAdded lines before after earlier rows (Err Write) =
-    (text : List ℕ) × IsAdded earlier rows text × Breaks before after text
-HasAdded lines before after earlier rows (Err Memory) =
-    (text : List ℕ) × IsAddedInPart earlier rows text × Puts before after text
+HasAdded scope lines before after earlier rows (Ok None) = HasShown scope lines before after (earlier ++ rows)
+HasAdded scope lines before after earlier rows (Ok (Some fault)) =
+    (text : List ℕ) × IsAddedToFault scope earlier rows fault text × Puts before after text
+HasAdded scope lines before after earlier rows (Err (BadRow row fault)) = ⊥
+HasAdded scope lines before after earlier rows (Err TooLong) = ⊥
+HasAdded scope lines before after earlier rows (Err Read) = ⊥
+HasAdded scope lines before after earlier rows (Err Write) =
+    (text : List ℕ) × IsAdded scope earlier rows text × Breaks before after text
+HasAdded scope lines before after earlier rows (Err Memory) =
+    (text : List ℕ) × IsAddedInPart scope earlier rows text × Puts before after text
 
 -- the same where one of the rows was stopped at
-abbrev pub HasStopped : Lines → Output → Output → List Event → List Event
+abbrev pub HasStopped : Scope → Lines → Output → Output → List Event → List Event
     → Result LinkFault RunFault → Type 0
-HasStopped lines before after earlier rows (Ok fault) =
-    HasAdded lines before after earlier rows (Ok (Some fault))
-HasStopped lines before after earlier rows (Err fault) =
-    HasAdded lines before after earlier rows (Err fault)
+HasStopped scope lines before after earlier rows (Ok fault) =
+    HasAdded scope lines before after earlier rows (Ok (Some fault))
+HasStopped scope lines before after earlier rows (Err fault) =
+    HasAdded scope lines before after earlier rows (Err fault)
 
 -- The writer failed with a front of a text that is written of the records.
-pub record IsBroken (records : List (List (List ℕ))) (before after : Output) : Type 0 where
+pub record IsBroken (scope : Scope) (records : List (List (List ℕ))) (before after : Output) : Type 0 where
   pub answer : Result (Option LinkFault) RunFault
   pub text : List ℕ
-  pub showing : IsShowing records answer text
+  pub showing : IsShowing scope records answer text
   pub broken : Breaks before after text
 
 -- what `Shows` says, where some of the text may still be on its way
-abbrev pub PutsShowing : List (List (List ℕ)) → Output → Output
+abbrev pub PutsShowing : Scope → List (List (List ℕ)) → Output → Output
     → Result (Option LinkFault) RunFault → Type 0
-PutsShowing records before after answer =
-    ((text : List ℕ) × IsShowing records answer text × Puts before after text)
-    ⊎ ((answer ≡ Err Write) × IsBroken records before after)
+PutsShowing scope records before after answer =
+    ((text : List ℕ) × IsShowing scope records answer text × Puts before after text)
+    ⊎ ((answer ≡ Err Write) × IsBroken scope records before after)
 
 -- a fault of reading that was met is the answer, or that of a row or a line before it is
 abbrev pub IsShownAs : ReadFault → Result (Option LinkFault) RunFault → Type 0

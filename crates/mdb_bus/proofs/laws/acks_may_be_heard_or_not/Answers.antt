@@ -3,6 +3,6 @@ use Rattle.mdb_bus.proofs.Fitting.{acks_wished}
 use Rattle.mdb_bus.proofs.laws.acks_may_be_heard_or_not.Goals as goal
 
 pub returns : goal.returns
-returns c pieces are wish =
-    let free = c.free_acts_may_be_heard_or_not.ensures pieces are wish in
+returns c scope pieces are wish =
+    let free = c.free_acts_may_be_heard_or_not.ensures scope pieces are wish in
     (free.0, free.1, acks_wished free.0 wish nothing_told pieces free.2)

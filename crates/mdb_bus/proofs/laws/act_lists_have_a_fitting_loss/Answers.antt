@@ -3,6 +3,6 @@ use Rattle.std.proofs.Common.{true}
 use Rattle.mdb_bus.proofs.laws.act_lists_have_a_fitting_loss.Goals as goal
 
 pub returns : goal.returns
-returns c pieces are =
-    let free = c.free_acts_may_be_heard_or_not.ensures pieces are (λ before. true) in
+returns c scope pieces are =
+    let free = c.free_acts_may_be_heard_or_not.ensures scope pieces are (λ before. true) in
     (free.0, free.1)

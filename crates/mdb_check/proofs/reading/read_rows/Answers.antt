@@ -12,7 +12,7 @@ returns-in-Some-clause-ended g c all to_come =
     endings.stopped g.T.Row.FromRecord.is g.T.Row.FromRecord.refuses g.R.Read.remaining (g.T.TakeRows.has c.loop-batch.taker c.args.out.now c.loop-batch.out) (g.T.TakeRows.has c.take_all.new.self c.args.out.now c.take_all.new.out)
     (g.T.TakeRows.stops c.take_all.new.self c.args.out.now c.take_all.new.out) c.args.rows_max all c.args.records.now c.loop-batch.records c.refill-next.new.records c.as_slice.result.now
     c.refill-next.new.self c.refill-next.result (g.T.TakeRows.count c.loop-batch.taker) c.take_all.result c.in-Some.stop c.loop-batch.invariant.progress to_come c.refill-next.ensures.read
-    (g.met.T.TakeRows.counts c.loop-batch.taker c.args.out.now c.loop-batch.out) c.as_slice.ensures.rows c.in-Some.is (λ earlier has. c.take_all.ensures c.args.out.now earlier has)
+    (g.met.T.TakeRows.counts c.loop-batch.taker c.args.out.now c.loop-batch.out) c.as_slice.ensures.rows c.in-Some.is (λ earlier has. c.take_all.ensures.taken c.args.out.now earlier has)
     (omega (arith, c.loop-batch-test.true, c.rows_taken.ensures, c.rows_taken-in-loop-batch.ensures, fits (c.args.rows_max - c.rows_taken-in-loop-batch.result) c.refill-next.new.self c.refill-next.result c.refill-next.ensures.fits))
 
 pub returns-in_err-goes_on-clause-ended : goal.returns-in_err-goes_on-clause-ended
@@ -20,7 +20,7 @@ returns-in_err-goes_on-clause-ended g c all to_come =
     let after = endings.goes_on g.T.Row.FromRecord.is g.T.Row.FromRecord.refuses g.R.Read.remaining (g.T.TakeRows.has c.loop-batch.taker c.args.out.now c.loop-batch.out) (g.T.TakeRows.has c.take_all.new.self c.args.out.now c.take_all.new.out)
     (g.T.TakeRows.stops c.take_all.new.self c.args.out.now c.take_all.new.out) c.args.records.now c.loop-batch.records c.refill-next.new.records c.as_slice.result.now
     c.refill-next.new.self c.refill-next.result (g.T.TakeRows.count c.loop-batch.taker) (g.T.TakeRows.count c.take_all.new.self) c.take_all.result c.loop-batch.invariant.progress c.refill-next.ensures.read
-    c.as_slice.ensures.rows c.in_default.is (λ earlier has. c.take_all.ensures c.args.out.now earlier has)
+    c.as_slice.ensures.rows c.in_default.is (λ earlier has. c.take_all.ensures.taken c.args.out.now earlier has)
     (g.met.T.TakeRows.counts c.loop-batch.taker c.args.out.now c.loop-batch.out) (g.met.T.TakeRows.counts c.take_all.new.self c.args.out.now c.take_all.new.out) in
     endings.refused g.T.Row.FromRecord.is g.T.Row.FromRecord.refuses g.R.Read.remaining (g.T.TakeRows.has c.take_all.new.self c.args.out.now c.take_all.new.out) (g.T.TakeRows.stops c.take_all.new.self c.args.out.now c.take_all.new.out)
     c.args.rows_max all c.args.records.now c.refill-next.new.records c.refill-next.result c.rows_taken-in-loop-batch-2.result
@@ -33,7 +33,7 @@ returns-then-not-branch-clause-ended g c all to_come =
     let after = endings.goes_on g.T.Row.FromRecord.is g.T.Row.FromRecord.refuses g.R.Read.remaining (g.T.TakeRows.has c.loop-batch.taker c.args.out.now c.loop-batch.out) (g.T.TakeRows.has c.take_all.new.self c.args.out.now c.take_all.new.out)
     (g.T.TakeRows.stops c.take_all.new.self c.args.out.now c.take_all.new.out) c.args.records.now c.loop-batch.records c.refill-next.new.records c.as_slice.result.now
     c.refill-next.new.self c.refill-next.result (g.T.TakeRows.count c.loop-batch.taker) (g.T.TakeRows.count c.take_all.new.self) c.take_all.result c.loop-batch.invariant.progress c.refill-next.ensures.read
-    c.as_slice.ensures.rows c.in_default.is (λ earlier has. c.take_all.ensures c.args.out.now earlier has)
+    c.as_slice.ensures.rows c.in_default.is (λ earlier has. c.take_all.ensures.taken c.args.out.now earlier has)
     (g.met.T.TakeRows.counts c.loop-batch.taker c.args.out.now c.loop-batch.out) (g.met.T.TakeRows.counts c.take_all.new.self c.args.out.now c.take_all.new.out) in
     endings.whole g.T.Row.FromRecord.is g.T.Row.FromRecord.refuses g.R.Read.remaining (g.T.TakeRows.has c.take_all.new.self c.args.out.now c.take_all.new.out) c.args.rows_max all c.args.records.now c.refill-next.new.records c.refill-next.result after.progress to_come
     (endings.is_end c.refill-next.result c.rows_taken-in-loop-batch-2.result c.goes_on.result c.in_ok-goes_on.field-0 c.goes_on.ensures c.in_ok-goes_on.was c.if-not-branch.true)
@@ -52,7 +52,7 @@ loop-batch-preserved g c =
     let after = endings.goes_on g.T.Row.FromRecord.is g.T.Row.FromRecord.refuses g.R.Read.remaining (g.T.TakeRows.has c.loop-batch.taker c.args.out.now c.loop-batch.out) (g.T.TakeRows.has c.take_all.new.self c.args.out.now c.take_all.new.out)
     (g.T.TakeRows.stops c.take_all.new.self c.args.out.now c.take_all.new.out) c.args.records.now c.loop-batch.records c.refill-next.new.records c.as_slice.result.now
     c.refill-next.new.self c.refill-next.result (g.T.TakeRows.count c.loop-batch.taker) (g.T.TakeRows.count c.take_all.new.self) c.take_all.result c.loop-batch.invariant.progress c.refill-next.ensures.read
-    c.as_slice.ensures.rows c.in_default.is (λ earlier has. c.take_all.ensures c.args.out.now earlier has)
+    c.as_slice.ensures.rows c.in_default.is (λ earlier has. c.take_all.ensures.taken c.args.out.now earlier has)
     (g.met.T.TakeRows.counts c.loop-batch.taker c.args.out.now c.loop-batch.out) (g.met.T.TakeRows.counts c.take_all.new.self c.args.out.now c.take_all.new.out) in
     let more : c.refill-next.result ≡ next.More = endings.is_more c.refill-next.result c.rows_taken-in-loop-batch-2.result c.goes_on.result c.in_ok-goes_on.field-0 c.goes_on.ensures c.in_ok-goes_on.was c.if-not-branch.false in
     record {
@@ -67,6 +67,7 @@ loop-batch-preserved g c =
         after.counted,
         fits (c.args.rows_max - c.rows_taken-in-loop-batch.result) c.refill-next.new.self c.refill-next.result c.refill-next.ensures.fits,
       );
+      same_scope = c.take_all.ensures.same_scope ∙ c.loop-batch.invariant.same_scope;
     }
 
 pub returns-in_err-expect_end-clause-ended : goal.returns-in_err-expect_end-clause-ended

@@ -11,6 +11,7 @@ invariant-loop-batch g l = record {
   over : IsOverLimit g.R.Read.remaining l.fn.records → IsOverLimit g.R.Read.remaining l.records;
   met : fault_of l.fn.records ≡ None → fault_of l.records ≡ None;
   few : g.T.TakeRows.count l.taker ≤ l.fn.rows_max;
+  same_scope : g.T.TakeRows.scope l.taker ≡ g.T.TakeRows.scope l.fn.taker;
 }
 
 -- the rows that may still come

@@ -2,4 +2,4 @@ use Rattle.mdb_follow.proofs.OneAnswer.{fronts}
 use Rattle.mdb_follow.proofs.laws.fronts_of_reached_rows_are_reached.Goals as goal
 
 pub returns : goal.returns
-returns c = fronts c.reached_rows_stay_reached_without_the_last.ensures
+returns c scope = fronts scope (c.reached_rows_stay_reached_without_the_last.ensures scope)

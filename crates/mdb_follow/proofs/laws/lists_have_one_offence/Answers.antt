@@ -2,5 +2,5 @@ use Rattle.mdb_follow.proofs.Slices.{one-of-rows}
 use Rattle.mdb_follow.proofs.laws.lists_have_one_offence.Goals as goal
 
 pub returns : goal.returns
-returns c = one-of-rows c.fronts_of_reached_rows_are_reached.ensures
-    c.rows_have_one_offence.ensures
+returns c scope = one-of-rows scope (c.fronts_of_reached_rows_are_reached.ensures scope)
+    (c.rows_have_one_offence.ensures scope)

@@ -2,4 +2,5 @@ use Rattle.mdb_follow.proofs.Reaching.{without_last}
 use Rattle.mdb_follow.proofs.laws.reached_rows_stay_reached_without_the_last.Goals as goal
 
 pub returns : goal.returns
-returns c = without_last c.ways_join.ensures c.act_lists_go_on_row_by_row.ensures
+returns c scope =
+    without_last scope (c.ways_join.ensures scope) (c.act_lists_go_on_row_by_row.ensures scope)

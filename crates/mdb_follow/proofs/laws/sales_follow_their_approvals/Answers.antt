@@ -2,7 +2,7 @@ use Rattle.mdb_follow.proofs.Sales.{sales_follow}
 use Rattle.mdb_follow.proofs.laws.sales_follow_their_approvals.Goals as goal
 
 pub returns : goal.returns
-returns c = sales_follow (record {
+returns c scope = sales_follow scope (record {
   tells = c.views_tell_of_the_sale.ensures;
   approved = c.views_allow_approved_sales_alone.ensures;
 })

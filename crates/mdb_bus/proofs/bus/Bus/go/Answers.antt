@@ -7,7 +7,7 @@ pub returns-in-Ask-clause-gone : goal.returns-in-Ask-clause-gone
 returns-in-Ask-clause-gone c =
     gone_ask c.args.self.now c.note_ask.new.self c.advance-ended.new.self c.args.event c.args.judged
     c.advance-ended.result
-    c.advance-ended.new.act c.in-Ask.is c.note_ask.ensures.place c.note_ask.ensures.last
+    c.advance-ended.new.act c.in-Ask.is c.note_ask.ensures.place c.note_ask.ensures.scope c.note_ask.ensures.last
     c.note_ask.ensures.levels
     c.note_ask.ensures.asked c.advance-ended.ensures.advanced
 
@@ -15,11 +15,11 @@ pub returns-in-Foreign-clause-gone : goal.returns-in-Foreign-clause-gone
 returns-in-Foreign-clause-gone c =
     gone_off c.args.self.now _ c.args.event c.args.judged
     (ended_act c.advance-ended.result c.advance-ended.new.act)
-    c.in-Foreign.is refl refl refl c.advance-ended.ensures.advanced
+    c.in-Foreign.is refl refl refl refl c.advance-ended.ensures.advanced
 
 pub returns-in_default-clause-gone : goal.returns-in_default-clause-gone
 returns-in_default-clause-gone c =
     gone_on c.args.self.now _ c.args.event c.args.judged
     (ended_act c.advance-ended.result c.advance-ended.new.act)
-    c.in_default.not-Ask c.in_default.not-Foreign c.in_default.not-Break refl refl refl
+    c.in_default.not-Ask c.in_default.not-Foreign c.in_default.not-Break refl refl refl refl
     c.advance-ended.ensures.advanced

@@ -1,11 +1,18 @@
-use Rattle.std.proofs.Common.{rules, refl, ◌%◌}
-use Rattle.mdb_bus.proofs.Verdicts.{begins}
+use Rattle.std.proofs.Common.{rules, refl, ◌%◌, Ok}
+use Rattle.mdb_bus.specs.declared.judged.Judged.TheVariants.{AskByte}
+use Rattle.mdb_bus.proofs.Verdicts.{begins_followed, opened_belongs}
 use Rattle.mdb_bus.proofs.judging.asking.begin_block.Goals as goal
 
 pub returns-in-More-clause-opened : goal.returns-in-More-clause-opened
 returns-in-More-clause-opened c = (
   search rules,
-  begins c.need_leaves_a_command_open.ensures c.args.word c.byte.result (c.args.word % 256)
-      c.need_of.result c.byte.ensures.value refl c.need_of.ensures c.in-More.is,
+  begins_followed c.first_byte_tells_the_device.ensures c.need_leaves_a_command_open.ensures
+      c.args.scope.now c.args.word c.byte.result (c.args.word % 256) c.need_without.result
+      c.byte.ensures.value refl c.need_without.ensures c.in-More.is,
   search rules,
 )
+
+pub returns-in-More-clause-belongs : goal.returns-in-More-clause-belongs
+returns-in-More-clause-belongs c =
+    opened_belongs c.args.scope.now c.front_of_a_command_is_open.ensures c.args.least
+    c.args.last.now c.args.at c.args.word (Ok AskByte) (returns-in-More-clause-opened c)

@@ -1,7 +1,7 @@
 use Rattle.std.proofs.Common.{rules, arith, ◌%◌, ap, ◌≡◌, ◌≤◌, ◌+◌, ◌++◌, ◌∷◌, [], length, sym, subst, ◌∙◌, List, ℕ}
 use Rattle.mdb_msgs.specs.declared.need.Need.TheVariants.{Exactly}
 use Rattle.mdb_msgs.specs.Needs.{needed}
-use Rattle.mdb_bus.specs.ActLists.{IsAskFront}
+use Rattle.mdb_bus.specs.inner.Steps.{IsCommandFront}
 use Rattle.mdb_bus.proofs.Verdicts.{are_bytes, further_end, further_front}
 use Rattle.mdb_bus.proofs.judging.asking.further_byte.Goals.{in_default-via-in-Exactly+else-so_far-length, in_default-via-in_default}
 use Rattle.mdb_bus.proofs.judging.asking.further_byte.Goals as goal
@@ -14,12 +14,12 @@ pub returns-in-Exactly : goal.returns-in-Exactly
 returns-in-Exactly c =
     let told : needed c.args.so_far.now ≡ Exactly c.in-Exactly.length = sym c.need_of.ensures
     ∙ c.in-Exactly.is in
-    let front : IsAskFront (c.args.so_far.now ++ (c.args.word % 256) ∷ []) =
+    let front : IsCommandFront (c.args.so_far.now ++ (c.args.word % 256) ∷ []) =
     further_front c.need_leaves_a_command_open.ensures c.args.so_far.now (c.args.word % 256)
     c.in-Exactly.length
     c.requires.two (are_bytes c.args.so_far.now c.type_inv.so_far) (omega arith) told
     c.if-so_far-length.true in
-    let P : List ℕ → Type 0 = λ bytes. IsAskFront (bytes ++ (c.args.word % 256) ∷ []) in
+    let P : List ℕ → Type 0 = λ bytes. IsCommandFront (bytes ++ (c.args.word % 256) ∷ []) in
     (omega (arith, c.requires.unmarked), subst P (sym c.requires.is) front)
 
 pub judge_end_of_ask-requires-clause-last : goal.judge_end_of_ask-requires-clause-last

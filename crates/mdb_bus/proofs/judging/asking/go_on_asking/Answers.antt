@@ -1,20 +1,22 @@
 use Rattle.std.proofs.Common.{rules, ◌<◌}
-use Rattle.mdb_bus.proofs.Verdicts.{asking_belongs, going_on}
+use Rattle.mdb_bus.proofs.Verdicts.{asking_belongs, going_on, some_bytes}
 use Rattle.mdb_bus.proofs.judging.asking.go_on_asking.Goals as goal
 
 pub returns-in-len1-clause-judged : goal.returns-in-len1-clause-judged
 returns-in-len1-clause-judged c =
     let small : c.args.word < 256 = search rules in
-    λ levels. going_on c.args.bytes.now c.args.last.now c.args.at c.args.word levels
-    c.second_byte.result
-    c.requires.in_order (search rules) (search rules) small c.second_byte.ensures
+    λ scope levels followed. going_on scope c.args.bytes.now c.args.last.now c.args.at c.args.word
+    levels c.second_byte.result c.requires.in_order (search rules) (search rules) small
+    c.first_byte_tells_the_device.ensures (some_bytes c.args.bytes.now c.requires.begun) followed
+    c.second_byte.ensures
 
 pub returns-in_default-clause-judged : goal.returns-in_default-clause-judged
 returns-in_default-clause-judged c =
     let small : c.args.word < 256 = search rules in
-    λ levels. going_on c.args.bytes.now c.args.last.now c.args.at c.args.word levels
-    c.further_byte.result
-    c.requires.in_order (search rules) (search rules) small c.further_byte.ensures
+    λ scope levels followed. going_on scope c.args.bytes.now c.args.last.now c.args.at c.args.word
+    levels c.further_byte.result c.requires.in_order (search rules) (search rules) small
+    c.first_byte_tells_the_device.ensures (some_bytes c.args.bytes.now c.requires.begun) followed
+    c.further_byte.ensures
 
 pub returns-in-len1-clause-belongs : goal.returns-in-len1-clause-belongs
 returns-in-len1-clause-belongs c =

@@ -9,4 +9,4 @@ returns-then-eq-clause-judged c =
     search rules in
     let front = repeats c.args.last_reply.now.reply 0 c.args.word (length c.args.last_reply.now.bytes)
     c.word.ensures.count (omega (arith, c.word.ensures.some)) here in
-    λ levels command. (refl, front, (search rules, search rules))
+    λ scope levels command. (refl, front, (search rules, search rules))

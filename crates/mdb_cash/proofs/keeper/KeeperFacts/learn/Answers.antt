@@ -1,6 +1,6 @@
 use Rattle.std.proofs.Common.{ap, ◌∙◌}
 use Rattle.mdb_cash.specs.KeeperValues.{facts_with}
-use Rattle.mdb_cash.proofs.KeeperFacts.{facts_more}
+use Rattle.mdb_cash.specs.inner.KeeperWays.{facts_more}
 use Rattle.mdb_cash.proofs.keeper.KeeperFacts.learn.Goals as goal
 
 pub returns : goal.returns

@@ -1,5 +1,5 @@
 use Rattle.std.proofs.Common.{refl}
-use Rattle.mdb_cash.proofs.KeeperFacts.{same_fields}
+use Rattle.mdb_cash.specs.inner.KeeperWays.{same_fields}
 use Rattle.mdb_cash.proofs.keeper.KeeperFacts.start.Goals as goal
 
 pub returns : goal.returns

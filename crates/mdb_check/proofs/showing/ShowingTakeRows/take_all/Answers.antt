@@ -1,8 +1,14 @@
-use Rattle.mdb_check.specs.inner.ShowSteps.{begun, output}
+use Rattle.std.proofs.Common.{subst, sym}
+use Rattle.mdb_bus.specs.Bus.{scope_of}
+use Rattle.mdb_check.specs.inner.Ending.{HasTaken}
+use Rattle.mdb_check.specs.inner.ShowSteps.{HasShown, HasStopped, begun, output}
 use Rattle.mdb_check.proofs.Showings.{added}
 use Rattle.mdb_check.proofs.showing.ShowingTakeRows.take_all.Goals as goal
 
-pub returns : goal.returns
-returns g c before earlier has =
-    added c.add_all.new.self (begun (g.W.Write.contents before)) (output (g.W.Write.contents c.add_all.new.writer) c.add_all.new.page) earlier c.args.rows.now c.add_all.result c.transpose.result
-    c.transpose.ensures (c.add_all.ensures (begun (g.W.Write.contents before)) earlier has)
+pub returns-clause-taken : goal.returns-clause-taken
+returns-clause-taken g c before earlier has =
+    let held = begun (g.W.Write.contents before) in
+    let now = output (g.W.Write.contents c.add_all.new.writer) c.add_all.new.page in
+    subst (λ s. HasTaken (HasShown s c.add_all.new.self held now) (HasStopped s c.add_all.new.self held now) earlier c.args.rows.now c.transpose.result) (sym c.add_all.ensures.scope)
+    (added (scope_of c.args.self.now.lines.bus) c.add_all.new.self held now earlier c.args.rows.now c.add_all.result c.transpose.result
+    c.transpose.ensures (c.add_all.ensures.added held earlier has))

@@ -1,6 +1,12 @@
+use Rattle.std.proofs.Common.{subst, sym}
+use Rattle.mdb_follow.specs.Follower.{scope_of}
+use Rattle.mdb_follow.specs.Offences.{HasOffence}
+use Rattle.mdb_check.specs.inner.Ending.{HasFollowed, HasTaken}
 use Rattle.mdb_check.proofs.Verdicts.{followed}
 use Rattle.mdb_check.proofs.verdict.FollowerTakeRowsUnit.take_all.Goals as goal
 
-pub returns : goal.returns
-returns c nothing =
-    followed c.args.self.now c.feed_all.new.self c.args.rows.now c.feed_all.result c.err.result c.err.ensures.value c.feed_all.ensures.reached c.feed_all.ensures.counted c.feed_all.ensures.offence
+pub returns-clause-taken : goal.returns-clause-taken
+returns-clause-taken c nothing earlier has =
+    subst (λ s. HasTaken (HasFollowed s c.feed_all.new.self) (HasOffence s) earlier c.args.rows.now c.err.result) (sym c.feed_all.ensures.scope)
+    (followed (scope_of c.args.self.now) c.args.self.now c.feed_all.new.self c.args.rows.now c.feed_all.result c.err.result c.err.ensures.value
+    c.feed_all.ensures.reached c.feed_all.ensures.counted c.feed_all.ensures.offence c.feed_all.ensures.scope earlier has)

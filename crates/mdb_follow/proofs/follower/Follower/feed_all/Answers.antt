@@ -1,6 +1,7 @@
 use Rattle.std.proofs.Common.{List, ◌∷◌, [], ◌++◌, subst, arith}
 use Rattle.mdb_words.specs.declared.event.Event.{Event}
-use Rattle.mdb_follow.specs.Follower.{StandsFor}
+use Rattle.mdb_follow.specs.Follower.{StandsFor, scope_of}
+use Rattle.mdb_follow.specs.Runs.{IsReached}
 use Rattle.mdb_follow.specs.Offences.{IsOffence}
 use Rattle.mdb_follow.proofs.Following.{fed-all, fed-more, fed-refused, of-some, reached-by}
 use Rattle.mdb_follow.proofs.follower.Follower.feed_all.Goals as goal
@@ -15,10 +16,11 @@ returns-then-not-take-clause-offence c earlier on =
     fed-refused c.args.self.now c.loop-event.self c.args.events.now earlier
     c.loop-event.event-index c.event-item.result c.noted.result
     c.loop-event-test.true c.loop-event.invariant
-    (λ before stands. subst (λ row. IsOffence before row c.noted.result) c.event-item.is
+    (λ before stands. subst (λ row.
+    IsOffence (scope_of c.loop-event.self) before row c.noted.result) c.event-item.is
     (of-some c.take.new.self.offence c.noted.result
     (λ offence. (events : List Event) → StandsFor c.loop-event.self events
-    → IsOffence events c.event-item.result offence)
+    → IsOffence (scope_of c.loop-event.self) events c.event-item.result offence)
     c.noted.ensures c.if-not-take.ensures.offence before stands))
     on
 
@@ -26,7 +28,7 @@ pub loop-event-preserved : goal.loop-event-preserved
 loop-event-preserved c =
     fed-more c.args.self.now c.loop-event.self c.take.new.self c.args.events.now
     c.loop-event.event-index c.event-item.result c.loop-event-test.true c.loop-event.invariant
-    c.if-not-take.ensures.counted c.if-not-take.ensures.going
+    c.if-not-take.ensures.counted c.if-not-take.ensures.going c.if-not-take.ensures.scope
     (λ earlier on. subst (λ e. StandsFor c.take.new.self (earlier ++ e ∷ [])) c.event-item.is
     (c.if-not-take.ensures.reached earlier on))
 
@@ -43,8 +45,11 @@ returns-clause-counted c =
 
 pub returns-clause-is_reached : goal.returns-clause-is_reached
 returns-clause-is_reached c earlier on =
-    reached-by c.ways_join.ensures _ _ (returns-clause-reached c earlier on)
+    let all = fed-all c.args.self.now c.loop-event.self c.args.events.now c.loop-event.event-index
+    c.loop-event-test.false c.loop-event.auto.event-index-end c.loop-event.invariant in
+    subst (λ s. IsReached s (earlier ++ c.args.events.now)) all.scope
+    (reached-by c.ways_join.ensures _ _ (returns-clause-reached c earlier on))
 
 pub returns-clause-sales : goal.returns-clause-sales
 returns-clause-sales c earlier on =
-    c.sales_follow_their_approvals.ensures (earlier ++ c.args.events.now)
+    c.sales_follow_their_approvals.ensures (scope_of c.args.self.now) (earlier ++ c.args.events.now)

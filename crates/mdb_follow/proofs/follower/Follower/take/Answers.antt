@@ -1,7 +1,7 @@
 use Rattle.std.proofs.Common.{List, ◌+◌, ◌*◌, ◌^◌, None, Some, arith, refl, subst}
 use Rattle.mdb_words.specs.declared.event.Event.{Event}
 use Rattle.mdb_bus.specs.Bus.{GoesOn, ended_act}
-use Rattle.mdb_follow.specs.Follower.{StandsFor}
+use Rattle.mdb_follow.specs.Follower.{StandsFor, scope_of}
 use Rattle.mdb_follow.specs.Offences.{IsOffence}
 use Rattle.mdb_follow.proofs.Within.{sides-within-weaker}
 use Rattle.mdb_follow.proofs.Following.{link-offence, machine-offence, on-false-some, on-true}
@@ -28,14 +28,14 @@ pub returns-in-Ok-true-clause-offence : goal.returns-in-Ok-true-clause-offence
 returns-in-Ok-true-clause-offence c =
     on-false-some c.follow.result _ _
     (λ offence. (events : List Event) → StandsFor c.args.self.now events
-    → IsOffence events c.args.event offence)
+    → IsOffence (scope_of c.args.self.now) events c.args.event offence)
     (λ offence has events on.
     let goes : GoesOn c.feed_into.new.self on.pieces c.args.event (Some c.feed_into.new.act) =
     subst (λ b. GoesOn c.feed_into.new.self on.pieces c.args.event (ended_act b c.feed_into.new.act))
     c.in-Ok-true.field-0-test (c.in-Ok-true.ensures.goes_on on.pieces on.on_bus) in
     machine-offence c.transcripts_have_one_act_list.ensures c.ways_join.ensures
     c.args.self.now _ c.follow.new.self events c.args.event c.feed_into.new.act offence on goes
-    refl refl has)
+    c.feed_into.ensures.scope refl refl has)
     c.follow.ensures.stopped
 
 pub returns-in-Ok-false-clause-reached : goal.returns-in-Ok-false-clause-reached

@@ -2,7 +2,7 @@ use Rattle.std.proofs.Common.{List, length, ℕ, ◌<◌}
 use Rattle.std.proofs.lemmas.Option.{IfSome_then}
 use Rattle.mdb_records.specs.ToCome.{IsOverLimit}
 use Rattle.mdb_check.specs.Verdict.{IsNoYes}
-use Rattle.mdb_check.proofs.verdict.check_within.Goals as goal
+use Rattle.mdb_check.proofs.verdict.check_scoped_within.Goals as goal
 
 pub returns-clause-whole : goal.returns-clause-whole
 returns-clause-whole g c =

@@ -1,0 +1,109 @@
+-- What is said to a device that is followed: bytes need what they need of anybody.
+use Rattle.std.proofs.Common.{ap, refl, sym, subst, ◌∙◌, ◌≡◌, ◌≢◌, ◌<◌, ◌++◌, ◌∷◌, [], Bool, true, false, ℕ, List, length, slice_index, if◌then◌else◌}
+use Rattle.mdb_msgs.specs.declared.command.Command.{Command}
+use Rattle.mdb_msgs.specs.declared.device_set.DeviceSet.{DeviceSet}
+use Rattle.mdb_msgs.specs.declared.need.Need.{Need}
+use Rattle.mdb_msgs.specs.declared.need.Need.TheVariants.{Foreign}
+use Rattle.mdb_msgs.specs.Commands.{Spells, device_of}
+use Rattle.mdb_msgs.specs.DeviceSets.{has}
+use Rattle.mdb_msgs.specs.Needs.{is_to_one_of, needed}
+use Rattle.mdb_bus.specs.declared.scope.Scope.{Scope}
+use Rattle.mdb_bus.specs.Acts.{IsForeignOpening}
+use Rattle.mdb_bus.specs.ActLists.{IsAskFront}
+use Rattle.mdb_bus.specs.Scopes.{Asks, needed_in}
+use Rattle.mdb_bus.specs.inner.Steps.{IsCommandFront, IsUnknownExpansion}
+
+-- a law of mdb_msgs: the first byte of a command's block is to its device
+abbrev pub FirstTells : Type 0
+FirstTells = (block : List ℕ) (command : Command) → Spells command block → (set : DeviceSet)
+    → is_to_one_of set (slice_index block 0) ≡ has set (device_of command)
+
+-- bytes are to a device that is followed, or to none
+abbrev pub AreFollowed : Scope → List ℕ → Type 0
+AreFollowed scope bytes = is_to_one_of scope.without (slice_index bytes 0) ≡ false
+
+-- they need what they need of anybody
+pub needed_followed : (scope : Scope) (bytes : List ℕ) → AreFollowed scope bytes
+    → needed_in scope bytes ≡ needed bytes
+needed_followed scope bytes followed =
+    ap (λ (left_out : Bool). if left_out then Foreign else needed bytes) followed
+
+-- what needs anything that isn't foreign is to a device that is followed
+otherwise : (left_out : Bool) (need told : Need) → (if left_out then Foreign else need) ≡ told
+    → told ≢ Foreign → (left_out ≡ false) × (need ≡ told)
+otherwise true need told is other = absurd (other (sym is))
+otherwise false need told is other = (refl, is)
+
+pub within : (scope : Scope) (bytes : List ℕ) (told : Need) → needed_in scope bytes ≡ told
+    → told ≢ Foreign → AreFollowed scope bytes × (needed bytes ≡ told)
+within scope bytes told is other =
+    otherwise (is_to_one_of scope.without (slice_index bytes 0)) (needed bytes) told is other
+
+-- more bytes are to whom the first is
+pub first_stays : (bytes rest : List ℕ) → bytes ≢ []
+    → slice_index (bytes ++ rest) 0 ≡ slice_index bytes 0
+first_stays [] rest some = absurd (some refl)
+first_stays (first ∷ bytes) rest some = refl
+
+pub still_followed : (scope : Scope) (bytes rest : List ℕ) → bytes ≢ [] → AreFollowed scope bytes
+    → AreFollowed scope (bytes ++ rest)
+still_followed scope bytes rest some followed =
+    ap (is_to_one_of scope.without) (first_stays bytes rest some) ∙ followed
+
+pub was_followed : (scope : Scope) (bytes rest : List ℕ) → bytes ≢ []
+    → AreFollowed scope (bytes ++ rest) → AreFollowed scope bytes
+was_followed scope bytes rest some followed =
+    ap (is_to_one_of scope.without) (sym (first_stays bytes rest some)) ∙ followed
+
+-- a command's block is to a device that is followed exactly where the command's is
+pub block_followed : FirstTells → (scope : Scope) (command : Command) (block : List ℕ)
+    → Asks scope command block → AreFollowed scope block
+block_followed law scope command block asks =
+    law block command asks.spells scope.without ∙ asks.followed
+
+pub asks_followed : FirstTells → (scope : Scope) (command : Command) (block : List ℕ)
+    → Spells command block → AreFollowed scope block → Asks scope command block
+asks_followed law scope command block spells followed = record {
+  spells = spells;
+  followed = sym (law block command spells scope.without) ∙ followed;
+}
+
+-- the front of an ask is to a device that is followed
+pub ask_front_followed : FirstTells → (scope : Scope) (bytes : List ℕ) → IsAskFront scope bytes
+    → AreFollowed scope bytes
+ask_front_followed law scope bytes front =
+    was_followed scope bytes front.rest front.some
+    (block_followed law scope front.command (bytes ++ front.rest) front.spelled)
+
+-- and the front of a command to such a device is one of an ask
+pub front_followed : FirstTells → (scope : Scope) (bytes : List ℕ) → IsCommandFront bytes
+    → AreFollowed scope bytes → IsAskFront scope bytes
+front_followed law scope bytes front followed = record {
+  some = front.some;
+  command = front.command;
+  rest = front.rest;
+  open_end = front.open_end;
+  spelled = asks_followed law scope front.command (bytes ++ front.rest) front.spelled
+      (still_followed scope bytes front.rest front.some followed);
+}
+
+pub plain_front : (scope : Scope) (bytes : List ℕ) → IsAskFront scope bytes → IsCommandFront bytes
+plain_front scope bytes front = record {
+  some = front.some;
+  command = front.command;
+  rest = front.rest;
+  open_end = front.open_end;
+  spelled = front.spelled.spells;
+}
+
+-- an EXPANSION to such a device that this profile doesn't know opens a foreign block
+pub expansion_opens : (scope : Scope) (bytes : List ℕ) → IsUnknownExpansion bytes
+    → AreFollowed scope bytes → IsForeignOpening scope bytes
+expansion_opens scope [] unknown followed = absurd unknown
+expansion_opens scope (first ∷ []) unknown followed = absurd unknown
+expansion_opens scope (first ∷ second ∷ []) unknown followed = (
+  needed_followed scope (first ∷ []) followed ∙ unknown.0,
+  needed_followed scope (first ∷ second ∷ []) followed ∙ unknown.1,
+  unknown.2,
+)
+expansion_opens scope (first ∷ second ∷ third ∷ bytes) unknown followed = absurd unknown

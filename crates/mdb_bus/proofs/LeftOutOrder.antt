@@ -1,0 +1,490 @@
+-- Pieces in order, where further devices are left out: what stays may stand where it stood, and
+-- what is of a device that is left out stands as foreign acts.
+use Rattle.std.proofs.Common.{arith, ap, refl, sym, subst, ◌∙◌, ◌≡◌, ◌++◌, inl, inr, Bool, true, false, if◌then◌else◌, List, [], ◌∷◌, Option, Some, None, append_assoc}
+use Rattle.std.proofs.lemmas.Bool.{cond_both}
+use Rattle.std.proofs.lemmas.List.{append-nil}
+use Rattle.mdb_words.specs.declared.limits.TheConstants.{WORD_GAP_MIN}
+use Rattle.mdb_words.specs.declared.event.Event.{Event}
+use Rattle.mdb_words.specs.declared.event.Event.TheVariants.{Word, Break}
+use Rattle.mdb_words.specs.declared.word.Line.TheVariants.{Controller, Peripheral}
+use Rattle.mdb_blocks.specs.Answer.{answer_word}
+use Rattle.mdb_blocks.specs.Block.{block_of, controller_words}
+use Rattle.mdb_blocks.specs.declared.answer.Answer.TheVariants as answers
+use Rattle.mdb_msgs.specs.declared.command.Command.{Command}
+use Rattle.mdb_msgs.specs.declared.command.Command.TheVariants as commands
+use Rattle.mdb_msgs.specs.declared.command.Device.{Device}
+use Rattle.mdb_msgs.specs.declared.command.ReaderCommand.{ReaderCommand}
+use Rattle.mdb_msgs.specs.declared.command.ReaderCommand.TheVariants as readers
+use Rattle.mdb_msgs.specs.declared.command.ReaderUnit.TheVariants.{First, Second}
+use Rattle.mdb_msgs.specs.declared.device_set.DeviceSet.{DeviceSet}
+use Rattle.mdb_msgs.specs.Commands.{IsByte, command_bytes, device_of}
+use Rattle.mdb_msgs.specs.DeviceSets.{has}
+use Rattle.mdb_bus.specs.declared.act.Act.TheVariants as acts
+use Rattle.mdb_bus.specs.declared.levels.Levels.{Levels}
+use Rattle.mdb_bus.specs.declared.scope.Beginning.{Beginning}
+use Rattle.mdb_bus.specs.declared.scope.Beginning.TheVariants.{PowerOn}
+use Rattle.mdb_bus.specs.declared.scope.Scope.{Scope}
+use Rattle.mdb_bus.specs.Acts.{IsForeign, Say, reply_words}
+use Rattle.mdb_bus.specs.ActLists.{Piece, Whole, AskTail, ReplyTail, RepeatTail, Position, Quiet, InAsk, Asked, InReply, Replied, Returned, InRepeat, InForeign, ArePieces, AreSpaced, BlockMayCome, ForeignMayCome, IsLow, IsPiece, IsSaid, MayCome, MayStand, NotBefore, PieceFitsLevels, events_of, first_position, last_of, left_by, level_for, levels_after, levels_of, piece_events, position_of}
+use Rattle.mdb_bus.specs.LeavingOut.{LeavesOutMore, begin_left_out, is_left_out, is_one_left_out, leave_out, position_without, with_foreign}
+use Rattle.mdb_bus.specs.Scopes.{IsFollowed, IsLeftOut}
+use Rattle.mdb_bus.proofs.Commands.{spelled_low}
+use Rattle.mdb_bus.proofs.Followed.{FirstTells, front_followed, plain_front}
+use Rattle.mdb_bus.proofs.LeftOutWords.{AreForeignWords, Becomes, answer_foreign, as_block, as_foreign, as_words, foreign_stays, peripheral_foreign}
+use Rattle.mdb_bus.proofs.Lists.{all_front, last_push}
+use Rattle.mdb_bus.proofs.Named.{device_at}
+
+-- the rows of pieces with foreign acts after them
+foreign_rows : (events : List Event) (pieces : List Piece)
+    → events_of (with_foreign events pieces) ≡ events_of pieces ++ events
+foreign_rows [] pieces = sym (append-nil (events_of pieces))
+foreign_rows (event ∷ events) pieces =
+    foreign_rows events (Whole acts.Foreign (event ∷ []) ∷ pieces)
+    ∙ append_assoc (events_of pieces) (event ∷ []) events
+
+-- pieces without some devices have the same rows
+pub same_rows : (scope : Scope) (pieces : List Piece)
+    → events_of (leave_out scope pieces) ≡ events_of pieces
+same_rows scope [] = refl
+same_rows scope (piece ∷ pieces) =
+    let here = ap (λ es. es ++ piece_events piece) (same_rows scope pieces) in
+    cond_both (is_left_out scope piece)
+    (with_foreign (piece_events piece) (leave_out scope pieces)) (piece ∷ leave_out scope pieces)
+    (λ ps. events_of ps ≡ events_of pieces ++ piece_events piece)
+    (λ out. foreign_rows (piece_events piece) (leave_out scope pieces) ∙ here) (λ kept. here)
+
+-- foreign acts leave foreign traffic
+foreign_position : (scope : Scope) (first : Event) (others : List Event) (pieces : List Piece)
+    → position_of scope (with_foreign (first ∷ others) pieces) ≡ InForeign
+foreign_position scope first [] pieces = refl
+foreign_position scope first (next ∷ others) pieces =
+    foreign_position scope next others (Whole acts.Foreign (first ∷ []) ∷ pieces)
+
+-- so does a piece that is left out; another leaves what it left
+pub after_piece : (scope : Scope) (out : Bool) (piece : Piece) (events : List Event) (first : Event)
+    (others : List Event) (rest : List Piece)
+    → events ≡ first ∷ others
+    → position_of scope (if out then with_foreign events rest else piece ∷ rest)
+    ≡ (if out then InForeign else left_by piece)
+after_piece scope true piece events first others rest is =
+    ap (λ es. position_of scope (with_foreign es rest)) is
+    ∙ foreign_position scope first others rest
+after_piece scope false piece events first others rest is = refl
+
+pub where_without : (less more : Scope) (pieces : List Piece) → ArePieces less pieces
+    → position_of more (leave_out more pieces) ≡ position_without more pieces
+where_without less more [] order = refl
+where_without less more (piece ∷ pieces) order =
+    let stands = order.1 in
+    after_piece more (is_left_out more piece) piece (piece_events piece) stands.first stands.others
+    (leave_out more pieces) stands.begins
+
+-- a block that may come waits for a word's length at least
+block_waits : (position : Position) (from : Option Event) (to : Event)
+    → BlockMayCome position from to → NotBefore WORD_GAP_MIN from to
+block_waits Quiet None to comes = tt
+block_waits Quiet (Some (Word at line word)) to comes = comes
+block_waits Quiet (Some (Break at length)) to comes = omega (arith, comes)
+block_waits (InAsk bytes) from to comes = absurd comes
+block_waits (Asked command) None to comes = tt
+block_waits (Asked command) (Some from) to comes = omega (arith, comes)
+block_waits (InReply command bytes) from to comes = absurd comes
+block_waits (Replied command reply) None to comes = tt
+block_waits (Replied command reply) (Some from) to comes = omega (arith, comes)
+block_waits (Returned command reply) None to comes = tt
+block_waits (Returned command reply) (Some from) to comes = omega (arith, comes)
+block_waits (InRepeat command reply words) from to comes = absurd comes
+block_waits InForeign from to comes = comes
+
+-- a piece that leaves a command open is of its device
+of_its_device : (scope : Scope) (piece : Piece) (device : Device)
+    → device_at (left_by piece) ≡ Some device → is_left_out scope piece ≡ has scope.without device
+of_its_device scope (Whole (acts.Ask command) events) device is = ap (is_one_left_out scope) is
+of_its_device scope (Whole (acts.Ack command) events) device is = cc
+of_its_device scope (Whole (acts.Nak command) events) device is = cc
+of_its_device scope (Whole (acts.Reply command reply) events) device is =
+    ap (is_one_left_out scope) is
+of_its_device scope (Whole (acts.VmcAck command reply) events) device is = cc
+of_its_device scope (Whole (acts.VmcNak command reply) events) device is = cc
+of_its_device scope (Whole (acts.VmcRet command reply) events) device is =
+    ap (is_one_left_out scope) is
+of_its_device scope (Whole (acts.Repeat command reply) events) device is =
+    ap (is_one_left_out scope) is
+of_its_device scope (Whole acts.Foreign events) device is = cc
+of_its_device scope (Whole (acts.Break length) events) device is = cc
+of_its_device scope (AskTail bytes events) device is = cc
+of_its_device scope (ReplyTail command bytes events) device is = ap (is_one_left_out scope) is
+of_its_device scope (RepeatTail command reply words events) device is =
+    ap (is_one_left_out scope) is
+
+-- Where the bus is without further devices, by where it is with them.
+pub record Moves (scope : Scope) (position without : Position) : Type 0 where
+  pub block : (from : Option Event) (to : Event) → BlockMayCome position from to
+      → BlockMayCome without from to
+  pub stays : (device : Device) → device_at position ≡ Some device → IsFollowed scope device
+      → without ≡ position
+  pub leaves : (device : Device) → device_at position ≡ Some device → IsLeftOut scope device
+      → without ≡ InForeign
+  pub foreign : position ≡ InForeign → without ≡ InForeign
+
+-- a recording begins where no command is open
+none_at_first : (begins : Beginning) → device_at (first_position begins) ≡ None
+none_at_first PowerOn = refl
+
+first_moves : (less more : Scope) → LeavesOutMore less more
+    → Moves more (first_position less.begins) (first_position more.begins)
+first_moves less more wider =
+    let same : first_position less.begins ≡ first_position more.begins =
+    ap first_position wider.begins in
+    let none = none_at_first less.begins in
+    record {
+      block = λ from to comes. subst (λ (p : Position). BlockMayCome p from to) same comes;
+      stays = λ device is followed. sym same;
+      leaves = λ device is out. let both : None ≡ Some device = sym none ∙ is in cc both;
+      foreign = λ is. sym same ∙ is;
+    }
+
+piece_moves : (scope : Scope) (piece : Piece) (out : Bool) → is_left_out scope piece ≡ out
+    → Moves scope (left_by piece) (if out then InForeign else left_by piece)
+piece_moves scope piece true out = record {
+  block = block_waits (left_by piece);
+  stays = λ device is followed.
+      let both : true ≡ false = sym out ∙ (of_its_device scope piece device is ∙ followed) in
+      cc both;
+  leaves = λ device is also. refl;
+  foreign = λ is. refl;
+}
+piece_moves scope piece false kept = record {
+  block = λ from to comes. comes;
+  stays = λ device is followed. refl;
+  leaves = λ device is also.
+      let both : false ≡ true = sym kept ∙ (of_its_device scope piece device is ∙ also) in
+      cc both;
+  foreign = λ is. is;
+}
+
+pub moves : (less more : Scope) → LeavesOutMore less more → (pieces : List Piece)
+    → ArePieces less pieces
+    → Moves more (position_of less pieces) (position_of more (leave_out more pieces))
+moves less more wider [] order = first_moves less more wider
+moves less more wider (piece ∷ pieces) order =
+    subst (Moves more (left_by piece)) (sym (where_without less more (piece ∷ pieces) order))
+    (piece_moves more piece (is_left_out more piece) refl)
+
+-- a foreign act may come where one might
+foreign_moves : (scope : Scope) (position without : Position) (from : Option Event) (to : Event)
+    → Moves scope position without → ForeignMayCome position from to
+    → ForeignMayCome without from to
+foreign_moves scope position without from to moved (inl opens) =
+    inl (opens.0, moved.block from to opens.1)
+foreign_moves scope position without from to moved (inr further) =
+    inr (further.0, moved.foreign further.1, further.2)
+
+-- what stays says what it said
+said_stays : FirstTells → (less more : Scope) → LeavesOutMore less more → (piece : Piece)
+    → is_left_out more piece ≡ false → IsSaid less piece → IsSaid more piece
+said_stays law less more wider (Whole (acts.Ask command) events) kept said =
+    (record { spells = said.0.spells; followed = kept }, said.1)
+said_stays law less more wider (Whole (acts.Ack command) events) kept said = said
+said_stays law less more wider (Whole (acts.Nak command) events) kept said = said
+said_stays law less more wider (Whole (acts.Reply command reply) events) kept said = said
+said_stays law less more wider (Whole (acts.VmcAck command reply) events) kept said = said
+said_stays law less more wider (Whole (acts.VmcNak command reply) events) kept said = said
+said_stays law less more wider (Whole (acts.VmcRet command reply) events) kept said = said
+said_stays law less more wider (Whole (acts.Repeat command reply) events) kept said = said
+said_stays law less more wider (Whole acts.Foreign events) kept said =
+    foreign_stays less more wider events kept said
+said_stays law less more wider (Whole (acts.Break length) events) kept said = said
+said_stays law less more wider (AskTail bytes events) kept said =
+    (front_followed law more bytes (plain_front less bytes said.0) kept, said.1)
+said_stays law less more wider (ReplyTail command bytes events) kept said = said
+said_stays law less more wider (RepeatTail command reply words events) kept said = said
+
+-- and it may come where it came
+pub comes_as_it_did : (scope : Scope) (piece : Piece) (position without : Position)
+    (from : Option Event) (to : Event)
+    → Moves scope position without → is_left_out scope piece ≡ false
+    → MayCome piece position from to → MayCome piece without from to
+comes_as_it_did scope (Whole (acts.Ask command) events) position without from to moved kept comes =
+    moved.block from to comes
+comes_as_it_did scope (Whole (acts.Ack command) events) position without from to moved kept comes =
+    (moved.stays (device_of command) (ap device_at comes.0) kept ∙ comes.0, comes.1)
+comes_as_it_did scope (Whole (acts.Nak command) events) position without from to moved kept comes =
+    (moved.stays (device_of command) (ap device_at comes.0) kept ∙ comes.0, comes.1)
+comes_as_it_did scope (Whole (acts.Reply command reply) events) position without from to moved kept
+    comes =
+    (moved.stays (device_of command) (ap device_at comes.0) kept ∙ comes.0, comes.1)
+comes_as_it_did scope (Whole (acts.VmcAck command reply) events) position without from to moved kept
+    comes =
+    (moved.stays (device_of command) (ap device_at comes.0) kept ∙ comes.0, comes.1)
+comes_as_it_did scope (Whole (acts.VmcNak command reply) events) position without from to moved kept
+    comes =
+    (moved.stays (device_of command) (ap device_at comes.0) kept ∙ comes.0, comes.1)
+comes_as_it_did scope (Whole (acts.VmcRet command reply) events) position without from to moved kept
+    comes =
+    (moved.stays (device_of command) (ap device_at comes.0) kept ∙ comes.0, comes.1)
+comes_as_it_did scope (Whole (acts.Repeat command reply) events) position without from to moved kept
+    comes =
+    (moved.stays (device_of command) (ap device_at comes.0) kept ∙ comes.0, comes.1)
+comes_as_it_did scope (Whole acts.Foreign events) position without from to moved kept comes =
+    foreign_moves scope position without from to moved comes
+comes_as_it_did scope (Whole (acts.Break length) events) position without from to moved kept comes =
+    comes
+comes_as_it_did scope (AskTail bytes events) position without from to moved kept comes =
+    moved.block from to comes
+comes_as_it_did scope (ReplyTail command bytes events) position without from to moved kept comes =
+    (moved.stays (device_of command) (ap device_at comes.0) kept ∙ comes.0, comes.1)
+comes_as_it_did scope (RepeatTail command reply words events) position without from to moved kept
+    comes =
+    (moved.stays (device_of command) (ap device_at comes.0) kept ∙ comes.0, comes.1)
+
+-- what is of a device that is left out becomes foreign acts
+becomes : FirstTells → (less more : Scope) → LeavesOutMore less more → (piece : Piece)
+    (position without : Position) (from : Option Event) (first : Event) (others : List Event)
+    → is_left_out more piece ≡ true → IsSaid less piece → piece_events piece ≡ first ∷ others
+    → Moves more position without → MayCome piece position from first
+    → Becomes more without from first others
+becomes law less more wider (Whole (acts.Ask command) events) position without from first others
+    out said are moved comes =
+    let block = block_of (command_bytes command) in
+    as_block more block without from first others
+    (law block command said.0.spells more.without ∙ out)
+    (spelled_low command block said.0.spells)
+    (subst (Say Controller (controller_words block)) are said.1)
+    (moved.block from first comes)
+becomes law less more wider (Whole (acts.Ack command) events) position without from first others
+    out said are moved comes =
+    as_words more without from first others
+    (subst AreForeignWords are
+    (peripheral_foreign (answer_word Peripheral answers.Ack ∷ []) events said))
+    (moved.leaves (device_of command) (ap device_at comes.0) out) comes.1.0
+becomes law less more wider (Whole (acts.Nak command) events) position without from first others
+    out said are moved comes =
+    as_words more without from first others
+    (subst AreForeignWords are
+    (peripheral_foreign (answer_word Peripheral answers.Nak ∷ []) events said))
+    (moved.leaves (device_of command) (ap device_at comes.0) out) comes.1.0
+becomes law less more wider (Whole (acts.Reply command reply) events) position without from first
+    others out said are moved comes =
+    as_words more without from first others
+    (subst AreForeignWords are (peripheral_foreign (reply_words reply) events said.1))
+    (moved.leaves (device_of command) (ap device_at comes.0) out) comes.1.0
+becomes law less more wider (Whole (acts.VmcAck command reply) events) position without from first
+    others out said are moved comes =
+    as_words more without from first others
+    (subst AreForeignWords are
+    (answer_foreign (answer_word Controller answers.Ack) events (omega arith) said))
+    (moved.leaves (device_of command) (ap device_at comes.0) out) comes.1.0
+becomes law less more wider (Whole (acts.VmcNak command reply) events) position without from first
+    others out said are moved comes =
+    as_words more without from first others
+    (subst AreForeignWords are
+    (answer_foreign (answer_word Controller answers.Nak) events (omega arith) said))
+    (moved.leaves (device_of command) (ap device_at comes.0) out) comes.1.0
+becomes law less more wider (Whole (acts.VmcRet command reply) events) position without from first
+    others out said are moved comes =
+    as_words more without from first others
+    (subst AreForeignWords are
+    (answer_foreign (answer_word Controller answers.Ret) events (omega arith) said))
+    (moved.leaves (device_of command) (ap device_at comes.0) out) comes.1.0
+becomes law less more wider (Whole (acts.Repeat command reply) events) position without from first
+    others out said are moved comes =
+    as_words more without from first others
+    (subst AreForeignWords are (peripheral_foreign (reply_words reply) events said))
+    (moved.leaves (device_of command) (ap device_at comes.0) out) comes.1.0
+becomes law less more wider (Whole acts.Foreign events) position without from first others
+    out said are moved comes =
+    as_foreign less more without from first others
+    (ap (begin_left_out more) (sym are) ∙ out) (subst (IsForeign less) are said)
+    (foreign_moves more position without from first moved comes)
+becomes law less more wider (Whole (acts.Break length) events) position without from first others
+    out said are moved comes =
+    cc out
+becomes law less more wider (AskTail bytes events) position without from first others
+    out said are moved comes =
+    let front = said.0 in
+    as_block more bytes without from first others out
+    (all_front IsByte bytes front.rest
+    (spelled_low front.command (bytes ++ front.rest) front.spelled.spells))
+    (subst (Say Controller (controller_words bytes)) are said.1)
+    (moved.block from first comes)
+becomes law less more wider (ReplyTail command bytes events) position without from first others
+    out said are moved comes =
+    as_words more without from first others
+    (subst AreForeignWords are (peripheral_foreign bytes events said.1))
+    (moved.leaves (device_of command) (ap device_at comes.0) out) comes.1.0
+becomes law less more wider (RepeatTail command reply words events) position without from first
+    others out said are moved comes =
+    as_words more without from first others
+    (subst AreForeignWords are (peripheral_foreign words events said.1))
+    (moved.leaves (device_of command) (ap device_at comes.0) out) comes.1.0
+
+-- further words of foreign traffic stand, each an act by itself
+words_stand : (scope : Scope) (from : Event) (events : List Event) (pieces : List Piece)
+    → ArePieces scope pieces → position_of scope pieces ≡ InForeign
+    → last_of (events_of pieces) ≡ Some from → AreSpaced (from ∷ events) → AreForeignWords events
+    → ArePieces scope (with_foreign events pieces)
+words_stand scope from [] pieces are here last spaced words = are
+words_stand scope from (event ∷ events) pieces are here last spaced words =
+    let Late : Option Event → Type 0 = λ before. NotBefore WORD_GAP_MIN before event in
+    let piece : IsPiece scope (Whole acts.Foreign (event ∷ [])) = record {
+      said = inr (event, refl, words.0);
+      spaced = tt;
+    } in
+    let stands : MayStand scope pieces (Whole acts.Foreign (event ∷ [])) = record {
+      first = event;
+      others = [];
+      begins = refl;
+      comes = inr (words.0, here, subst Late (sym last) spaced.0);
+      levels = tt;
+    } in
+    words_stand scope event events (Whole acts.Foreign (event ∷ []) ∷ pieces) (piece, stands, are)
+    refl (last_push (events_of pieces) event) spaced.2 words.1
+
+-- so do all words of what is left out
+all_stand : (scope : Scope) (first : Event) (others : List Event) (pieces : List Piece)
+    → ArePieces scope pieces
+    → Becomes scope (position_of scope pieces) (last_of (events_of pieces)) first others
+    → AreSpaced (first ∷ others) → ArePieces scope (with_foreign (first ∷ others) pieces)
+all_stand scope first others pieces are become spaced =
+    let piece : IsPiece scope (Whole acts.Foreign (first ∷ [])) = record {
+      said = become.act;
+      spaced = tt;
+    } in
+    let stands : MayStand scope pieces (Whole acts.Foreign (first ∷ [])) = record {
+      first = first;
+      others = [];
+      begins = refl;
+      comes = become.comes;
+      levels = tt;
+    } in
+    words_stand scope first others (Whole acts.Foreign (first ∷ []) ∷ pieces) (piece, stands, are)
+    refl (last_push (events_of pieces) first) spaced become.words
+
+-- a command tells its own reader a level, and not the other
+first_alone : (asked : ReaderCommand) (levels : Levels)
+    → (levels_after (commands.Reader Second asked) levels).first ≡ levels.first
+first_alone (readers.SetupConfig level columns rows display) levels = refl
+first_alone asked levels = refl
+
+second_alone : (asked : ReaderCommand) (levels : Levels)
+    → (levels_after (commands.Reader First asked) levels).second ≡ levels.second
+second_alone (readers.SetupConfig level columns rows display) levels = refl
+second_alone asked levels = refl
+
+told_another : (set : DeviceSet) (command asked : Command) (levels : Levels)
+    → has set (device_of command) ≡ false → has set (device_of asked) ≡ true
+    → level_for command (levels_after asked levels) ≡ level_for command levels
+told_another set (commands.Changer command) asked levels followed out = refl
+told_another set (commands.Bill command) asked levels followed out = refl
+told_another set (commands.Reader First command) (commands.Reader First asked) levels followed out =
+    cc
+told_another set (commands.Reader First command) (commands.Reader Second asked) levels followed
+    out = first_alone asked levels
+told_another set (commands.Reader Second command) (commands.Reader First asked) levels followed
+    out = second_alone asked levels
+told_another set (commands.Reader Second command) (commands.Reader Second asked) levels followed
+    out = cc
+told_another set (commands.Reader unit command) asked levels followed out = refl
+
+-- after a command, levels are the same for a reader if they were before it
+same_after : (command asked : Command) (one other : Levels)
+    → level_for command one ≡ level_for command other
+    → level_for command (levels_after asked one) ≡ level_for command (levels_after asked other)
+same_after (commands.Changer command) asked one other same = refl
+same_after (commands.Bill command) asked one other same = refl
+same_after (commands.Reader First command)
+    (commands.Reader First (readers.SetupConfig level columns rows display)) one other same = refl
+same_after (commands.Reader First command) (commands.Reader Second asked) one other same =
+    first_alone asked one ∙ (same ∙ sym (first_alone asked other))
+same_after (commands.Reader Second command)
+    (commands.Reader Second (readers.SetupConfig level columns rows display)) one other same = refl
+same_after (commands.Reader Second command) (commands.Reader First asked) one other same =
+    second_alone asked one ∙ (same ∙ sym (second_alone asked other))
+same_after (commands.Reader unit command) asked one other same = same
+
+-- foreign acts tell no level
+foreign_levels : (events : List Event) (pieces : List Piece)
+    → levels_of (with_foreign events pieces) ≡ levels_of pieces
+foreign_levels [] pieces = refl
+foreign_levels (event ∷ events) pieces =
+    foreign_levels events (Whole acts.Foreign (event ∷ []) ∷ pieces)
+
+-- a piece goes on from levels that are the same for a command
+levels_go_on : (command : Command) (piece : Piece) (one other : List Piece)
+    → level_for command (levels_of one) ≡ level_for command (levels_of other)
+    → level_for command (levels_of (piece ∷ one)) ≡ level_for command (levels_of (piece ∷ other))
+levels_go_on command (Whole (acts.Ask asked) events) one other same =
+    same_after command asked (levels_of one) (levels_of other) same
+levels_go_on command piece one other same = same
+
+-- a piece of a device that is left out tells another reader nothing
+levels_stay : (scope : Scope) (command : Command) (piece : Piece) (pieces : List Piece)
+    → IsFollowed scope (device_of command) → is_left_out scope piece ≡ true
+    → level_for command (levels_of (piece ∷ pieces)) ≡ level_for command (levels_of pieces)
+levels_stay scope command (Whole (acts.Ask asked) events) pieces followed out =
+    told_another scope.without command asked (levels_of pieces) followed out
+levels_stay scope command piece pieces followed out = refl
+
+-- so a reader that is followed was told the same
+same_level : (scope : Scope) (command : Command) (pieces : List Piece)
+    → IsFollowed scope (device_of command)
+    → level_for command (levels_of (leave_out scope pieces))
+    ≡ level_for command (levels_of pieces)
+same_level scope command [] followed = refl
+same_level scope command (piece ∷ pieces) followed =
+    let same = same_level scope command pieces followed in
+    cond_both (is_left_out scope piece)
+    (with_foreign (piece_events piece) (leave_out scope pieces)) (piece ∷ leave_out scope pieces)
+    (λ ps. level_for command (levels_of ps) ≡ level_for command (levels_of (piece ∷ pieces)))
+    (λ out. ap (level_for command) (foreign_levels (piece_events piece) (leave_out scope pieces))
+    ∙ (same ∙ sym (levels_stay scope command piece pieces followed out)))
+    (λ kept. levels_go_on command piece (leave_out scope pieces) pieces same)
+
+-- and its replies fit the levels as they did
+levels_fit : (scope : Scope) (piece : Piece) (pieces : List Piece)
+    → is_left_out scope piece ≡ false → PieceFitsLevels (levels_of pieces) piece
+    → PieceFitsLevels (levels_of (leave_out scope pieces)) piece
+levels_fit scope (Whole (acts.Reply command reply) events) pieces kept fits =
+    λ high. subst IsLow (sym (same_level scope command pieces kept)) (fits high)
+levels_fit scope piece pieces kept fits = fits
+
+-- pieces in order are in order without further devices
+pub in_order : FirstTells → (less more : Scope) → LeavesOutMore less more → (pieces : List Piece)
+    → ArePieces less pieces → ArePieces more (leave_out more pieces)
+in_order law less more wider [] order = tt
+in_order law less more wider (piece ∷ pieces) order =
+    let said = order.0.said in
+    let stands = order.1 in
+    let rest = leave_out more pieces in
+    let before = in_order law less more wider pieces order.2 in
+    let moved = moves less more wider pieces order.2 in
+    let last : last_of (events_of rest) ≡ last_of (events_of pieces) =
+    ap last_of (same_rows more pieces) in
+    let Comes : Option Event → Type 0 =
+    λ from. MayCome piece (position_of more rest) from stands.first in
+    let Come : Option Event → Type 0 =
+    λ from. Becomes more (position_of more rest) from stands.first stands.others in
+    let Pieces : List Event → Type 0 = λ events. ArePieces more (with_foreign events rest) in
+    cond_both (is_left_out more piece) (with_foreign (piece_events piece) rest) (piece ∷ rest)
+    (ArePieces more)
+    (λ out. subst Pieces (sym stands.begins)
+    (all_stand more stands.first stands.others rest before
+    (subst Come (sym last)
+    (becomes law less more wider piece (position_of less pieces) (position_of more rest)
+    (last_of (events_of pieces)) stands.first stands.others out said stands.begins moved
+    stands.comes))
+    (subst AreSpaced stands.begins order.0.spaced)))
+    (λ kept. (
+      record { said = said_stays law less more wider piece kept said; spaced = order.0.spaced },
+      record {
+        first = stands.first;
+        others = stands.others;
+        begins = stands.begins;
+        comes = subst Comes (sym last)
+            (comes_as_it_did more piece (position_of less pieces) (position_of more rest)
+            (last_of (events_of pieces)) stands.first moved kept stands.comes);
+        levels = levels_fit more piece pieces kept stands.levels;
+      },
+      before,
+    ))

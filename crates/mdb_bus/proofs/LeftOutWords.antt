@@ -1,0 +1,242 @@
+-- What is said where further devices are left out: the words of a piece that stays, and those of
+-- one that becomes foreign acts.
+use Rattle.std.proofs.Common.{ap, refl, sym, subst, ◌∙◌, ◌≡◌, ◌<◌, ◌-◌, ◌+◌, arith, inl, inr, Bool, true, false, ℕ, List, [], ◌∷◌, Option, Some, All, slice_index, if◌then◌else◌}
+use Rattle.std.specs.List.{AllByRecursion}
+use Rattle.std.proofs.lemmas.Bool.{false_from_ne_true}
+use Rattle.std.proofs.lemmas.List.Elements.{recursion_from_All}
+use Rattle.mdb_words.specs.declared.event.Event.{Event}
+use Rattle.mdb_words.specs.declared.event.Event.TheVariants.{Word, Break}
+use Rattle.mdb_words.specs.declared.word.Line.{Line}
+use Rattle.mdb_words.specs.declared.word.Line.TheVariants.{Controller, Peripheral}
+use Rattle.mdb_blocks.specs.Block.{controller_words}
+use Rattle.mdb_msgs.specs.declared.command.Device.{Device}
+use Rattle.mdb_msgs.specs.declared.command.Device.TheVariants as devices
+use Rattle.mdb_msgs.specs.declared.command.ReaderUnit.TheVariants.{First, Second}
+use Rattle.mdb_msgs.specs.declared.need.Need.TheVariants.{Foreign}
+use Rattle.mdb_msgs.specs.Commands.{IsByte}
+use Rattle.mdb_msgs.specs.DeviceSets.{has}
+use Rattle.mdb_msgs.specs.Needs.{is_for, is_to_one_of, needed}
+use Rattle.mdb_bus.specs.declared.scope.Scope.{Scope}
+use Rattle.mdb_words.specs.declared.limits.TheConstants.{WORD_GAP_MIN}
+use Rattle.mdb_bus.specs.ActLists.{Position, InForeign, BlockMayCome, ForeignMayCome, NotBefore}
+use Rattle.mdb_bus.specs.Acts.{IsForeign, IsForeignOpening, IsForeignWord, Say, said_by}
+use Rattle.mdb_bus.specs.LeavingOut.{LeavesOutMore, begin_left_out}
+use Rattle.mdb_bus.specs.Scopes.{IsFollowed, needed_in}
+use Rattle.mdb_bus.proofs.Followed.{AreFollowed, needed_followed}
+use Rattle.mdb_bus.proofs.Rows.{begins_block}
+
+-- what is followed without further devices is followed with them
+pub also_followed : (less more : Scope) → LeavesOutMore less more → (device : Device)
+    → IsFollowed more device → IsFollowed less device
+also_followed less more wider device followed =
+    false_from_ne_true (has less.without device)
+    (λ out. let also = wider.left_out device out in cc)
+
+-- and so is what is said to it, by its first byte
+to_more : (less more : Scope) → LeavesOutMore less more → (first : ℕ)
+    → is_to_one_of more.without first ≡ false → is_to_one_of less.without first ≡ false
+to_more less more wider first none =
+    by_address (is_for 0x08 first) (is_for 0x10 first) (is_for 0x30 first) (is_for 0x60 first) none
+  where
+    by_address : (changer one bill other : Bool)
+        → (if changer then has more.without devices.Changer
+        else if one then has more.without (devices.Reader First)
+        else if bill then has more.without devices.Bill
+        else if other then has more.without (devices.Reader Second)
+        else false)
+        ≡ false
+        → (if changer then has less.without devices.Changer
+        else if one then has less.without (devices.Reader First)
+        else if bill then has less.without devices.Bill
+        else if other then has less.without (devices.Reader Second)
+        else false)
+        ≡ false
+    by_address true one bill other followed =
+        also_followed less more wider devices.Changer followed
+    by_address false true bill other followed =
+        also_followed less more wider (devices.Reader First) followed
+    by_address false false true other followed =
+        also_followed less more wider devices.Bill followed
+    by_address false false false true followed =
+        also_followed less more wider (devices.Reader Second) followed
+    by_address false false false false followed = refl
+
+-- bytes to a device that stays followed need what they needed
+same_need : (less more : Scope) → LeavesOutMore less more → (bytes : List ℕ)
+    → AreFollowed more bytes → needed_in less bytes ≡ needed_in more bytes
+same_need less more wider bytes followed =
+    needed_followed less bytes (to_more less more wider (slice_index bytes 0) followed)
+    ∙ sym (needed_followed more bytes followed)
+
+-- so what opened a foreign block opens one
+opening_stays : (less more : Scope) → LeavesOutMore less more → (bytes : List ℕ)
+    → AreFollowed more bytes → IsForeignOpening less bytes → IsForeignOpening more bytes
+opening_stays less more wider [] followed opening = absurd opening
+opening_stays less more wider (first ∷ []) followed opening =
+    sym (same_need less more wider (first ∷ []) followed) ∙ opening
+opening_stays less more wider (first ∷ second ∷ []) followed opening = (
+  sym (same_need less more wider (first ∷ []) followed) ∙ opening.0,
+  sym (same_need less more wider (first ∷ second ∷ []) followed) ∙ opening.1,
+  opening.2,
+)
+opening_stays less more wider (first ∷ second ∷ third ∷ bytes) followed opening = absurd opening
+
+-- the first byte of a block to a device that is left out opens one by itself
+left_out_opens : (scope : Scope) (byte : ℕ) → is_to_one_of scope.without byte ≡ true
+    → IsForeignOpening scope (byte ∷ [])
+left_out_opens scope byte out =
+    ap (λ (left_out : Bool). if left_out then Foreign else needed (byte ∷ [])) out
+
+-- events are foreign words
+abbrev pub AreForeignWords : List Event → Type 0
+AreForeignWords [] = Unit {0}
+AreForeignWords (event ∷ events) = IsForeignWord event × AreForeignWords events
+
+-- a word's number, by what its event says
+low_word : (event : Event) (byte : ℕ) → said_by event ≡ Some (Controller, byte) → byte < 256
+    → IsForeignWord event
+low_word (Word at Controller word) byte says low =
+    let one : Line × ℕ = (Controller, word) in
+    let other : Line × ℕ = (Controller, byte) in
+    let same : one ≡ other = cc in
+    let is : word ≡ byte = ap (λ (p : Line × ℕ). p.1) same in
+    omega (arith, is, low)
+low_word (Word at Peripheral word) byte says low = tt
+low_word (Break at length) byte says low = cc
+
+-- the controller's words after the first of a block are foreign words
+low_words : (bytes : List ℕ) (events : List Event) → AllByRecursion IsByte bytes
+    → Say Controller bytes events → AreForeignWords events
+low_words bytes [] low says = tt
+low_words [] (event ∷ events) low says = cc
+low_words (byte ∷ bytes) (event ∷ events) low says =
+    let one : said_by event ≡ Some (Controller, byte) = cc in
+    let rest : Say Controller bytes events = cc in
+    (low_word event byte one low.0, low_words bytes events low.1 rest)
+
+-- and so are all words of a peripheral
+a_peripheral_word : (event : Event) (word : ℕ) → said_by event ≡ Some (Peripheral, word)
+    → IsForeignWord event
+a_peripheral_word (Word at Controller said) word says =
+    let one : Line × ℕ = (Controller, said) in
+    let other : Line × ℕ = (Peripheral, word) in
+    let same : one ≡ other = cc in
+    let line : Controller ≡ Peripheral = ap (λ (p : Line × ℕ). p.0) same in
+    cc line
+a_peripheral_word (Word at Peripheral said) word says = tt
+a_peripheral_word (Break at length) word says = cc
+
+pub peripheral_foreign : (words : List ℕ) (events : List Event) → Say Peripheral words events
+    → AreForeignWords events
+peripheral_foreign words [] says = tt
+peripheral_foreign [] (event ∷ events) says = cc
+peripheral_foreign (word ∷ words) (event ∷ events) says =
+    let one : said_by event ≡ Some (Peripheral, word) = cc in
+    let rest : Say Peripheral words events = cc in
+    (a_peripheral_word event word one, peripheral_foreign words events rest)
+
+-- an answer of the controller is a foreign word
+pub answer_foreign : (word : ℕ) (events : List Event) → word < 256
+    → Say Controller (word ∷ []) events → AreForeignWords events
+answer_foreign word events low says = low_words (word ∷ []) events (low, tt) says
+
+-- whose block events begin is told by the byte of their first word
+begin_to : (scope : Scope) (byte : ℕ) (bytes : List ℕ) (events : List Event)
+    → Say Controller ((256 + byte) ∷ bytes) events
+    → begin_left_out scope events ≡ is_to_one_of scope.without byte
+begin_to scope byte bytes [] says = cc
+begin_to scope byte bytes (Word at Controller word ∷ events) says =
+    let one : Line × ℕ = (Controller, word) in
+    let other : Line × ℕ = (Controller, 256 + byte) in
+    let same : one ≡ other = cc in
+    let is : word ≡ 256 + byte = ap (λ (p : Line × ℕ). p.1) same in
+    let rest : word - 256 ≡ byte = omega (arith, is) in
+    ap (is_to_one_of scope.without) rest
+begin_to scope byte bytes (Word at Peripheral word ∷ events) says =
+    let one : Line × ℕ = (Peripheral, word) in
+    let other : Line × ℕ = (Controller, 256 + byte) in
+    let same : one ≡ other = cc in
+    let line : Peripheral ≡ Controller = ap (λ (p : Line × ℕ). p.0) same in
+    cc line
+begin_to scope byte bytes (Break at length ∷ events) says = cc
+
+-- a foreign act that doesn't begin a block to a device that is left out is foreign as it was
+pub foreign_stays : (less more : Scope) → LeavesOutMore less more → (events : List Event)
+    → begin_left_out more events ≡ false → IsForeign less events → IsForeign more events
+foreign_stays less more wider events kept (inl ([], opening, says)) = absurd opening
+foreign_stays less more wider events kept (inl (byte ∷ bytes, opening, says)) =
+    let followed : AreFollowed more (byte ∷ bytes) = sym (begin_to more byte bytes events says)
+    ∙ kept in
+    inl (byte ∷ bytes, opening_stays less more wider (byte ∷ bytes) followed opening, says)
+foreign_stays less more wider events kept (inr further) = inr further
+
+-- The first event of a piece and the others, as foreign acts where the bus is.
+pub record Becomes (scope : Scope) (position : Position) (from : Option Event) (first : Event)
+    (others : List Event) : Type 0 where
+  pub act : IsForeign scope (first ∷ [])
+  pub comes : ForeignMayCome position from first
+  pub words : AreForeignWords others
+
+-- a block to a device that is left out opens foreign traffic by its first word
+first_opens : (scope : Scope) (byte : ℕ) (rest : List ℕ) (position : Position)
+    (from : Option Event) (first : Event) (others : List Event)
+    → is_to_one_of scope.without byte ≡ true → AllByRecursion IsByte rest
+    → Say Controller ((256 + byte) ∷ rest) (first ∷ others) → ForeignMayCome position from first
+    → Becomes scope position from first others
+first_opens scope byte rest position from first others out low says comes =
+    let one : said_by first ≡ Some (Controller, 256 + byte) = cc in
+    let more : Say Controller rest others = cc in
+    record {
+      act = inl (byte ∷ [], left_out_opens scope byte out, ap (λ s. s ∷ []) one);
+      comes = comes;
+      words = low_words rest others low more;
+    }
+
+pub as_block : (scope : Scope) (bytes : List ℕ) (position : Position) (from : Option Event)
+    (first : Event) (others : List Event)
+    → is_to_one_of scope.without (slice_index bytes 0) ≡ true → All IsByte bytes
+    → Say Controller (controller_words bytes) (first ∷ others) → BlockMayCome position from first
+    → Becomes scope position from first others
+as_block scope [] position from first others out low says comes = cc
+as_block scope (byte ∷ rest) position from first others out low says comes =
+    first_opens scope byte rest position from first others out
+    (recursion_from_All IsByte (byte ∷ rest) low).1 says
+    (inl (begins_block (byte ∷ rest) first others (λ none. cc) says, comes))
+
+-- words inside foreign traffic are foreign words
+pub as_words : (scope : Scope) (position : Position) (from : Option Event) (first : Event)
+    (others : List Event)
+    → AreForeignWords (first ∷ others) → position ≡ InForeign → NotBefore WORD_GAP_MIN from first
+    → Becomes scope position from first others
+as_words scope position from first others words here late = record {
+  act = inr (first, refl, words.0);
+  comes = inr (words.0, here, late);
+  words = words.1;
+}
+
+-- a foreign act that begins a block to such a device is one for each of its words
+pub as_foreign : (less more : Scope) (position : Position) (from : Option Event) (first : Event)
+    (others : List Event)
+    → begin_left_out more (first ∷ others) ≡ true → IsForeign less (first ∷ others)
+    → ForeignMayCome position from first → Becomes more position from first others
+as_foreign less more position from first others out (inl ([], opening, says)) comes =
+    absurd opening
+as_foreign less more position from first others out (inl (byte ∷ [], opening, says)) comes =
+    first_opens more byte [] position from first others
+    (sym (begin_to more byte [] (first ∷ others) says) ∙ out) tt says comes
+as_foreign less more position from first others out (inl (byte ∷ next ∷ [], opening, says)) comes =
+    first_opens more byte (next ∷ []) position from first others
+    (sym (begin_to more byte (next ∷ []) (first ∷ others) says) ∙ out) (opening.2, tt) says comes
+as_foreign less more position from first others out
+    (inl (byte ∷ next ∷ third ∷ bytes, opening, says)) comes =
+    absurd opening
+as_foreign less more position from first others out (inr further) comes =
+    let is : first ∷ others ≡ further.0 ∷ [] = further.1 in
+    let same : further.0 ≡ first = cc in
+    let alone : [] ≡ others = cc in
+    let word : IsForeignWord first = subst IsForeignWord same further.2 in
+    record {
+      act = inr (first, refl, word);
+      comes = comes;
+      words = subst AreForeignWords alone tt;
+    }

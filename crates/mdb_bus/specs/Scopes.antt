@@ -1,0 +1,31 @@
+-- How a recording is taken (this profile): what is followed of it.
+use Rattle.std.specs.Prelude.{◌≡◌, ℕ, List, false, true}
+use Rattle.mdb_msgs.specs.declared.command.Command.{Command}
+use Rattle.mdb_msgs.specs.declared.command.Device.{Device}
+use Rattle.mdb_msgs.specs.declared.device_set.DeviceSet.{DeviceSet}
+use Rattle.mdb_msgs.specs.declared.need.Need.{Need}
+use Rattle.mdb_msgs.specs.Commands.{Spells, device_of}
+use Rattle.mdb_msgs.specs.DeviceSets.{has}
+use Rattle.mdb_msgs.specs.Needs.{needed_without}
+use Rattle.mdb_bus.specs.declared.scope.Beginning.TheVariants.{PowerOn}
+use Rattle.mdb_bus.specs.declared.scope.Scope.{Scope}
+
+-- from power-on, with these devices left out
+abbrev pub leaving_out : DeviceSet → Scope
+leaving_out devices = record { begins = PowerOn; without = devices }
+
+-- a device is followed, or left out
+abbrev pub IsFollowed : Scope → Device → Type 0
+IsFollowed scope device = has scope.without device ≡ false
+
+abbrev pub IsLeftOut : Scope → Device → Type 0
+IsLeftOut scope device = has scope.without device ≡ true
+
+-- what a block that begins with these bytes needs: one to a device that is left out is foreign
+abbrev pub needed_in : Scope → List ℕ → Need
+needed_in scope prefix = needed_without scope.without prefix
+
+-- a command of a device that is followed, and its block
+pub record Asks (scope : Scope) (command : Command) (block : List ℕ) : Type 0 where
+  pub spells : Spells command block
+  pub followed : IsFollowed scope (device_of command)

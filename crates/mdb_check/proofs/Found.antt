@@ -1,0 +1,102 @@
+-- What is found of an option: after uses of options, and in the matches.
+use Rattle.std.proofs.Common.{ap, ap₂, refl, sym, true, false, ◌∙◌, ◌≡◌, Bool, List, [], ◌∷◌, ◌++◌, append_assoc, inl, inr, Option, Some, None, map, option_map, true≢false, unwrap_or}
+use Rattle.std.proofs.lemmas.List.{append-nil}
+use Rattle.std.specs.Prelude.{find, if◌then◌else◌}
+use Rattle.std.specs.Str.{bytes_eq}
+use Rattle.std.proofs.lemmas.Bool.{cases_Bool}
+use Rattle.std.proofs.lemmas.Slice.Eq.{bytes_eq-Decides}
+use Rattle.std.specs.Borrow.{Bor}
+use Rattle.clap.proofs.WalkLemmas.{raw_values-rows}
+use Rattle.clap.specs.Matches.{matched_of, raw_values}
+use Rattle.clap.specs.Walk.{Row, Text, rows_of, stronger}
+use Rattle.clap.specs.declared.parser.matches.Found.{Found}
+use Rattle.clap.specs.declared.builder.value_parser.Reading.TheVariants.{AsWritten}
+use Rattle.clap.specs.declared.parser.matches.ValueSource.TheVariants.{CommandLine}
+use Rattle.mdb_check.specs.inner.CommandLine.{values_of}
+use Rattle.mdb_check.proofs.Options.{Uses, found_after, found_with}
+
+-- the values of an option, in their order
+abbrev pub chosen : Text → Uses → List Text
+chosen name [] = []
+chosen name (one ∷ uses) = if bytes_eq one.0 name then one.1 ∷ chosen name uses else chosen name uses
+
+-- a value of an option is one more of its own values
+abbrev own : Text → Text × Text → List Text
+own name one = if bytes_eq one.0 name then one.1 ∷ [] else []
+
+is_own : (name : Text) (one : Text × Text) → one.0 ≡ name → own name one ≡ one.1 ∷ []
+is_own name one same = ap (λ b. if b then one.1 ∷ [] else []) ((bytes_eq-Decides one.0 name).1 same)
+
+is_another's : (name : Text) (one : Text × Text) → bytes_eq one.0 name ≡ false → own name one ≡ []
+is_another's name one other = ap (λ b. if b then one.1 ∷ [] else []) other
+
+-- the values stand in the first row of the option
+abbrev First : Text → Row → List Row → Bool → List Text
+First name row rows b = unwrap_or (option_map (λ r. r.values) (if b then Some row else find (λ r. bytes_eq r.id name) rows)) []
+
+in_first : (name : Text) (row : Row) (rows : List Row) → bytes_eq row.id name ≡ true → values_of name (row ∷ rows) ≡ row.values
+in_first name row rows same = ap (First name row rows) same
+
+in_rest : (name : Text) (row : Row) (rows : List Row) → bytes_eq row.id name ≡ false → values_of name (row ∷ rows) ≡ values_of name rows
+in_rest name row rows other = ap (First name row rows) other
+
+-- the row of an option with one value more
+abbrev more : Text × Text → Row → Row
+more one row = record row { values = row.values ++ one.1 ∷ []; source = Some (stronger row.source CommandLine) }
+
+-- what is found after a use: the first row has its value more, or what comes after it
+abbrev After : Text × Text → Row → List Row → Bool → List Row
+After one row rows b = if b then more one row ∷ rows else row ∷ found_with rows one
+
+one_more : (name : Text) (one : Text × Text) (rows : List Row) → values_of name (found_with rows one) ≡ values_of name rows ++ own name one
+one_more name one [] = by (bytes_eq one.0 name)
+  where
+    by : (b : Bool) → unwrap_or (option_map (λ (r : Row). r.values) (if b then Some (record { id = one.0; values = one.1 ∷ []; count = None; source = Some CommandLine; reading = AsWritten }) else None)) []
+        ≡ (if b then one.1 ∷ [] else [])
+    by true = refl
+    by false = refl
+one_more name one (row ∷ rows) = elim (cases_Bool (bytes_eq row.id one.0)) [
+  | inl here ↦ elim (cases_Bool (bytes_eq row.id name)) [
+    | inl same ↦
+        ap (λ b. values_of name (After one row rows b)) here ∙ in_first name (more one row) rows same
+        ∙ ap₂ (λ old new. old ++ new) (sym (in_first name row rows same)) (sym (is_own name one (sym (id here) ∙ (bytes_eq-Decides row.id name).0 same)))
+    | inr other ↦
+        ap (λ b. values_of name (After one row rows b)) here ∙ in_rest name (more one row) rows other ∙ sym (append-nil (values_of name rows))
+        ∙ ap₂ (λ old new. old ++ new) (sym (in_rest name row rows other)) (sym (is_another's name one (ap (λ i. bytes_eq i name) (sym (id here)) ∙ other)))
+  ]
+  | inr there ↦ elim (cases_Bool (bytes_eq row.id name)) [
+    | inl same ↦
+        ap (λ b. values_of name (After one row rows b)) there ∙ in_first name row (found_with rows one) same ∙ sym (append-nil row.values)
+        ∙ ap₂ (λ old new. old ++ new) (sym (in_first name row rows same)) (sym (is_another's name one (unlike ((bytes_eq-Decides row.id name).0 same) there)))
+    | inr other ↦
+        ap (λ b. values_of name (After one row rows b)) there ∙ in_rest name row (found_with rows one) other ∙ one_more name one rows
+        ∙ ap (λ old. old ++ own name one) (sym (in_rest name row rows other))
+  ]
+]
+  where
+    id : bytes_eq row.id one.0 ≡ true → row.id ≡ one.0
+    id here = (bytes_eq-Decides row.id one.0).0 here
+
+    unlike : row.id ≡ name → bytes_eq row.id one.0 ≡ false → bytes_eq one.0 name ≡ false
+    unlike same there = elim (cases_Bool (bytes_eq one.0 name)) [
+      | inl also ↦ absurd (true≢false (sym ((bytes_eq-Decides row.id one.0).1 (same ∙ sym ((bytes_eq-Decides one.0 name).0 also))) ∙ there))
+      | inr not ↦ not
+    ]
+
+chosen_first : (name : Text) (one : Text × Text) (uses : Uses) → own name one ++ chosen name uses ≡ chosen name (one ∷ uses)
+chosen_first name one uses = by (bytes_eq one.0 name)
+  where
+    by : (b : Bool) → (if b then one.1 ∷ [] else []) ++ chosen name uses ≡ (if b then one.1 ∷ chosen name uses else chosen name uses)
+    by true = refl
+    by false = refl
+
+pub values_found : (name : Text) (uses : Uses) (rows : List Row) → values_of name (found_after uses rows) ≡ values_of name rows ++ chosen name uses
+values_found name [] rows = sym (append-nil (values_of name rows))
+values_found name (one ∷ uses) rows =
+    values_found name uses (found_with rows one) ∙ ap (λ values. values ++ chosen name uses) (one_more name one rows)
+    ∙ append_assoc (values_of name rows) (own name one) (chosen name uses) ∙ ap (λ values. values_of name rows ++ values) (chosen_first name one uses)
+
+-- the values that the matches tell
+pub values_read : (found : Found) (name : Text) (told : Option (Bor (List (Bor Text)))) → option_map (λ s. map (λ v. v.now) s.now) told ≡ option_map raw_values (matched_of found name)
+    → unwrap_or (option_map (λ s. map (λ v. v.now) s.now) told) [] ≡ values_of name (rows_of found)
+values_read found name told is = ap (λ o. unwrap_or o []) (is ∙ raw_values-rows found name)

@@ -1,0 +1,15 @@
+use Rattle.mdb_follow.proofs.ReportsWithout.{nothing_left}
+use Rattle.mdb_follow.proofs.laws.reports_have_nothing_of_devices_left_out.Goals as goal
+
+pub returns : goal.returns
+returns c = nothing_left (record {
+  one = c.transcripts_have_one_act_list.ensures;
+  names = c.acts_name_devices_that_are_followed.ensures;
+  alone = c.devices_left_out_have_a_part_in_breaks_alone.ensures;
+  adds = c.runs_add_nothing_of_devices_left_out.ensures;
+  facts = record {
+    changer = c.breaks_tell_nothing_of_the_changer.ensures;
+    bill = c.breaks_tell_nothing_of_the_validator.ensures;
+    reader = c.breaks_tell_nothing_of_a_reader.ensures;
+  };
+})

@@ -1,0 +1,33 @@
+-- What runs and reports come to where further devices are left out (this profile).
+use Rattle.std.specs.Prelude.{◌≡◌, Option, None}
+use Rattle.mdb_msgs.specs.declared.command.Device.{Device}
+use Rattle.mdb_bus.specs.declared.scope.Scope.{Scope}
+use Rattle.mdb_bus.specs.Scopes.{IsFollowed, IsLeftOut}
+use Rattle.mdb_follow.specs.declared.account_name.AccountName.{AccountName}
+use Rattle.mdb_follow.specs.declared.report.Report.{Report}
+use Rattle.mdb_follow.specs.AccountNames.{account_device}
+use Rattle.mdb_follow.specs.Report.{account_of, device_decimals, device_silences, no_account}
+use Rattle.mdb_follow.specs.Runs.{AllSums}
+use Rattle.mdb_follow.specs.Sums.{no_sums}
+
+-- sums without the devices that a scope leaves out: the same of the others, and nothing of these
+pub record AreSumsWithout (scope : Scope) (sums other : AllSums) : Type 0 where
+  pub followed : (device : Device) → IsFollowed scope device → other device ≡ sums device
+  pub left_out : (device : Device) → IsLeftOut scope device → other device ≡ no_sums
+
+-- a report has nothing of the devices that a scope leaves out
+pub record HasNothingLeftOut (scope : Scope) (report : Report) : Type 0 where
+  pub accounts : (account : AccountName) → IsLeftOut scope (account_device account)
+      → account_of account report ≡ no_account
+  pub decimals : (device : Device) → IsLeftOut scope device → device_decimals device report ≡ None
+  pub silences : (device : Device) → IsLeftOut scope device → device_silences device report ≡ 0
+
+-- two reports have the same of the devices that a scope follows
+pub record HaveSameFollowed (scope : Scope) (one other : Report) : Type 0 where
+  pub rows : one.rows ≡ other.rows
+  pub accounts : (account : AccountName) → IsFollowed scope (account_device account)
+      → account_of account one ≡ account_of account other
+  pub decimals : (device : Device) → IsFollowed scope device
+      → device_decimals device one ≡ device_decimals device other
+  pub silences : (device : Device) → IsFollowed scope device
+      → device_silences device one ≡ device_silences device other
