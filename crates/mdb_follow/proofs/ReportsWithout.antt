@@ -1,10 +1,13 @@
 -- Reports, reached rows and offences where further devices are left out.
 use Rattle.std.proofs.Common.{ap, refl, subst, sym, ◌∙◌, ◌≡◌, ◌⊎◌, inl, inr, ℕ, ℤ, ◌≤ℤ◌, pos}
 use Rattle.std.specs.Prelude.{◌-ℤ◌}
+use Rattle.std.proofs.Common.{Bool, true, false, arith, length}
 use Rattle.std.proofs.Common.{List, [], ◌∷◌, ◌++◌, Option, Some, None, All, option_map}
+use Rattle.std.proofs.lemmas.Int.{ints}
 use Rattle.std.proofs.lemmas.List.Elements.{All-from_recursion}
 use Rattle.mdb_words.specs.declared.event.Event.{Event}
 use Rattle.mdb_msgs.specs.Commands.{device_of}
+use Rattle.mdb_msgs.specs.DeviceSets.{has}
 use Rattle.mdb_msgs.specs.declared.command.Device.{Device}
 use Rattle.mdb_msgs.specs.declared.command.Device.TheVariants as devices
 use Rattle.mdb_msgs.specs.declared.command.ReaderUnit.{ReaderUnit}
@@ -35,7 +38,7 @@ use Rattle.mdb_follow.specs.LeavingOut.{AreSumsWithout, HasNothingLeftOut, HaveS
 use Rattle.mdb_follow.specs.Offences.{BreaksLink, BreaksMachine, IsOffence}
 use Rattle.mdb_follow.specs.Ranges.{IsAccount, IsRange}
 use Rattle.mdb_follow.specs.Report.{IsReport, account_of, decimals_of, device_decimals}
-use Rattle.mdb_follow.specs.Report.{device_silences, no_account}
+use Rattle.mdb_follow.specs.Report.{device_silences, no_account, report_of}
 use Rattle.mdb_follow.specs.Runs.{AllSums, IsReached, Run}
 use Rattle.mdb_follow.specs.Senders.{sender_of}
 use Rattle.mdb_follow.specs.Silences.{limit_of, reader_limit, silences}
@@ -161,26 +164,36 @@ pub record ReportLaws : Type 0 where
       → acts_with device (acts_of (leave_out scope pieces)) ≡ acts_with device (acts_of pieces)
   pub facts : FactsAlike
 
+covers : RunsWithout → (less more : Scope) (rows : List Event) → LeavesOutMore less more
+    → (account : AccountName) → IsFollowed more (account_device account)
+    → Covers (Run less rows) (Run more rows) account
+covers laws less more rows leaves account followed sums run =
+    let without = laws.to less more rows sums leaves run in (
+      without.0,
+      without.2,
+      of_device account sums without.0 (sym (without.1.followed (account_device account) followed)),
+    )
+
+covered : RunsWithout → (less more : Scope) (rows : List Event) → LeavesOutMore less more
+    → IsReached less rows → (account : AccountName) → IsFollowed more (account_device account)
+    → Covers (Run more rows) (Run less rows) account
+covered laws less more rows leaves reached account followed sums run =
+    let with = laws.from less more rows sums leaves reached run in (
+      with.0,
+      with.2,
+      of_device account sums with.0 (with.1.followed (account_device account) followed),
+    )
+
 same_account : RunsWithout → (less more : Scope) (rows : List Event) (one other : Report)
     → LeavesOutMore less more → IsReport less rows one → IsReport more rows other
     → (account : AccountName) → IsFollowed more (account_device account)
     → account_of account one ≡ account_of account other
 same_account laws less more rows one other leaves is other_is account followed =
-    let to : Covers (Run less rows) (Run more rows) account = λ sums run.
-    let without = laws.to less more rows sums leaves run in (
-      without.0,
-      without.2,
-      of_device account sums without.0 (sym (without.1.followed (account_device account) followed)),
-    ) in
-    let from : Covers (Run more rows) (Run less rows) account = λ sums run.
-    let with = laws.from less more rows sums leaves is.reached run in (
-      with.0,
-      with.2,
-      of_device account sums with.0 (with.1.followed (account_device account) followed),
-    ) in
     one-account (Run more rows) (sums_of account) (account_of account one)
     (account_of account other)
-    (account_moves (Run less rows) (Run more rows) account (account_of account one) to from
+    (account_moves (Run less rows) (Run more rows) account (account_of account one)
+    (covers laws less more rows leaves account followed)
+    (covered laws less more rows leaves is.reached account followed)
     (named-account less rows one is account))
     (named-account more rows other other_is account)
 
@@ -213,16 +226,7 @@ same_followed laws less more rows one other leaves is other_is =
           list device);
     }
 
--- a range of sums of which each is nothing is nothing
-nothing_range : {S : Type 0} (Kind : S → Type 0) (value : S → ℤ) (range : Range)
-    → ((sums : S) → Kind sums → value sums ≡ pos 0) → IsRange Kind value range
-    → range ≡ record { least = pos 0; greatest = pos 0 }
-nothing_range Kind value range nothing is =
-    let made : ℤ → ℤ → Range = λ l g. record { least = l; greatest = g } in
-    ap (λ l. made l range.greatest)
-    (sym is.least.2 ∙ nothing is.least.0 is.least.1)
-    ∙ ap (λ g. made (pos 0) g) (sym is.greatest.2 ∙ nothing is.greatest.0 is.greatest.1)
-
+-- what an account has come to where its device's sums are nothing
 nothing_in : (account : AccountName) (sums : AllSums) → sums (account_device account) ≡ no_sums
     → (value : AccountSums → ℤ) (made : ℤ)
     → value (record { device = 0; controller = 0 }) ≡ made
@@ -237,6 +241,89 @@ nothing_in account sums nothing value made is =
     of_none PaidOut = refl
     of_none (Approved unit) = refl
     of_none (Sold unit) = refl
+
+-- nothing for a device that is left out, and else what there was
+account_if : Bool → Account → Account
+account_if true account = no_account
+account_if false account = account
+
+-- Where there are sums of a kind, and they are nothing, nothing is their account.
+none_is : (Kind : AllSums → Type 0) (account : AccountName) (some : AllSums) → Kind some
+    → ((sums : AllSums) → Kind sums → sums (account_device account) ≡ no_sums)
+    → IsAccount Kind (sums_of account) no_account
+none_is Kind account some kind nothing =
+    let range : (value : AccountSums → ℤ) → value (record { device = 0; controller = 0 }) ≡ pos 0
+    → IsRange Kind (λ sums. value (sums_of account sums))
+    (record { least = pos 0; greatest = pos 0 }) =
+    λ value zero_is.
+    let at : (sums : AllSums) → Kind sums → value (sums_of account sums) ≡ pos 0 =
+    λ sums its. nothing_in account sums (nothing sums its) value (pos 0) zero_is in
+    record {
+      least = (some, kind, at some kind);
+      greatest = (some, kind, at some kind);
+      low = λ sums its. subst (λ z. pos 0 ≤ℤ z) (sym (at sums its)) same_end;
+      high = λ sums its. subst (λ z. z ≤ℤ pos 0) (sym (at sums its)) same_end;
+    } in
+    record {
+      device = range (λ a. pos a.device) refl;
+      controller = range (λ a. pos a.controller) refl;
+      difference = range (λ a. pos a.device -ℤ pos a.controller) refl;
+    }
+  where
+    same_end : pos 0 ≤ℤ pos 0
+    same_end = omega (arith, ints)
+
+-- the accounts of a report without further devices are exact again
+accounts_without : RunsWithout → (less more : Scope) (rows : List Event) (one : Report)
+    → LeavesOutMore less more → IsReport less rows one
+    → ((sums : AllSums) → Run more rows sums → (device : Device) → IsLeftOut more device
+    → sums device ≡ no_sums)
+    → (account : AccountName) (left : Bool) → has more.without (account_device account) ≡ left
+    → IsAccount (Run more rows) (sums_of account) (account_if left (account_of account one))
+unfolding account_if
+accounts_without laws less more rows one leaves is adds account true left =
+    let some = laws.to less more rows is.reached.0 leaves is.reached.1 in
+    none_is (Run more rows) account some.0 some.2
+    (λ sums run. adds sums run (account_device account) left)
+accounts_without laws less more rows one leaves is adds account false followed =
+    account_moves (Run less rows) (Run more rows) account (account_of account one)
+    (covers laws less more rows leaves account followed)
+    (covered laws less more rows leaves is.reached account followed)
+    (named-account less rows one is account)
+
+-- So there is a report without further devices.
+pub report_without : ReportLaws → ((scope : Scope) (rows : List Event) (sums : AllSums)
+    → Run scope rows sums → (device : Device) → IsLeftOut scope device → sums device ≡ no_sums)
+    → (less more : Scope) (rows : List Event) (one : Report) → LeavesOutMore less more
+    → IsReport less rows one
+    → (other : Report) × IsReport more rows other × HaveSameFollowed more one other
+report_without laws adds less more rows one leaves is =
+    let accounts : AccountName → Account = λ account.
+    account_if (has more.without (account_device account)) (account_of account one) in
+    let reached : IsReached more rows =
+    let other = laws.runs.to less more rows is.reached.0 leaves is.reached.1 in
+    (other.0, other.2) in
+    let other : Report = report_of (length rows) (leave_out more is.pieces) accounts in
+    let other_is : IsReport more rows other = record {
+      reached = reached;
+      pieces = leave_out more is.pieces;
+      act_list = laws.stays less more rows is.pieces leaves is.act_list;
+      accounts = accounts;
+      of_runs = λ account. accounts_without laws.runs less more rows one leaves is (adds more rows)
+          account (has more.without (account_device account)) refl;
+      telling = refl;
+    } in
+    (other, other_is, same_followed laws less more rows one other leaves is other_is)
+
+-- a range of sums of which each is nothing is nothing
+nothing_range : {S : Type 0} (Kind : S → Type 0) (value : S → ℤ) (range : Range)
+    → ((sums : S) → Kind sums → value sums ≡ pos 0) → IsRange Kind value range
+    → range ≡ record { least = pos 0; greatest = pos 0 }
+nothing_range Kind value range nothing is =
+    let made : ℤ → ℤ → Range = λ l g. record { least = l; greatest = g } in
+    ap (λ l. made l range.greatest)
+    (sym is.least.2 ∙ nothing is.least.0 is.least.1)
+    ∙ ap (λ g. made (pos 0) g) (sym is.greatest.2 ∙ nothing is.greatest.0 is.greatest.1)
 
 no_account_left : (scope : Scope) (rows : List Event) (account : AccountName) (ranges : Account)
     → ((sums : AllSums) → Run scope rows sums → sums (account_device account) ≡ no_sums)

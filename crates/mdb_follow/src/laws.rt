@@ -211,7 +211,8 @@ pub fn runs_add_nothing_of_devices_left_out()
     cash_laws::own_acts_are_those_that_a_device_has_a_part_in();
 }
 
-/// A report on rows is, without further devices, the same of those that are followed still.
+/// Two reports on rows, of which one is without further devices, are the same of those that both
+/// follow.
 pub fn reports_stay_without_further_devices()
     ensures { (less more : Scope) (rows : List Event) (one other : Report)
         → LeavesOutMore less more → IsReport less rows one → IsReport more rows other
@@ -225,6 +226,24 @@ pub fn reports_stay_without_further_devices()
     cashless_laws::a_readers_facts_are_of_its_own_acts();
     runs_go_on_without_further_devices();
     runs_without_further_devices_come_from_runs();
+}
+
+/// Rows that have a report have one without further devices, and it is the same of those that are
+/// followed still.
+pub fn reports_go_on_without_further_devices()
+    ensures { (less more : Scope) (rows : List Event) (one : Report) → LeavesOutMore less more
+        → IsReport less rows one
+        → (other : Report) × IsReport more rows other × HaveSameFollowed more one other }
+{
+    laws::act_lists_stay_without_further_devices();
+    laws::acts_of_followed_devices_stay();
+    laws::transcripts_have_one_act_list();
+    cash_laws::the_changers_facts_are_of_its_own_acts();
+    cash_laws::the_validators_facts_are_of_its_own_acts();
+    cashless_laws::a_readers_facts_are_of_its_own_acts();
+    runs_go_on_without_further_devices();
+    runs_without_further_devices_come_from_runs();
+    runs_add_nothing_of_devices_left_out();
 }
 
 /// A report has nothing of the devices that are left out.

@@ -1,0 +1,18 @@
+use Rattle.mdb_follow.proofs.ReportsWithout.{report_without}
+use Rattle.mdb_follow.proofs.laws.reports_go_on_without_further_devices.Goals as goal
+
+pub returns : goal.returns
+returns c = report_without (record {
+  runs = record {
+    to = c.runs_go_on_without_further_devices.ensures;
+    from = c.runs_without_further_devices_come_from_runs.ensures;
+  };
+  one = c.transcripts_have_one_act_list.ensures;
+  stays = c.act_lists_stay_without_further_devices.ensures;
+  followed = c.acts_of_followed_devices_stay.ensures.followed;
+  facts = record {
+    changer = c.the_changers_facts_are_of_its_own_acts.ensures;
+    bill = c.the_validators_facts_are_of_its_own_acts.ensures;
+    reader = c.a_readers_facts_are_of_its_own_acts.ensures;
+  };
+}) c.runs_add_nothing_of_devices_left_out.ensures
