@@ -1,14 +1,22 @@
 //! Laws of verdicts. Each function's contract is the law, and its body calls the laws that it rests
 //! on.
 
-ghost use Rattle.std.specs.Prelude.{◌≡◌, ◌+◌, ℕ, List, Option, Result, Ok, length};
+ghost use Rattle.std.specs.Prelude.{◌≡◌, ◌+◌, ℕ, List, None, Option, Result, Ok, Some, length};
+ghost use Rattle.mdb_msgs.specs.declared.command.Device.{Device};
 ghost use Rattle.mdb_msgs.specs.declared.device_set.DeviceSet.{DeviceSet};
 ghost use Rattle.mdb_bus.specs.ActLists.{events_of};
 ghost use Rattle.mdb_bus.specs.declared.fault.LinkFault.{LinkFault};
+ghost use Rattle.mdb_bus.specs.LeavingOut.{LeavesOutMore};
+ghost use Rattle.mdb_bus.specs.LinkFaults.{blame_on};
+ghost use Rattle.mdb_bus.specs.Scopes.{IsFollowed};
 ghost use Rattle.mdb_bus.specs.declared.scope.Scope.{Scope};
+ghost use Rattle.mdb_follow.specs.LeavingOut.{HasNothingLeftOut, HaveSameFollowed};
+ghost use Rattle.mdb_follow.specs.declared.offence.Offence.{Offence};
+ghost use Rattle.mdb_follow.specs.declared.report.Report.{Report};
 ghost use Rattle.mdb_follow.specs.declared.follower.TheConstants.{ROWS_MAX};
 ghost use Rattle.mdb_check.specs.declared.verdict.TheConstants.{BYTES_MAX};
 ghost use Rattle.mdb_check.specs.declared.outcome.Outcome.{Outcome};
+ghost use Rattle.mdb_check.specs.declared.outcome.Outcome.TheVariants.{No, Yes};
 ghost use Rattle.mdb_check.specs.declared.outcome.RunFault.{RunFault};
 ghost use Rattle.mdb_check.specs.Headline.{Headline};
 ghost use Rattle.mdb_check.specs.Program.{NamesTask};
@@ -77,10 +85,51 @@ pub fn shown_faults_are_those_of_verdicts()
     links::rows_that_break_a_rule_end_the_act_list();
 }
 
+/// A yes stays a yes where further devices are left out, and its report is the same of those that
+/// are followed still.
+pub fn yeses_stay_without_further_devices()
+    ensures { (less more : Scope) (limit : ℕ) (records : List (List (List ℕ))) (one : Report)
+        → LeavesOutMore less more → IsAnswer less limit records (Ok (Yes one))
+        → (other : Report) × IsAnswer more limit records (Ok (Yes other))
+        × HaveSameFollowed more one other }
+{
+    laws::reports_go_on_without_further_devices();
+    laws::sales_follow_their_approvals();
+}
+
+/// Records that are shown to their end without a fault are shown so where further devices are left
+/// out.
+pub fn whole_texts_are_shown_whole_without_further_devices()
+    ensures { (less more : Scope) (records : List (List (List ℕ))) (text : List ℕ)
+        → LeavesOutMore less more → IsShowing less records (Ok None) text
+        → (other : List ℕ) × IsShowing more records (Ok None) other }
+{
+    links::pieces_stay_in_order_without_further_devices();
+}
+
+/// A device that is left out is never to blame, in a verdict and where rows are shown, and a yes
+/// has nothing of it.
+pub fn answers_have_nothing_of_devices_left_out()
+    ensures verdict { (scope : Scope) (limit : ℕ) (records : List (List (List ℕ)))
+        (offence : Offence) (device : Device) → IsAnswer scope limit records (Ok (No offence))
+        → offence.blame ≡ blame_on (Some device) → IsFollowed scope device }
+    ensures shown { (scope : Scope) (records : List (List (List ℕ))) (fault : LinkFault)
+        (text : List ℕ) (device : Device) → IsShowing scope records (Ok (Some fault)) text
+        → fault.blame ≡ blame_on (Some device) → IsFollowed scope device }
+    ensures nothing { (scope : Scope) (limit : ℕ) (records : List (List (List ℕ)))
+        (report : Report) → IsAnswer scope limit records (Ok (Yes report))
+        → HasNothingLeftOut scope report }
+{
+    links::faults_are_blamed_on_devices_that_are_followed();
+    laws::offences_are_blamed_on_devices_that_are_followed();
+    laws::reports_have_nothing_of_devices_left_out();
+}
+
 /// The words of a command line name one task at most, with one set of devices that are left out.
 ///
 /// So where they name one, the status of the program says what it says of that task with that set,
-/// or the words weren't read for want of memory.
+/// or it is 2, and nothing was written. (The program does that for want of memory alone: that is a
+/// promise of the private `task_of`.)
 pub fn command_lines_name_one_task()
     ensures { (words : List (List ℕ)) (a b : List ℕ) (left_out_a left_out_b : DeviceSet)
         → NamesTask words a left_out_a → NamesTask words b left_out_b

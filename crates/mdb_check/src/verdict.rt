@@ -99,8 +99,8 @@ pub fn check_within<R: Read + Drop, W: Write>(
 }
 
 /// Does as [`check`] does, of a recording that is taken as `scope` says: what is said to a device
-/// that is left out is foreign traffic, whatever it is, and the text of a yes names that device in
-/// one line more, its last.
+/// that is left out, and what it answers, is foreign traffic, whatever it is, and the text of a yes
+/// names that device in one line more, its last.
 ///
 /// # Errors
 ///
