@@ -47,7 +47,7 @@ pub record IsReply (command : Command) (reply : Reply) : Type 0 where
   pub content : IsContent (reply_bytes reply)
 
 -- The bytes that open a foreign block: an address that isn't followed, or the first byte of an
--- EXPANSION and a subcommand that this profile doesn't know.
+-- EXPANSION to a device that is, and a subcommand that this profile doesn't know.
 abbrev pub IsForeignOpening : Scope → List ℕ → Type 0
 IsForeignOpening scope (first ∷ []) = needed_in scope (first ∷ []) ≡ need.Foreign
 IsForeignOpening scope (first ∷ second ∷ []) =

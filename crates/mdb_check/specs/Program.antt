@@ -66,8 +66,9 @@ pub record SaysShown (scope : Scope) (records : List (List (List ℕ))) (before 
       × IsShownToFault scope records fault text × Appends before after text
   pub unanswered : status ≡ 2 → IsCutShort scope records before after
 
--- What the status of the program says: what it says of the task that the words name. Words that
--- name none are refused, and so are others where there is no memory to read them.
+-- What the status of the program says: what it says of the task that the words name, or that the
+-- words were refused, with nothing written. Words that name no task always are. (That others are for
+-- want of memory alone is a promise of a private function, `task_of`.)
 pub data Says (words : List (List ℕ)) (records : List (List (List ℕ)))
     (before after : Option (List ℕ)) (status : ℕ) : Type 0 where
   checked : (left_out : DeviceSet) → NamesTask words (codes "check") left_out
