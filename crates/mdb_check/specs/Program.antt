@@ -67,8 +67,8 @@ pub record SaysShown (scope : Scope) (records : List (List (List ℕ))) (before 
   pub unanswered : status ≡ 2 → IsCutShort scope records before after
 
 -- What the status of the program says: what it says of the task that the words name, or that the
--- words were refused, with nothing written. Words that name no task always are. (That others are for
--- want of memory alone is a promise of a private function, `task_of`.)
+-- words were refused, with nothing written. Words that name no task always are. (That others are
+-- for want of memory alone is a promise of a private function, `task_of`.)
 pub data Says (words : List (List ℕ)) (records : List (List (List ℕ)))
     (before after : Option (List ℕ)) (status : ℕ) : Type 0 where
   checked : (left_out : DeviceSet) → NamesTask words (codes "check") left_out
