@@ -1,8 +1,12 @@
-//! Calls of the libraries below: blocks, commands, replies, and a check within limits.
+//! Calls of the libraries below: blocks, commands, replies, a check within limits, and calls for a
+//! recording that is taken with a device left out.
 
 use arrayvec::ArrayVec;
 use mdb_blocks::{Answer, Block, BlockFault, seal, unseal};
-use mdb_check::{BYTES_MAX, Outcome, ROWS_MAX, RunFault, check_within};
+use mdb_check::{
+    BYTES_MAX, DeviceSet, Outcome, ROWS_MAX, RunFault, Scope, check_scoped, check_scoped_within,
+    check_within, show_scoped, text_scoped,
+};
 use mdb_msgs::{
     BillCommand, BillMsg, ChangerCommand, ChangerMsg, ChangerSetup, Command, Device, MsgFault,
     Need, ReaderCommand, ReaderList, ReaderMsg, ReaderUnit, Reply, need_of, read_command,
@@ -379,6 +383,52 @@ fn limits(rt: &HostRuntime, calls: &mut Calls) -> io::Result<()> {
     Ok(())
 }
 
+/// Without the changer the rows of its RESET and POLL are foreign acts, a line each.
+const FOREIGN_ACTS: &[u8] = b"1-1 foreign\n2-2 foreign\n3-3 foreign\n4-4 foreign\n\
+    5-5 foreign\n6-6 foreign\n7-7 foreign\n8-8 foreign\n";
+
+/// The last line of a report without the changer.
+const WITHOUT_CHANGER: &[u8] = b"\nwithout changer\n";
+
+/// Whether an answer is a yes on so many rows.
+fn is_yes_of(answer: &Result<Outcome, RunFault>, rows: u64) -> bool {
+    match answer {
+        Ok(Outcome::Yes(report)) => report.rows == rows,
+        _ => false,
+    }
+}
+
+/// Whether the text of a yes, made anew, is the one that was written, and ends so.
+fn is_text(alloc: Global, scope: Scope, answer: &Result<Outcome, RunFault>, out: &[u8]) -> bool {
+    let Ok(outcome) = answer else {
+        return false;
+    };
+    match text_scoped(alloc, scope, outcome) {
+        Ok(text) => text.as_slice() == out && out.ends_with(WITHOUT_CHANGER),
+        Err(_) => false,
+    }
+}
+
+/// With a device left out a check answers yes, and tells it in its last line; so does one within
+/// limits that the text just meets, and `show` has a line for each foreign row.
+fn without_changer(rt: &HostRuntime, calls: &mut Calls) -> io::Result<()> {
+    let alloc = rt.alloc();
+    let scope = Scope::leaving_out(DeviceSet::NONE.with(Device::Changer));
+    let mut out = Vec::new(alloc);
+    let answer = check_scoped(alloc, scope, RESET_AND_POLL, &mut out);
+    calls.count(rt, "check_scoped", is_yes_of(&answer, 8))?;
+    let is_written = is_text(alloc, scope, &answer, out.as_slice());
+    calls.count(rt, "text_scoped", is_written)?;
+    let mut within = Vec::new(alloc);
+    let limited = check_scoped_within(alloc, scope, RESET_AND_POLL, &mut within, 8, 93);
+    let is_same = is_yes_of(&limited, 8) && within.as_slice() == out.as_slice();
+    calls.count(rt, "check_scoped_within", is_same)?;
+    let mut shown = Vec::new(alloc);
+    let fault = show_scoped(alloc, scope, RESET_AND_POLL, &mut shown);
+    let is_shown = fault == Ok(None) && shown.as_slice() == FOREIGN_ACTS;
+    calls.count(rt, "show_scoped", is_shown)
+}
+
 /// Makes the calls, prints each that answers otherwise than wanted, and at the end how many there
 /// are.
 pub fn run(rt: &HostRuntime) -> io::Result<()> {
@@ -395,6 +445,7 @@ pub fn run(rt: &HostRuntime) -> io::Result<()> {
     refused_replies(rt, &mut calls)?;
     written_replies(rt, &mut calls)?;
     limits(rt, &mut calls)?;
+    without_changer(rt, &mut calls)?;
     let tried = calls.tried;
     match calls.differing {
         0 => println!(rt; "{tried} calls, each answered as wanted"),

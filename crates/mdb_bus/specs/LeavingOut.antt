@@ -44,7 +44,8 @@ abbrev pub is_one_left_out : Scope → Option Device → Bool
 is_one_left_out scope None = false
 is_one_left_out scope (Some device) = has scope.without device
 
--- whether events begin by the marked word of a block to a device that is left out
+-- whether events begin by the marked word of a block to a device that is left out: a marked word is
+-- 256 and its byte (of one that isn't, nothing is left, and 0 is no device's address)
 abbrev pub begin_left_out : Scope → List Event → Bool
 begin_left_out scope (Word at Controller word ∷ events) = is_to_one_of scope.without (word - 256)
 begin_left_out scope _ = false
