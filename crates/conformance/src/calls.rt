@@ -1,11 +1,11 @@
-//! Calls of the libraries below: blocks, commands, replies, a check within limits, and calls for a
-//! recording that is taken with a device left out.
+//! Calls of the libraries below: blocks, commands, replies, a check within limits, and calls for
+//! recordings that are taken with a device left out, or that begin in mid-session.
 
 use arrayvec::ArrayVec;
 use mdb_blocks::{Answer, Block, BlockFault, seal, unseal};
 use mdb_check::{
-    BYTES_MAX, DeviceSet, Outcome, ROWS_MAX, RunFault, Scope, check_scoped, check_scoped_within,
-    check_within, show_scoped, text_scoped,
+    BYTES_MAX, DeviceSet, Outcome, ROWS_MAX, RunFault, Scope, Setups, check_joined, check_scoped,
+    check_scoped_within, check_within, show_scoped, text_scoped,
 };
 use mdb_msgs::{
     BillCommand, BillMsg, ChangerCommand, ChangerMsg, ChangerSetup, Command, Device, MsgFault,
@@ -266,16 +266,21 @@ fn replies(rt: &HostRuntime, calls: &mut Calls) -> io::Result<()> {
     calls.count(rt, "read_reply", is_bare_request_read())
 }
 
-/// A changer's SETUP reply with no credits.
-fn changer_setup() -> Reply {
-    Reply::ChangerSetup(ChangerSetup {
+/// A changer's setup table with no credits.
+fn changer_table() -> ChangerSetup {
+    ChangerSetup {
         level: 2,
         code: 1,
         scaling: 5,
         decimals: 2,
         routing: 7,
         credits: ArrayVec::new(),
-    })
+    }
+}
+
+/// A changer's SETUP reply of it.
+fn changer_setup() -> Reply {
+    Reply::ChangerSetup(changer_table())
 }
 
 /// A validator's POLL reply of one message.
@@ -399,7 +404,7 @@ fn is_yes_of(answer: &Result<Outcome, RunFault>, rows: u64) -> bool {
 }
 
 /// Whether the text of a yes, made anew, is the one that was written, and ends so.
-fn is_text(alloc: Global, scope: Scope, answer: &Result<Outcome, RunFault>, out: &[u8]) -> bool {
+fn is_text(alloc: Global, scope: &Scope, answer: &Result<Outcome, RunFault>, out: &[u8]) -> bool {
     let Ok(outcome) = answer else {
         return false;
     };
@@ -415,17 +420,69 @@ fn without_changer(rt: &HostRuntime, calls: &mut Calls) -> io::Result<()> {
     let alloc = rt.alloc();
     let scope = Scope::leaving_out(DeviceSet::NONE.with(Device::Changer));
     let mut out = Vec::new(alloc);
-    let answer = check_scoped(alloc, scope, RESET_AND_POLL, &mut out);
+    let answer = check_scoped(alloc, &scope, RESET_AND_POLL, &mut out);
     calls.count(rt, "check_scoped", is_yes_of(&answer, 8))?;
-    let is_written = is_text(alloc, scope, &answer, out.as_slice());
+    let is_written = is_text(alloc, &scope, &answer, out.as_slice());
     calls.count(rt, "text_scoped", is_written)?;
     let mut within = Vec::new(alloc);
-    let limited = check_scoped_within(alloc, scope, RESET_AND_POLL, &mut within, 8, 93);
+    let limited = check_scoped_within(alloc, &scope, RESET_AND_POLL, &mut within, 8, 93);
     let is_same = is_yes_of(&limited, 8) && within.as_slice() == out.as_slice();
     calls.count(rt, "check_scoped_within", is_same)?;
     let mut shown = Vec::new(alloc);
-    let fault = show_scoped(alloc, scope, RESET_AND_POLL, &mut shown);
+    let fault = show_scoped(alloc, &scope, RESET_AND_POLL, &mut shown);
     let is_shown = fault == Ok(None) && shown.as_slice() == FOREIGN_ACTS;
+    calls.count(rt, "show_scoped", is_shown)
+}
+
+/// A changer tells of a coin of type 2 in the cash box, which the controller hears: 6 rows of the
+/// end of a recording.
+const COIN: &[u8] = b"115800,M,10B\n117000,M,00B\n119000,S,042\n120200,S,009\n121400,S,14B\n\
+    123400,M,000\n";
+
+/// The report on it where nothing is known from elsewhere: the coin has no value.
+const COIN_REPORT: &[u8] = b"verdict yes\nrows 6\n\
+    decimals changer - bill - cashless - cashless-2 -\n\
+    coins-in device 0..0 controller 0..0 difference 0..0\n\
+    bills-in device 0..0 controller 0..0 difference 0..0\n\
+    paid-out device 0..0 controller 0..0 difference 0..0\n\
+    approved device 0..0 controller 0..0 difference 0..0\n\
+    sold device 0..0 controller 0..0 difference 0..0\n\
+    approved-2 device 0..0 controller 0..0 difference 0..0\n\
+    sold-2 device 0..0 controller 0..0 difference 0..0\n\
+    silences changer 0 bill 0 cashless 0 cashless-2 0\n\
+    unvalued changer 1 bill 0 cashless 0 cashless-2 0\n";
+
+/// The end of a report where the changer's setup table is known.
+const TOLD: &[u8] = b"\nunvalued changer 0 bill 0 cashless 0 cashless-2 0\nsetup changer\n";
+
+/// The end of a data block, with which a recording may begin, and a POLL.
+const TAIL: &[u8] = b"1000,S,109\n3000,M,10B\n4200,M,00B\n";
+
+/// The acts of it.
+const TAIL_ACTS: &[u8] = b"1-1 foreign\n2-3 ask changer 0B 0B\n";
+
+/// A recording that begins in mid-session has a report, which says what has no value; with setup
+/// data from elsewhere it says so. `show_scoped` takes such a recording too.
+fn joined(rt: &HostRuntime, calls: &mut Calls) -> io::Result<()> {
+    let alloc = rt.alloc();
+    let mut out = Vec::new(alloc);
+    let answer = check_joined(alloc, COIN, &mut out);
+    let is_joined = is_yes_of(&answer, 6) && out.as_slice() == COIN_REPORT;
+    calls.count(rt, "check_joined", is_joined)?;
+    let setups = Setups {
+        changer: Some(changer_table()),
+        bill: None,
+        first_reader: None,
+        second_reader: None,
+    };
+    let scope = Scope::joined(setups, DeviceSet::NONE);
+    let mut told = Vec::new(alloc);
+    let valued = check_scoped(alloc, &scope, COIN, &mut told);
+    let is_told = is_yes_of(&valued, 6) && told.as_slice().ends_with(TOLD);
+    calls.count(rt, "check_scoped", is_told)?;
+    let mut shown = Vec::new(alloc);
+    let fault = show_scoped(alloc, &scope, TAIL, &mut shown);
+    let is_shown = fault == Ok(None) && shown.as_slice() == TAIL_ACTS;
     calls.count(rt, "show_scoped", is_shown)
 }
 
@@ -446,6 +503,7 @@ pub fn run(rt: &HostRuntime) -> io::Result<()> {
     written_replies(rt, &mut calls)?;
     limits(rt, &mut calls)?;
     without_changer(rt, &mut calls)?;
+    joined(rt, &mut calls)?;
     let tried = calls.tried;
     match calls.differing {
         0 => println!(rt; "{tried} calls, each answered as wanted"),

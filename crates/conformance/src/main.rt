@@ -12,7 +12,7 @@ use std::io::Write;
 use std::{fs, io};
 
 /// The files of cases, one for each subject.
-static FILES: [&str; 17] = [
+static FILES: [&str; 18] = [
     "rows.cases",
     "times.cases",
     "commands.cases",
@@ -28,6 +28,7 @@ static FILES: [&str; 17] = [
     "decimals.cases",
     "show.cases",
     "without.cases",
+    "joined.cases",
     "worked.cases",
     "least.cases",
 ];
@@ -39,7 +40,7 @@ const NEXT_CASE: &str = "\ncase ";
 #[derive(Drop)]
 struct Case<'a> {
     name: &'a str,
-    // The words after the program's name, parted by single blanks.
+    // The words after the program's name, parted by single blanks; between two ' stands one word.
     words: &'a str,
     transcript: Vec<u8>,
     // The time of the last row that a line of `rows` or `again` has added; 0 before it.
@@ -199,10 +200,27 @@ fn add_line(text: &mut String, line: &str) -> Result<(), AllocError> {
     text.push_str("\n")
 }
 
-/// Adds the words of a line, which single blanks part.
+/// Adds the words of a line, which single blanks part. What stands between two `'` is one word, as
+/// a shell takes it.
 fn add_words(alloc: Global, words: &mut Vec<String>, line: &str) -> Result<(), AllocError> {
-    for word in line.split(' ') {
-        words.push(String::from_str(alloc, word)?)?;
+    let mut is_one = false;
+    for part in line.split('\'') {
+        if is_one {
+            words.push(String::from_str(alloc, part)?)?;
+        } else {
+            add_parted(alloc, words, part)?;
+        }
+        is_one = !is_one;
+    }
+    Ok(())
+}
+
+/// Adds the words that blanks part.
+fn add_parted(alloc: Global, words: &mut Vec<String>, part: &str) -> Result<(), AllocError> {
+    for word in part.split(' ') {
+        if !word.is_empty() {
+            words.push(String::from_str(alloc, word)?)?;
+        }
     }
     Ok(())
 }

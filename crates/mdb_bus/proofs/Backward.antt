@@ -27,7 +27,7 @@ use Rattle.mdb_bus.proofs.Lists.{all_front, all_last, controller_last, controlle
 use Rattle.mdb_bus.specs.Scopes.{Asks}
 use Rattle.mdb_bus.specs.inner.Grammar.{OpenIsAFront}
 use Rattle.mdb_bus.specs.declared.scope.Beginning.{Beginning}
-use Rattle.mdb_bus.specs.declared.scope.Beginning.TheVariants.{PowerOn}
+use Rattle.mdb_bus.specs.declared.scope.Beginning.TheVariants.{PowerOn, Joined}
 use Rattle.mdb_bus.specs.declared.scope.Scope.{Scope}
 
 -- the act list before the last row, and the step by which that row led on
@@ -291,6 +291,7 @@ Holds _ = Unit {0}
 
 first_holds : (begins : Beginning) → Holds (first_position begins)
 first_holds PowerOn = tt
+first_holds (Joined setups) = tt
 
 replied : (scope : Scope) (pieces : List Piece) → ArePieces scope pieces → Holds (position_of scope pieces)
 replied scope [] right = first_holds scope.begins

@@ -22,7 +22,7 @@ use Rattle.mdb_bus.specs.inner.Steps.{Answers, AnswersReply, BeginsRepeat, GoesO
 use Rattle.mdb_bus.proofs.Rows.{begins_block, say_byte, say_sum, say_word, spaced_more}
 use Rattle.mdb_bus.specs.Scopes.{Asks}
 use Rattle.mdb_bus.specs.declared.scope.Beginning.{Beginning}
-use Rattle.mdb_bus.specs.declared.scope.Beginning.TheVariants.{PowerOn}
+use Rattle.mdb_bus.specs.declared.scope.Beginning.TheVariants.{PowerOn, Joined}
 use Rattle.mdb_bus.specs.declared.scope.Scope.{Scope}
 
 -- what a step makes of pieces
@@ -316,6 +316,7 @@ free act = tt
 -- nor does a recording begin in one
 first_free : (begins : Beginning) → IsFree (first_position begins)
 first_free PowerOn = tt
+first_free (Joined setups) = tt
 
 -- what opens a block at such a position
 asks : (position : Position) (byte : ℕ) → IsFree position

@@ -22,7 +22,7 @@ use Rattle.mdb_msgs.specs.DeviceSets.{has}
 use Rattle.mdb_bus.specs.declared.act.Act.TheVariants as acts
 use Rattle.mdb_bus.specs.declared.levels.Levels.{Levels}
 use Rattle.mdb_bus.specs.declared.scope.Beginning.{Beginning}
-use Rattle.mdb_bus.specs.declared.scope.Beginning.TheVariants.{PowerOn}
+use Rattle.mdb_bus.specs.declared.scope.Beginning.TheVariants.{PowerOn, Joined}
 use Rattle.mdb_bus.specs.declared.scope.Scope.{Scope}
 use Rattle.mdb_bus.specs.Acts.{IsForeign, Say, reply_words}
 use Rattle.mdb_bus.specs.ActLists.{Piece, Whole, AskTail, ReplyTail, RepeatTail, Position, Quiet, InAsk, Asked, InReply, Replied, Returned, InRepeat, InForeign, ArePieces, AreSpaced, BlockMayCome, ForeignMayCome, IsLow, IsPiece, IsSaid, MayCome, MayStand, NotBefore, PieceFitsLevels, events_of, first_position, last_of, left_by, level_for, levels_after, levels_of, piece_events, position_of}
@@ -130,6 +130,7 @@ pub record Moves (scope : Scope) (position without : Position) : Type 0 where
 -- a recording begins where no command is open
 none_at_first : (begins : Beginning) → device_at (first_position begins) ≡ None
 none_at_first PowerOn = refl
+none_at_first (Joined setups) = refl
 
 first_moves : (less more : Scope) → LeavesOutMore less more
     → Moves more (first_position less.begins) (first_position more.begins)

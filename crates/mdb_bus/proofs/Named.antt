@@ -14,7 +14,7 @@ use Rattle.mdb_bus.specs.declared.fault.Blame.TheVariants as blame
 use Rattle.mdb_bus.specs.declared.fault.Rule.{Rule}
 use Rattle.mdb_bus.specs.declared.fault.Rule.TheVariants as rule
 use Rattle.mdb_bus.specs.declared.scope.Beginning.{Beginning}
-use Rattle.mdb_bus.specs.declared.scope.Beginning.TheVariants.{PowerOn}
+use Rattle.mdb_bus.specs.declared.scope.Beginning.TheVariants.{PowerOn, Joined}
 use Rattle.mdb_bus.specs.declared.scope.Scope.{Scope}
 use Rattle.mdb_bus.specs.ActLists.{Piece, Whole, AskTail, ReplyTail, RepeatTail, Position, Asked, InReply, Replied, Returned, InRepeat, ArePieces, first_position, position_of}
 use Rattle.mdb_bus.specs.LeavingOut.{device_in}
@@ -39,6 +39,7 @@ IsOneFollowed scope (Some device) = IsFollowed scope device
 first_followed : (scope : Scope) (begins : Beginning)
     → IsOneFollowed scope (device_at (first_position begins))
 first_followed scope PowerOn = tt
+first_followed scope (Joined setups) = tt
 
 -- the same of the device at one position, as of the device at another that it is
 at_position : (scope : Scope) (position other : Position) → position ≡ other

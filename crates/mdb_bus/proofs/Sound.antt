@@ -16,15 +16,17 @@ use Rattle.mdb_bus.specs.inner.Steps.{IsSound}
 use Rattle.mdb_bus.proofs.SomeRule.{HasReply}
 use Rattle.mdb_bus.proofs.Stops.{LastIsLong}
 use Rattle.mdb_bus.specs.declared.scope.Beginning.{Beginning}
-use Rattle.mdb_bus.specs.declared.scope.Beginning.TheVariants.{PowerOn}
+use Rattle.mdb_bus.specs.declared.scope.Beginning.TheVariants.{PowerOn, Joined}
 use Rattle.mdb_bus.specs.declared.scope.Scope.{Scope}
 
 -- a recording begins at a position that is sound, where no reply is open
 first_sound : (scope : Scope) (begins : Beginning) → IsSound scope (first_position begins)
 first_sound scope PowerOn = tt
+first_sound scope (Joined setups) = tt
 
 first_replied : (begins : Beginning) → HasReply (first_position begins)
 first_replied PowerOn = tt
+first_replied (Joined setups) = tt
 
 -- the position after pieces in order is sound
 pub is_sound : (scope : Scope) (pieces : List Piece) → ArePieces scope pieces → IsSound scope (position_of scope pieces)

@@ -22,7 +22,7 @@ use Rattle.mdb_bus.specs.declared.act.Act.{Act}
 use Rattle.mdb_bus.specs.declared.act.Act.TheVariants as acts
 use Rattle.mdb_bus.specs.declared.levels.Levels.{Levels}
 use Rattle.mdb_bus.specs.declared.scope.Beginning.{Beginning}
-use Rattle.mdb_bus.specs.declared.scope.Beginning.TheVariants.{PowerOn}
+use Rattle.mdb_bus.specs.declared.scope.Beginning.TheVariants.{PowerOn, Joined}
 use Rattle.mdb_bus.specs.declared.scope.Scope.{Scope}
 use Rattle.mdb_bus.specs.Acts.{IsAct, IsBlockWord, IsForeignWord, Say, reply_words}
 use Rattle.mdb_bus.specs.Scopes.{Asks}
@@ -137,9 +137,11 @@ left_by (AskTail bytes events) = InAsk bytes
 left_by (ReplyTail command bytes events) = InReply command bytes
 left_by (RepeatTail command reply words events) = InRepeat command reply words
 
--- where the bus is as a recording begins
+-- Where the bus is as a recording begins: in mid-session in foreign traffic, so that its first rows
+-- are foreign words, whatever they are, up to a marked word of the controller or a break.
 abbrev pub first_position : Beginning → Position
 first_position PowerOn = Quiet
+first_position (Joined setups) = InForeign
 
 -- where the bus is after pieces
 abbrev pub position_of : Scope → List Piece → Position

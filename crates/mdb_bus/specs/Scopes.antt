@@ -3,16 +3,31 @@ use Rattle.std.specs.Prelude.{◌≡◌, ℕ, List, false, true}
 use Rattle.mdb_msgs.specs.declared.command.Command.{Command}
 use Rattle.mdb_msgs.specs.declared.command.Device.{Device}
 use Rattle.mdb_msgs.specs.declared.device_set.DeviceSet.{DeviceSet}
+use Rattle.mdb_msgs.specs.declared.device_set.TheConstants.DeviceSet.{NONE}
 use Rattle.mdb_msgs.specs.declared.need.Need.{Need}
 use Rattle.mdb_msgs.specs.Commands.{Spells, device_of}
 use Rattle.mdb_msgs.specs.DeviceSets.{has}
 use Rattle.mdb_msgs.specs.Needs.{needed_without}
-use Rattle.mdb_bus.specs.declared.scope.Beginning.TheVariants.{PowerOn}
+use Rattle.mdb_msgs.specs.declared.setups.Setups.{Setups}
+use Rattle.mdb_msgs.specs.Setups.{nothing_known}
+use Rattle.mdb_bus.specs.declared.scope.Beginning.TheVariants.{PowerOn, Joined}
 use Rattle.mdb_bus.specs.declared.scope.Scope.{Scope}
 
 -- from power-on, with these devices left out
 abbrev pub leaving_out : DeviceSet → Scope
 leaving_out devices = record { begins = PowerOn; without = devices }
+
+-- from power-on, with all devices
+abbrev pub power_on : Scope
+power_on = leaving_out NONE
+
+-- in mid-session, with these setup data known, and with these devices left out
+abbrev pub joined : Setups → DeviceSet → Scope
+joined setups devices = record { begins = Joined setups; without = devices }
+
+-- in mid-session, with no setup data known, and with all devices
+abbrev pub all_joined : Scope
+all_joined = joined nothing_known NONE
 
 -- a device is followed, or left out
 abbrev pub IsFollowed : Scope → Device → Type 0

@@ -2,7 +2,7 @@
 
 ghost use Rattle.std.specs.Prelude.{◌≡◌, ◌≢◌, [], ◌∷◌, ◌++◌, ℕ, List, Some, false, true, IfOk, IfErr, OnErr, Ok, Err};
 ghost use Rattle.mdb_msgs.specs.declared.reply.Reply.{Reply};
-ghost use Rattle.mdb_bus.specs.declared.scope.TheConstants.Scope.{POWER_ON};
+ghost use Rattle.mdb_bus.specs.Scopes.{all_joined, power_on};
 ghost use Rattle.mdb_bus.specs.inner.Step.{EachStep};
 
 use super::act::Act;
@@ -16,7 +16,7 @@ use super::phase::Phase;
 use super::place::Place;
 use super::scope::{Beginning, Scope};
 use super::spelled::Spelled;
-use mdb_msgs::{ChangerCommand, Command, Device};
+use mdb_msgs::{ChangerCommand, Command, Device, DeviceSet, Setups};
 use mdb_words::{Event, Line};
 
 /// The bus after the rows that it was fed.
@@ -44,21 +44,30 @@ impl Bus {
     /// followed.
     pub fn new() -> Bus
         ensures stands { StandsFor result [] }
-        ensures scope { scope_of result ≡ POWER_ON }
+        ensures scope { scope_of result ≡ power_on }
     {
-        Bus::scoped(Scope::POWER_ON)
+        Bus::scoped(&Scope::POWER_ON)
+    }
+
+    /// The bus before its first row: recording began in mid-session, and all devices are followed.
+    pub fn joined() -> Bus
+        ensures stands { StandsFor result [] }
+        ensures scope { scope_of result ≡ all_joined }
+    {
+        Bus::scoped(&Scope::joined(Setups::NONE, DeviceSet::NONE))
     }
 
     /// The bus before its first row, of a recording that is taken so.
-    pub fn scoped(scope: Scope) -> Bus
+    pub fn scoped(scope: &Scope) -> Bus
         ensures stands { StandsFor result [] }
-        ensures scope { scope_of result ≡ scope }
+        ensures scope { scope_of result ≡ scope.now }
     {
         let phase = match scope.begins {
             Beginning::PowerOn => Phase::Quiet,
+            Beginning::Joined(_) => Phase::InForeign,
         };
         Bus {
-            scope,
+            scope: scope.copy(),
             place: Place {
                 phase,
                 bytes: Begun::with(0),

@@ -11,7 +11,7 @@ use Rattle.mdb_cash.specs.declared.gains.Gains.{Gains}
 use Rattle.mdb_cash.specs.declared.kept.Part.{Part}
 use Rattle.mdb_cash.specs.Choices.{CanStand}
 use Rattle.mdb_cash.specs.Gains.{controller_gains, device_gains, no_gains}
-use Rattle.mdb_cash.specs.Keeper.{Facts, Tables, facts_of}
+use Rattle.mdb_cash.specs.Keeper.{Facts, Tables}
 use Rattle.mdb_cash.specs.KeeperSteps.{Conduct, KeeperStep, ReplyStep, VmcAckStep}
 use Rattle.mdb_cash.specs.Kept.{IsSummary, MayBeRead, HasNews, has_reset, held, holds_acked, holds_after, holds_read, kept_of}
 use Rattle.mdb_cash.specs.Pair.{IsOnly, IsOnlyStep, Stays}
@@ -122,22 +122,31 @@ idle_ack {Own} {Setup} {Asked} {M} {State} conduct facts poll parts choice befor
     nothing false = refl
 
 -- no messages: what the code asks
-pub idle : {T Own Setup Asked M State : Type 0} (tables : Tables Own Setup Asked M) (conduct : Conduct Own Setup Asked M State)
-    → (part_of : T → Part M) (messages : List T) (act : Act) (command : Command) (own : Own) (reply : Reply) (empty : Bool) → act ≡ acts.VmcAck command reply → tables.own command ≡ Some own
+pub idle : {T Own Setup Asked M State : Type 0} (tables : Tables Own Setup Asked M)
+    (conduct : Conduct Own Setup Asked M State) (part_of : T → Part M) (messages : List T)
+    (act : Act) (command : Command) (own : Own) (reply : Reply) (empty : Bool)
+    → act ≡ acts.VmcAck command reply → tables.own command ≡ Some own
     → map part_of messages ≡ tables.parts_of reply → empty ≡ (length messages == 0)
-    → OnFalse (not empty) ((past : List Act) (choice : Choice) (before after : State) (gains : Gains) → KeeperStep tables conduct (facts_of tables past) act choice before after gains ↔ (after ≡ before) × (gains ≡ no_gains))
+    → OnFalse (not empty) ((facts : Facts Setup Asked M) (choice : Choice)
+    (before after : State) (gains : Gains)
+    → KeeperStep tables conduct facts act choice before after gains
+    ↔ (after ≡ before) × (gains ≡ no_gains))
 idle tables conduct part_of messages act command own reply false is own_is parts e = tt
-idle {T} {Own} {Setup} {Asked} {M} {State} tables conduct part_of [] act command own reply true is own_is parts e = λ past choice before after gains.
-    rw (is, own_is) (idle_ack conduct (facts_of tables past) (tables.is_poll own) (tables.parts_of reply) choice before after gains (sym parts))
+idle tables conduct part_of [] act command own reply true is own_is parts e =
+    λ facts choice before after gains.
+    rw (is, own_is) (idle_ack conduct facts (tables.is_poll own) (tables.parts_of reply) choice
+    before after gains (sym parts))
 idle tables conduct part_of (m ∷ messages) act command own reply true is own_is parts e =
     let none : length (m ∷ messages) ≡ 0 = eqb-true (length (m ∷ messages)) 0 (sym e) in
     absurd (omega (arith, none))
 
 -- each choice that can stand on an act leads nowhere else than the plain one
-abbrev pub IsUnheeded : {Own Setup Asked M State : Type 0} → Tables Own Setup Asked M → Conduct Own Setup Asked M State → Act → State → Type 0
-IsUnheeded {Own} {Setup} {Asked} {M} {State} tables conduct act before = (past : List Act) (choice : Choice) (after : State) (gains : Gains)
-    → CanStand act choice → KeeperStep tables conduct (facts_of tables past) act choice before after gains
-    → KeeperStep tables conduct (facts_of tables past) act Plain before after gains
+abbrev pub IsUnheeded : {Own Setup Asked M State : Type 0} → Tables Own Setup Asked M
+    → Conduct Own Setup Asked M State → Act → State → Type 0
+IsUnheeded {Setup = Setup} {Asked = Asked} {M = M} {State = State} tables conduct act before =
+    (facts : Facts Setup Asked M) (choice : Choice) (after : State) (gains : Gains)
+    → CanStand act choice → KeeperStep tables conduct facts act choice before after gains
+    → KeeperStep tables conduct facts act Plain before after gains
 
 -- a reply that tells of no restart
 plain_alone : {Own Setup Asked M State : Type 0} (conduct : Conduct Own Setup Asked M State) (facts : Facts Setup Asked M) (poll : Bool) (parts : List (Part M)) (command : Command) (reply : Reply) (before after : State) (gains : Gains)
@@ -151,10 +160,11 @@ pub unread : {T Own Setup Asked M State : Type 0} (tables : Tables Own Setup Ask
     (act : Act) (command : Command) (own : Own) (reply : Reply) (before : State) (may : Bool) → act ≡ acts.Reply command reply → tables.own command ≡ Some own → map part_of messages ≡ tables.parts_of reply
     → OnFalse may (MayBeRead Restart (map part_of messages) → ⊥) → OnFalse may (IsUnheeded tables conduct act before)
 unread tables conduct part_of messages act command own reply before true is own_is parts never = tt
-unread tables conduct part_of messages act command own reply before false is own_is parts never = λ past choice after gains.
+unread tables conduct part_of messages act command own reply before false is own_is parts never =
+    λ facts choice after gains.
     rw (is, own_is) (λ stands step.
-    plain_alone conduct (facts_of tables past) (tables.is_poll own) (tables.parts_of reply) command reply before after gains
-    (λ read. never (subst (MayBeRead Restart) (sym parts) read)) choice stands step)
+    plain_alone conduct facts (tables.is_poll own) (tables.parts_of reply) command reply before after
+    gains (λ read. never (subst (MayBeRead Restart) (sym parts) read)) choice stands step)
 
 -- the controller's ACK while nothing is held
 still_free : {Own Setup Asked M State : Type 0} (conduct : Conduct Own Setup Asked M State) (facts : Facts Setup Asked M) (poll : Bool) (parts : List (Part M)) (choice : Choice) (before after : State) (gains : Gains) → conduct.holds before ≡ false
@@ -167,5 +177,7 @@ still_free {Own} {Setup} {Asked} {M} {State} conduct facts poll parts choice bef
 pub unheard : {Own Setup Asked M State : Type 0} (tables : Tables Own Setup Asked M) (conduct : Conduct Own Setup Asked M State) (act : Act) (command : Command) (own : Own) (reply : Reply) (before : State) (holds : Bool)
     → act ≡ acts.VmcAck command reply → tables.own command ≡ Some own → conduct.holds before ≡ holds → OnFalse holds (IsUnheeded tables conduct act before)
 unheard tables conduct act command own reply before true is own_is free = tt
-unheard tables conduct act command own reply before false is own_is free = λ past choice after gains.
-    rw (is, own_is) (λ stands. still_free conduct (facts_of tables past) (tables.is_poll own) (tables.parts_of reply) choice before after gains free)
+unheard tables conduct act command own reply before false is own_is free =
+    λ facts choice after gains.
+    rw (is, own_is) (λ stands. still_free conduct facts (tables.is_poll own)
+    (tables.parts_of reply) choice before after gains free)

@@ -3,7 +3,9 @@ pub mod KeeperFacts
 pub mod FirstBytes
 pub mod KeeperSteps
 pub mod KeptLists
+pub mod Knowing
 pub mod Masks
 pub mod PastAfter
 pub mod Sizes
+pub mod StepCodes
 pub mod Ways

@@ -1,17 +1,18 @@
 -- The steps that an act may be, by the choices that can stand on it.
-use Rattle.std.proofs.Common.{◌≡◌, ◌≢◌, ◌↔◌, ◌⊎◌, inl, inr, ℕ, Bool, true, false, IsTrue, List, Option, Some, IfSome, refl, sym, subst, ◌∙◌}
+use Rattle.std.proofs.Common.{ap, not, ◌≡◌, ◌≢◌, ◌↔◌, ◌⊎◌, inl, inr, ℕ, Bool, true, false, IsTrue, List, Option, Some, IfSome, refl, sym, subst, ◌∙◌}
 use Rattle.std.specs.Bool.{OnFalse}
 use Rattle.std.proofs.lemmas.Option.{same_Some}
 use Rattle.std.specs.List.{Contains}
 use Rattle.mdb_msgs.specs.declared.command.Device.{Device}
 use Rattle.mdb_bus.specs.declared.act.Act.{Act}
 use Rattle.mdb_bus.specs.declared.act.Act.TheVariants as acts
+use Rattle.mdb_bus.specs.declared.scope.Beginning.{Beginning}
 use Rattle.mdb_cash.specs.declared.choice.Choice.{Choice}
 use Rattle.mdb_cash.specs.declared.choice.Choice.TheVariants.{Plain, Lost, Restart}
 use Rattle.mdb_cash.specs.declared.gains.Gains.{Gains}
 use Rattle.mdb_cash.specs.Choices.{CanStand}
 use Rattle.mdb_cash.specs.Machine.{IsMachineOf, Machine}
-use Rattle.mdb_cash.specs.Pair.{IsActOf, IsChosenStep, IsMove, IsOfAnother, IsOtherMove, IsStep, Stays}
+use Rattle.mdb_cash.specs.Pair.{CanStandFor, IsOnlyStep, IsActOf, IsChosenStep, IsMove, IsOfAnother, IsOtherMove, IsStep, Stays}
 
 -- a choice is the plain one, or another
 pub plain_or_not : (choice : Choice) → (choice ≡ Plain) ⊎ (choice ≢ Plain)
@@ -32,14 +33,17 @@ not_its_own device (acts.Repeat command reply) other = other
 not_its_own device acts.Foreign other = absurd other
 not_its_own device (acts.Break length) other = other
 
--- an act in which the device has no part leaves state and sums
-pub still_elsewhere : {State : Type 0} (device its : Device) (machine : Machine State) (act : Act)
-    (own : Bool) → IsMachineOf device machine → its ≡ device → IsTrue own ↔ IsActOf its act
-    → OnFalse own ((acts : List Act) (choice : Choice) (before after : State) (gains : Gains)
-    → machine.Step acts act choice before after gains ↔ Stays before after gains)
+-- an act in which the device has no part leaves state and sums, wherever the recording begins
+pub still_elsewhere : {State : Type 0} (device its : Device) (machine : Beginning → Machine State)
+    (act : Act) (own : Bool) → ((begins : Beginning) → IsMachineOf device (machine begins))
+    → its ≡ device → IsTrue own ↔ IsActOf its act
+    → OnFalse own ((begins : Beginning) (acts : List Act) (choice : Choice) (before after : State)
+    (gains : Gains)
+    → (machine begins).Step acts act choice before after gains ↔ Stays before after gains)
 still_elsewhere device its machine act true is same own = tt
 still_elsewhere device its machine act false is same own =
-    λ acts choice before after gains. is.elsewhere acts act choice before after gains
+    λ begins acts choice before after gains.
+    (is begins).elsewhere acts act choice before after gains
     (λ of. let never : false ≡ true = own.1 (subst (λ d. IsActOf d act) (sym same) of) in
     absurd cc)
 
@@ -102,3 +106,38 @@ small_moves Small one other items one_small other_small lists next gains among =
       | inl e ↦ subst (λ (o : Option (ℕ × Gains)). IfSome o (λ move. Small move.0 move.1)) e one_small
       | inr e ↦ subst (λ (o : Option (ℕ × Gains)). IfSome o (λ move. Small move.0 move.1)) e other_small
     ]
+
+-- the one step from the state of a code, with the code after it
+pub chosen_some : {State : Type 0} (device : Device) (act : Act) (code_of : State → ℕ)
+    (Step : Choice → State → State → Gains → Type 0) (choice : Choice) (code coded : ℕ)
+    (before after : State) (gains : Gains) (stands : Bool)
+    → ((one other : State) → code_of one ≡ code_of other → one ≡ other) → code_of before ≡ code
+    → coded ≡ code_of after → IsTrue stands ↔ CanStandFor device act choice
+    → stands ≡ true → IsOnlyStep (Step choice before) (Some (after, gains))
+    → (next : ℕ) (more : Gains) → (◌≡◌ {A = Option (ℕ × Gains)} (Some (coded, gains))
+    (Some (next, more))) ↔ IsChosenStep device act code_of Step choice code next more
+chosen_some device act code_of Step choice code coded before after gains false apart starts ends
+    can barred only next more = absurd cc
+chosen_some {State = State} device act code_of Step choice code coded before after gains true apart
+    starts ends can barred only next more = (
+      λ same.
+          let pair = same_Some {A = ℕ × Gains} (coded, gains) (next, more) same in
+          let at : coded ≡ next = ap (λ (p : ℕ × Gains). p.0) pair in
+          let gained : gains ≡ more = ap (λ (p : ℕ × Gains). p.1) pair in (
+            can.0 refl,
+            record {
+              before = before;
+              after = after;
+              starts = starts;
+              ends = sym ends ∙ at;
+              step = subst (λ g. Step choice before after g) gained only.0;
+            },
+          ),
+      λ chosen.
+          let step = chosen.1 in
+          let from : step.before ≡ before = apart step.before before (step.starts ∙ sym starts) in
+          let one = only.1 step.after more
+          (subst (λ b. Step choice b step.after more) from step.step) in
+          let at : coded ≡ next = ends ∙ ap code_of (sym one.0) ∙ step.ends in
+          ap (λ (n : ℕ). Some (n, gains)) at ∙ ap (λ (g : Gains). Some (next, g)) (sym one.1),
+    )

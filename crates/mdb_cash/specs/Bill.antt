@@ -1,12 +1,13 @@
 -- The validator and the controller's dealings with it (MDB/ICP 4.3, bill validator; states and
 -- sums, this profile). The first account is bills-in; nothing is added to the second.
-use Rattle.std.specs.Prelude.{◌≡◌, refl, ◌⊎◌, ℕ, ◌*◌, ◌%◌, true, false, List, [], ◌∷◌, Option, Some, None, ◌==◌, if◌then◌else◌}
+use Rattle.std.specs.Prelude.{◌≡◌, refl, ◌⊎◌, ℕ, ◌*◌, ◌%◌, Bool, true, false, List, [], ◌∷◌, Option, Some, None, ◌==◌, if◌then◌else◌}
 use Rattle.std.specs.declared.convert.Infallible.{Infallible}
 use Rattle.mdb_msgs.specs.declared.command.BillCommand.{BillCommand}
 use Rattle.mdb_msgs.specs.declared.command.BillCommand.TheVariants as bill
 use Rattle.mdb_msgs.specs.declared.reply.setup.BillSetup.{BillSetup}
 use Rattle.mdb_msgs.specs.Setup.{credit_of}
 use Rattle.mdb_bus.specs.declared.act.Act.{Act}
+use Rattle.mdb_bus.specs.declared.scope.Beginning.{Beginning}
 use Rattle.mdb_cash.specs.declared.bill.activity.BillActivity.{BillActivity}
 use Rattle.mdb_cash.specs.declared.bill.activity.BillActivity.TheVariants as activity
 use Rattle.mdb_cash.specs.declared.bill.state.BillState.{BillState}
@@ -16,12 +17,13 @@ use Rattle.mdb_cash.specs.declared.bill.state.Escrow.TheVariants.{Empty, Waiting
 use Rattle.mdb_cash.specs.declared.choice.Choice.{Choice}
 use Rattle.mdb_cash.specs.declared.choice.Choice.TheVariants.{Restart}
 use Rattle.mdb_cash.specs.declared.gains.Gains.{Gains}
-use Rattle.mdb_cash.specs.BillFacts.{Facts, facts_of, tables}
+use Rattle.mdb_cash.specs.BillFacts.{Facts, known_of, tables}
 use Rattle.mdb_cash.specs.Credits.{counted}
 use Rattle.mdb_cash.specs.Gains.{no_gains}
-use Rattle.mdb_cash.specs.KeeperSteps.{Conduct, KeeperStep}
-use Rattle.mdb_cash.specs.Machine.{Machine}
+use Rattle.mdb_cash.specs.KeeperSteps.{Conduct, KeeperStep, StepKnowing}
+use Rattle.mdb_cash.specs.Machine.{Machine, StartsIn}
 use Rattle.mdb_cash.specs.Pair.{Stays}
+use Rattle.mdb_cash.specs.Unvalued as amounts
 
 -- the power-on state: nothing in escrow, and nothing held
 abbrev pub power_on : BillState
@@ -84,6 +86,11 @@ TakeStep (bill.Escrow order) before after gains =
     (after ≡ record before { escrow = ordered order before.escrow }) × (gains ≡ no_gains)
 TakeStep _ before after gains = Stays before after gains
 
+-- whether a kept message tells of a bill that was stacked
+abbrev pub is_stacked : BillActivity → Bool
+is_stacked (activity.Stacked number) = true
+is_stacked _ = false
+
 -- What the validator does of its own. Data answers SETUP, POLL, STACKER and IDENTIFICATION alone:
 -- the validator answers all other commands by ACK or NAK, RESET, BILL TYPE and ESCROW among them,
 -- so what it does after those stands in `TakeStep`. What is new moves what is in escrow.
@@ -102,6 +109,8 @@ conduct =
           × (after.holds ≡ before.holds);
       first_gain = λ facts. stacked facts.setup;
       second_gain = λ facts message. 0;
+      asks_amount = λ command. false;
+      tells_amount = is_stacked;
       heard_reset = λ state. state;
     }
 
@@ -110,9 +119,13 @@ conduct =
 abbrev pub BillStep : Facts → Act → Choice → BillState → BillState → Gains → Type 0
 BillStep = KeeperStep tables conduct
 
--- The machine of the validator. It starts at power-on.
-abbrev pub machine : Machine BillState
-machine = record {
-  Starts = λ state. state ≡ power_on;
-  Step = λ acts. BillStep (facts_of acts);
+-- The machine of the validator in a recording that begins so.
+abbrev pub machine : Beginning → Machine BillState
+machine begins = record {
+  Starts = StartsIn power_on begins;
+  Step = λ acts. StepKnowing tables conduct (known_of begins acts);
 }
+
+-- how many amounts without a value acts tell: bills that were stacked
+abbrev pub unvalued : Beginning → List Act → ℕ
+unvalued = amounts.unvalued tables conduct

@@ -9,6 +9,7 @@ use Rattle.mdb_msgs.specs.declared.reply.Reply.{Reply}
 use Rattle.mdb_msgs.specs.declared.reply.Reply.TheVariants as replies
 use Rattle.mdb_msgs.specs.declared.reply.setup.BillSetup.{BillSetup}
 use Rattle.mdb_bus.specs.declared.act.Act.{Act}
+use Rattle.mdb_bus.specs.declared.scope.Beginning.{Beginning}
 use Rattle.mdb_cash.specs.declared.bill.activity.BillActivity.{BillActivity}
 use Rattle.mdb_cash.specs.declared.past.Effect.{Effect}
 use Rattle.mdb_cash.specs.declared.past.Effect.TheVariants as effects
@@ -51,6 +52,7 @@ tables =
       effect_of = effect_of;
       asked_of = asked_of;
       setup_of = setup_of;
+      setup_known = λ setups. setups.bill;
       decimals_of = λ setup. setup.decimals;
       parts_of = parts_of;
     }
@@ -63,3 +65,10 @@ Facts = keeper.Facts BillSetup Infallible BillActivity
 -- the facts after acts
 abbrev pub facts_of : List Act → Facts
 facts_of = keeper.facts_of tables
+
+-- what is known of them, where a recording may begin in mid-session
+abbrev pub KnownFacts : Type 0
+KnownFacts = keeper.KnownFacts BillSetup Infallible BillActivity
+
+abbrev pub known_of : Beginning → List Act → KnownFacts
+known_of = keeper.known_of tables

@@ -1,24 +1,26 @@
 -- The changer and the controller's dealings with it (MDB/ICP 4.3, coin changer; states and sums,
 -- this profile). The accounts are coins-in and paid-out.
-use Rattle.std.specs.Prelude.{◌≡◌, refl, ℕ, ◌*◌, ◌/◌, ◌%◌, Bool, true, false, ◌&&◌, Option, Some, None, ◌==◌, if◌then◌else◌}
+use Rattle.std.specs.Prelude.{◌≡◌, refl, ℕ, ◌*◌, ◌/◌, ◌%◌, Bool, true, false, ◌&&◌, List, Option, Some, None, ◌==◌, if◌then◌else◌}
 use Rattle.std.specs.List.{AllByRecursion}
 use Rattle.mdb_msgs.specs.declared.command.ChangerCommand.{ChangerCommand}
 use Rattle.mdb_msgs.specs.declared.command.ChangerCommand.TheVariants as changer
 use Rattle.mdb_msgs.specs.declared.reply.setup.ChangerSetup.{ChangerSetup}
 use Rattle.mdb_msgs.specs.Setup.{credit_of}
 use Rattle.mdb_bus.specs.declared.act.Act.{Act}
+use Rattle.mdb_bus.specs.declared.scope.Beginning.{Beginning}
 use Rattle.mdb_cash.specs.declared.changer.state.ChangerState.{ChangerState}
 use Rattle.mdb_cash.specs.declared.changer.activity.ChangerActivity.{ChangerActivity}
 use Rattle.mdb_cash.specs.declared.changer.activity.ChangerActivity.TheVariants.{Dispensed, CashBox, Tube}
 use Rattle.mdb_cash.specs.declared.choice.Choice.{Choice}
 use Rattle.mdb_cash.specs.declared.choice.Choice.TheVariants.{Lost}
 use Rattle.mdb_cash.specs.declared.gains.Gains.{Gains}
-use Rattle.mdb_cash.specs.ChangerFacts.{Facts, facts_of, tables}
+use Rattle.mdb_cash.specs.ChangerFacts.{Facts, known_of, tables}
 use Rattle.mdb_cash.specs.Gains.{no_gains, controller_gains, device_gains}
 use Rattle.mdb_cash.specs.Credits.{counted}
-use Rattle.mdb_cash.specs.KeeperSteps.{Conduct, KeeperStep}
-use Rattle.mdb_cash.specs.Machine.{Machine}
+use Rattle.mdb_cash.specs.KeeperSteps.{Conduct, KeeperStep, StepKnowing}
+use Rattle.mdb_cash.specs.Machine.{Machine, StartsIn}
 use Rattle.mdb_cash.specs.Pair.{Stays}
+use Rattle.mdb_cash.specs.Unvalued as amounts
 
 -- the power-on state: nothing held, and no DISPENSE owed
 abbrev pub power_on : ChangerState
@@ -89,6 +91,11 @@ TakeStep facts (changer.Dispense coins) choice before after gains =
     × (gains ≡ device_gains 0 (dispensed_value facts.setup coins))
 TakeStep facts _ choice before after gains = Stays before after gains
 
+-- whether the controller asks for coins by a command
+abbrev pub asks_coins : ChangerCommand → Bool
+asks_coins (changer.Dispense coins) = true
+asks_coins _ = false
+
 -- What the changer does of its own. Data answers SETUP, TUBE STATUS, POLL and IDENTIFICATION alone:
 -- the changer answers all other commands by ACK or NAK, RESET, COIN TYPE and DISPENSE among them,
 -- so what it does after those stands in `TakeStep`. After a reset message the controller knows that
@@ -107,6 +114,8 @@ conduct =
           AllByRecursion (MayBeNew facts) news × (after ≡ before);
       first_gain = λ facts. deposited facts.setup;
       second_gain = λ facts. paid_by_hand facts.setup;
+      asks_amount = asks_coins;
+      tells_amount = λ message. true;
       heard_reset = λ state. record state { dispense_owed = false };
     }
 
@@ -115,9 +124,13 @@ conduct =
 abbrev pub ChangerStep : Facts → Act → Choice → ChangerState → ChangerState → Gains → Type 0
 ChangerStep = KeeperStep tables conduct
 
--- The machine of the changer. It starts at power-on.
-abbrev pub machine : Machine ChangerState
-machine = record {
-  Starts = λ state. state ≡ power_on;
-  Step = λ acts. ChangerStep (facts_of acts);
+-- The machine of the changer in a recording that begins so.
+abbrev pub machine : Beginning → Machine ChangerState
+machine begins = record {
+  Starts = StartsIn power_on begins;
+  Step = λ acts. StepKnowing tables conduct (known_of begins acts);
 }
+
+-- how many amounts without a value acts tell: deposits, coins dispensed by hand, and DISPENSE asks
+abbrev pub unvalued : Beginning → List Act → ℕ
+unvalued = amounts.unvalued tables conduct

@@ -1,14 +1,17 @@
 -- A device that keeps messages, and what is known of it after a list of acts, the newest first
 -- (this profile). Changer and validator are such devices.
-use Rattle.std.specs.Prelude.{ℕ, Bool, List, [], Option, None, option_and_then, option_map}
+use Rattle.std.specs.Prelude.{◌≡◌, ℕ, Bool, List, [], Option, Some, None, option_and_then, option_map}
 use Rattle.std.specs.Option.{option_map_or}
 use Rattle.mdb_msgs.specs.declared.command.Command.{Command}
 use Rattle.mdb_msgs.specs.declared.reply.Reply.{Reply}
+use Rattle.mdb_msgs.specs.declared.setups.Setups.{Setups}
 use Rattle.mdb_bus.specs.declared.act.Act.{Act}
 use Rattle.mdb_bus.specs.declared.act.Act.TheVariants as acts
+use Rattle.mdb_bus.specs.declared.scope.Beginning.{Beginning}
 use Rattle.mdb_cash.specs.declared.kept.Part.{Part}
 use Rattle.mdb_cash.specs.declared.past.Effect.{Effect}
-use Rattle.mdb_cash.specs.Past.{PastFacts, effect_taken, last_told, past_of}
+use Rattle.mdb_cash.specs.Known.{Allows, Known, known_before, known_by}
+use Rattle.mdb_cash.specs.Past.{AllowsPast, KnownPast, PastFacts, effect_taken, known_past, last_told, or_else, past_of}
 
 -- The tables of such a device: `Own` are its commands, `Setup` its setup tables, `Asked` is what
 -- counts of a command once the controller asks it, and `M` what a kept message says.
@@ -23,6 +26,8 @@ pub record Tables (Own Setup Asked M : Type 0) : Type 0 where
   pub asked_of : Own → Option Asked
   -- the setup table of a reply
   pub setup_of : Reply → Option Setup
+  -- its setup table that is known from elsewhere
+  pub setup_known : Setups → Option Setup
   -- the decimal places that a setup table tells
   pub decimals_of : Setup → ℕ
   -- the messages of a reply
@@ -69,3 +74,27 @@ facts_of tables acts =
       last_asked = last_told (asked_by tables) acts;
       past = past_of (effect_of tables) (parts_by tables) acts;
     }
+
+-- What is known of the facts, where a recording may begin in mid-session.
+pub record KnownFacts (Setup Asked M : Type 0) : Type 0 where
+  pub setup : Option Setup
+  pub last_asked : Known (Option Asked)
+  pub past : KnownPast M
+
+-- what is known of them after acts: the setup table may be known from elsewhere
+abbrev pub known_of : {Own Setup Asked M : Type 0} → Tables Own Setup Asked M → Beginning
+    → List Act → KnownFacts Setup Asked M
+known_of tables begins acts =
+    record {
+      setup = or_else (last_told (setup_by tables) acts) (known_before tables.setup_known begins);
+      last_asked = known_by begins None
+          (option_map (λ asked. Some asked) (last_told (asked_by tables) acts));
+      past = known_past begins (effect_of tables) (parts_by tables) acts;
+    }
+
+-- facts that may be, where this is known and the device holds messages or holds none
+pub record AllowsFacts {Setup Asked M : Type 0} (known : KnownFacts Setup Asked M) (holds : Bool)
+    (facts : Facts Setup Asked M) : Type 0 where
+  pub setup : facts.setup ≡ known.setup
+  pub last_asked : Allows known.last_asked facts.last_asked
+  pub past : AllowsPast known.past holds facts.past

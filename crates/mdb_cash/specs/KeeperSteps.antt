@@ -6,7 +6,7 @@ use Rattle.mdb_cash.specs.declared.choice.Choice.{Choice}
 use Rattle.mdb_cash.specs.declared.gains.Gains.{Gains}
 use Rattle.mdb_cash.specs.declared.kept.Part.{Part}
 use Rattle.mdb_cash.specs.Gains.{no_gains, controller_gains, device_gains}
-use Rattle.mdb_cash.specs.Keeper.{Facts, Tables}
+use Rattle.mdb_cash.specs.Keeper.{AllowsFacts, Facts, KnownFacts, Tables}
 use Rattle.mdb_cash.specs.Kept.{HasNews, has_reset, held, holds_acked, holds_after, holds_read, kept_of}
 use Rattle.mdb_cash.specs.Pair.{Stays}
 use Rattle.mdb_cash.specs.Steps.{StepBy}
@@ -31,6 +31,9 @@ pub record Conduct (Own Setup Asked M State : Type 0) : Type 1 where
   -- what a kept message adds to the first account, and to the second
   pub first_gain : Facts Setup Asked M → M → ℕ
   pub second_gain : Facts Setup Asked M → M → ℕ
+  -- whether the controller asks for money by a command, and whether a kept message tells of some
+  pub asks_amount : Own → Bool
+  pub tells_amount : M → Bool
   -- the state once the controller has heard a reset message
   pub heard_reset : State → State
 
@@ -86,3 +89,12 @@ KeeperStep tables conduct facts =
       VmcAcks = λ command reply.
           VmcAckStep conduct facts (tables.is_poll command) (tables.parts_of reply);
     })
+
+-- A step where this is known of the facts: one after facts that may be. What isn't known may have
+-- been anything.
+pub record StepKnowing {Own Setup Asked M State : Type 0} (tables : Tables Own Setup Asked M)
+    (conduct : Conduct Own Setup Asked M State) (known : KnownFacts Setup Asked M) (act : Act)
+    (choice : Choice) (before after : State) (gains : Gains) : Type 0 where
+  pub facts : Facts Setup Asked M
+  pub allowed : AllowsFacts known (conduct.holds before) facts
+  pub step : KeeperStep tables conduct facts act choice before after gains

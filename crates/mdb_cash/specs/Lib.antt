@@ -13,9 +13,11 @@ pub mod Keeper
 pub mod KeeperSteps
 pub mod KeeperValues
 pub mod Kept
+pub mod Known
 pub mod Machine
 pub mod Pair
 pub mod Past
 pub mod PastValues
 pub mod Steps
+pub mod Unvalued
 pub mod inner

@@ -1,6 +1,8 @@
 -- A machine: a device with the controller's dealings with it, by the states in which it may start
 -- and the steps that acts are. Lists of acts stand newest first.
 use Rattle.std.specs.Prelude.{◌≡◌, ◌↔◌, ℕ, List}
+use Rattle.mdb_bus.specs.declared.scope.Beginning.{Beginning}
+use Rattle.mdb_bus.specs.declared.scope.Beginning.TheVariants.{PowerOn, Joined}
 use Rattle.mdb_msgs.specs.declared.command.Device.{Device}
 use Rattle.mdb_bus.specs.declared.act.Act.{Act}
 use Rattle.mdb_bus.specs.declared.act.Act.TheVariants.{Break}
@@ -16,6 +18,12 @@ pub record Machine (State : Type 0) : Type 1 where
   pub Starts : State → Type 0
   -- after acts, a step by an act under a choice, from a state to a state, with its gains
   pub Step : List Act → Act → Choice → State → State → Gains → Type 0
+
+-- Where a machine may start: as a recording begins at power-on, in its power-on state, and in
+-- mid-session in any state.
+abbrev pub StartsIn : {State : Type 0} → State → Beginning → State → Type 0
+StartsIn power_on PowerOn state = state ≡ power_on
+StartsIn power_on (Joined setups) state = Unit {0}
 
 -- A machine is one of a device: an act in which the device has no part changes nothing; what the
 -- machine does after acts depends on the device's own acts among them alone, and not on what the

@@ -1,6 +1,6 @@
 -- What counts of the acts so far, for every device (this profile). Lists of acts are written newest
 -- first.
-use Rattle.std.specs.Prelude.{ℕ, Bool, true, false, not, ◌==◌, List, [], ◌∷◌, Option, Some, None, if◌then◌else◌, unwrap_or}
+use Rattle.std.specs.Prelude.{◌≡◌, ℕ, Bool, true, false, not, ◌==◌, ◌&&◌, ◌||◌, List, [], ◌∷◌, Option, Some, None, if◌then◌else◌, unwrap_or}
 use Rattle.std.specs.Int.{bit_at}
 use Rattle.std.specs.List.{list_any}
 use Rattle.mdb_msgs.specs.declared.command.Command.{Command}
@@ -10,10 +10,13 @@ use Rattle.mdb_msgs.specs.declared.reply.reader.ReaderMsg.{ReaderMsg}
 use Rattle.mdb_msgs.specs.declared.reply.reader.ReaderMsg.TheVariants as messages
 use Rattle.mdb_bus.specs.declared.act.Act.{Act}
 use Rattle.mdb_bus.specs.declared.act.Act.TheVariants as acts
+use Rattle.mdb_bus.specs.declared.scope.Beginning.{Beginning}
+use Rattle.mdb_bus.specs.declared.scope.Beginning.TheVariants.{PowerOn, Joined}
 use Rattle.mdb_cash.specs.declared.kept.Part.{Part}
 use Rattle.mdb_cash.specs.declared.past.Effect.{Effect}
 use Rattle.mdb_cash.specs.declared.past.Effect.TheVariants as effects
 use Rattle.mdb_cash.specs.Kept.{has_reset, kept_of}
+use Rattle.mdb_cash.specs.Known.{AllowsKept, Known, known_by}
 
 -- whether a message is a reader's 0B: the command came out of sequence
 abbrev pub is_out_of_sequence : ReaderMsg → Bool
@@ -103,3 +106,39 @@ past_of effect_of parts_by acts =
           (acts_from (powers_on effect_of) acts));
       last_kept = unwrap_or (last_told (λ act. unless_empty (kept_of (parts_by act))) acts) [];
     }
+
+-- the last kept list that acts tell, if they tell one that isn't empty
+abbrev pub last_list : {M : Type 0} → (Act → List (Part M)) → List Act → Option (List M)
+last_list parts_by acts = last_told (λ act. unless_empty (kept_of (parts_by act))) acts
+
+-- What is known of what counts, where a recording may begin in mid-session.
+pub record KnownPast (M : Type 0) : Type 0 where
+  pub enabled : ℕ → Bool
+  pub reset_owed : Bool
+  pub last_kept : Known (List M)
+
+-- whether a device runs on as it did before a recording in mid-session: no act has put it into its
+-- power-on state since
+abbrev pub runs_on : Beginning → (Command → Effect) → List Act → Bool
+runs_on PowerOn effect_of acts = false
+runs_on (Joined setups) effect_of acts = not (list_any (powers_on effect_of) acts)
+
+-- While the device runs on, all 16 types are enabled, and no reset message is owed. Its last kept
+-- list is known once it has told one.
+abbrev pub known_past : {M : Type 0} → Beginning → (Command → Effect) → (Act → List (Part M))
+    → List Act → KnownPast M
+known_past begins effect_of parts_by acts =
+    record {
+      enabled = λ kind. (past_of effect_of parts_by acts).enabled kind
+          || (runs_on begins effect_of acts && enables kind (effects.Enable 65535));
+      reset_owed = (past_of effect_of parts_by acts).reset_owed
+          && not (runs_on begins effect_of acts);
+      last_kept = known_by begins [] (last_list parts_by acts);
+    }
+
+-- what may count, where this is known and the device holds messages or holds none
+pub record AllowsPast {M : Type 0} (known : KnownPast M) (holds : Bool) (past : PastFacts M)
+    : Type 0 where
+  pub enabled : past.enabled ≡ known.enabled
+  pub reset_owed : past.reset_owed ≡ known.reset_owed
+  pub last_kept : AllowsKept known.last_kept holds past.last_kept

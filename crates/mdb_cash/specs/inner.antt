@@ -2,8 +2,10 @@ pub mod BillCodes
 pub mod BillWays
 pub mod ChangerCodes
 pub mod ChangerWays
+pub mod Guesses
 pub mod KeeperPlain
 pub mod KeeperWays
+pub mod KnowingWays
 pub mod OwnWays
 pub mod PastWays
 pub mod PlainKept

@@ -5,38 +5,47 @@ ghost use Rattle.mdb_msgs.specs.declared.command.Device.TheVariants as devices;
 ghost use Rattle.mdb_bus.specs.declared.act.Act.{Act};
 ghost use Rattle.mdb_cash.specs.Bill as spec;
 ghost use Rattle.mdb_cash.specs.inner.BillCodes as codes;
-ghost use Rattle.mdb_cash.specs.BillFacts.{facts_of};
-ghost use Rattle.mdb_cash.specs.KeeperValues.{facts_in};
+ghost use Rattle.mdb_cash.specs.BillFacts.{known_of, tables};
+ghost use Rattle.mdb_cash.specs.KeeperValues as values;
 ghost use Rattle.mdb_cash.specs.inner.BillWays as ways;
 
 pub(crate) mod activity;
 mod conduct;
+mod matters;
 pub(crate) mod state;
 pub(crate) mod tables;
 mod values;
 
 use crate::choice::Choice;
-use crate::conduct::step;
+use crate::conduct::{step_settled, steps, unvalued_by};
 use crate::gains::Gains;
-use crate::keeper::Keeper;
-use crate::kept::may_all_be_read;
-use crate::pair::Pair;
+use crate::pair::{HasCode, Pair, coded};
 pub use activity::BillActivity;
-use mdb_bus::Act;
-use mdb_msgs::{BillCommand, Command, Device};
+use arrayvec::ArrayVec;
+use matters::{concerns, heeds_choice, rests};
+use mdb_bus::{Act, Beginning};
+use mdb_msgs::Device;
 pub use state::{BillState, BillType, Escrow};
-pub use tables::BillFacts;
+pub use tables::BillKnown;
 
 /// The bill validator and the controller's dealings with it (MDB/ICP 4.3, bill validator). Its
 /// first account is bills-in, and the second stays 0.
 pub struct Bill;
+
+impl HasCode for BillState {
+    ghost code_of = { codes.code_of };
+
+    fn its_code(self) -> usize {
+        self.code()
+    }
+}
 
 impl Pair for Bill {
     const CODES: usize = 66;
 
     ghost CODES = { 66 };
 
-    type Facts = BillFacts;
+    type Facts = BillKnown;
 
     type State = BillState;
 
@@ -44,57 +53,59 @@ impl Pair for Bill {
 
     ghost code_of = { codes.code_of };
 
-    ghost stands_for = { λ facts acts. facts_in facts ≡ facts_of acts };
+    ghost stands_for = { λ begins known acts. values.known_in known ≡ known_of begins acts };
 
     ghost machine = { spec.machine };
+
+    ghost settled = { λ known act. values.settled tables known.knows_asked known.knows_kept act };
+
+    ghost unvalued = { spec.unvalued };
 
     fn device() -> Device {
         Device::Bill
     }
 
-    fn start() -> usize {
-        BillState::power_on().code()
+    fn may_start(begins: &Beginning, state: BillState) -> bool {
+        match begins {
+            Beginning::PowerOn => state == BillState::power_on(),
+            Beginning::Joined(_) => true,
+        }
     }
 
-    fn facts_start() -> BillFacts {
-        BillFacts::start()
+    fn facts_start(begins: &Beginning) -> BillKnown {
+        BillKnown::start(begins)
     }
 
-    fn facts_copy(facts: &BillFacts) -> BillFacts {
-        facts.copy()
+    fn facts_copy(known: &BillKnown) -> BillKnown {
+        known.copy()
     }
 
     #[inline(always)]
-    fn learn(facts: &mut BillFacts, act: &Act) {
-        facts.learn(act);
+    fn learn(known: &mut BillKnown, act: &Act) {
+        known.learn(act);
+    }
+
+    fn settles(known: &BillKnown, act: &Act) -> bool {
+        known.settles(act)
+    }
+
+    #[inline(always)]
+    fn unvalued_by(known: &BillKnown, act: &Act) -> u64 {
+        unvalued_by(known, act)
     }
 
     #[inline(always)]
     fn concerns(act: &Act) -> bool {
-        match act {
-            Act::Ack(Command::Bill(command)) => matches!(
-                command,
-                BillCommand::Reset | BillCommand::Escrow(_) | BillCommand::Poll
-            ),
-            Act::VmcAck(Command::Bill(_), reply) => !Bill::messages_in(reply).is_empty(),
-            Act::Reply(Command::Bill(_), _) | Act::Break(_) => true,
-            _ => false,
-        }
+        concerns(act)
     }
 
     fn rests(act: &Act, state: BillState) -> bool {
-        matches!(act, Act::Ack(Command::Bill(BillCommand::Poll))) && !state.holds
+        rests(act, state)
     }
 
     #[inline(always)]
     fn heeds_choice(act: &Act, state: BillState) -> bool {
-        match act {
-            Act::Reply(Command::Bill(_), reply) => {
-                may_all_be_read(Choice::Restart, Bill::messages_in(reply))
-            }
-            Act::VmcAck(Command::Bill(_), _) => state.holds,
-            _ => false,
-        }
+        heeds_choice(act, state)
     }
 
     fn code(state: BillState) -> usize {
@@ -106,12 +117,22 @@ impl Pair for Bill {
     }
 
     fn step_from(
-        facts: &BillFacts,
+        known: &BillKnown,
         act: &Act,
         choice: Choice,
         before: BillState,
     ) -> Option<(BillState, Gains)> {
-        step(facts, act, choice, before)
+        step_settled(known, act, choice, before)
+    }
+
+    fn steps(
+        known: &BillKnown,
+        act: &Act,
+        code: usize,
+        choice: Choice,
+    ) -> ArrayVec<(usize, Gains), 72> {
+        let steps = steps(known, act, choice, BillState::at(code));
+        coded(steps.as_slice())
     }
 
     ghost apart = { codes.apart };
@@ -120,7 +141,13 @@ impl Pair for Bill {
 
     ghost whole = { codes.whole };
 
+    ghost some_start = { ways.some_start };
+
     ghost is_machine = { ways.is_machine };
 
-    ghost unmoved = { λ facts. ways.unmoved (facts_in facts) };
+    ghost settled_from_power_on = { ways.settled_from_power_on };
+
+    ghost untold = { ways.untold };
+
+    ghost unmoved = { λ begins known. ways.unmoved begins (values.known_in known) };
 }

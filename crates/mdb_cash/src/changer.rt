@@ -5,38 +5,47 @@ ghost use Rattle.mdb_msgs.specs.declared.command.Device.TheVariants as devices;
 ghost use Rattle.mdb_bus.specs.declared.act.Act.{Act};
 ghost use Rattle.mdb_cash.specs.Changer as spec;
 ghost use Rattle.mdb_cash.specs.inner.ChangerCodes as codes;
-ghost use Rattle.mdb_cash.specs.ChangerFacts.{facts_of};
-ghost use Rattle.mdb_cash.specs.KeeperValues.{facts_in};
+ghost use Rattle.mdb_cash.specs.ChangerFacts.{known_of, tables};
+ghost use Rattle.mdb_cash.specs.KeeperValues as values;
 ghost use Rattle.mdb_cash.specs.inner.ChangerWays as ways;
 
 pub(crate) mod activity;
 mod conduct;
+mod matters;
 pub(crate) mod state;
 pub(crate) mod tables;
 mod values;
 
 use crate::choice::Choice;
-use crate::conduct::step;
+use crate::conduct::{step_settled, steps, unvalued_by};
 use crate::gains::Gains;
-use crate::keeper::Keeper;
-use crate::kept::may_all_be_read;
-use crate::pair::Pair;
+use crate::pair::{HasCode, Pair, coded};
 pub use activity::ChangerActivity;
-use mdb_bus::Act;
-use mdb_msgs::{ChangerCommand, Command, Device};
+use arrayvec::ArrayVec;
+use matters::{concerns, heeds_choice, rests};
+use mdb_bus::{Act, Beginning};
+use mdb_msgs::Device;
 pub use state::ChangerState;
-pub use tables::ChangerFacts;
+pub use tables::ChangerKnown;
 
 /// The coin changer and the controller's dealings with it (MDB/ICP 4.3, coin changer). Its accounts
 /// are coins-in and paid-out.
 pub struct Changer;
+
+impl HasCode for ChangerState {
+    ghost code_of = { codes.code_of };
+
+    fn its_code(self) -> usize {
+        self.code()
+    }
+}
 
 impl Pair for Changer {
     const CODES: usize = 4;
 
     ghost CODES = { 4 };
 
-    type Facts = ChangerFacts;
+    type Facts = ChangerKnown;
 
     type State = ChangerState;
 
@@ -44,62 +53,59 @@ impl Pair for Changer {
 
     ghost code_of = { codes.code_of };
 
-    ghost stands_for = { λ facts acts. facts_in facts ≡ facts_of acts };
+    ghost stands_for = { λ begins known acts. values.known_in known ≡ known_of begins acts };
 
     ghost machine = { spec.machine };
+
+    ghost settled = { λ known act. values.settled tables known.knows_asked known.knows_kept act };
+
+    ghost unvalued = { spec.unvalued };
 
     fn device() -> Device {
         Device::Changer
     }
 
-    fn start() -> usize {
-        ChangerState::power_on().code()
+    fn may_start(begins: &Beginning, state: ChangerState) -> bool {
+        match begins {
+            Beginning::PowerOn => state == ChangerState::power_on(),
+            Beginning::Joined(_) => true,
+        }
     }
 
-    fn facts_start() -> ChangerFacts {
-        ChangerFacts::start()
+    fn facts_start(begins: &Beginning) -> ChangerKnown {
+        ChangerKnown::start(begins)
     }
 
-    fn facts_copy(facts: &ChangerFacts) -> ChangerFacts {
-        facts.copy()
+    fn facts_copy(known: &ChangerKnown) -> ChangerKnown {
+        known.copy()
     }
 
     #[inline(always)]
-    fn learn(facts: &mut ChangerFacts, act: &Act) {
-        facts.learn(act);
+    fn learn(known: &mut ChangerKnown, act: &Act) {
+        known.learn(act);
+    }
+
+    fn settles(known: &ChangerKnown, act: &Act) -> bool {
+        known.settles(act)
+    }
+
+    #[inline(always)]
+    fn unvalued_by(known: &ChangerKnown, act: &Act) -> u64 {
+        unvalued_by(known, act)
     }
 
     #[inline(always)]
     fn concerns(act: &Act) -> bool {
-        match act {
-            Act::Ask(Command::Changer(command)) => matches!(
-                command,
-                ChangerCommand::Reset | ChangerCommand::Dispense(_)
-            ),
-            Act::Ack(Command::Changer(command)) => matches!(
-                command,
-                ChangerCommand::Dispense(_) | ChangerCommand::Reset | ChangerCommand::Poll
-            ),
-            Act::VmcAck(Command::Changer(_), reply) => !Changer::messages_in(reply).is_empty(),
-            Act::Reply(Command::Changer(_), _) | Act::Break(_) => true,
-            _ => false,
-        }
+        concerns(act)
     }
 
     fn rests(act: &Act, state: ChangerState) -> bool {
-        matches!(act, Act::Ack(Command::Changer(ChangerCommand::Poll))) && !state.holds
+        rests(act, state)
     }
 
     #[inline(always)]
     fn heeds_choice(act: &Act, state: ChangerState) -> bool {
-        match act {
-            Act::Ack(Command::Changer(ChangerCommand::Dispense(_))) => state.dispense_owed,
-            Act::Reply(Command::Changer(_), reply) => {
-                may_all_be_read(Choice::Restart, Changer::messages_in(reply))
-            }
-            Act::VmcAck(Command::Changer(_), _) => state.holds,
-            _ => false,
-        }
+        heeds_choice(act, state)
     }
 
     fn code(state: ChangerState) -> usize {
@@ -111,12 +117,22 @@ impl Pair for Changer {
     }
 
     fn step_from(
-        facts: &ChangerFacts,
+        known: &ChangerKnown,
         act: &Act,
         choice: Choice,
         before: ChangerState,
     ) -> Option<(ChangerState, Gains)> {
-        step(facts, act, choice, before)
+        step_settled(known, act, choice, before)
+    }
+
+    fn steps(
+        known: &ChangerKnown,
+        act: &Act,
+        code: usize,
+        choice: Choice,
+    ) -> ArrayVec<(usize, Gains), 72> {
+        let steps = steps(known, act, choice, ChangerState::at(code));
+        coded(steps.as_slice())
     }
 
     ghost apart = { codes.apart };
@@ -125,7 +141,13 @@ impl Pair for Changer {
 
     ghost whole = { codes.whole };
 
+    ghost some_start = { ways.some_start };
+
     ghost is_machine = { ways.is_machine };
 
-    ghost unmoved = { λ facts. ways.unmoved (facts_in facts) };
+    ghost settled_from_power_on = { ways.settled_from_power_on };
+
+    ghost untold = { ways.untold };
+
+    ghost unmoved = { λ begins known. ways.unmoved begins (values.known_in known) };
 }

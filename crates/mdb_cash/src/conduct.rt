@@ -1,22 +1,32 @@
 //! What a device that keeps messages does, and the controller with it.
 
-ghost use Rattle.std.specs.Prelude.{◌≡◌, ◌≤◌, ◌<◌, ◌^◌, IfSome, Option, Some, length, sum_by};
+ghost use Rattle.std.specs.Prelude.{◌≡◌, ◌≤◌, ◌<◌, ◌+◌, ◌^◌, ◌↔◌, ◌⊎◌, true, false, List, ◌∷◌, Contains, IfSome, Option, Some, length, option_and_then, sum_by};
 ghost use Rattle.mdb_cash.specs.Gains.{IsSmall};
 ghost use Rattle.mdb_cash.specs.KeeperSteps as spec;
-ghost use Rattle.mdb_cash.specs.KeeperValues.{facts_in};
+ghost use Rattle.arrayvec.specs.ArrayVec.{array_vec_len};
+ghost use Rattle.mdb_msgs.specs.declared.command.Command.{Command};
+ghost use Rattle.mdb_bus.specs.declared.act.Act as lists;
+ghost use Rattle.mdb_bus.specs.declared.scope.Beginning.{Beginning};
+ghost use Rattle.mdb_cash.specs.declared.gains.Gains.{Gains};
+ghost use Rattle.mdb_cash.specs.Keeper.{known_of};
+ghost use Rattle.mdb_cash.specs.Unvalued.{amounts_in, one_if, unvalued};
+ghost use Rattle.mdb_cash.specs.inner.Guesses.{Overlooks};
+ghost use Rattle.mdb_cash.specs.inner.Sizes.{TakesFewBytes};
+ghost use Rattle.mdb_cash.specs.KeeperValues.{facts_in, known_in, settled};
 ghost use Rattle.mdb_cash.specs.Pair.{IsOnly, IsOnlyStep};
 
 use crate::choice::Choice;
 use crate::gains::Gains;
-use crate::keeper::{Keeper, KeeperFacts};
+use crate::keeper::{Keeper, KeeperFacts, KeeperKnown};
 use crate::kept::{held, holds_acked, holds_after, holds_read, may_all_be_read};
+use arrayvec::ArrayVec;
 use mdb_bus::Act;
-use mdb_msgs::Reply;
+use mdb_msgs::{Command, Reply};
 
 /// What a device that keeps messages does of its own (this profile).
 pub trait Conduct: Keeper {
     /// The states of the device and the controller.
-    type State: Copy;
+    type State: Copy + Default;
 
     /// What the device does.
     ghost conduct: { spec.Conduct Self.Own Self.Setup Self.Asked Self.Kept Self.State };
@@ -73,9 +83,198 @@ pub trait Conduct: Keeper {
         ensures value { result ≡ conduct.second_gain (facts_in facts.now) message }
         ensures small { result < 2 ^ 28 };
 
+    /// Whether the controller asks for money by a command.
+    fn asks_amount(command: Self::Own) -> bool
+        ensures { result ≡ conduct.asks_amount command };
+
+    /// Whether a kept message tells of money.
+    fn tells_amount(message: Self::Kept) -> bool
+        ensures { result ≡ conduct.tells_amount message };
+
     /// The state once the controller has heard a reset message.
     fn heard_reset(state: Self::State) -> Self::State
         ensures { result ≡ conduct.heard_reset state };
+
+    /// What some kept message says.
+    ghost some_kept: { Self.Kept };
+
+    /// What it overlooks of what may not be known.
+    ghost overlooks: { Overlooks Self.tables conduct };
+
+    /// A state takes few bytes.
+    ghost small_state: { TakesFewBytes Self.State.row };
+}
+
+/// The step by an act that is settled, under a choice and from a state.
+#[inline(always)]
+pub(crate) fn step_settled<K: Conduct>(
+    known: &KeeperKnown<K>,
+    act: &Act,
+    choice: Choice,
+    before: K::State,
+) -> Option<(K::State, Gains)>
+    requires { settled K.tables known.now.knows_asked known.now.knows_kept act.now ≡ true }
+    ensures step { IsOnlyStep
+        (spec.StepKnowing K.tables K.conduct (known_in known.now) act.now choice before) result }
+    ensures small { IfSome result (λ step. IsSmall step.1) }
+{
+    step(&known.facts, act, choice, before)
+}
+
+/// The steps by an act under a choice, from a state: the state after each, and its gains. One may
+/// be told more than once.
+pub(crate) fn steps<K: Conduct>(
+    known: &KeeperKnown<K>,
+    act: &Act,
+    choice: Choice,
+    before: K::State,
+) -> ArrayVec<(K::State, Gains), 72>
+    ensures steps { (after : K.State) (gains : Gains) → Contains result.items (after, gains)
+        ↔ spec.StepKnowing K.tables K.conduct (known_in known.now) act.now choice before after
+        gains }
+    ensures small { (after : K.State) (gains : Gains) → Contains result.items (after, gains)
+        → IsSmall gains }
+{
+    if known.settles(act) {
+        let mut steps = ArrayVec::new();
+        add_step(&mut steps, step(&known.facts, act, choice, before));
+        return steps;
+    }
+    match act {
+        Act::Ask(command) => steps_asking(known, command, act, choice, before),
+        Act::Reply(_, reply) => {
+            steps_replying(known, reply, act, choice, before, K::Kept::default())
+        }
+        _ => unreachable!(),
+    }
+}
+
+/// Adds a step to others, if it is one.
+fn add_step<S: Copy>(steps: &mut ArrayVec<(S, Gains), 72>, step: Option<(S, Gains)>)
+    requires { array_vec_len steps.old < 72 }
+    ensures items { (one : S × Gains) → Contains steps.new.items one
+        ↔ Contains steps.old.items one ⊎ (step ≡ Some one) }
+    ensures room { array_vec_len steps.new ≤ array_vec_len steps.old + 1 }
+{
+    if let Some(step) = step {
+        steps.push(step);
+    }
+}
+
+/// The steps by an ask, where it isn't known what was asked last: it is that again, or another.
+fn steps_asking<K: Conduct>(
+    known: &KeeperKnown<K>,
+    command: &Command,
+    act: &Act,
+    choice: Choice,
+    before: K::State,
+) -> ArrayVec<(K::State, Gains), 72>
+    requires is { act.now ≡ Act.Ask command.now }
+    requires open { known.now.knows_asked ≡ false }
+    ensures steps { (after : K.State) (gains : Gains) → Contains result.items (after, gains)
+        ↔ spec.StepKnowing K.tables K.conduct (known_in known.now) act.now choice before after
+        gains }
+    ensures small { (after : K.State) (gains : Gains) → Contains result.items (after, gains)
+        → IsSmall gains }
+{
+    let asked = asked_by::<K>(command);
+    let mut steps = ArrayVec::new();
+    add_step(
+        &mut steps,
+        step(&known.facts.asking(None), act, choice, before),
+    );
+    add_step(
+        &mut steps,
+        step(&known.facts.asking(asked), act, choice, before),
+    );
+    steps
+}
+
+/// What counts of a command once it is asked, if it is one of the device and something does.
+fn asked_by<K: Conduct>(command: &Command) -> Option<K::Asked>
+    ensures { result ≡ option_and_then K.tables.asked_of (K.tables.own command.now) }
+{
+    match K::own(command) {
+        Some(own) => K::asked_of(own),
+        None => None,
+    }
+}
+
+/// The steps by a reply, where the last kept list isn't known: for each front of the kept messages
+/// of the reply that may be it, and for a list of one message.
+fn steps_replying<K: Conduct>(
+    known: &KeeperKnown<K>,
+    reply: &Reply,
+    act: &Act,
+    choice: Choice,
+    before: K::State,
+    some: K::Kept,
+) -> ArrayVec<(K::State, Gains), 72>
+    requires is { (command : Command) × (act.now ≡ Act.Reply command reply.now) }
+    requires open { known.now.knows_kept ≡ false }
+    ensures steps { (after : K.State) (gains : Gains) → Contains result.items (after, gains)
+        ↔ spec.StepKnowing K.tables K.conduct (known_in known.now) act.now choice before after
+        gains }
+    ensures small { (after : K.State) (gains : Gains) → Contains result.items (after, gains)
+        → IsSmall gains }
+{
+    let kept = K::summary_of(reply).kept;
+    let mut steps = ArrayVec::new();
+    let other = known.facts.keeping(&[some]);
+    add_step(&mut steps, step(&other, act, choice, before));
+    for count in 0..kept.len() {
+        let facts = known.facts.keeping(&kept.as_slice()[..count + 1]);
+        add_step(&mut steps, step(&facts, act, choice, before));
+    }
+    steps
+}
+
+/// How many amounts an act tells that have no value.
+#[inline(always)]
+pub(crate) fn unvalued_by<K: Conduct>(known: &KeeperKnown<K>, act: &Act) -> u64
+    ensures adds { (begins : Beginning) (acts : List lists.Act)
+        → known_in known.now ≡ known_of K.tables begins acts
+        → unvalued K.tables K.conduct begins (act.now ∷ acts)
+        ≡ result + unvalued K.tables K.conduct begins acts }
+    ensures small { result ≤ 35 }
+{
+    if known.facts.setup.is_some() {
+        0
+    } else {
+        amounts_in::<K>(act)
+    }
+}
+
+/// How many amounts an act tells.
+fn amounts_in<K: Conduct>(act: &Act) -> u64
+    ensures count { result ≡ amounts_in K.tables K.conduct act.now }
+    ensures small { result ≤ 16 }
+{
+    match act {
+        Act::Ask(command) => match K::own(command) {
+            Some(own) => u64::from(K::asks_amount(own)),
+            None => 0,
+        },
+        Act::Reply(command, reply) => match K::own(command) {
+            Some(_) => amounts_told::<K>(K::summary_of(reply).kept.as_slice()),
+            None => 0,
+        },
+        _ => 0,
+    }
+}
+
+/// How many of these kept messages tell of money.
+fn amounts_told<K: Conduct>(kept: &[K::Kept]) -> u64
+    requires { length kept.now ≤ 16 }
+    ensures count { result
+        ≡ sum_by (λ message. one_if (K.conduct.tells_amount message)) kept.now }
+    ensures small { result ≤ 16 }
+{
+    let mut count = 0;
+    for message in kept {
+        count += u64::from(K::tells_amount(*message));
+    }
+    count
 }
 
 /// The step by an act under a choice, from a state: the state after it, and its gains. `None`

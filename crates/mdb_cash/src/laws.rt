@@ -12,7 +12,10 @@ ghost use Rattle.mdb_bus.specs.declared.act.Act.{Act};
 ghost use Rattle.mdb_cash.specs.declared.kept.Part.{Part};
 ghost use Rattle.mdb_cash.specs.declared.kept.Part.TheVariants as part;
 ghost use Rattle.mdb_cash.specs.declared.past.Effect.{Effect};
+ghost use Rattle.mdb_bus.specs.declared.scope.Beginning.{Beginning};
+ghost use Rattle.mdb_cash.specs.Bill as bill_machine;
 ghost use Rattle.mdb_cash.specs.BillFacts as bill;
+ghost use Rattle.mdb_cash.specs.Changer as changer_machine;
 ghost use Rattle.mdb_cash.specs.ChangerFacts as changer;
 ghost use Rattle.mdb_bus.specs.LeavingOut.{has_part};
 ghost use Rattle.mdb_cash.specs.Pair.{IsActOf, IsBreak, own_acts};
@@ -47,28 +50,42 @@ pub fn own_acts_are_those_that_a_device_has_a_part_in()
         → (has_part device act ≡ true) ↔ IsActOf device act }
 {}
 
-/// What is known of the changer after acts depends on its own acts among them alone.
+/// What is known of the changer after acts, and the amounts without a value that they tell of it,
+/// depend on its own acts among them alone.
 pub fn the_changers_facts_are_of_its_own_acts()
-    ensures { (acts other : List Act)
+    ensures known { (begins : Beginning) (acts other : List Act)
         → own_acts devices.Changer acts ≡ own_acts devices.Changer other
-        → changer.facts_of acts ≡ changer.facts_of other }
+        → changer.known_of begins acts ≡ changer.known_of begins other }
+    ensures unvalued { (begins : Beginning) (acts other : List Act)
+        → own_acts devices.Changer acts ≡ own_acts devices.Changer other
+        → changer_machine.unvalued begins acts ≡ changer_machine.unvalued begins other }
 {}
 
-/// What is known of the validator after acts depends on its own acts among them alone.
+/// What is known of the validator after acts, and the amounts without a value that they tell of it,
+/// depend on its own acts among them alone.
 pub fn the_validators_facts_are_of_its_own_acts()
-    ensures { (acts other : List Act)
+    ensures known { (begins : Beginning) (acts other : List Act)
         → own_acts devices.Bill acts ≡ own_acts devices.Bill other
-        → bill.facts_of acts ≡ bill.facts_of other }
+        → bill.known_of begins acts ≡ bill.known_of begins other }
+    ensures unvalued { (begins : Beginning) (acts other : List Act)
+        → own_acts devices.Bill acts ≡ own_acts devices.Bill other
+        → bill_machine.unvalued begins acts ≡ bill_machine.unvalued begins other }
 {}
 
-/// Where the changer has a part in no acts but breaks, no more is known of it than after no act.
+/// Where the changer has a part in no acts but breaks, its setup table is that of no act, and no
+/// amount is told of it.
 pub fn breaks_tell_nothing_of_the_changer()
-    ensures { (acts : List Act) → All IsBreak (own_acts devices.Changer acts)
-        → changer.facts_of acts ≡ changer.facts_of [] }
+    ensures setup { (begins : Beginning) (acts : List Act) → All IsBreak (own_acts devices.Changer acts)
+        → (changer.known_of begins acts).setup ≡ (changer.known_of begins []).setup }
+    ensures unvalued { (begins : Beginning) (acts : List Act)
+        → All IsBreak (own_acts devices.Changer acts) → changer_machine.unvalued begins acts ≡ 0 }
 {}
 
-/// Where the validator has a part in no acts but breaks, no more is known of it than after no act.
+/// Where the validator has a part in no acts but breaks, its setup table is that of no act, and no
+/// amount is told of it.
 pub fn breaks_tell_nothing_of_the_validator()
-    ensures { (acts : List Act) → All IsBreak (own_acts devices.Bill acts)
-        → bill.facts_of acts ≡ bill.facts_of [] }
+    ensures setup { (begins : Beginning) (acts : List Act) → All IsBreak (own_acts devices.Bill acts)
+        → (bill.known_of begins acts).setup ≡ (bill.known_of begins []).setup }
+    ensures unvalued { (begins : Beginning) (acts : List Act)
+        → All IsBreak (own_acts devices.Bill acts) → bill_machine.unvalued begins acts ≡ 0 }
 {}

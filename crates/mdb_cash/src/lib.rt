@@ -17,8 +17,8 @@ pub mod laws;
 mod pair;
 pub mod past;
 
-pub use bill::{Bill, BillActivity, BillFacts, BillState, BillType, Escrow};
-pub use changer::{Changer, ChangerActivity, ChangerFacts, ChangerState};
+pub use bill::{Bill, BillActivity, BillKnown, BillState, BillType, Escrow};
+pub use changer::{Changer, ChangerActivity, ChangerKnown, ChangerState};
 pub use choice::{Choice, other_choice};
 pub use gains::Gains;
-pub use pair::{Pair, can_stand_for};
+pub use pair::{HasCode, Pair, can_stand_for, coded};

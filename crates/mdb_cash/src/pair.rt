@@ -1,21 +1,23 @@
 //! A device and the controller.
 
-ghost use Rattle.std.specs.Prelude.{◌≡◌, ◌<◌, ◌↔◌, ◌⊎◌, ℕ, IsTrue, List, [], ◌∷◌, Contains, Some, IfSome};
+ghost use Rattle.std.specs.Prelude.{◌≡◌, ◌<◌, ◌≤◌, ◌+◌, ◌↔◌, ◌⊎◌, ℕ, Bool, true, IsTrue, List, [], ◌∷◌, Contains, Some, IfSome, length};
 ghost use Rattle.std.specs.Bool.{OnFalse, OnTrue};
 ghost use Rattle.mdb_msgs.specs.declared.command.Device.{Device};
 ghost use Rattle.mdb_bus.specs.declared.act.Act.{Act};
+ghost use Rattle.mdb_bus.specs.declared.scope.Beginning.{Beginning};
+ghost use Rattle.mdb_bus.specs.declared.scope.Beginning.TheVariants.{PowerOn};
 ghost use Rattle.mdb_cash.specs.declared.choice.Choice.{Choice};
 ghost use Rattle.mdb_cash.specs.declared.choice.Choice.TheVariants.{Plain};
 ghost use Rattle.mdb_cash.specs.declared.gains.Gains.{Gains};
 ghost use Rattle.mdb_cash.specs.Choices.{CanStand};
 ghost use Rattle.mdb_cash.specs.Gains.{IsSmall, no_gains};
 ghost use Rattle.mdb_cash.specs.Machine.{IsMachineOf, Machine};
-ghost use Rattle.mdb_cash.specs.Pair.{CanStandFor, IsActOf, IsChosenStep, IsMove, IsOfAnother, IsOtherMove, IsOnlyStep, Stays};
+ghost use Rattle.mdb_cash.specs.Pair.{CanStandFor, IsActOf, IsChosenStep, IsMove, IsOfAnother, IsOtherMove, IsOnlyStep, IsStep, Stays};
 
 use super::choice::{Choice, other_choice};
 use super::gains::Gains;
 use arrayvec::ArrayVec;
-use mdb_bus::Act;
+use mdb_bus::{Act, Beginning};
 use mdb_msgs::Device;
 
 /// A device and the controller's dealings with it: its states as codes, its facts, and its steps.
@@ -32,7 +34,7 @@ pub trait Pair {
     type Facts: Drop;
 
     /// The states.
-    type State: Copy;
+    type State: Copy + Default;
 
     /// The device.
     ghost device: { Device };
@@ -40,24 +42,32 @@ pub trait Pair {
     /// The code of a state.
     ghost code_of: { Self.State → ℕ };
 
-    /// The facts are those after acts.
-    ghost stands_for: { Self.Facts → List Act → Type 0 };
+    /// The facts are those after acts, in a recording that begins so.
+    ghost stands_for: { Beginning → Self.Facts → List Act → Type 0 };
 
-    /// The states in which it may start, and its steps.
-    ghost machine: { Machine Self.State };
+    /// The states in which it may start, and its steps, in a recording that begins so.
+    ghost machine: { Beginning → Machine Self.State };
+
+    /// Whether the facts settle an act: there is one step at most by it under each choice, from a
+    /// state. From power-on they settle each act. In a recording that begins in mid-session a step
+    /// may depend on what isn't known.
+    ghost settled: { Self.Facts → Act → Bool };
+
+    /// How many amounts the acts tell that have no value, since nothing tells how the device is set
+    /// up.
+    ghost unvalued: { Beginning → List Act → ℕ };
 
     /// The device.
     fn device() -> Device
         ensures { result ≡ device };
 
-    /// The code of the state in which it starts.
-    fn start() -> usize
-        ensures code { (state : Self.State) → machine.Starts state ↔ (code_of state ≡ result) }
-        ensures below { result < CODES };
+    /// Whether it may start in a state, where a recording begins so.
+    fn may_start(begins: &Beginning, state: Self::State) -> bool
+        ensures { IsTrue result ↔ (machine begins.now).Starts state };
 
-    /// The facts after no act.
-    fn facts_start() -> Self::Facts
-        ensures { stands_for result [] };
+    /// The facts after no act, where a recording begins so.
+    fn facts_start(begins: &Beginning) -> Self::Facts
+        ensures { stands_for begins.now result [] };
 
     /// The same facts again.
     fn facts_copy(facts: &Self::Facts) -> Self::Facts
@@ -65,8 +75,18 @@ pub trait Pair {
 
     /// Takes one act more into the facts, as `facts_after`, in place.
     fn learn(facts: &mut Self::Facts, act: &Act)
-        ensures { (acts : List Act) → stands_for facts.old acts
-            → stands_for facts.new (act.now ∷ acts) };
+        ensures { (begins : Beginning) (acts : List Act) → stands_for begins facts.old acts
+            → stands_for begins facts.new (act.now ∷ acts) };
+
+    /// Whether the facts settle an act.
+    fn settles(facts: &Self::Facts, act: &Act) -> bool
+        ensures { result ≡ settled facts.now act.now };
+
+    /// How many amounts an act tells that have no value, after the acts before it.
+    fn unvalued_by(facts: &Self::Facts, act: &Act) -> u64
+        ensures adds { (begins : Beginning) (acts : List Act) → stands_for begins facts.now acts
+            → unvalued begins (act.now ∷ acts) ≡ result + unvalued begins acts }
+        ensures small { result ≤ 35 };
 
     /// Whether an act may change a state or a sum. One that is no matter of this pair leaves both.
     /// No act of another device is.
@@ -74,9 +94,10 @@ pub trait Pair {
     /// A machine may know more of its acts than that they are its own.
     fn concerns(act: &Act) -> bool
         ensures own { OnTrue result (IsActOf device act.now) }
-        ensures still { OnFalse result ((acts : List Act) (choice : Choice)
+        ensures still { OnFalse result ((begins : Beginning) (acts : List Act) (choice : Choice)
             (before after : Self.State) (gains : Gains)
-            → machine.Step acts act.now choice before after gains ↔ Stays before after gains) }
+            → (machine begins).Step acts act.now choice before after gains
+            ↔ Stays before after gains) }
     {
         is_act_of(Self::device(), act)
     }
@@ -84,8 +105,9 @@ pub trait Pair {
     /// Whether an act leaves a state and the sums, whatever the choice: an ACK to POLL does, where
     /// nothing is held. It may say no though the act does.
     fn rests(act: &Act, state: Self::State) -> bool
-        ensures { OnTrue result ((acts : List Act) (choice : Choice) (after : Self.State)
-            (gains : Gains) → machine.Step acts act.now choice state after gains
+        ensures { OnTrue result ((begins : Beginning) (acts : List Act) (choice : Choice)
+            (after : Self.State) (gains : Gains)
+            → (machine begins).Step acts act.now choice state after gains
             ↔ Stays state after gains) }
     {
         false
@@ -95,10 +117,10 @@ pub trait Pair {
     /// that can stand on the act leads nowhere else than the plain one. (One that can't never leads
     /// elsewhere.) It may say yes though no choice does.
     fn heeds_choice(act: &Act, state: Self::State) -> bool
-        ensures { OnFalse result ((acts : List Act) (choice : Choice) (after : Self.State)
-            (gains : Gains) → CanStand act.now choice
-            → machine.Step acts act.now choice state after gains
-            → machine.Step acts act.now Plain state after gains) }
+        ensures { OnFalse result ((begins : Beginning) (acts : List Act) (choice : Choice)
+            (after : Self.State) (gains : Gains) → CanStand act.now choice
+            → (machine begins).Step acts act.now choice state after gains
+            → (machine begins).Step acts act.now Plain state after gains) }
     {
         true
     }
@@ -112,17 +134,33 @@ pub trait Pair {
         requires { code < CODES }
         ensures { code_of result ≡ code };
 
-    /// The step by an act under a choice, from a state: the state after it, and what it adds to the
-    /// sums. `None` where there is no such step.
+    /// The step by an act that the facts settle, under a choice and from a state: the state after
+    /// it, and what it adds to the sums. `None` where there is no such step.
     fn step_from(
         facts: &Self::Facts,
         act: &Act,
         choice: Choice,
         before: Self::State,
     ) -> Option<(Self::State, Gains)>
-        ensures step { (acts : List Act) → stands_for facts.now acts
-            → IsOnlyStep (machine.Step acts act.now choice before) result }
+        requires { settled facts.now act.now ≡ true }
+        ensures step { (begins : Beginning) (acts : List Act) → stands_for begins facts.now acts
+            → IsOnlyStep ((machine begins).Step acts act.now choice before) result }
         ensures small { IfSome result (λ step. IsSmall step.1) };
+
+    /// The steps that an act is, settled or not, under a choice and from the state of a code: the
+    /// code after each, and what it adds to the sums. One may be told more than once.
+    fn steps(
+        facts: &Self::Facts,
+        act: &Act,
+        code: usize,
+        choice: Choice,
+    ) -> ArrayVec<(usize, Gains), 72>
+        requires { code < CODES }
+        ensures steps { (begins : Beginning) (acts : List Act) → stands_for begins facts.now acts
+            → (next : ℕ) (gains : Gains) → Contains result.items (next, gains)
+            ↔ IsStep code_of ((machine begins).Step acts act.now choice) code next gains }
+        ensures below { (next : ℕ) (gains : Gains) → Contains result.items (next, gains)
+            → (next < CODES) × IsSmall gains };
 
     /// Two states have two codes.
     ghost apart: { (one other : Self.State) → code_of one ≡ code_of other → one ≡ other };
@@ -133,24 +171,37 @@ pub trait Pair {
     /// Each code below the number of states is that of a state.
     ghost whole: { (code : ℕ) → code < CODES → (state : Self.State) × (code_of state ≡ code) };
 
+    /// There is a state in which it may start.
+    ghost some_start: { (begins : Beginning) → (state : Self.State)
+        × (machine begins).Starts state };
+
     /// The machine is one of the device.
-    ghost is_machine: { IsMachineOf device machine };
+    ghost is_machine: { (begins : Beginning) → IsMachineOf device (machine begins) };
+
+    /// From power-on the facts settle each act.
+    ghost settled_from_power_on: { (facts : Self.Facts) (acts : List Act) (act : Act)
+        → stands_for PowerOn facts acts → settled facts act ≡ true };
+
+    /// An act that isn't this device's tells no amount.
+    ghost untold: { (begins : Beginning) (acts : List Act) (act : Act)
+        → (IsActOf device act → ⊥) → unvalued begins (act ∷ acts) ≡ unvalued begins acts };
 
     /// An act that isn't this device's leaves the facts.
-    ghost unmoved: { (facts : Self.Facts) (acts : List Act) (act : Act)
-        → (IsActOf device act → ⊥) → stands_for facts acts → stands_for facts (act ∷ acts) };
+    ghost unmoved: { (begins : Beginning) (facts : Self.Facts) (acts : List Act) (act : Act)
+        → (IsActOf device act → ⊥) → stands_for begins facts acts
+        → stands_for begins facts (act ∷ acts) };
 
     /// The facts after one act more. Those before it stay with their owner.
     final fn facts_after(facts: &Self::Facts, act: &Act) -> Self::Facts
-        ensures { (acts : List Act) → stands_for facts.now acts
-            → stands_for result (act.now ∷ acts) }
+        ensures { (begins : Beginning) (acts : List Act) → stands_for begins facts.now acts
+            → stands_for begins result (act.now ∷ acts) }
     {
         let mut after = Self::facts_copy(facts);
         Self::learn(&mut after, act);
         after
     }
 
-    /// The step that an act is under a choice, from the state of a code: the code after it,
+    /// The step that a settled act is under a choice, from the state of a code: the code after it,
     /// and what it adds to the sums. `None` where there is no such step, and where the choice can't
     /// stand on the act: on foreign traffic, on a break and on most acts of this device only the
     /// plain one can. An act of another device leaves the code, whatever the choice is.
@@ -160,13 +211,15 @@ pub trait Pair {
         code: usize,
         choice: Choice,
     ) -> Option<(usize, Gains)>
-        requires { code < CODES }
-        ensures steps { (acts : List Act) → stands_for facts.now acts → (next : ℕ) (gains : Gains)
-            → (result ≡ Some (next, gains))
-            ↔ IsChosenStep device act.now code_of (machine.Step acts act.now) choice code next
-            gains }
+        requires code { code < CODES }
+        requires settled { settled facts.now act.now ≡ true }
+        ensures steps { (begins : Beginning) (acts : List Act) → stands_for begins facts.now acts
+            → (next : ℕ) (gains : Gains) → (result ≡ Some (next, gains))
+            ↔ IsChosenStep device act.now code_of ((machine begins).Step acts act.now) choice code
+            next gains }
         ensures barred { (CanStandFor device act.now choice → ⊥) → result ≡ None }
-        ensures elsewhere { (acts : List Act) → stands_for facts.now acts
+        ensures elsewhere { (begins : Beginning) (acts : List Act)
+            → stands_for begins facts.now acts
             → IsOfAnother device act.now → result ≡ Some (code, no_gains) }
         ensures below { IfSome result (λ move. (move.0 < CODES) × IsSmall move.1) }
     {
@@ -181,14 +234,16 @@ pub trait Pair {
         }
     }
 
-    /// The step that an act is by its other choice than the plain one, from the state of a code:
+    /// The step that a settled act is by its other choice than the plain one, from the state of a
+    /// code:
     /// the code after it, and what it adds to the sums. `None` where there is no such step, and
     /// where no other choice can stand on the act.
     final fn other_step(facts: &Self::Facts, act: &Act, code: usize) -> Option<(usize, Gains)>
-        requires { code < CODES }
-        ensures steps { (acts : List Act) → stands_for facts.now acts → (next : ℕ) (gains : Gains)
-            → (result ≡ Some (next, gains))
-            ↔ IsOtherMove act.now code_of (machine.Step acts act.now) code next gains }
+        requires code { code < CODES }
+        requires settled { settled facts.now act.now ≡ true }
+        ensures steps { (begins : Beginning) (acts : List Act) → stands_for begins facts.now acts
+            → (next : ℕ) (gains : Gains) → (result ≡ Some (next, gains))
+            ↔ IsOtherMove act.now code_of ((machine begins).Step acts act.now) code next gains }
         ensures below { IfSome result (λ move. (move.0 < CODES) × IsSmall move.1) }
     {
         match other_choice(act) {
@@ -197,13 +252,14 @@ pub trait Pair {
         }
     }
 
-    /// The steps that an act may be, from the state of a code, by all choices that can stand on it:
-    /// the code after each, and what it adds to the sums.
+    /// The steps that a settled act may be, from the state of a code, by all choices that can stand
+    /// on it: the code after each, and what it adds to the sums.
     final fn moves(facts: &Self::Facts, act: &Act, code: usize) -> ArrayVec<(usize, Gains), 2>
-        requires { code < CODES }
-        ensures steps { (acts : List Act) → stands_for facts.now acts → (next : ℕ) (gains : Gains)
-            → Contains result.items (next, gains)
-            ↔ IsMove act.now code_of (machine.Step acts act.now) code next gains }
+        requires code { code < CODES }
+        requires settled { settled facts.now act.now ≡ true }
+        ensures steps { (begins : Beginning) (acts : List Act) → stands_for begins facts.now acts
+            → (next : ℕ) (gains : Gains) → Contains result.items (next, gains)
+            ↔ IsMove act.now code_of ((machine begins).Step acts act.now) code next gains }
         ensures below { (next : ℕ) (gains : Gains) → Contains result.items (next, gains)
             → (next < CODES) × IsSmall gains }
     {
@@ -211,6 +267,29 @@ pub trait Pair {
         let other = Self::other_step(facts, act, code);
         both(plain, other)
     }
+}
+
+/// A state that has a code.
+pub trait HasCode: Copy {
+    /// The code of a state.
+    ghost code_of: { Self → ℕ };
+
+    /// Its code.
+    fn its_code(self) -> usize
+        ensures { result ≡ code_of self };
+}
+
+/// Steps with the codes of the states after them.
+pub fn coded<S: HasCode>(steps: &[(S, Gains)]) -> ArrayVec<(usize, Gains), 72>
+    requires { length steps.now ≤ 72 }
+    ensures { (next : ℕ) (gains : Gains) → Contains result.items (next, gains)
+        ↔ (after : S) × (S.code_of after ≡ next) × Contains steps.now (after, gains) }
+{
+    let mut coded = ArrayVec::new();
+    for (after, gains) in steps {
+        coded.push((after.its_code(), *gains));
+    }
+    coded
 }
 
 /// Whether a choice can stand on an act where it is asked of a device: where it can stand on the

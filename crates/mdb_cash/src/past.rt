@@ -1,6 +1,6 @@
 //! What counts of the acts so far, for every device.
 
-ghost use Rattle.std.specs.Prelude.{◌≡◌, ◌==◌, List, [], true, false};
+ghost use Rattle.std.specs.Prelude.{◌≡◌, ◌==◌, ◌≤◌, List, [], length, true, false};
 ghost use Rattle.std.specs.Int.{bit_at};
 ghost use Rattle.std.specs.List.{list_any};
 ghost use Rattle.mdb_cash.specs.Past as spec;
@@ -36,7 +36,7 @@ pub struct Past<M: Drop, const CAP: usize> {
 
 impl<M: KeptMessage + Drop, const CAP: usize> Past<M, CAP> {
     ghost use Rattle.mdb_cash.specs.declared.past.Effect.TheVariants as effects;
-    ghost use Rattle.mdb_cash.specs.PastValues.{no_past, past_after, past_in};
+    ghost use Rattle.mdb_cash.specs.PastValues.{no_past, past_after, past_in, running_past};
 
     /// What counts of no act.
     pub fn start() -> Self
@@ -49,12 +49,38 @@ impl<M: KeptMessage + Drop, const CAP: usize> Past<M, CAP> {
         }
     }
 
+    /// What is known of no act of a device that runs on as it did before the recording: all types
+    /// are enabled, and no reset message is owed. Its last kept list isn't known, and of no matter.
+    pub fn running() -> Self
+        ensures { past_in result ≡ running_past }
+    {
+        Past {
+            enabled: u16::MAX,
+            reset_owed: false,
+            last_kept: ArrayVec::new(),
+        }
+    }
+
     /// The same again.
     pub fn copy(&self) -> Self
         ensures { result ≡ self.now }
     {
         let mut last_kept = ArrayVec::new();
         let _ = last_kept.try_extend_from_slice(self.last_kept.as_slice());
+        Past {
+            enabled: self.enabled,
+            reset_owed: self.reset_owed,
+            last_kept,
+        }
+    }
+
+    /// The same, with another last kept list.
+    pub fn keeping(&self, kept: &[M]) -> Self
+        requires { length kept.now ≤ CAP }
+        ensures { past_in result ≡ record (past_in self.now) { last_kept = kept.now } }
+    {
+        let mut last_kept = ArrayVec::new();
+        let _ = last_kept.try_extend_from_slice(kept);
         Past {
             enabled: self.enabled,
             reset_owed: self.reset_owed,

@@ -9,7 +9,7 @@ use Rattle.mdb_cash.specs.Kept.{IsSummary, HasNews, held, holds_after, kept_of}
 use Rattle.mdb_cash.specs.Pair.{IsOnlyStep}
 use Rattle.mdb_cash.specs.Past.{or_else}
 use Rattle.mdb_cashless.specs.declared.reader.device.DeviceState.{DeviceState}
-use Rattle.mdb_cashless.specs.declared.reader.messages.ReaderConfig.{ReaderConfig}
+use Rattle.mdb_msgs.specs.declared.setups.ReaderConfig.{ReaderConfig}
 use Rattle.mdb_cashless.specs.declared.reader.messages.ReaderActivity.{ReaderActivity}
 use Rattle.mdb_cashless.specs.declared.reader.state.ReaderState.{ReaderState}
 use Rattle.mdb_cashless.specs.declared.reader.transaction.Transaction.{Transaction}

@@ -1,4 +1,4 @@
-use Rattle.std.proofs.Common.{◌≡◌, ◌∙◌, ◌||◌, Bool, true, false, List, [], Option, Some, None, refl, ap, sym, map, unwrap_or, if◌then◌else◌}
+use Rattle.std.proofs.Common.{◌≡◌, ◌∙◌, ◌||◌, Bool, true, false, List, [], Option, Some, None, refl, ap, sym, map, if◌then◌else◌}
 use Rattle.mdb_msgs.specs.declared.command.Command.{Command}
 use Rattle.mdb_msgs.specs.declared.command.ReaderCommand.{ReaderCommand}
 use Rattle.mdb_msgs.specs.declared.command.ReaderCommand.TheVariants as reader
@@ -9,15 +9,22 @@ use Rattle.mdb_bus.specs.declared.act.Act.TheVariants as acts
 use Rattle.mdb_cash.specs.Past.{effect_taken, or_else, resets, tells_out_of_sequence}
 use Rattle.mdb_cash.specs.PastValues.{past_after}
 use Rattle.mdb_cashless.specs.declared.reader.transaction.Transaction.{Transaction}
-use Rattle.mdb_cashless.specs.ReaderFacts.{Facts, effect_of, effect_of_own, own_messages, own_of, own_transaction}
+use Rattle.mdb_cashless.specs.ReaderFacts.{effect_of, effect_of_own, own_messages, own_of, own_transaction}
 use Rattle.mdb_cashless.specs.ReaderMessages.{amount_in, begin_session, config_in, last_said, messages_of, part_of}
-use Rattle.mdb_cashless.specs.ReaderValues.{facts_with, last_after, taken, told}
+use Rattle.mdb_cashless.specs.ReaderValues.{ToldFacts, last_after, taken, told, told_with}
 use Rattle.mdb_cashless.specs.Transactions.{transaction_of}
 use Rattle.mdb_cashless.specs.Units.{own}
-use Rattle.mdb_cashless.specs.inner.ReaderWays.{same_fields}
+
+-- facts are the same where their fields are
+same_fields : {one other : ToldFacts} → one.config ≡ other.config → one.asked ≡ other.asked
+    → one.taken ≡ other.taken → one.amount ≡ other.amount → one.past ≡ other.past → one ≡ other
+same_fields {one} {other} config asked taken amount past =
+    let same : record one { config = one.config } ≡ record other { config = other.config } =
+    cc (config, asked, taken, amount, past) in
+    same
 
 -- the facts after a reply, where it is known whether it refuses its command
-abbrev answered : ReaderUnit → Command → Bool → List ReaderMsg → Facts → Facts
+abbrev answered : ReaderUnit → Command → Bool → List ReaderMsg → ToldFacts → ToldFacts
 answered unit command refused messages old =
     record {
       config = or_else (last_said config_in (own_messages unit command messages)) old.config;
@@ -25,14 +32,14 @@ answered unit command refused messages old =
       taken = if resets (effect_taken (effect_of unit) (if refused then None else Some command)) || begin_session (own_messages unit command messages)
           then None
           else or_else (own_transaction (own_of unit (if refused then None else Some command))) old.taken;
-      amount = unwrap_or (last_said amount_in (own_messages unit command messages)) old.amount;
+      amount = or_else (last_said amount_in (own_messages unit command messages)) old.amount;
       past = past_after (resets (effect_taken (effect_of unit) (if refused then None else Some command)))
           (effect_taken (effect_of unit) (if refused then None else Some command))
           (map part_of (own_messages unit command messages)) old.past;
     }
 
 -- the same, where the command to the reader is known
-abbrev answered_own : Option ReaderCommand → Bool → List ReaderMsg → Facts → Facts
+abbrev answered_own : Option ReaderCommand → Bool → List ReaderMsg → ToldFacts → ToldFacts
 answered_own found refused messages old =
     let own_ones : List ReaderMsg = elim found [ Some c ↦ messages | None ↦ [] ] in
     let took : Option ReaderCommand = if refused then None else found in
@@ -40,11 +47,11 @@ answered_own found refused messages old =
       config = or_else (last_said config_in own_ones) old.config;
       asked = old.asked;
       taken = if resets (effect_of_own took) || begin_session own_ones then None else or_else (own_transaction took) old.taken;
-      amount = unwrap_or (last_said amount_in own_ones) old.amount;
+      amount = or_else (last_said amount_in own_ones) old.amount;
       past = past_after (resets (effect_of_own took)) (effect_of_own took) (map part_of own_ones) old.past;
     }
 
-same_answer : (unit : ReaderUnit) (command : Command) (refused : Bool) (messages : List ReaderMsg) (old : Facts) → answered unit command refused messages old ≡ answered_own (own unit command) refused messages old
+same_answer : (unit : ReaderUnit) (command : Command) (refused : Bool) (messages : List ReaderMsg) (old : ToldFacts) → answered unit command refused messages old ≡ answered_own (own unit command) refused messages old
 same_answer unit command true messages old = refl
 same_answer unit command false messages old = refl
 
@@ -67,13 +74,13 @@ last_is reader.Enable begins last = refl
 last_is reader.Cancel begins last = refl
 last_is (reader.RequestId identity) begins last = refl
 
-own_answer : (its : ReaderCommand) (refused : Bool) (messages : List ReaderMsg) (old : Facts) → answered_own (Some its) refused messages old ≡ told messages (taken (if refused then None else Some its) old)
+own_answer : (its : ReaderCommand) (refused : Bool) (messages : List ReaderMsg) (old : ToldFacts) → answered_own (Some its) refused messages old ≡ told messages (taken (if refused then None else Some its) old)
 own_answer its true messages old = refl
 own_answer its false messages old = same_fields refl refl (last_is its (begin_session messages) old.taken) refl refl
 
 -- the facts after a reply of this reader: it has taken its command or not, and has told messages
-pub replied : (unit : ReaderUnit) (command : Command) (its : ReaderCommand) (reply : Reply) (old mid new : Facts) → own unit command ≡ Some its
-    → mid ≡ taken (if tells_out_of_sequence reply then None else Some its) old → new ≡ told (messages_of reply) mid → new ≡ facts_with unit (acts.Reply command reply) old
+pub replied : (unit : ReaderUnit) (command : Command) (its : ReaderCommand) (reply : Reply) (old mid new : ToldFacts) → own unit command ≡ Some its
+    → mid ≡ taken (if tells_out_of_sequence reply then None else Some its) old → new ≡ told (messages_of reply) mid → new ≡ told_with unit (acts.Reply command reply) old
 replied unit command its reply old mid new found mid_is new_is =
     let refused = tells_out_of_sequence reply in
     let messages = messages_of reply in

@@ -1,8 +1,12 @@
 pub mod Answered
-pub mod FactsAfter
+pub mod Guesses
 pub mod Choices
 pub mod FactsTold
 pub mod KeptAcked
+pub mod Knowing
+pub mod KnownAfter
+pub mod Listed
+pub mod PowerOn
 pub mod Resets
 pub mod Said
 pub mod Sales

@@ -17,7 +17,7 @@ pub or_is : {X : Type 0} (one other : Option X) → option_or one other ≡ or_e
 or_is None other = refl
 or_is (Some x) other = refl
 
-or_none : {X : Type 0} (one : Option X) → or_else one None ≡ one
+pub or_none : {X : Type 0} (one : Option X) → or_else one None ≡ one
 or_none None = refl
 or_none (Some x) = refl
 

@@ -1,5 +1,5 @@
 -- What the controller's view tells of the sale under way, act by act.
-use Rattle.std.proofs.Common.{arith, refl, sym, ap, subst, ◌∙◌, ◌≡◌, ◌⊎◌, ◌↔◌, inl, inr, ℕ, suc, Bool, true, false, List, [], ◌∷◌, ◌++◌, All, Contains, Option, Some, None, if◌then◌else◌}
+use Rattle.std.proofs.Common.{arith, refl, sym, ap, subst, ◌∙◌, ◌≡◌, ◌⊎◌, ◌↔◌, inl, inr, ℕ, zero, suc, Bool, true, false, List, [], ◌∷◌, ◌++◌, All, Contains, Option, Some, None, option_map, if◌then◌else◌}
 use Rattle.std.proofs.lemmas.List.Elements.{All-cons, All-head, All-nil, All-tail}
 use Rattle.mdb_msgs.specs.declared.command.Command.{Command}
 use Rattle.mdb_msgs.specs.declared.command.Command.TheVariants as commands
@@ -12,22 +12,26 @@ use Rattle.mdb_msgs.specs.declared.reply.reader.ReaderMsg.{ReaderMsg}
 use Rattle.mdb_msgs.specs.declared.reply.reader.ReaderMsg.TheVariants as messages
 use Rattle.mdb_bus.specs.declared.act.Act.{Act}
 use Rattle.mdb_bus.specs.declared.act.Act.TheVariants as acts
+use Rattle.mdb_bus.specs.declared.scope.Beginning.{Beginning}
+use Rattle.mdb_bus.specs.declared.scope.Beginning.TheVariants.{PowerOn, Joined}
 use Rattle.mdb_cash.specs.declared.choice.Choice.{Choice}
 use Rattle.mdb_cash.specs.declared.choice.Choice.TheVariants.{Plain, Lost, Restart}
 use Rattle.mdb_cash.specs.declared.gains.Gains.{Gains}
+use Rattle.mdb_cash.specs.Known.{Allows, known_by}
+use Rattle.mdb_cash.specs.Machine.{StartsIn}
 use Rattle.mdb_cash.specs.Past.{last_told, or_else}
 use Rattle.mdb_cashless.specs.declared.reader.state.ReaderState.{ReaderState}
 use Rattle.mdb_cashless.specs.declared.reader.transaction.Transaction.{Transaction}
 use Rattle.mdb_cashless.specs.declared.reader.transaction.Transaction.TheVariants.{Request, Cancel, Success, Failure, Complete}
 use Rattle.mdb_cashless.specs.declared.reader.view.View.{View}
 use Rattle.mdb_cashless.specs.declared.reader.view.View.TheVariants.{NoSession, Idle, Asked, Waiting, Approved, SuccessOwed, FailureOwed, Ending}
-use Rattle.mdb_cashless.specs.Reader.{AckStep, AskStep, ForOwn, ReaderStep, ReplyStep, VmcAckStep, asked, taken, view_answered, view_heard}
-use Rattle.mdb_cashless.specs.ReaderFacts.{asked_by, facts_of, own_transaction}
+use Rattle.mdb_cashless.specs.Reader.{AckStep, AskStep, ForOwn, ReaderStep, ReplyStep, StepKnowing, VmcAckStep, asked, power_on, taken, view_answered, view_heard}
+use Rattle.mdb_cashless.specs.ReaderFacts.{Facts, asked_by, known_of, own_transaction}
 use Rattle.mdb_cashless.specs.ReaderMessages.{messages_of}
 use Rattle.mdb_cashless.specs.ReaderView as reader_view
 use Rattle.mdb_cashless.specs.ReaderView.{all_heard, heard, sent}
-use Rattle.mdb_cashless.specs.inner.SaleViews.{AcksLastReply, TellsOfSale}
-use Rattle.mdb_cashless.specs.Sales.{EndsInReply, IsApproved, IsRequested, LeavesSale}
+use Rattle.mdb_cashless.specs.inner.SaleViews.{AcksLastReply, MayTellOfSale, TellsOfSale}
+use Rattle.mdb_cashless.specs.Sales.{EndsInReply, IsApproved, IsRequested, IsUnrequested, LeavesSale, MayBeRequestedBefore}
 use Rattle.mdb_cashless.specs.Transactions.{is_again, is_same, transaction_of}
 use Rattle.mdb_cashless.specs.Units.{own}
 
@@ -236,33 +240,33 @@ stays_view unit act so_far before after leaves none tells same =
 view_of : (one other : ReaderState) → one ≡ other → one.view ≡ other.view
 view_of one other e = ap (λ (s : ReaderState). s.view) e
 
-acked : (unit : ReaderUnit) (choice : Choice) (command : Command) (reply : Reply) (so_far : List Act) (before after : ReaderState) (gains : Gains) (found : Option ReaderCommand)
+acked : (unit : ReaderUnit) (facts : Facts) (choice : Choice) (command : Command) (reply : Reply) (so_far : List Act) (before after : ReaderState) (gains : Gains) (found : Option ReaderCommand)
     → own unit command ≡ found → EndsInReply command reply so_far → TellsOfSale unit before.view so_far
-    → ForOwn found (λ c. VmcAckStep (facts_of unit so_far) c reply choice) before after gains
+    → ForOwn found (λ c. VmcAckStep facts c reply choice) before after gains
     → TellsOfSale unit after.view (acts.VmcAck command reply ∷ so_far)
-acked unit choice command reply so_far before after gains None is ends tells step =
+acked unit facts choice command reply so_far before after gains None is ends tells step =
     stays_view unit (acts.VmcAck command reply) so_far before after (λ May. tt) refl tells (view_of after before step.0)
-acked unit choice command reply so_far before after gains (Some its) is ends tells step =
+acked unit facts choice command reply so_far before after gains (Some its) is ends tells step =
     let same = own_is unit command its is in
     subst (λ (v : View). TellsOfSale unit v (acts.VmcAck command reply ∷ so_far)) (sym (ap (λ (s : ReaderState). s.view) step.to))
     (subst (λ (c : Command). TellsOfSale unit (all_heard (messages_of reply) (view_answered (taken its reply) before.view)) (acts.VmcAck c reply ∷ so_far)) (sym same)
     (acked_own unit its reply so_far before.view (subst (λ (c : Command). EndsInReply c reply so_far) same ends) tells))
 
-acknowledged : (unit : ReaderUnit) (choice : Choice) (command : Command) (so_far : List Act) (before after : ReaderState) (gains : Gains) (found : Option ReaderCommand)
-    → TellsOfSale unit before.view so_far → ForOwn found (λ c. AckStep (facts_of unit so_far) c choice) before after gains
+acknowledged : (unit : ReaderUnit) (facts : Facts) (choice : Choice) (command : Command) (so_far : List Act) (before after : ReaderState) (gains : Gains) (found : Option ReaderCommand)
+    → TellsOfSale unit before.view so_far → ForOwn found (λ c. AckStep facts c choice) before after gains
     → TellsOfSale unit after.view (acts.Ack command ∷ so_far)
-acknowledged unit choice command so_far before after gains None tells step =
+acknowledged unit facts choice command so_far before after gains None tells step =
     stays_view unit (acts.Ack command) so_far before after (λ May. tt) refl tells (view_of after before step.0)
-acknowledged unit choice command so_far before after gains (Some its) tells step =
+acknowledged unit facts choice command so_far before after gains (Some its) tells step =
     subst (λ (v : View). TellsOfSale unit v (acts.Ack command ∷ so_far)) (sym (ap (λ (s : ReaderState). s.view) step.to))
     (still unit (view_heard choice its before.view) (acts.Ack command) so_far (λ May. tt) refl (tells_heard unit choice its before.view so_far tells))
 
-replied : (unit : ReaderUnit) (choice : Choice) (command : Command) (reply : Reply) (so_far : List Act) (before after : ReaderState) (gains : Gains) (found : Option ReaderCommand)
-    → TellsOfSale unit before.view so_far → ForOwn found (λ c. ReplyStep (facts_of unit so_far) c reply choice) before after gains
+replied : (unit : ReaderUnit) (facts : Facts) (choice : Choice) (command : Command) (reply : Reply) (so_far : List Act) (before after : ReaderState) (gains : Gains) (found : Option ReaderCommand)
+    → TellsOfSale unit before.view so_far → ForOwn found (λ c. ReplyStep facts c reply choice) before after gains
     → TellsOfSale unit after.view (acts.Reply command reply ∷ so_far)
-replied unit choice command reply so_far before after gains None tells step =
+replied unit facts choice command reply so_far before after gains None tells step =
     stays_view unit (acts.Reply command reply) so_far before after (λ May. tt) refl tells (view_of after before step.0)
-replied unit choice command reply so_far before after gains (Some its) tells step =
+replied unit facts choice command reply so_far before after gains (Some its) tells step =
     stays_view unit (acts.Reply command reply) so_far before after (λ May. tt) refl tells step.view
 
 -- an ask that is no matter of the sale: of another device, or neither RESET nor a transaction
@@ -290,6 +294,11 @@ plain unit command its so_far before after is other none tells sends =
 -- the law of transactions with the same fields
 abbrev SameFields : Type 0
 SameFields = (one other : Transaction) → (is_same one other ≡ true) ↔ (one ≡ other)
+
+-- this is the last transaction command that was asked, if one was
+abbrev IsLastAsked : ReaderUnit → List Act → Option Transaction → Type 0
+IsLastAsked unit so_far last =
+    (t : Transaction) → last_told (asked_by unit) so_far ≡ Some t → last ≡ Some t
 
 -- a transaction command is again the last one
 is_last : SameFields → (last : Option Transaction) (t : Transaction) → is_again last t ≡ true → last ≡ Some t
@@ -321,53 +330,53 @@ requests unit command price item so_far is = record {
 }
 
 -- the view after each transaction command
-asks_request : SameFields → (unit : ReaderUnit) (command : Command) (price item : ℕ) (so_far : List Act) (before after : View) → own unit command ≡ Some (reader.VendRequest price item)
-    → TellsOfSale unit before so_far → sent (last_told (asked_by unit) so_far) (Request price item) before ≡ Some after
+asks_request : SameFields → (unit : ReaderUnit) (last : Option Transaction) (command : Command) (price item : ℕ) (so_far : List Act) (before after : View) → own unit command ≡ Some (reader.VendRequest price item)
+    → TellsOfSale unit before so_far → sent last (Request price item) before ≡ Some after
     → TellsOfSale unit after (acts.Ask command ∷ so_far)
-asks_request law unit command price item so_far NoSession after is tells sends = absurd cc
-asks_request law unit command price item so_far Idle after is tells sends = let same : Asked ≡ after = cc in subst (λ (v : View). TellsOfSale unit v (acts.Ask command ∷ so_far)) same (requests unit command price item so_far is)
-asks_request law unit command price item so_far Asked after is tells sends = let found = sent_where (is_again (last_told (asked_by unit) so_far) (Request price item)) Asked after sends in subst (λ (v : View). TellsOfSale unit v (acts.Ask command ∷ so_far)) found.1 (requests unit command price item so_far is)
-asks_request law unit command price item so_far Waiting after is tells sends = absurd cc
-asks_request law unit command price item so_far Approved after is tells sends = absurd cc
-asks_request law unit command price item so_far SuccessOwed after is tells sends = absurd cc
-asks_request law unit command price item so_far FailureOwed after is tells sends = absurd cc
-asks_request law unit command price item so_far Ending after is tells sends = absurd cc
+asks_request law unit last command price item so_far NoSession after is tells sends = absurd cc
+asks_request law unit last command price item so_far Idle after is tells sends = let same : Asked ≡ after = cc in subst (λ (v : View). TellsOfSale unit v (acts.Ask command ∷ so_far)) same (requests unit command price item so_far is)
+asks_request law unit last command price item so_far Asked after is tells sends = let found = sent_where (is_again last (Request price item)) Asked after sends in subst (λ (v : View). TellsOfSale unit v (acts.Ask command ∷ so_far)) found.1 (requests unit command price item so_far is)
+asks_request law unit last command price item so_far Waiting after is tells sends = absurd cc
+asks_request law unit last command price item so_far Approved after is tells sends = absurd cc
+asks_request law unit last command price item so_far SuccessOwed after is tells sends = absurd cc
+asks_request law unit last command price item so_far FailureOwed after is tells sends = absurd cc
+asks_request law unit last command price item so_far Ending after is tells sends = absurd cc
 
-asks_cancel : SameFields → (unit : ReaderUnit) (command : Command) (so_far : List Act) (before after : View) → own unit command ≡ Some reader.VendCancel
-    → TellsOfSale unit before so_far → sent (last_told (asked_by unit) so_far) Cancel before ≡ Some after
+asks_cancel : SameFields → (unit : ReaderUnit) (last : Option Transaction) (command : Command) (so_far : List Act) (before after : View) → own unit command ≡ Some reader.VendCancel
+    → TellsOfSale unit before so_far → sent last Cancel before ≡ Some after
     → TellsOfSale unit after (acts.Ask command ∷ so_far)
-asks_cancel law unit command so_far NoSession after is tells sends = absurd cc
-asks_cancel law unit command so_far Idle after is tells sends = absurd cc
-asks_cancel law unit command so_far Asked after is tells sends = let same : Waiting ≡ after = cc in subst (λ (v : View). TellsOfSale unit v (acts.Ask command ∷ so_far)) same (still_requested unit (acts.Ask command) so_far tells (leaves_own unit command reader.VendCancel Cancel _ is refl (λ e. cc) (inr refl)))
-asks_cancel law unit command so_far Waiting after is tells sends = let same : Waiting ≡ after = cc in subst (λ (v : View). TellsOfSale unit v (acts.Ask command ∷ so_far)) same (still_requested unit (acts.Ask command) so_far tells (leaves_own unit command reader.VendCancel Cancel _ is refl (λ e. cc) (inr refl)))
-asks_cancel law unit command so_far Approved after is tells sends = absurd cc
-asks_cancel law unit command so_far SuccessOwed after is tells sends = absurd cc
-asks_cancel law unit command so_far FailureOwed after is tells sends = absurd cc
-asks_cancel law unit command so_far Ending after is tells sends = absurd cc
+asks_cancel law unit last command so_far NoSession after is tells sends = absurd cc
+asks_cancel law unit last command so_far Idle after is tells sends = absurd cc
+asks_cancel law unit last command so_far Asked after is tells sends = let same : Waiting ≡ after = cc in subst (λ (v : View). TellsOfSale unit v (acts.Ask command ∷ so_far)) same (still_requested unit (acts.Ask command) so_far tells (leaves_own unit command reader.VendCancel Cancel _ is refl (λ e. cc) (inr refl)))
+asks_cancel law unit last command so_far Waiting after is tells sends = let same : Waiting ≡ after = cc in subst (λ (v : View). TellsOfSale unit v (acts.Ask command ∷ so_far)) same (still_requested unit (acts.Ask command) so_far tells (leaves_own unit command reader.VendCancel Cancel _ is refl (λ e. cc) (inr refl)))
+asks_cancel law unit last command so_far Approved after is tells sends = absurd cc
+asks_cancel law unit last command so_far SuccessOwed after is tells sends = absurd cc
+asks_cancel law unit last command so_far FailureOwed after is tells sends = absurd cc
+asks_cancel law unit last command so_far Ending after is tells sends = absurd cc
 
-asks_failure : SameFields → (unit : ReaderUnit) (command : Command) (so_far : List Act) (before after : View) → own unit command ≡ Some reader.VendFailure
-    → TellsOfSale unit before so_far → sent (last_told (asked_by unit) so_far) Failure before ≡ Some after
+asks_failure : SameFields → (unit : ReaderUnit) (last : Option Transaction) (command : Command) (so_far : List Act) (before after : View) → own unit command ≡ Some reader.VendFailure
+    → TellsOfSale unit before so_far → sent last Failure before ≡ Some after
     → TellsOfSale unit after (acts.Ask command ∷ so_far)
-asks_failure law unit command so_far NoSession after is tells sends = absurd cc
-asks_failure law unit command so_far Idle after is tells sends = absurd cc
-asks_failure law unit command so_far Asked after is tells sends = absurd cc
-asks_failure law unit command so_far Waiting after is tells sends = absurd cc
-asks_failure law unit command so_far Approved after is tells sends = let same : FailureOwed ≡ after = cc in subst (λ (v : View). TellsOfSale unit v (acts.Ask command ∷ so_far)) same (tt)
-asks_failure law unit command so_far SuccessOwed after is tells sends = absurd cc
-asks_failure law unit command so_far FailureOwed after is tells sends = let same : FailureOwed ≡ after = cc in subst (λ (v : View). TellsOfSale unit v (acts.Ask command ∷ so_far)) same (tt)
-asks_failure law unit command so_far Ending after is tells sends = absurd cc
+asks_failure law unit last command so_far NoSession after is tells sends = absurd cc
+asks_failure law unit last command so_far Idle after is tells sends = absurd cc
+asks_failure law unit last command so_far Asked after is tells sends = absurd cc
+asks_failure law unit last command so_far Waiting after is tells sends = absurd cc
+asks_failure law unit last command so_far Approved after is tells sends = let same : FailureOwed ≡ after = cc in subst (λ (v : View). TellsOfSale unit v (acts.Ask command ∷ so_far)) same (tt)
+asks_failure law unit last command so_far SuccessOwed after is tells sends = absurd cc
+asks_failure law unit last command so_far FailureOwed after is tells sends = let same : FailureOwed ≡ after = cc in subst (λ (v : View). TellsOfSale unit v (acts.Ask command ∷ so_far)) same (tt)
+asks_failure law unit last command so_far Ending after is tells sends = absurd cc
 
-asks_complete : SameFields → (unit : ReaderUnit) (command : Command) (so_far : List Act) (before after : View) → own unit command ≡ Some reader.SessionComplete
-    → TellsOfSale unit before so_far → sent (last_told (asked_by unit) so_far) Complete before ≡ Some after
+asks_complete : SameFields → (unit : ReaderUnit) (last : Option Transaction) (command : Command) (so_far : List Act) (before after : View) → own unit command ≡ Some reader.SessionComplete
+    → TellsOfSale unit before so_far → sent last Complete before ≡ Some after
     → TellsOfSale unit after (acts.Ask command ∷ so_far)
-asks_complete law unit command so_far NoSession after is tells sends = absurd cc
-asks_complete law unit command so_far Idle after is tells sends = let same : Ending ≡ after = cc in subst (λ (v : View). TellsOfSale unit v (acts.Ask command ∷ so_far)) same (tt)
-asks_complete law unit command so_far Asked after is tells sends = absurd cc
-asks_complete law unit command so_far Waiting after is tells sends = absurd cc
-asks_complete law unit command so_far Approved after is tells sends = absurd cc
-asks_complete law unit command so_far SuccessOwed after is tells sends = absurd cc
-asks_complete law unit command so_far FailureOwed after is tells sends = absurd cc
-asks_complete law unit command so_far Ending after is tells sends = let same : Ending ≡ after = cc in subst (λ (v : View). TellsOfSale unit v (acts.Ask command ∷ so_far)) same (tt)
+asks_complete law unit last command so_far NoSession after is tells sends = absurd cc
+asks_complete law unit last command so_far Idle after is tells sends = let same : Ending ≡ after = cc in subst (λ (v : View). TellsOfSale unit v (acts.Ask command ∷ so_far)) same (tt)
+asks_complete law unit last command so_far Asked after is tells sends = absurd cc
+asks_complete law unit last command so_far Waiting after is tells sends = absurd cc
+asks_complete law unit last command so_far Approved after is tells sends = absurd cc
+asks_complete law unit last command so_far SuccessOwed after is tells sends = absurd cc
+asks_complete law unit last command so_far FailureOwed after is tells sends = absurd cc
+asks_complete law unit last command so_far Ending after is tells sends = let same : Ending ≡ after = cc in subst (λ (v : View). TellsOfSale unit v (acts.Ask command ∷ so_far)) same (tt)
 
 -- a sale that is asked is owed
 owed : (unit : ReaderUnit) (command : Command) (item : ℕ) (so_far : List Act) → own unit command ≡ Some (reader.VendSuccess item) → IsApproved unit item so_far
@@ -382,91 +391,203 @@ owed unit command item so_far is approved = (
 same_item : (unit : ReaderUnit) (one other : ℕ) (so_far : List Act) → Success one ≡ Success other → IsApproved unit one so_far → IsApproved unit other so_far
 same_item unit one other so_far same approved = let items : one ≡ other = cc in subst (λ (i : ℕ). IsApproved unit i so_far) items approved
 
-sale_approved : SameFields → (unit : ReaderUnit) (item : ℕ) (so_far : List Act) (before after : View) → TellsOfSale unit before so_far
-    → sent (last_told (asked_by unit) so_far) (Success item) before ≡ Some after → IsApproved unit item so_far
-sale_approved law unit item so_far NoSession after tells sends = absurd cc
-sale_approved law unit item so_far Idle after tells sends = absurd cc
-sale_approved law unit item so_far Asked after tells sends = absurd cc
-sale_approved law unit item so_far Waiting after tells sends = absurd cc
-sale_approved law unit item so_far Approved after tells sends = tells item
-sale_approved law unit item so_far SuccessOwed after tells sends =
-    let found = sent_where (is_again (last_told (asked_by unit) so_far) (Success item)) SuccessOwed after sends in
-    let last = sym tells.1 ∙ is_last law (last_told (asked_by unit) so_far) (Success item) found.0 in
+sale_approved : SameFields → (unit : ReaderUnit) (last : Option Transaction) (item : ℕ) (so_far : List Act) (before after : View) → IsLastAsked unit so_far last → TellsOfSale unit before so_far
+    → sent last (Success item) before ≡ Some after → IsApproved unit item so_far
+sale_approved law unit last item so_far NoSession after lasts tells sends = absurd cc
+sale_approved law unit last item so_far Idle after lasts tells sends = absurd cc
+sale_approved law unit last item so_far Asked after lasts tells sends = absurd cc
+sale_approved law unit last item so_far Waiting after lasts tells sends = absurd cc
+sale_approved law unit last item so_far Approved after lasts tells sends = tells item
+sale_approved law unit last item so_far SuccessOwed after lasts tells sends =
+    let found = sent_where (is_again last (Success item)) SuccessOwed after sends in
+    let both = sym (lasts (Success tells.0) tells.1) ∙ is_last law last (Success item) found.0 in
     let same : Success tells.0 ≡ Success item = cc in
     same_item unit tells.0 item so_far same tells.2
-sale_approved law unit item so_far FailureOwed after tells sends = absurd cc
-sale_approved law unit item so_far Ending after tells sends = absurd cc
+sale_approved law unit last item so_far FailureOwed after lasts tells sends = absurd cc
+sale_approved law unit last item so_far Ending after lasts tells sends = absurd cc
 
-asks_success : SameFields → (unit : ReaderUnit) (command : Command) (item : ℕ) (so_far : List Act) (before after : View) → own unit command ≡ Some (reader.VendSuccess item)
-    → TellsOfSale unit before so_far → sent (last_told (asked_by unit) so_far) (Success item) before ≡ Some after
+asks_success : SameFields → (unit : ReaderUnit) (last : Option Transaction) (command : Command) (item : ℕ) (so_far : List Act) (before after : View) → own unit command ≡ Some (reader.VendSuccess item)
+    → IsLastAsked unit so_far last → TellsOfSale unit before so_far → sent last (Success item) before ≡ Some after
     → TellsOfSale unit after (acts.Ask command ∷ so_far)
-asks_success law unit command item so_far NoSession after is tells sends = absurd cc
-asks_success law unit command item so_far Idle after is tells sends = absurd cc
-asks_success law unit command item so_far Asked after is tells sends = absurd cc
-asks_success law unit command item so_far Waiting after is tells sends = absurd cc
-asks_success law unit command item so_far Approved after is tells sends = let same : SuccessOwed ≡ after = cc in subst (λ (v : View). TellsOfSale unit v (acts.Ask command ∷ so_far)) same (owed unit command item so_far is (sale_approved law unit item so_far Approved after tells sends))
-asks_success law unit command item so_far SuccessOwed after is tells sends = let found = sent_where (is_again (last_told (asked_by unit) so_far) (Success item)) SuccessOwed after sends in subst (λ (v : View). TellsOfSale unit v (acts.Ask command ∷ so_far)) found.1 (owed unit command item so_far is (sale_approved law unit item so_far SuccessOwed after tells sends))
-asks_success law unit command item so_far FailureOwed after is tells sends = absurd cc
-asks_success law unit command item so_far Ending after is tells sends = absurd cc
+asks_success law unit last command item so_far NoSession after is lasts tells sends = absurd cc
+asks_success law unit last command item so_far Idle after is lasts tells sends = absurd cc
+asks_success law unit last command item so_far Asked after is lasts tells sends = absurd cc
+asks_success law unit last command item so_far Waiting after is lasts tells sends = absurd cc
+asks_success law unit last command item so_far Approved after is lasts tells sends = let same : SuccessOwed ≡ after = cc in subst (λ (v : View). TellsOfSale unit v (acts.Ask command ∷ so_far)) same (owed unit command item so_far is (sale_approved law unit last item so_far Approved after lasts tells sends))
+asks_success law unit last command item so_far SuccessOwed after is lasts tells sends = let found = sent_where (is_again last (Success item)) SuccessOwed after sends in subst (λ (v : View). TellsOfSale unit v (acts.Ask command ∷ so_far)) found.1 (owed unit command item so_far is (sale_approved law unit last item so_far SuccessOwed after lasts tells sends))
+asks_success law unit last command item so_far FailureOwed after is lasts tells sends = absurd cc
+asks_success law unit last command item so_far Ending after is lasts tells sends = absurd cc
 
 -- the view after each command to the reader
-asks_own : SameFields → (unit : ReaderUnit) (command : Command) (its : ReaderCommand) (so_far : List Act) (before after : View) → own unit command ≡ Some its
-    → TellsOfSale unit before so_far → asked (facts_of unit so_far) its before ≡ Some after → TellsOfSale unit after (acts.Ask command ∷ so_far)
-asks_own law unit command reader.Reset so_far before after is tells sends =
+asks_own : SameFields → (unit : ReaderUnit) (facts : Facts) (command : Command) (its : ReaderCommand) (so_far : List Act) (before after : View) → own unit command ≡ Some its
+    → IsLastAsked unit so_far facts.asked → TellsOfSale unit before so_far → asked facts its before ≡ Some after → TellsOfSale unit after (acts.Ask command ∷ so_far)
+asks_own law unit facts command reader.Reset so_far before after is lasts tells sends =
     let same : NoSession ≡ after = cc in subst (λ (v : View). TellsOfSale unit v (acts.Ask command ∷ so_far)) same tt
-asks_own law unit command (reader.VendRequest price item) so_far before after is tells sends = asks_request law unit command price item so_far before after is tells sends
-asks_own law unit command reader.VendCancel so_far before after is tells sends = asks_cancel law unit command so_far before after is tells sends
-asks_own law unit command (reader.VendSuccess item) so_far before after is tells sends = asks_success law unit command item so_far before after is tells sends
-asks_own law unit command reader.VendFailure so_far before after is tells sends = asks_failure law unit command so_far before after is tells sends
-asks_own law unit command reader.SessionComplete so_far before after is tells sends = asks_complete law unit command so_far before after is tells sends
-asks_own law unit command (reader.SetupConfig level columns rows display) so_far before after is tells sends = plain unit command (reader.SetupConfig level columns rows display) so_far before after is (λ e. cc) refl tells sends
-asks_own law unit command (reader.SetupPrices maximum minimum) so_far before after is tells sends = plain unit command (reader.SetupPrices maximum minimum) so_far before after is (λ e. cc) refl tells sends
-asks_own law unit command reader.Poll so_far before after is tells sends = plain unit command reader.Poll so_far before after is (λ e. cc) refl tells sends
-asks_own law unit command (reader.CashSale price item) so_far before after is tells sends = plain unit command (reader.CashSale price item) so_far before after is (λ e. cc) refl tells sends
-asks_own law unit command reader.Disable so_far before after is tells sends = plain unit command reader.Disable so_far before after is (λ e. cc) refl tells sends
-asks_own law unit command reader.Enable so_far before after is tells sends = plain unit command reader.Enable so_far before after is (λ e. cc) refl tells sends
-asks_own law unit command reader.Cancel so_far before after is tells sends = plain unit command reader.Cancel so_far before after is (λ e. cc) refl tells sends
-asks_own law unit command (reader.RequestId identity) so_far before after is tells sends = plain unit command (reader.RequestId identity) so_far before after is (λ e. cc) refl tells sends
+asks_own law unit facts command (reader.VendRequest price item) so_far before after is lasts tells sends = asks_request law unit facts.asked command price item so_far before after is tells sends
+asks_own law unit facts command reader.VendCancel so_far before after is lasts tells sends = asks_cancel law unit facts.asked command so_far before after is tells sends
+asks_own law unit facts command (reader.VendSuccess item) so_far before after is lasts tells sends = asks_success law unit facts.asked command item so_far before after is lasts tells sends
+asks_own law unit facts command reader.VendFailure so_far before after is lasts tells sends = asks_failure law unit facts.asked command so_far before after is tells sends
+asks_own law unit facts command reader.SessionComplete so_far before after is lasts tells sends = asks_complete law unit facts.asked command so_far before after is tells sends
+asks_own law unit facts command (reader.SetupConfig level columns rows display) so_far before after is lasts tells sends = plain unit command (reader.SetupConfig level columns rows display) so_far before after is (λ e. cc) refl tells sends
+asks_own law unit facts command (reader.SetupPrices maximum minimum) so_far before after is lasts tells sends = plain unit command (reader.SetupPrices maximum minimum) so_far before after is (λ e. cc) refl tells sends
+asks_own law unit facts command reader.Poll so_far before after is lasts tells sends = plain unit command reader.Poll so_far before after is (λ e. cc) refl tells sends
+asks_own law unit facts command (reader.CashSale price item) so_far before after is lasts tells sends = plain unit command (reader.CashSale price item) so_far before after is (λ e. cc) refl tells sends
+asks_own law unit facts command reader.Disable so_far before after is lasts tells sends = plain unit command reader.Disable so_far before after is (λ e. cc) refl tells sends
+asks_own law unit facts command reader.Enable so_far before after is lasts tells sends = plain unit command reader.Enable so_far before after is (λ e. cc) refl tells sends
+asks_own law unit facts command reader.Cancel so_far before after is lasts tells sends = plain unit command reader.Cancel so_far before after is (λ e. cc) refl tells sends
+asks_own law unit facts command (reader.RequestId identity) so_far before after is lasts tells sends = plain unit command (reader.RequestId identity) so_far before after is (λ e. cc) refl tells sends
 
-asks : SameFields → (unit : ReaderUnit) (command : Command) (so_far : List Act) (before after : ReaderState) (gains : Gains) (found : Option ReaderCommand) → own unit command ≡ found
-    → TellsOfSale unit before.view so_far → ForOwn found (AskStep (facts_of unit so_far)) before after gains → TellsOfSale unit after.view (acts.Ask command ∷ so_far)
-asks law unit command so_far before after gains None is tells step =
+asks : SameFields → (unit : ReaderUnit) (facts : Facts) (command : Command) (so_far : List Act) (before after : ReaderState) (gains : Gains) (found : Option ReaderCommand) → own unit command ≡ found
+    → IsLastAsked unit so_far facts.asked → TellsOfSale unit before.view so_far → ForOwn found (AskStep facts) before after gains → TellsOfSale unit after.view (acts.Ask command ∷ so_far)
+asks law unit facts command so_far before after gains None is lasts tells step =
     stays_view unit (acts.Ask command) so_far before after (no_matter unit command None is (λ e. cc) refl) (none_asked unit command None is refl) tells (view_of after before step.0)
-asks law unit command so_far before after gains (Some its) is tells step = asks_own law unit command its so_far before.view after.view is tells step.view
+asks law unit facts command so_far before after gains (Some its) is lasts tells step = asks_own law unit facts command its so_far before.view after.view is lasts tells step.view
 
 -- each step keeps what the view tells
-pub steps_tell : SameFields → (unit : ReaderUnit) (so_far : List Act) (act : Act) (choice : Choice) (before after : ReaderState) (gains : Gains)
-    → AcksLastReply act so_far → TellsOfSale unit before.view so_far → ReaderStep unit (facts_of unit so_far) act choice before after gains
+steps_tell : SameFields → (unit : ReaderUnit) (facts : Facts) (so_far : List Act) (act : Act) (choice : Choice) (before after : ReaderState) (gains : Gains)
+    → AcksLastReply act so_far → IsLastAsked unit so_far facts.asked → TellsOfSale unit before.view so_far → ReaderStep unit facts act choice before after gains
     → TellsOfSale unit after.view (act ∷ so_far)
-steps_tell law unit so_far (acts.Ask command) choice before after gains ends tells step = asks law unit command so_far before after gains (own unit command) refl tells step
-steps_tell law unit so_far (acts.Ack command) choice before after gains ends tells step = acknowledged unit choice command so_far before after gains (own unit command) tells step
-steps_tell law unit so_far (acts.Nak command) choice before after gains ends tells step =
+steps_tell law unit facts so_far (acts.Ask command) choice before after gains ends lasts tells step = asks law unit facts command so_far before after gains (own unit command) refl lasts tells step
+steps_tell law unit facts so_far (acts.Ack command) choice before after gains ends lasts tells step = acknowledged unit facts choice command so_far before after gains (own unit command) tells step
+steps_tell law unit facts so_far (acts.Nak command) choice before after gains ends lasts tells step =
     stays_view unit (acts.Nak command) so_far before after (λ May. tt) refl tells (view_of after before step.0)
-steps_tell law unit so_far (acts.Reply command reply) choice before after gains ends tells step = replied unit choice command reply so_far before after gains (own unit command) tells step
-steps_tell law unit so_far (acts.VmcAck command reply) choice before after gains ends tells step =
-    acked unit choice command reply so_far before after gains (own unit command) refl ends tells step
-steps_tell law unit so_far (acts.VmcNak command reply) choice before after gains ends tells step =
+steps_tell law unit facts so_far (acts.Reply command reply) choice before after gains ends lasts tells step = replied unit facts choice command reply so_far before after gains (own unit command) tells step
+steps_tell law unit facts so_far (acts.VmcAck command reply) choice before after gains ends lasts tells step =
+    acked unit facts choice command reply so_far before after gains (own unit command) refl ends tells step
+steps_tell law unit facts so_far (acts.VmcNak command reply) choice before after gains ends lasts tells step =
     stays_view unit (acts.VmcNak command reply) so_far before after (λ May. tt) refl tells (view_of after before step.0)
-steps_tell law unit so_far (acts.VmcRet command reply) choice before after gains ends tells step =
+steps_tell law unit facts so_far (acts.VmcRet command reply) choice before after gains ends lasts tells step =
     stays_view unit (acts.VmcRet command reply) so_far before after (λ May. tt) refl tells (view_of after before step.0)
-steps_tell law unit so_far (acts.Repeat command reply) choice before after gains ends tells step =
+steps_tell law unit facts so_far (acts.Repeat command reply) choice before after gains ends lasts tells step =
     stays_view unit (acts.Repeat command reply) so_far before after (λ May. tt) refl tells (view_of after before step.0)
-steps_tell law unit so_far acts.Foreign choice before after gains ends tells step =
+steps_tell law unit facts so_far acts.Foreign choice before after gains ends lasts tells step =
     stays_view unit acts.Foreign so_far before after (λ May. tt) refl tells (view_of after before step.0)
-steps_tell law unit so_far (acts.Break length) choice before after gains ends tells step =
+steps_tell law unit facts so_far (acts.Break length) choice before after gains ends lasts tells step =
     subst (λ (v : View). TellsOfSale unit v (acts.Break length ∷ so_far)) (sym (ap (λ (s : ReaderState). s.view) step.0)) tt
 
 -- a sale is asked where it is approved
-asked_sale : SameFields → (unit : ReaderUnit) (so_far : List Act) (item : ℕ) (before after : ReaderState) (gains : Gains) (found : Option ReaderCommand) → found ≡ Some (reader.VendSuccess item)
-    → TellsOfSale unit before.view so_far → ForOwn found (AskStep (facts_of unit so_far)) before after gains → IsApproved unit item so_far
-asked_sale law unit so_far item before after gains None is tells step = absurd cc
-asked_sale law unit so_far item before after gains (Some its) is tells step =
+asked_sale : SameFields → (unit : ReaderUnit) (facts : Facts) (so_far : List Act) (item : ℕ) (before after : ReaderState) (gains : Gains) (found : Option ReaderCommand) → found ≡ Some (reader.VendSuccess item)
+    → IsLastAsked unit so_far facts.asked → TellsOfSale unit before.view so_far → ForOwn found (AskStep facts) before after gains → IsApproved unit item so_far
+asked_sale law unit facts so_far item before after gains None is lasts tells step = absurd cc
+asked_sale law unit facts so_far item before after gains (Some its) is lasts tells step =
     let same : its ≡ reader.VendSuccess item = cc in
-    let sends = (subst (λ (c : ReaderCommand). AskStep (facts_of unit so_far) c before after gains) same step).view in
-    sale_approved law unit item so_far before.view after.view tells sends
+    let sends = (subst (λ (c : ReaderCommand). AskStep facts c before after gains) same step).view in
+    sale_approved law unit facts.asked item so_far before.view after.view lasts tells sends
 
-pub sales_approved : SameFields → (unit : ReaderUnit) (so_far : List Act) (item : ℕ) (choice : Choice) (before after : ReaderState) (gains : Gains)
-    → TellsOfSale unit before.view so_far → ReaderStep unit (facts_of unit so_far) (acts.Ask (commands.Reader unit (reader.VendSuccess item))) choice before after gains
+-- what is known of the last transaction command that was asked allows no other
+last_known : (begins : Beginning) (told asked : Option Transaction)
+    → Allows (known_by begins None (option_map (λ (t : Transaction). Some t) told)) asked
+    → (t : Transaction) → told ≡ Some t → asked ≡ Some t
+last_known begins (Some one) asked allows t is = allows ∙ is
+last_known begins None asked allows t is = absurd cc
+
+-- no VEND REQUEST was asked, and none is by one act more
+contains_more : (act x : Act) (so_far : List Act) → Contains (act ∷ so_far) x
+    → (act ≡ x) ⊎ Contains so_far x
+contains_more act x so_far (zero, few, is) = inl is
+contains_more act x so_far (suc n, few, is) = inr (n, omega (arith, few), is)
+
+still_unrequested : (unit : ReaderUnit) (act : Act) (so_far : List Act)
+    → ((price item : ℕ) → act ≡ acts.Ask (commands.Reader unit (reader.VendRequest price item)) → ⊥)
+    → IsUnrequested unit so_far → IsUnrequested unit (act ∷ so_far)
+still_unrequested unit act so_far other none price item among =
+    by (contains_more act (acts.Ask (commands.Reader unit (reader.VendRequest price item))) so_far among)
+  where
+    by : (act ≡ acts.Ask (commands.Reader unit (reader.VendRequest price item)))
+        ⊎ Contains so_far (acts.Ask (commands.Reader unit (reader.VendRequest price item))) → ⊥
+    by (inl is) = other price item is
+    by (inr earlier) = none price item earlier
+
+-- or one is, and the view tells of that
+sent_request : (last : Option Transaction) (price item : ℕ) (before after : View)
+    → sent last (Request price item) before ≡ Some after → Asked ≡ after
+sent_request last price item NoSession after sends = absurd cc
+sent_request last price item Idle after sends = cc
+sent_request last price item Asked after sends =
+    (sent_where (is_again last (Request price item)) Asked after sends).1
+sent_request last price item Waiting after sends = absurd cc
+sent_request last price item Approved after sends = absurd cc
+sent_request last price item SuccessOwed after sends = absurd cc
+sent_request last price item FailureOwed after sends = absurd cc
+sent_request last price item Ending after sends = absurd cc
+
+-- whether a command is VEND REQUEST
+abbrev requests_sale : ReaderCommand → Bool
+requests_sale (reader.VendRequest price item) = true
+requests_sale command = false
+
+abbrev Anew : ReaderUnit → View → List Act → Type 0
+Anew unit view so_far = TellsOfSale unit view so_far ⊎ IsUnrequested unit so_far
+
+no_request : (unit : ReaderUnit) (command : Command) (found : Option ReaderCommand) (price item : ℕ)
+    → own unit command ≡ found → ((its : ReaderCommand) → found ≡ Some its → requests_sale its ≡ false)
+    → acts.Ask command ≡ acts.Ask (commands.Reader unit (reader.VendRequest price item)) → ⊥
+no_request unit command found price item is none same =
+    let commands_same : command ≡ commands.Reader unit (reader.VendRequest price item) = cc in
+    let its : found ≡ Some (reader.VendRequest price item) =
+    sym is ∙ ap (own unit) commands_same ∙ own_of_unit unit (reader.VendRequest price item) in
+    let clash : true ≡ false = none (reader.VendRequest price item) its in
+    absurd cc
+
+other_ask : (unit : ReaderUnit) (command : Command) (found : Option ReaderCommand) (so_far : List Act) (after : View)
+    → own unit command ≡ found → ((its : ReaderCommand) → found ≡ Some its → requests_sale its ≡ false)
+    → IsUnrequested unit so_far → Anew unit after (acts.Ask command ∷ so_far)
+other_ask unit command found so_far after is none unrequested =
+    inr (still_unrequested unit (acts.Ask command) so_far
+    (λ price item. no_request unit command found price item is none) unrequested)
+
+anew_own : (unit : ReaderUnit) (facts : Facts) (command : Command) (its : ReaderCommand) (so_far : List Act) (before after : View)
+    → own unit command ≡ Some its → IsUnrequested unit so_far → asked facts its before ≡ Some after
+    → Anew unit after (acts.Ask command ∷ so_far)
+anew_own unit facts command (reader.VendRequest price item) so_far before after is unrequested sends =
+    inl (subst (λ (v : View). TellsOfSale unit v (acts.Ask command ∷ so_far))
+    (sent_request facts.asked price item before after sends) (requests unit command price item so_far is))
+anew_own unit facts command its so_far before after is unrequested sends =
+    other_ask unit command (Some its) so_far after is (λ other e. cc) unrequested
+
+anew_ask : (unit : ReaderUnit) (facts : Facts) (command : Command) (so_far : List Act) (before after : ReaderState) (gains : Gains) (found : Option ReaderCommand)
+    → own unit command ≡ found → IsUnrequested unit so_far → ForOwn found (AskStep facts) before after gains
+    → Anew unit after.view (acts.Ask command ∷ so_far)
+anew_ask unit facts command so_far before after gains None is unrequested step =
+    other_ask unit command None so_far after.view is (λ its e. absurd cc) unrequested
+anew_ask unit facts command so_far before after gains (Some its) is unrequested step =
+    anew_own unit facts command its so_far before.view after.view is unrequested step.view
+
+anew : (unit : ReaderUnit) (facts : Facts) (so_far : List Act) (act : Act) (choice : Choice) (before after : ReaderState) (gains : Gains)
+    → IsUnrequested unit so_far → ReaderStep unit facts act choice before after gains → Anew unit after.view (act ∷ so_far)
+anew unit facts so_far (acts.Ask command) choice before after gains unrequested step =
+    anew_ask unit facts command so_far before after gains (own unit command) refl unrequested step
+anew unit facts so_far act choice before after gains unrequested step =
+    inr (still_unrequested unit act so_far (λ price item e. cc) unrequested)
+
+-- each step keeps what the view may tell
+pub steps_may_tell : SameFields → (unit : ReaderUnit) (begins : Beginning) (so_far : List Act) (act : Act) (choice : Choice) (before after : ReaderState) (gains : Gains)
+    → AcksLastReply act so_far → MayTellOfSale begins unit before.view so_far → StepKnowing unit (known_of begins unit so_far) act choice before after gains
+    → MayTellOfSale begins unit after.view (act ∷ so_far)
+steps_may_tell law unit begins so_far act choice before after gains ends (inl tells) step =
+    inl (steps_tell law unit step.facts so_far act choice before after gains ends
+    (last_known begins (last_told (asked_by unit) so_far) step.facts.asked step.allowed.asked) tells step.step)
+steps_may_tell law unit PowerOn so_far act choice before after gains ends (inr may) step = absurd may
+steps_may_tell law unit (Joined setups) so_far act choice before after gains ends (inr may) step =
+    anew unit step.facts so_far act choice before after gains may step.step
+
+pub starts_tell : (unit : ReaderUnit) (begins : Beginning) (state : ReaderState) → StartsIn power_on begins state
+    → MayTellOfSale begins unit state.view []
+starts_tell unit PowerOn state is = inl (subst (λ (s : ReaderState). TellsOfSale unit s.view []) (sym is) tt)
+starts_tell unit (Joined setups) state is = inr (λ price item among. omega (arith, among.1))
+
+sales_approved : SameFields → (unit : ReaderUnit) (facts : Facts) (so_far : List Act) (item : ℕ) (choice : Choice) (before after : ReaderState) (gains : Gains)
+    → IsLastAsked unit so_far facts.asked → TellsOfSale unit before.view so_far
+    → ReaderStep unit facts (acts.Ask (commands.Reader unit (reader.VendSuccess item))) choice before after gains
     → IsApproved unit item so_far
-sales_approved law unit so_far item choice before after gains tells step =
-    asked_sale law unit so_far item before after gains (own unit (commands.Reader unit (reader.VendSuccess item))) (own_of_unit unit (reader.VendSuccess item)) tells step
+sales_approved law unit facts so_far item choice before after gains lasts tells step =
+    asked_sale law unit facts so_far item before after gains (own unit (commands.Reader unit (reader.VendSuccess item))) (own_of_unit unit (reader.VendSuccess item)) lasts tells step
+
+pub sales_may_stand : SameFields → (unit : ReaderUnit) (begins : Beginning) (so_far : List Act) (item : ℕ) (choice : Choice) (before after : ReaderState) (gains : Gains)
+    → MayTellOfSale begins unit before.view so_far
+    → StepKnowing unit (known_of begins unit so_far) (acts.Ask (commands.Reader unit (reader.VendSuccess item))) choice before after gains
+    → IsApproved unit item so_far ⊎ MayBeRequestedBefore begins unit so_far
+sales_may_stand law unit begins so_far item choice before after gains (inl tells) step =
+    inl (sales_approved law unit step.facts so_far item choice before after gains
+    (last_known begins (last_told (asked_by unit) so_far) step.facts.asked step.allowed.asked) tells step.step)
+sales_may_stand law unit begins so_far item choice before after gains (inr may) step = inr may

@@ -1,4 +1,4 @@
-use Rattle.std.proofs.Common.{◌≡◌, ◌∙◌, ◌↔◌, Bool, true, false, not, Option, Some, None, refl, ap, sym, subst}
+use Rattle.std.proofs.Common.{◌≡◌, ◌∙◌, ◌↔◌, Bool, true, false, not, List, Option, Some, None, refl, ap, sym, subst}
 use Rattle.std.specs.Bool.{OnFalse, OnTrue}
 use Rattle.mdb_msgs.specs.declared.command.Command.{Command}
 use Rattle.mdb_msgs.specs.declared.command.ReaderCommand.{ReaderCommand}
@@ -7,18 +7,21 @@ use Rattle.mdb_msgs.specs.declared.command.ReaderUnit.{ReaderUnit}
 use Rattle.mdb_msgs.specs.declared.reply.Reply.{Reply}
 use Rattle.mdb_bus.specs.declared.act.Act.{Act}
 use Rattle.mdb_bus.specs.declared.act.Act.TheVariants as acts
+use Rattle.mdb_bus.specs.declared.scope.Beginning.{Beginning}
 use Rattle.mdb_cash.specs.declared.choice.Choice.{Choice}
 use Rattle.mdb_cash.specs.declared.choice.Choice.TheVariants.{Plain, Lost, Restart}
 use Rattle.mdb_cash.specs.declared.gains.Gains.{Gains}
 use Rattle.mdb_cash.specs.Gains.{controller_gains, device_gains, no_gains}
-use Rattle.mdb_cash.specs.Pair.{IsOnlyStep}
+use Rattle.mdb_cash.specs.Pair.{IsOnlyStep, Stays}
 use Rattle.mdb_cashless.specs.declared.reader.device.DeviceState.{DeviceState}
 use Rattle.mdb_cashless.specs.declared.reader.state.ReaderState.{ReaderState}
 use Rattle.mdb_cashless.specs.declared.reader.view.View.{View}
-use Rattle.mdb_cashless.specs.Reader.{AckStep, AskStep, ForOwn, ReaderStep, ReplyStep, VmcAckStep, asked, sold, sold_to, take, view_heard}
-use Rattle.mdb_cashless.specs.ReaderFacts.{Facts}
+use Rattle.mdb_cashless.specs.Reader.{AckStep, AskStep, ForOwn, ReaderStep, ReplyStep, StepKnowing, VmcAckStep, asked, sold, sold_to, take, view_heard}
+use Rattle.mdb_cashless.specs.ReaderFacts.{Facts, KnownFacts, known_of}
 use Rattle.mdb_cashless.specs.ReaderValues.{changes_view}
 use Rattle.mdb_cashless.specs.Units.{own}
+use Rattle.mdb_cashless.specs.inner.Guesses.{OfSome}
+use Rattle.mdb_cashless.specs.inner.KnowingReader.{stays}
 
 -- states with the same parts
 pub same_state : {one other : ReaderState} → one.device ≡ other.device → one.view ≡ other.view → one.holds ≡ other.holds → one ≡ other
@@ -151,3 +154,95 @@ poll_rests facts choice state after gains unit act command is found free =
 pub where_not : {P : Type 0} (is : Bool) → (is ≡ false → P) → OnTrue (not is) P
 where_not true p = tt
 where_not false p = p refl
+
+-- what changes nothing after any facts changes nothing where not all is known
+pub known_stays : (concerns : Bool) (act : Act) {one unit : ReaderUnit} → one ≡ unit
+    → OnFalse concerns ((facts : Facts) (choice : Choice) (before after : ReaderState) (gains : Gains)
+    → ReaderStep one facts act choice before after gains ↔ (after ≡ before) × (gains ≡ no_gains))
+    → OnFalse concerns ((begins : Beginning) (acts : List Act) (choice : Choice)
+    (before after : ReaderState) (gains : Gains)
+    → StepKnowing unit (known_of begins unit acts) act choice before after gains
+    ↔ Stays before after gains)
+known_stays true act same each = tt
+known_stays false act {one} {unit} same each = λ begins acts choice before after gains.
+    stays unit (known_of begins unit acts) act choice before after gains
+    (λ facts. subst (λ (u : ReaderUnit). ReaderStep u facts act choice before after gains
+    ↔ Stays before after gains) same (each facts choice before after gains))
+
+pub known_rests : (rests : Bool) (act : Act) (state : ReaderState) {one unit : ReaderUnit} → one ≡ unit
+    → OnTrue rests ((facts : Facts) (choice : Choice) (after : ReaderState) (gains : Gains)
+    → ReaderStep one facts act choice state after gains ↔ (after ≡ state) × (gains ≡ no_gains))
+    → OnTrue rests ((begins : Beginning) (acts : List Act) (choice : Choice) (after : ReaderState)
+    (gains : Gains) → StepKnowing unit (known_of begins unit acts) act choice state after gains
+    ↔ Stays state after gains)
+known_rests false act state same each = tt
+known_rests true act state {one} {unit} same each = λ begins acts choice after gains.
+    stays unit (known_of begins unit acts) act choice state after gains
+    (λ facts. subst (λ (u : ReaderUnit). ReaderStep u facts act choice state after gains
+    ↔ Stays state after gains) same (each facts choice after gains))
+
+-- steps by an act of the reader, where not all is known
+knowing_of : (unit : ReaderUnit) (known : KnownFacts) (act : Act) (choice : Choice)
+    (before after : ReaderState) (gains : Gains) (Holds : Facts → Type 0)
+    → ((facts : Facts) → Holds facts ↔ ReaderStep unit facts act choice before after gains)
+    → OfSome known before.holds Holds ↔ StepKnowing unit known act choice before after gains
+knowing_of unit known act choice before after gains Holds is = (
+  λ some. record { facts = some.0; allowed = some.1; step = (is some.0).0 some.2 },
+  λ step. (step.facts, step.allowed, (is step.facts).1 step.step),
+)
+
+its_own : (found : Option ReaderCommand) (its : ReaderCommand)
+    (Step : ReaderCommand → ReaderState → ReaderState → Gains → Type 0)
+    (before after : ReaderState) (gains : Gains) → found ≡ Some its
+    → Step its before after gains ↔ ForOwn found Step before after gains
+its_own None its Step before after gains is = absurd cc
+its_own (Some other) its Step before after gains is =
+    let same : other ≡ its = cc in
+    subst (λ (c : ReaderCommand). Step c before after gains ↔ Step other before after gains) same
+    (λ step. step, λ step. step)
+
+both_ways : {A B C : Type 0} → A ↔ B → B ↔ C → A ↔ C
+both_ways one other = (λ a. other.0 (one.0 a), λ c. one.1 (other.1 c))
+
+pub asks_knowing : (unit : ReaderUnit) (known : KnownFacts) (act : Act) (command : Command)
+    (its : ReaderCommand) (choice : Choice) (before after : ReaderState) (gains : Gains)
+    (Found : Type 0) → act ≡ acts.Ask command → own unit command ≡ Some its
+    → Found ↔ OfSome known before.holds (λ facts. AskStep facts its before after gains)
+    → Found ↔ StepKnowing unit known act choice before after gains
+asks_knowing unit known act command its choice before after gains Found is found some =
+    both_ways some (subst (λ (a : Act). OfSome known before.holds
+    (λ facts. AskStep facts its before after gains)
+    ↔ StepKnowing unit known a choice before after gains) (sym is)
+    (knowing_of unit known (acts.Ask command) choice before after gains
+    (λ facts. AskStep facts its before after gains)
+    (λ facts. its_own (own unit command) its (AskStep facts) before after gains found)))
+
+pub acks_knowing : (unit : ReaderUnit) (known : KnownFacts) (act : Act) (command : Command)
+    (its : ReaderCommand) (choice : Choice) (before after : ReaderState) (gains : Gains)
+    (Found : Type 0) → act ≡ acts.Ack command → own unit command ≡ Some its
+    → Found ↔ OfSome known before.holds (λ facts. AckStep facts its choice before after gains)
+    → Found ↔ StepKnowing unit known act choice before after gains
+acks_knowing unit known act command its choice before after gains Found is found some =
+    both_ways some (subst (λ (a : Act). OfSome known before.holds
+    (λ facts. AckStep facts its choice before after gains)
+    ↔ StepKnowing unit known a choice before after gains) (sym is)
+    (knowing_of unit known (acts.Ack command) choice before after gains
+    (λ facts. AckStep facts its choice before after gains)
+    (λ facts. its_own (own unit command) its (λ c. AckStep facts c choice) before after gains
+    found)))
+
+pub replies_knowing : (unit : ReaderUnit) (known : KnownFacts) (act : Act) (command : Command)
+    (reply : Reply) (its : ReaderCommand) (choice : Choice) (before after : ReaderState)
+    (gains : Gains) (Found : Type 0) → act ≡ acts.Reply command reply
+    → own unit command ≡ Some its
+    → Found ↔ OfSome known before.holds
+    (λ facts. ReplyStep facts its reply choice before after gains)
+    → Found ↔ StepKnowing unit known act choice before after gains
+replies_knowing unit known act command reply its choice before after gains Found is found some =
+    both_ways some (subst (λ (a : Act). OfSome known before.holds
+    (λ facts. ReplyStep facts its reply choice before after gains)
+    ↔ StepKnowing unit known a choice before after gains) (sym is)
+    (knowing_of unit known (acts.Reply command reply) choice before after gains
+    (λ facts. ReplyStep facts its reply choice before after gains)
+    (λ facts. its_own (own unit command) its (λ c. ReplyStep facts c reply choice) before after
+    gains found)))

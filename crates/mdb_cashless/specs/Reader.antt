@@ -1,6 +1,7 @@
 -- A cashless reader and the controller's dealings with it (MDB/ICP 4.3, cashless device; states and
 -- sums, this profile). The accounts are approved and sold.
 use Rattle.std.specs.Prelude.{◌≡◌, ℕ, ◌+◌, ◌*◌, Bool, true, false, ◌&&◌, ◌||◌, List, [], ◌∷◌, Option, Some, None, if◌then◌else◌, sum_by}
+use Rattle.std.specs.Option.{is_none}
 use Rattle.mdb_msgs.specs.declared.command.ReaderCommand.{ReaderCommand}
 use Rattle.mdb_msgs.specs.declared.command.ReaderCommand.TheVariants as reader
 use Rattle.mdb_msgs.specs.declared.command.ReaderUnit.{ReaderUnit}
@@ -9,16 +10,19 @@ use Rattle.mdb_msgs.specs.declared.reply.reader.ReaderMsg.{ReaderMsg}
 use Rattle.mdb_msgs.specs.declared.reply.reader.ReaderMsg.TheVariants as messages
 use Rattle.mdb_bus.specs.declared.act.Act.{Act}
 use Rattle.mdb_bus.specs.declared.act.Act.TheVariants as acts
+use Rattle.mdb_bus.specs.declared.scope.Beginning.{Beginning}
 use Rattle.mdb_cash.specs.declared.choice.Choice.{Choice}
 use Rattle.mdb_cash.specs.declared.choice.Choice.TheVariants.{Lost, Restart}
 use Rattle.mdb_cash.specs.declared.gains.Gains.{Gains}
 use Rattle.mdb_cash.specs.Gains.{no_gains, controller_gains, device_gains}
 use Rattle.mdb_cash.specs.Kept.{HasNews, held, holds_acked, holds_after, kept_of}
-use Rattle.mdb_cash.specs.Machine.{Machine}
+use Rattle.mdb_cash.specs.Machine.{Machine, StartsIn}
 use Rattle.mdb_cash.specs.Pair.{Stays}
 use Rattle.mdb_cash.specs.Past.{or_else, resets, tells_out_of_sequence}
+use Rattle.mdb_cash.specs.Unvalued as amounts
+use Rattle.mdb_cash.specs.Unvalued.{one_if}
 use Rattle.mdb_cashless.specs.declared.reader.device.DeviceState.TheVariants as device
-use Rattle.mdb_cashless.specs.declared.reader.messages.ReaderConfig.{ReaderConfig}
+use Rattle.mdb_msgs.specs.declared.setups.ReaderConfig.{ReaderConfig}
 use Rattle.mdb_cashless.specs.declared.reader.messages.ReaderActivity.{ReaderActivity}
 use Rattle.mdb_cashless.specs.declared.reader.messages.ReaderActivity.TheVariants.{VendApproved}
 use Rattle.mdb_cashless.specs.declared.reader.state.ReaderState.{ReaderState}
@@ -27,7 +31,7 @@ use Rattle.mdb_cashless.specs.declared.reader.view.View.TheVariants as view
 use Rattle.mdb_cashless.specs.declared.reader.transaction.Transaction.{Transaction}
 use Rattle.mdb_cashless.specs.ReaderDevice as reader_device
 use Rattle.mdb_cashless.specs.ReaderDevice.{all_told, effect}
-use Rattle.mdb_cashless.specs.ReaderFacts.{Facts, effect_of_own, facts_of, own_transaction}
+use Rattle.mdb_cashless.specs.ReaderFacts.{AllowsFacts, Facts, KnownFacts, config_by, effect_of_own, known_of, messages_by, own_transaction}
 use Rattle.mdb_cashless.specs.ReaderMessages.{config_in, last_said, messages_of, parts_of}
 use Rattle.mdb_cashless.specs.ReaderView as reader_view
 use Rattle.mdb_cashless.specs.ReaderView.{all_heard, awaits, heard, sent}
@@ -256,9 +260,47 @@ ReaderStep unit facts (acts.VmcRet command reply) choice = Stays
 ReaderStep unit facts (acts.Repeat command reply) choice = Stays
 ReaderStep unit facts acts.Foreign choice = Stays
 
--- The machine of a reader. It starts at power-on.
-abbrev pub machine : ReaderUnit → Machine ReaderState
-machine unit = record {
-  Starts = λ state. state ≡ power_on;
-  Step = λ acts. ReaderStep unit (facts_of unit acts);
+-- A step where this is known of the facts: one after facts that may be. What isn't known may have
+-- been anything.
+pub record StepKnowing (unit : ReaderUnit) (known : KnownFacts) (act : Act) (choice : Choice)
+    (before after : ReaderState) (gains : Gains) : Type 0 where
+  pub facts : Facts
+  pub allowed : AllowsFacts known before.holds facts
+  pub step : ReaderStep unit facts act choice before after gains
+
+-- The machine of a reader in a recording that begins so.
+abbrev pub machine : ReaderUnit → Beginning → Machine ReaderState
+machine unit begins = record {
+  Starts = StartsIn power_on begins;
+  Step = λ acts. StepKnowing unit (known_of begins unit acts);
 }
+
+-- whether a message is 05, which tells an amount
+abbrev pub is_approval : ReaderMsg → Bool
+is_approval (messages.VendApproved amount) = true
+is_approval message = false
+
+-- whether the controller asks for money by a command to the reader: VEND SUCCESS
+abbrev pub asks_sale : Option ReaderCommand → Bool
+asks_sale (Some (reader.VendSuccess item)) = true
+asks_sale command = false
+
+-- whether the value of a sale isn't known: there is no config message or no message 05 yet
+abbrev pub is_unpriced : KnownFacts → Bool
+is_unpriced known = is_none known.config || is_none known.amount
+
+-- How many amounts without a value an act tells, where this is known before it: a VEND SUCCESS that
+-- is asked, and messages 05 of a reply, told again or not; its own config message counts first. A
+-- repeat is no further reply.
+abbrev pub unvalued_by : ReaderUnit → KnownFacts → Act → ℕ
+unvalued_by unit known (acts.Ask command) =
+    one_if (asks_sale (own unit command) && is_unpriced known)
+unvalued_by unit known act =
+    amounts.unvalued_by (or_else (config_by unit act) known.config)
+    (sum_by (λ message. one_if (is_approval message)) (messages_by unit act))
+
+-- how many amounts without a value acts tell
+abbrev pub unvalued : ReaderUnit → Beginning → List Act → ℕ
+unvalued unit begins [] = 0
+unvalued unit begins (act ∷ acts) =
+    unvalued_by unit (known_of begins unit acts) act + unvalued unit begins acts

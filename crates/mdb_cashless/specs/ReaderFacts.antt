@@ -1,5 +1,5 @@
 -- What is known of a reader after a list of acts, the newest first (this profile).
-use Rattle.std.specs.Prelude.{ℕ, Bool, List, [], ◌∷◌, Option, Some, None, unwrap_or, if◌then◌else◌, map, ◌||◌}
+use Rattle.std.specs.Prelude.{◌≡◌, ℕ, Bool, List, [], ◌∷◌, Option, Some, None, option_map, unwrap_or, if◌then◌else◌, map, ◌||◌}
 use Rattle.mdb_msgs.specs.declared.command.Command.{Command}
 use Rattle.mdb_msgs.specs.declared.command.ReaderCommand.{ReaderCommand}
 use Rattle.mdb_msgs.specs.declared.command.ReaderCommand.TheVariants as reader
@@ -7,11 +7,14 @@ use Rattle.mdb_msgs.specs.declared.command.ReaderUnit.{ReaderUnit}
 use Rattle.mdb_msgs.specs.declared.reply.reader.ReaderMsg.{ReaderMsg}
 use Rattle.mdb_bus.specs.declared.act.Act.{Act}
 use Rattle.mdb_bus.specs.declared.act.Act.TheVariants as acts
+use Rattle.mdb_bus.specs.declared.scope.Beginning.{Beginning}
 use Rattle.mdb_cash.specs.declared.kept.Part.{Part}
 use Rattle.mdb_cash.specs.declared.past.Effect.{Effect}
 use Rattle.mdb_cash.specs.declared.past.Effect.TheVariants as effects
-use Rattle.mdb_cash.specs.Past.{PastFacts, last_told, or_else, past_of, powers_on, taken_by}
-use Rattle.mdb_cashless.specs.declared.reader.messages.ReaderConfig.{ReaderConfig}
+use Rattle.mdb_cash.specs.Known.{Allows, Known, known_before, known_by}
+use Rattle.mdb_cash.specs.Past.{AllowsPast, KnownPast, PastFacts, known_past, last_told, or_else, past_of, powers_on, taken_by}
+use Rattle.mdb_msgs.specs.Setups.{config_known}
+use Rattle.mdb_msgs.specs.declared.setups.ReaderConfig.{ReaderConfig}
 use Rattle.mdb_cashless.specs.declared.reader.messages.ReaderActivity.{ReaderActivity}
 use Rattle.mdb_cashless.specs.declared.reader.transaction.Transaction.{Transaction}
 use Rattle.mdb_cashless.specs.ReaderMessages.{amount_in, begin_session, config_in, last_said, messages_of, part_of}
@@ -103,3 +106,46 @@ facts_of unit acts =
       amount = unwrap_or (last_told (amount_by unit) acts) 0;
       past = past_of (effect_of unit) (parts_by unit) acts;
     }
+
+-- What an act tells of the last transaction that the reader took, if it tells something of it: that
+-- there is none, or which one it is.
+abbrev pub taken_told : ReaderUnit → Act → Option (Option Transaction)
+taken_told unit act =
+    if ends_transactions unit act then Some None
+    else option_map (λ transaction. Some transaction) (transaction_taken_by unit act)
+
+-- What is known of the last transaction that the reader took: in a recording that begins in
+-- mid-session nothing, until an act tells something of it.
+abbrev pub known_taken : Beginning → ReaderUnit → List Act → Known (Option Transaction)
+known_taken begins unit acts = known_by begins None (last_told (taken_told unit) acts)
+
+-- What is known of the facts, where a recording may begin in mid-session.
+pub record KnownFacts : Type 0 where
+  pub config : Option ReaderConfig
+  pub asked : Known (Option Transaction)
+  pub taken : Known (Option Transaction)
+  -- none, where there was no message 05
+  pub amount : Option ℕ
+  pub past : KnownPast ReaderActivity
+
+-- what is known of them after acts: the config message may be known from elsewhere
+abbrev pub known_of : Beginning → ReaderUnit → List Act → KnownFacts
+known_of begins unit acts =
+    record {
+      config = or_else (last_told (config_by unit) acts)
+          (known_before (λ setups. config_known setups unit) begins);
+      asked = known_by begins None
+          (option_map (λ transaction. Some transaction) (last_told (asked_by unit) acts));
+      taken = known_taken begins unit acts;
+      amount = last_told (amount_by unit) acts;
+      past = known_past begins (effect_of unit) (parts_by unit) acts;
+    }
+
+-- Facts that may be, where this is known and the reader holds messages or holds none. An amount
+-- that isn't known counts as 0.
+pub record AllowsFacts (known : KnownFacts) (holds : Bool) (facts : Facts) : Type 0 where
+  pub config : facts.config ≡ known.config
+  pub asked : Allows known.asked facts.asked
+  pub taken : Allows known.taken facts.taken
+  pub amount : facts.amount ≡ unwrap_or known.amount 0
+  pub past : AllowsPast known.past holds facts.past

@@ -1,23 +1,84 @@
--- How the code keeps a reader's facts. `facts_in` says what a value of facts stands for; the rest
--- serves private functions.
-use Rattle.std.specs.Prelude.{Bool, true, false, List, Some, None, unwrap_or, if◌then◌else◌, map, Option, []}
+-- How the code keeps a reader's facts, and what is known of them. `known_in` says what a value of
+-- what is known stands for; the rest serves private functions.
+use Rattle.std.specs.Prelude.{Bool, true, false, ◌&&◌, ◌||◌, not, ℕ, List, Some, None, option_map, unwrap_or, if◌then◌else◌, map, Option, []}
+use Rattle.std.specs.Option.{is_none}
 use Rattle.mdb_msgs.specs.declared.command.ReaderCommand.{ReaderCommand}
 use Rattle.mdb_msgs.specs.declared.command.ReaderCommand.TheVariants as reader
 use Rattle.mdb_msgs.specs.declared.command.ReaderUnit.{ReaderUnit}
+use Rattle.mdb_msgs.specs.declared.reply.Reply.{Reply}
 use Rattle.mdb_msgs.specs.declared.reply.reader.ReaderMsg.{ReaderMsg}
+use Rattle.mdb_msgs.specs.declared.setups.ReaderConfig.{ReaderConfig}
 use Rattle.mdb_bus.specs.declared.act.Act.{Act}
+use Rattle.mdb_bus.specs.declared.act.Act.TheVariants as acts
 use Rattle.mdb_cash.specs.declared.past.Effect.TheVariants as effects
-use Rattle.mdb_cash.specs.PastValues.{past_after, past_in, past_with}
-use Rattle.mdb_cash.specs.Past.{or_else, resets}
+use Rattle.mdb_cash.specs.PastValues.{if_known, known_more, known_past_with, past_after, past_in, past_known, past_with}
+use Rattle.mdb_cash.specs.Past.{PastFacts, or_else, resets, tells_out_of_sequence}
 use Rattle.mdb_cashless.specs.declared.reader.facts.ReaderFacts.{ReaderFacts}
+use Rattle.mdb_cashless.specs.declared.reader.known.ReaderKnown.{ReaderKnown}
+use Rattle.mdb_cashless.specs.declared.reader.messages.ReaderActivity.{ReaderActivity}
 use Rattle.mdb_cashless.specs.declared.reader.transaction.Transaction.{Transaction}
-use Rattle.mdb_cashless.specs.ReaderFacts.{Facts, amount_by, asked_by, config_by, effect_of, effect_of_own, ends_transactions, parts_by, transaction_taken_by}
-use Rattle.mdb_cashless.specs.ReaderMessages.{amount_in, begin_session, config_in, last_said, part_of}
+use Rattle.mdb_cashless.specs.Reader.{drops}
+use Rattle.mdb_cashless.specs.ReaderFacts.{Facts, KnownFacts, amount_by, asked_by, config_by, effect_of, effect_of_own, ends_transactions, own_transaction, parts_by, taken_told, transaction_taken_by}
+use Rattle.mdb_cashless.specs.ReaderMessages.{amount_in, begin_session, config_in, last_said, messages_of, part_of}
 use Rattle.mdb_cashless.specs.Transactions.{transaction_of}
+use Rattle.mdb_cashless.specs.Units.{own}
 
--- the facts that are kept
+-- the facts that are kept: an amount that wasn't told counts as 0
 abbrev pub facts_in : ReaderFacts → Facts
 facts_in facts =
+    record {
+      config = facts.config;
+      asked = facts.asked;
+      taken = facts.taken;
+      amount = unwrap_or facts.amount 0;
+      past = past_in facts.past;
+    }
+
+-- what is known of the facts
+abbrev pub known_in : ReaderKnown → KnownFacts
+known_in known =
+    record {
+      config = known.facts.config;
+      asked = if_known known.knows_asked known.facts.asked;
+      taken = if_known known.knows_taken known.facts.taken;
+      amount = known.facts.amount;
+      past = past_known known.knows_kept known.facts.past;
+    }
+
+-- what is known after one act more
+abbrev pub known_with : ReaderUnit → Act → KnownFacts → KnownFacts
+known_with unit act known =
+    record {
+      config = or_else (config_by unit act) known.config;
+      asked = known_more (option_map (λ transaction. Some transaction) (asked_by unit act))
+          known.asked;
+      taken = known_more (taken_told unit act) known.taken;
+      amount = or_else (amount_by unit act) known.amount;
+      past = known_past_with (effect_of unit) (parts_by unit) act known.past;
+    }
+
+-- Whether what is known settles an act: an ask of a transaction command, where the last one that
+-- was asked is known, an ACK to one, where the last one that the reader took is, and a reply, where
+-- the last kept list is too. All other acts it settles.
+abbrev pub settled : ReaderUnit → ReaderKnown → Act → Bool
+settled unit known (acts.Ask command) =
+    known.knows_asked || is_none (own_transaction (own unit command))
+settled unit known (acts.Ack command) =
+    known.knows_taken || is_none (own_transaction (own unit command))
+settled unit known (acts.Reply command reply) =
+    (known.knows_taken && known.knows_kept) || is_none (own unit command)
+settled unit known act = true
+
+-- the facts as acts tell them: there may be no amount yet
+pub record ToldFacts : Type 0 where
+  pub config : Option ReaderConfig
+  pub asked : Option Transaction
+  pub taken : Option Transaction
+  pub amount : Option ℕ
+  pub past : PastFacts ReaderActivity
+
+abbrev pub told_in : ReaderFacts → ToldFacts
+told_in facts =
     record {
       config = facts.config;
       asked = facts.asked;
@@ -26,15 +87,15 @@ facts_in facts =
       past = past_in facts.past;
     }
 
--- the facts after one act more
-abbrev pub facts_with : ReaderUnit → Act → Facts → Facts
-facts_with unit act facts =
+-- they after one act more
+abbrev pub told_with : ReaderUnit → Act → ToldFacts → ToldFacts
+told_with unit act facts =
     record {
       config = or_else (config_by unit act) facts.config;
       asked = or_else (asked_by unit act) facts.asked;
       taken = if ends_transactions unit act then None
           else or_else (transaction_taken_by unit act) facts.taken;
-      amount = unwrap_or (amount_by unit act) facts.amount;
+      amount = or_else (amount_by unit act) facts.amount;
       past = past_with (effect_of unit) (parts_by unit) act facts.past;
     }
 
@@ -44,7 +105,7 @@ last_after reader.Reset last = None
 last_after command last = or_else (transaction_of command) last
 
 -- the facts after a command that is taken, if one is
-abbrev pub taken : Option ReaderCommand → Facts → Facts
+abbrev pub taken : Option ReaderCommand → ToldFacts → ToldFacts
 taken None facts = facts
 taken (Some command) facts =
     record facts {
@@ -54,16 +115,16 @@ taken (Some command) facts =
     }
 
 -- the facts after a break
-abbrev pub powered : Facts → Facts
+abbrev pub powered : ToldFacts → ToldFacts
 powered facts = record facts { taken = None; past = past_after true effects.Other [] facts.past }
 
 -- the facts after the messages of a reply
-abbrev pub told : List ReaderMsg → Facts → Facts
+abbrev pub told : List ReaderMsg → ToldFacts → ToldFacts
 told messages facts =
     record facts {
       config = or_else (last_said config_in messages) facts.config;
       taken = if begin_session messages then None else facts.taken;
-      amount = unwrap_or (last_said amount_in messages) facts.amount;
+      amount = or_else (last_said amount_in messages) facts.amount;
       past = past_after false effects.Other (map part_of messages) facts.past;
     }
 
@@ -71,3 +132,8 @@ told messages facts =
 abbrev pub changes_view : ReaderCommand → Bool
 changes_view reader.Reset = true
 changes_view command = elim (transaction_of command) [ Some transaction ↦ true | None ↦ false ]
+
+-- whether a reply to a command tells something of the last transaction that the reader took
+abbrev pub tells_taken : ReaderCommand → Reply → Bool
+tells_taken command reply = begin_session (messages_of reply)
+    || (not (tells_out_of_sequence reply) && drops command)

@@ -12,6 +12,8 @@ use Rattle.mdb_msgs.specs.declared.reply.Reply.{Reply}
 use Rattle.mdb_msgs.specs.declared.reply.reader.ReaderMsg.TheVariants as messages
 use Rattle.mdb_bus.specs.declared.act.Act.{Act}
 use Rattle.mdb_bus.specs.declared.act.Act.TheVariants as acts
+use Rattle.mdb_bus.specs.declared.scope.Beginning.{Beginning}
+use Rattle.mdb_bus.specs.declared.scope.Beginning.TheVariants.{PowerOn, Joined}
 use Rattle.mdb_cashless.specs.declared.reader.transaction.Transaction.{Transaction}
 use Rattle.mdb_cashless.specs.declared.reader.transaction.Transaction.TheVariants.{Request, Cancel, Success}
 use Rattle.mdb_cashless.specs.ReaderFacts.{own_transaction}
@@ -62,9 +64,21 @@ pub record IsApproved (unit : ReaderUnit) (item : ℕ) (so_far : List Act) : Typ
   pub approves : Contains (messages_of reply) (messages.VendApproved amount)
   pub requested : IsRequested unit replied.before
 
+-- No act asks a VEND REQUEST of this reader.
+abbrev pub IsUnrequested : ReaderUnit → List Act → Type 0
+IsUnrequested unit so_far = (price item : ℕ)
+    → Contains so_far (acts.Ask (Reader unit (reader.VendRequest price item))) → ⊥
+
+-- The controller may have requested a sale before the recording: it begins in mid-session, and no
+-- act so far asks a VEND REQUEST of this reader.
+abbrev pub MayBeRequestedBefore : Beginning → ReaderUnit → List Act → Type 0
+MayBeRequestedBefore PowerOn unit so_far = ⊥
+MayBeRequestedBefore (Joined setups) unit so_far = IsUnrequested unit so_far
+
 -- Each sale at this reader follows its approval: wherever VEND SUCCESS of an item stands among the
--- acts, it is approved by those before it.
-abbrev pub SalesAreApproved : ReaderUnit → List Act → Type 0
-SalesAreApproved unit so_far = (later before : List Act) (item : ℕ)
+-- acts, it is approved by those before it. In a recording that begins in mid-session one is
+-- excepted that may have been requested before the recording, and no other.
+abbrev pub SalesAreApproved : Beginning → ReaderUnit → List Act → Type 0
+SalesAreApproved begins unit so_far = (later before : List Act) (item : ℕ)
     → so_far ≡ later ++ (acts.Ask (Reader unit (reader.VendSuccess item)) ∷ before)
-    → IsApproved unit item before
+    → IsApproved unit item before ⊎ MayBeRequestedBefore begins unit before

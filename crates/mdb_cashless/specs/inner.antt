@@ -1,3 +1,5 @@
+pub mod Guesses
+pub mod KnowingReader
 pub mod PlainReader
 pub mod ReaderCodes
 pub mod ReaderSaid

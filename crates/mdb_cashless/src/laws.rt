@@ -1,6 +1,6 @@
 //! Laws of the readers' machine. Each function's contract is the law.
 
-ghost use Rattle.std.specs.Prelude.{◌≡◌, ◌↔◌, ℕ, true, List, [], ◌∷◌, Some, None, All};
+ghost use Rattle.std.specs.Prelude.{◌≡◌, ◌↔◌, ◌⊎◌, ℕ, Bool, true, List, [], ◌∷◌, Some, None, All};
 ghost use Rattle.mdb_msgs.specs.declared.command.Command.{Command};
 ghost use Rattle.mdb_msgs.specs.declared.command.Command.TheVariants as commands;
 ghost use Rattle.mdb_msgs.specs.declared.command.Device.TheVariants as devices;
@@ -10,15 +10,17 @@ ghost use Rattle.mdb_msgs.specs.declared.command.ReaderUnit.{ReaderUnit};
 ghost use Rattle.mdb_msgs.specs.declared.command.ReaderUnit.TheVariants.{First, Second};
 ghost use Rattle.mdb_bus.specs.declared.act.Act.{Act};
 ghost use Rattle.mdb_bus.specs.declared.act.Act.TheVariants as acts;
+ghost use Rattle.mdb_bus.specs.declared.scope.Beginning.{Beginning};
+ghost use Rattle.mdb_bus.specs.declared.scope.Beginning.TheVariants.{PowerOn};
 ghost use Rattle.mdb_cash.specs.declared.choice.Choice.{Choice};
 ghost use Rattle.mdb_cash.specs.declared.gains.Gains.{Gains};
 ghost use Rattle.mdb_cash.specs.Pair.{IsBreak, own_acts};
 ghost use Rattle.mdb_cashless.specs.declared.reader.state.ReaderState.{ReaderState};
 ghost use Rattle.mdb_cashless.specs.declared.reader.transaction.Transaction.{Transaction};
-ghost use Rattle.mdb_cashless.specs.Reader.{ReaderStep};
-ghost use Rattle.mdb_cashless.specs.ReaderFacts.{facts_of};
-ghost use Rattle.mdb_cashless.specs.inner.SaleViews.{AcksLastReply, TellsOfSale};
-ghost use Rattle.mdb_cashless.specs.Sales.{IsApproved};
+ghost use Rattle.mdb_cashless.specs.Reader.{machine, unvalued};
+ghost use Rattle.mdb_cashless.specs.ReaderFacts.{AllowsFacts, Facts, facts_of, known_of};
+ghost use Rattle.mdb_cashless.specs.inner.SaleViews.{AcksLastReply, MayTellOfSale};
+ghost use Rattle.mdb_cashless.specs.Sales.{IsApproved, MayBeRequestedBefore};
 ghost use Rattle.mdb_cashless.specs.Transactions.{is_same, transaction_of};
 ghost use Rattle.mdb_cashless.specs.Units.{own};
 
@@ -41,39 +43,58 @@ pub fn commands_are_to_one_reader()
 {}
 
 /// What the controller's view tells of the sale under way stays true with each step, where the
-/// controller acknowledges no reply but the last.
+/// controller acknowledges no reply but the last; and it is true at the start. In a recording that
+/// begins in mid-session the view may tell nothing of a sale that was requested before.
 pub fn views_tell_of_the_sale()
-    ensures { (unit : ReaderUnit) (so_far : List Act) (act : Act) (choice : Choice)
-        (before after : ReaderState) (gains : Gains)
-        → AcksLastReply act so_far → TellsOfSale unit before.view so_far
-        → ReaderStep unit (facts_of unit so_far) act choice before after gains
-        → TellsOfSale unit after.view (act ∷ so_far) }
+    ensures start { (unit : ReaderUnit) (begins : Beginning) (state : ReaderState)
+        → (machine unit begins).Starts state → MayTellOfSale begins unit state.view [] }
+    ensures steps { (unit : ReaderUnit) (begins : Beginning) (so_far : List Act) (act : Act)
+        (choice : Choice) (before after : ReaderState) (gains : Gains)
+        → AcksLastReply act so_far → MayTellOfSale begins unit before.view so_far
+        → (machine unit begins).Step so_far act choice before after gains
+        → MayTellOfSale begins unit after.view (act ∷ so_far) }
 {
     transactions_with_the_same_fields_are_the_same();
 }
 
-/// The controller asks VEND SUCCESS only for a sale that the acts before it approve.
+/// The controller asks VEND SUCCESS only for a sale that the acts before it approve, or that may
+/// have been requested before the recording.
 pub fn views_allow_approved_sales_alone()
-    ensures { (unit : ReaderUnit) (so_far : List Act) (item : ℕ) (choice : Choice)
-        (before after : ReaderState) (gains : Gains)
-        → TellsOfSale unit before.view so_far
-        → ReaderStep unit (facts_of unit so_far)
+    ensures { (unit : ReaderUnit) (begins : Beginning) (so_far : List Act) (item : ℕ)
+        (choice : Choice) (before after : ReaderState) (gains : Gains)
+        → MayTellOfSale begins unit before.view so_far
+        → (machine unit begins).Step so_far
         (acts.Ask (commands.Reader unit (readers.VendSuccess item))) choice before after
-        gains → IsApproved unit item so_far }
+        gains → IsApproved unit item so_far ⊎ MayBeRequestedBefore begins unit so_far }
 {
     transactions_with_the_same_fields_are_the_same();
 }
 
-/// What is known of a reader after acts depends on its own acts among them alone.
-pub fn a_readers_facts_are_of_its_own_acts()
-    ensures { (unit : ReaderUnit) (so_far other : List Act)
-        → own_acts (devices.Reader unit) so_far ≡ own_acts (devices.Reader unit) other
-        → facts_of unit so_far ≡ facts_of unit other }
+/// From power-on all is known of a reader: a step after acts is one after the facts that they
+/// leave.
+pub fn from_power_on_all_is_known_of_a_reader()
+    ensures { (unit : ReaderUnit) (so_far : List Act) (holds : Bool) (facts : Facts)
+        → AllowsFacts (known_of PowerOn unit so_far) holds facts ↔ (facts ≡ facts_of unit so_far) }
 {}
 
-/// Where a reader has a part in no acts but breaks, no more is known of it than after no act.
+/// What is known of a reader after acts, and the amounts without a value that they tell of it,
+/// depend on its own acts among them alone.
+pub fn a_readers_facts_are_of_its_own_acts()
+    ensures known { (begins : Beginning) (unit : ReaderUnit) (so_far other : List Act)
+        → own_acts (devices.Reader unit) so_far ≡ own_acts (devices.Reader unit) other
+        → known_of begins unit so_far ≡ known_of begins unit other }
+    ensures unvalued { (begins : Beginning) (unit : ReaderUnit) (so_far other : List Act)
+        → own_acts (devices.Reader unit) so_far ≡ own_acts (devices.Reader unit) other
+        → unvalued unit begins so_far ≡ unvalued unit begins other }
+{}
+
+/// Where a reader has a part in no acts but breaks, its config message is that of no act, and no
+/// amount is told of it.
 pub fn breaks_tell_nothing_of_a_reader()
-    ensures { (unit : ReaderUnit) (so_far : List Act)
+    ensures config { (begins : Beginning) (unit : ReaderUnit) (so_far : List Act)
         → All IsBreak (own_acts (devices.Reader unit) so_far)
-        → facts_of unit so_far ≡ facts_of unit [] }
+        → (known_of begins unit so_far).config ≡ (known_of begins unit []).config }
+    ensures unvalued { (begins : Beginning) (unit : ReaderUnit) (so_far : List Act)
+        → All IsBreak (own_acts (devices.Reader unit) so_far)
+        → unvalued unit begins so_far ≡ 0 }
 {}

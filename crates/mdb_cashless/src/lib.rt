@@ -9,8 +9,8 @@ mod reader;
 
 pub use reader::Reader;
 pub use reader::device::{DeviceState, Home};
-pub use reader::facts::ReaderFacts;
-pub use reader::messages::{ReaderActivity, ReaderConfig};
+pub use reader::known::ReaderKnown;
+pub use reader::messages::ReaderActivity;
 pub use reader::state::ReaderState;
 pub use reader::transaction::Transaction;
 pub use reader::view::View;

@@ -5,42 +5,57 @@ ghost use Rattle.mdb_msgs.specs.declared.command.Device.TheVariants as devices;
 ghost use Rattle.mdb_bus.specs.declared.act.Act.{Act};
 ghost use Rattle.mdb_cashless.specs.Reader as spec;
 ghost use Rattle.mdb_cashless.specs.inner.ReaderCodes as codes;
-ghost use Rattle.mdb_cashless.specs.ReaderFacts.{facts_of};
-ghost use Rattle.mdb_cashless.specs.ReaderValues.{facts_in};
+ghost use Rattle.mdb_cashless.specs.ReaderFacts.{known_of};
+ghost use Rattle.mdb_cashless.specs.ReaderValues.{known_in, settled};
+ghost use Rattle.mdb_cashless.specs.inner.KnowingReader as knowing;
 ghost use Rattle.mdb_cashless.specs.inner.ReaderWays as ways;
 ghost use Rattle.mdb_cashless.specs.Units as units;
 
 mod answers;
 pub(crate) mod device;
 pub(crate) mod facts;
+mod guesses;
+pub(crate) mod known;
 pub(crate) mod messages;
 pub(crate) mod state;
 mod steps;
 mod taking;
 pub(crate) mod transaction;
 mod unit;
+mod unvalued;
 mod values;
 pub(crate) mod view;
 
-use facts::ReaderFacts;
-use mdb_bus::Act;
-use mdb_cash::{Choice, Gains, Pair};
+use arrayvec::ArrayVec;
+use guesses::{step_settled, steps};
+use known::ReaderKnown;
+use mdb_bus::{Act, Beginning};
+use mdb_cash::{Choice, Gains, HasCode, Pair, coded};
 use mdb_msgs::Device;
 use state::ReaderState;
-use steps::{concerns, heeds_choice, rests, step};
+use steps::{concerns, heeds_choice, rests};
 use unit::unit_of;
+use unvalued::unvalued_by;
 
 /// A cashless reader and the controller's dealings with it (MDB/ICP 4.3, cashless device). `UNIT`
 /// says which: 0 is the reader at 10H, and any other number that at 60H. Its accounts are approved
 /// and sold.
 pub struct Reader<const UNIT: usize>;
 
+impl HasCode for ReaderState {
+    ghost code_of = { codes.code_of };
+
+    fn its_code(self) -> usize {
+        self.code()
+    }
+}
+
 impl<const UNIT: usize> Pair for Reader<UNIT> {
     const CODES: usize = 176;
 
     ghost CODES = { 176 };
 
-    type Facts = ReaderFacts;
+    type Facts = ReaderKnown;
 
     type State = ReaderState;
 
@@ -48,29 +63,47 @@ impl<const UNIT: usize> Pair for Reader<UNIT> {
 
     ghost code_of = { codes.code_of };
 
-    ghost stands_for = { λ facts acts. facts_in facts ≡ facts_of (units.unit_of UNIT) acts };
+    ghost stands_for = { λ begins known acts.
+        known_in known ≡ known_of begins (units.unit_of UNIT) acts };
 
     ghost machine = { spec.machine (units.unit_of UNIT) };
+
+    ghost settled = { settled (units.unit_of UNIT) };
+
+    ghost unvalued = { spec.unvalued (units.unit_of UNIT) };
 
     fn device() -> Device {
         Device::Reader(unit_of(UNIT))
     }
 
-    fn start() -> usize {
-        ReaderState::power_on().code()
+    fn may_start(begins: &Beginning, state: ReaderState) -> bool {
+        match begins {
+            Beginning::PowerOn => state == ReaderState::power_on(),
+            Beginning::Joined(_) => true,
+        }
     }
 
-    fn facts_start() -> ReaderFacts {
-        ReaderFacts::start()
+    fn facts_start(begins: &Beginning) -> ReaderKnown {
+        ReaderKnown::start(begins, unit_of(UNIT))
     }
 
-    fn facts_copy(facts: &ReaderFacts) -> ReaderFacts {
-        facts.copy()
+    fn facts_copy(known: &ReaderKnown) -> ReaderKnown {
+        known.copy()
     }
 
     #[inline(always)]
-    fn learn(facts: &mut ReaderFacts, act: &Act) {
-        facts.learn(unit_of(UNIT), act);
+    fn learn(known: &mut ReaderKnown, act: &Act) {
+        known.learn(unit_of(UNIT), act);
+    }
+
+    #[inline(always)]
+    fn settles(known: &ReaderKnown, act: &Act) -> bool {
+        known.settles(unit_of(UNIT), act)
+    }
+
+    #[inline(always)]
+    fn unvalued_by(known: &ReaderKnown, act: &Act) -> u64 {
+        unvalued_by(unit_of(UNIT), known, act)
     }
 
     #[inline(always)]
@@ -96,12 +129,22 @@ impl<const UNIT: usize> Pair for Reader<UNIT> {
     }
 
     fn step_from(
-        facts: &ReaderFacts,
+        known: &ReaderKnown,
         act: &Act,
         choice: Choice,
         before: ReaderState,
     ) -> Option<(ReaderState, Gains)> {
-        step(unit_of(UNIT), facts, act, choice, before)
+        step_settled(unit_of(UNIT), known, act, choice, before)
+    }
+
+    fn steps(
+        known: &ReaderKnown,
+        act: &Act,
+        code: usize,
+        choice: Choice,
+    ) -> ArrayVec<(usize, Gains), 72> {
+        let steps = steps(unit_of(UNIT), known, act, choice, ReaderState::at(code));
+        coded(steps.as_slice())
     }
 
     ghost apart = { codes.apart };
@@ -110,7 +153,13 @@ impl<const UNIT: usize> Pair for Reader<UNIT> {
 
     ghost whole = { codes.whole };
 
+    ghost some_start = { ways.some_start (units.unit_of UNIT) };
+
     ghost is_machine = { ways.is_machine (units.unit_of UNIT) };
 
-    ghost unmoved = { λ facts. ways.unmoved (units.unit_of UNIT) (facts_in facts) };
+    ghost settled_from_power_on = { knowing.settled_from_power_on (units.unit_of UNIT) };
+
+    ghost untold = { ways.untold (units.unit_of UNIT) };
+
+    ghost unmoved = { λ begins known. ways.unmoved (units.unit_of UNIT) begins (known_in known) };
 }

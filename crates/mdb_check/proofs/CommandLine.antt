@@ -1,12 +1,13 @@
 -- What `clap` makes of the program's command.
-use Rattle.std.proofs.Common.{ap, ap₂, fold, refl, subst, sym, true, false, ◌∙◌, ◌≡◌, ◌≢◌, ◌⊎◌, Bool, List, [], ◌∷◌, ◌++◌, inl, inr, codes, Option, Some, None, option_map, unwrap_or}
-use Rattle.std.specs.Prelude.{drop, is_some, if◌then◌else◌}
+use Rattle.std.proofs.Common.{ap, ap₂, fold, refl, subst, sym, true, false, true≢false, ◌∙◌, ◌≡◌, ◌≢◌, ◌⊎◌, Bool, List, [], ◌∷◌, ◌++◌, inl, inr, codes, Option, Some, None, option_map, unwrap_or}
+use Rattle.std.specs.Prelude.{drop, is_some, if◌then◌else◌, slice_get}
+use Rattle.std.specs.Str.{bytes_eq}
 use Rattle.std.specs.Borrow.{Bor}
 use Rattle.clap.specs.Words.{App, HasKind, HasMatchesOf, IsAmong, Kinds, Row, Rule, Shape, Text, app_of, built, fault_of, found_of, is_simple, is_simple_and_free, kind_of, new_app, rows_of, subcommand_name_of, subcommand_of, subcommand_rows, subcommand_rows_of}
 use Rattle.clap.specs.Faults.{check_fault, defaults_fault, entered_fault, level_fault, long_fault, settle_fault, short_fault, turn_fault, walk_fault}
 use Rattle.clap.specs.Kinds.{or_else}
 use Rattle.clap.specs.Simple.{built_leaf, entered, filled, inherited, names_of, version_rule, with_index}
-use Rattle.clap.specs.Walk.{Held, Step, Walk, after_step, finished, has_long, has_short, idle, nothing_held, rows_after, settled, subcommand_or_other, walk, walk_from, walked}
+use Rattle.clap.specs.Walk.{Held, Step, Walk, after_step, finished, has_long, has_short, idle, nothing_held, rows_after, has_row, settled, subcommand_or_other, walk, walk_from, walked}
 use Rattle.clap.specs.declared.builder.command.Command.{Command}
 use Rattle.clap.specs.declared.error.Error.{Error}
 use Rattle.clap.specs.declared.error.kind.ErrorKind.{ErrorKind}
@@ -21,17 +22,24 @@ use Rattle.clap.proofs.FaultLemmas.{stopped_fault}
 use Rattle.clap.proofs.OnLiterals.{clap_on_literals}
 use Rattle.clap.proofs.WalkLemmas.{walk_stopped}
 use Rattle.mdb_msgs.specs.declared.device_set.DeviceSet.{DeviceSet}
-use Rattle.mdb_check.specs.inner.CommandLine.{AreDevices, AreOptionsOf, AsksFor, mdbcheck, values_of, with_options}
-use Rattle.mdb_check.specs.Program.{AreOptions, NamesTask}
-use Rattle.mdb_check.specs.declared.command_line.Options.{Options}
+use Rattle.mdb_msgs.specs.declared.setups.Setups.{Setups}
+use Rattle.mdb_msgs.specs.Laws.{BlockHasOneReply}
+use Rattle.mdb_msgs.specs.Setups.{nothing_known}
+use Rattle.mdb_bus.specs.declared.scope.Scope.{Scope}
+use Rattle.mdb_bus.specs.Scopes.{leaving_out, joined as in_mid_session}
+use Rattle.mdb_check.specs.inner.CommandLine.{AreDevices, AreOptionsOf, AsksFor, AsksToCheck, AsksToShow, IsOwnRefusal, IsRefusalBy, check_app, mdbcheck, show_app, values_of}
+use Rattle.mdb_check.specs.Program.{AreOptions, Asked, IsFromPowerOn, IsJoined, NamesCheck, NamesShow, NamesTask}
 use Rattle.mdb_check.specs.declared.command_line.Task.{Task}
 use Rattle.mdb_check.specs.declared.command_line.Task.TheVariants.{Check, Show}
+use Rattle.mdb_check.specs.declared.refusal.Refusal.{Refusal}
+use Rattle.mdb_check.specs.declared.refusal.Refusal.TheVariants.{Words, Setup}
 use Rattle.mdb_check.proofs.Devices.{one_set}
-use Rattle.mdb_check.proofs.Found.{chosen, values_found}
+use Rattle.mdb_check.proofs.Found.{chosen, is_used, row_found, values_found}
 use Rattle.mdb_check.proofs.OptionRules.{has_options, help}
-use Rattle.mdb_check.proofs.Options.{HasOptions, finds_uses, takes_uses}
+use Rattle.mdb_check.proofs.Options.{AreUses, HasOptions, Uses, finds_uses, found_after, takes_uses}
 use Rattle.mdb_check.proofs.Refusals.{IsOneOf, TakesNothing, after_dashes, both_pass, is_dashes, is_met, none_or_one, one_of_both, one_of_more}
-use Rattle.mdb_check.proofs.TaskOptions.{option_names, options_used, uses_are}
+use Rattle.mdb_check.proofs.KnownSetups.{are_texts, one_setups}
+use Rattle.mdb_check.proofs.TaskOptions.{AreSetupTexts, AskFor, check_back, check_flags, check_names, check_used, show_alone, show_names, show_used, show_wider}
 
 -- `clap` says what it does with the command
 is_simple_here : is_simple mdbcheck ≡ true
@@ -57,11 +65,30 @@ abbrev tasks : List Text
 tasks = codes "check" ∷ codes "show" ∷ []
 
 -- a task with its options
-abbrev task : Text → Shape
-task name = built_leaf (inherited whole.top (with_options (new_app name)).top)
+abbrev check_task : Shape
+check_task = built_leaf (inherited whole.top check_app.top)
 
-task_has_options : (name : Text) → HasOptions (task name) option_names
-task_has_options name = has_options (task name) option_names
+abbrev show_task : Shape
+show_task = built_leaf (inherited whole.top show_app.top)
+
+abbrev task : Text → Shape
+task name = if bytes_eq name (codes "check") then check_task else show_task
+
+-- `--joined` is no option with a value
+apart_names : (name : Text) → IsOneOf name check_flags → IsOneOf name check_names → ⊥
+apart_names name (inl joined) (inl setup) = let bad : codes "joined" ≡ codes "setup" = joined ∙ sym setup in cc bad
+apart_names name (inl joined) (inr (inl without)) = let bad : codes "joined" ≡ codes "without" = joined ∙ sym without in cc bad
+apart_names name (inl joined) (inr (inr none)) = none
+apart_names name (inr none) also = none
+
+no_flag : (name : Text) → IsOneOf name [] → IsOneOf name show_names → ⊥
+no_flag name none also = none
+
+check_has : HasOptions check_task check_names check_flags
+check_has = has_options check_task check_names check_flags apart_names
+
+show_has : HasOptions show_task show_names []
+show_has = has_options show_task show_names [] no_flag
 
 abbrev version : Rule
 version = with_index 1 (filled version_rule)
@@ -246,42 +273,126 @@ module _ (words : List Text) (m : ArgMatches) (has : HasMatchesOf mdbcheck words
 
 -- ---- each task
 
--- where the values are devices, the words name the task with these left out
-pub names_task : (words : List Text) (name : Text) (found : List Row) (left_out : DeviceSet) → Takes words name found → AreDevices (values_of (codes "without") found) left_out
-    → NamesTask words name left_out
-names_task words name found left_out takes devices =
-    let (uses, are) = takes_uses (task name) option_names (task_has_options name) takes.rest takes.no_fault in
-    let finds = finds_uses (task name) option_names (task_has_options name) takes.rest uses are in
-    let values : values_of (codes "without") found ≡ chosen (codes "without") uses = ap (values_of (codes "without")) (takes.rows ∙ finds.1) ∙ values_found (codes "without") uses [] in
-    let Are : List Text → Type 0 = λ all. AreDevices all left_out in
-    (takes.program, takes.rest, takes.are, uses_are takes.rest uses left_out are (subst Are values devices))
+-- what the options of `check` come to
+record CheckUses (rest : List Text) (uses : Uses) : Type 0 where
+  no_fault : Level (codes "check") rest ≡ []
+  found : rows_after check_task.rules [] rest ≡ found_after uses []
 
--- the options of a task have no fault, and the values that are found are of the devices that they leave out
-record Finds (name : Text) (rest : List Text) (left_out : DeviceSet) : Type 0 where
+check_uses : (rest : List Text) (uses : Uses) → AreUses check_names check_flags rest uses → CheckUses rest uses
+check_uses rest uses are =
+    let finds = finds_uses check_task check_names check_flags check_has rest uses are in
+    record { no_fault = finds.0; found = finds.1 }
+
+record ShowUses (rest : List Text) (uses : Uses) : Type 0 where
+  no_fault : Level (codes "show") rest ≡ []
+  found : rows_after show_task.rules [] rest ≡ found_after uses []
+
+show_uses : (rest : List Text) (uses : Uses) → AreUses show_names [] rest uses → ShowUses rest uses
+show_uses rest uses are =
+    let finds = finds_uses show_task show_names [] show_has rest uses are in
+    record { no_fault = finds.0; found = finds.1 }
+
+-- what is found of uses
+module _ (found : List Row) (uses : Uses) (is : found ≡ found_after uses []) where
+  used_found : (name : Text) → has_row name found ≡ is_used name uses
+  used_found name = ap (has_row name) is ∙ row_found name uses []
+
+  chosen_found : (name : Text) → values_of name found ≡ chosen name uses
+  chosen_found name = ap (values_of name) is ∙ values_found name uses []
+
+  -- uses that ask for this are found so, and back
+  ask_found : (asked : Asked) → AskFor uses asked → AreOptionsOf found asked
+  ask_found asked ask =
+      let Are : List Text → Type 0 = λ all. AreDevices all asked.left_out in
+      record {
+        joined = used_found (codes "joined") ∙ ask.joined;
+        setups = chosen_found (codes "setup") ∙ ask.setups;
+        devices = subst Are (sym (chosen_found (codes "without"))) ask.devices;
+      }
+
+  found_ask : (asked : Asked) → AreOptionsOf found asked → AskFor uses asked
+  found_ask asked of =
+      let Are : List Text → Type 0 = λ all. AreDevices all asked.left_out in
+      record {
+        joined = sym (used_found (codes "joined")) ∙ of.joined;
+        setups = sym (chosen_found (codes "setup")) ∙ of.setups;
+        devices = subst Are (chosen_found (codes "without")) of.devices;
+      }
+
+-- the same is asked for
+same_asked : (joined also : Bool) (setups too : List Text) (left_out : DeviceSet) → joined ≡ also → setups ≡ too
+    → ◌≡◌ {A = Asked} (record { joined = joined; setups = setups; left_out = left_out }) (record { joined = also; setups = too; left_out = left_out })
+same_asked joined also setups too left_out same_joined same_setups =
+    let At : Bool → List Text → Asked = λ j s. record { joined = j; setups = s; left_out = left_out } in
+    ap₂ At same_joined same_setups
+
+-- uses that ask for this are options, where the values of `--setup` may be
+options_are : (rest : List Text) (uses : Uses) (asked : Asked) → AreUses check_names check_flags rest uses → AskFor uses asked → AreSetupTexts asked.setups → AreOptions rest asked
+options_are rest uses asked are ask texts =
+    subst (AreOptions rest) (same_asked (is_used (codes "joined") uses) asked.joined (chosen (codes "setup") uses) asked.setups asked.left_out ask.joined ask.setups)
+    (check_back rest uses are asked.left_out ask.devices (subst AreSetupTexts (sym ask.setups) texts))
+
+texts_of : (asked : Asked) (scope : Scope) → IsFromPowerOn asked scope ⊎ IsJoined asked scope → AreSetupTexts asked.setups
+texts_of asked scope (inl from) = subst AreSetupTexts (sym from.no_setups) tt
+texts_of asked scope (inr joined) = are_texts asked.left_out nothing_known asked.setups joined.setups joined.told
+
+-- where the options ask for a recording that is taken so, the words name the task with it
+pub names_check : (words : List Text) (found : List Row) (scope : Scope) → Takes words (codes "check") found → AsksToCheck found scope → NamesCheck words scope
+names_check words found scope takes (asked, of, taken) =
+    let (uses, are) = takes_uses check_task check_names check_flags check_has takes.rest takes.no_fault in
+    let finds = check_uses takes.rest uses are in
+    let ask = found_ask found uses (takes.rows ∙ finds.found) asked of in
+    (asked, (takes.program, takes.rest, takes.are, options_are takes.rest uses asked are ask (texts_of asked scope taken)), taken)
+
+pub names_show : (words : List Text) (found : List Row) (scope : Scope) → Takes words (codes "show") found → AsksToShow found scope → NamesShow words scope
+names_show words found scope takes (left_out, devices, is) =
+    let (uses, are) = takes_uses show_task show_names [] show_has takes.rest takes.no_fault in
+    let finds = show_uses takes.rest uses are in
+    let alone = show_alone takes.rest uses are in
+    let Are : List Text → Type 0 = λ all. AreDevices all left_out in
+    let asked : Asked = record { joined = false; setups = []; left_out = left_out } in
+    let ask : AskFor uses asked = record {
+      joined = alone.joined;
+      setups = alone.setups;
+      devices = subst Are (chosen_found found uses (takes.rows ∙ finds.found) (codes "without")) devices;
+    } in (
+      asked,
+      (takes.program, takes.rest, takes.are, options_are takes.rest uses asked (show_wider takes.rest uses are) ask tt),
+      record { not_joined = refl; no_setups = refl; is = is },
+    )
+
+-- the options of a task have no fault, and what is found asks for the same
+record Finds (name : Text) (rest : List Text) (asked : Asked) : Type 0 where
   no_fault : Level name rest ≡ []
-  devices : AreDevices (values_of (codes "without") (rows_after (task name).rules [] rest)) left_out
+  found : AreOptionsOf (rows_after (task name).rules [] rest) asked
 
-finds_options : (name : Text) (rest : List Text) (left_out : DeviceSet) → AreOptions rest left_out → Finds name rest left_out
-finds_options name rest left_out options =
-    let leaves = options_used rest left_out options in
-    let finds = finds_uses (task name) option_names (task_has_options name) rest leaves.uses leaves.are in
-    let values : values_of (codes "without") (rows_after (task name).rules [] rest) ≡ chosen (codes "without") leaves.uses =
-    ap (values_of (codes "without")) finds.1 ∙ values_found (codes "without") leaves.uses [] in
-    let Are : List Text → Type 0 = λ all. AreDevices all left_out in
-    record { no_fault = finds.0; devices = subst Are (sym values) leaves.devices }
+check_finds : (rest : List Text) (asked : Asked) → AreOptions rest asked → Finds (codes "check") rest asked
+check_finds rest asked options =
+    let of = check_used rest asked options in
+    let finds = check_uses rest of.uses of.are in
+    record { no_fault = finds.no_fault; found = ask_found _ of.uses finds.found asked of.ask }
 
--- words are the options of one set at most
-pub one_left_out : (words : List Text) (a b : DeviceSet) → AreOptions words a → AreOptions words b → a ≡ b
-one_left_out words a b is_a is_b = one_set _ a b (finds_options (codes "check") words a is_a).devices (finds_options (codes "check") words b is_b).devices
+show_finds : (rest : List Text) (asked : Asked) → AreOptions rest asked → asked.joined ≡ false → asked.setups ≡ [] → Finds (codes "show") rest asked
+show_finds rest asked options no_joined no_setups =
+    let of = show_used rest asked options no_joined no_setups in
+    let finds = show_uses rest of.uses of.are in
+    record { no_fault = finds.no_fault; found = ask_found _ of.uses finds.found asked of.ask }
+
+-- words are the options of one asking at most
+pub one_asked : (words : List Text) (a b : Asked) → AreOptions words a → AreOptions words b → a ≡ b
+one_asked words a b is_a is_b =
+    let of_a = (check_finds words a is_a).found in
+    let of_b = (check_finds words b is_b).found in
+    let At : Bool → List Text → DeviceSet → Asked = λ joined setups left_out. record { joined = joined; setups = setups; left_out = left_out } in
+    ap₂ (λ joined setups. At joined setups a.left_out) (sym of_a.joined ∙ of_b.joined) (sym of_a.setups ∙ of_b.setups)
+    ∙ ap (At b.joined b.setups) (one_set _ a.left_out b.left_out of_a.devices of_b.devices)
 
 -- the words of a task have no fault
-task_no_fault : (words : List Text) (name : Text) (left_out : DeviceSet) → IsOneOf name tasks → NamesTask words name left_out → fault_of mdbcheck words ≡ []
-task_no_fault words name left_out known (program, rest, are, options) =
-    ap (fault_of mdbcheck) are ∙ (in_task name known rest).whole_fault program ∙ (finds_options name rest left_out options).no_fault
-
 pub no_fault : (words : List Text) (task : Task) → AsksFor words task → fault_of mdbcheck words ≡ []
-no_fault words (Check options) asks = task_no_fault words (codes "check") options.without (inl refl) asks
-no_fault words (Show options) asks = task_no_fault words (codes "show") options.without (inr (inl refl)) asks
+no_fault words (Check scope) (asked, (program, rest, are, options), taken) =
+    ap (fault_of mdbcheck) are ∙ (check_in rest).whole_fault program ∙ (check_finds rest asked options).no_fault
+no_fault words (Show scope) (asked, (program, rest, are, options), taken) =
+    ap (fault_of mdbcheck) are ∙ (show_in rest).whole_fault program ∙ (show_finds rest asked options taken.not_joined taken.no_setups).no_fault
 
 -- so they are refused for want of memory, if at all
 pub wants_memory : (words : List Text) (error : Error) → HasKind (fault_of mdbcheck words) error → (task : Task) → AsksFor words task → kind_of error ≡ OutOfMemory
@@ -299,15 +410,66 @@ has_kind kind error [] is (inr none) = absurd none
 has_kind kind error (first ∷ rest) is (inl memory) = inl (is ∙ memory)
 has_kind kind error (first ∷ rest) is (inr among) = inr (subst (λ k. IsAmong k (first ∷ rest)) (sym is) among)
 
--- where they ask for a task, its options were found
-task_found : (words : List Text) (name other : Text) (found : List Row) (left_out : DeviceSet) → Takes words name found → NamesTask words other left_out
-    → AreDevices (values_of (codes "without") found) left_out
-task_found words name other found left_out takes (program, rest, are, options) =
-    let same : takes.rest ≡ rest = ap (drop 2) (sym takes.are ∙ are) in
-    let Are : List Text → Type 0 = λ more. AreDevices (values_of (codes "without") (rows_after (task name).rules [] more)) left_out in
-    let Found : List Row → Type 0 = λ rows. AreDevices (values_of (codes "without") rows) left_out in
-    subst Found (sym takes.rows) (subst Are (sym same) (finds_options name rest left_out options).devices)
+-- a refusal of the program's own comes where `clap` has no fault
+pub own_refusal : (kinds : Kinds) (refusal : Refusal) → kinds ≡ [] → IsOwnRefusal refusal → IsRefusalBy kinds refusal
+own_refusal kinds (Words kind) none (inl memory) = inl memory
+own_refusal kinds (Words kind) none (inr invalid) = inr (subst (λ ks. IsAmong kind (or_else ks (InvalidValue ∷ []))) (sym none) (inl invalid))
+own_refusal kinds (Setup fault) none own = none
 
-pub asked_found : (words : List Text) (name : Text) (found : List Row) → Takes words name found → (task : Task) → AsksFor words task → (options : Options) × AreOptionsOf found options
-asked_found words name found takes (Check options) asks = (options, task_found words name (codes "check") found options.without takes asks)
-asked_found words name found takes (Show options) asks = (options, task_found words name (codes "show") found options.without takes asks)
+-- no words name two tasks
+other_task : (words : List Text) (a b : Text) (program other : Text) (rest more : List Text) → words ≡ program ∷ a ∷ rest → words ≡ other ∷ b ∷ more → a ≡ b
+other_task words a b program other rest more are too = ap (λ all. unwrap_or (slice_get all 1) a) (sym are ∙ too)
+
+pub rest_same : (words : List Text) (a b : Text) (program other : Text) (rest more : List Text) → words ≡ program ∷ a ∷ rest → words ≡ other ∷ b ∷ more → rest ≡ more
+rest_same words a b program other rest more are too = ap (drop 2) (sym are ∙ too)
+
+pub not_both : (words : List Text) (program other : Text) (rest more : List Text) → words ≡ program ∷ codes "check" ∷ rest → words ≡ other ∷ codes "show" ∷ more → ⊥
+not_both words program other rest more are too = let bad : codes "check" ≡ codes "show" = other_task words (codes "check") (codes "show") program other rest more are too in cc bad
+
+-- where they ask for a task, its options were found
+pub check_asked : (words : List Text) (found : List Row) → Takes words (codes "check") found → (task : Task) → AsksFor words task → (scope : Scope) × AsksToCheck found scope
+check_asked words found takes (Check scope) (asked, (program, rest, are, options), taken) =
+    let same = rest_same words (codes "check") (codes "check") takes.program program takes.rest rest takes.are are in
+    let Of : List Row → Type 0 = λ rows. AreOptionsOf rows asked in
+    let finds = check_finds rest asked options in
+    (scope, (asked, subst Of (sym (takes.rows ∙ ap (rows_after check_task.rules []) same)) finds.found, taken))
+check_asked words found takes (Show scope) (asked, (program, rest, are, options), taken) =
+    absurd (not_both words takes.program program takes.rest rest takes.are are)
+
+pub show_asked : (words : List Text) (found : List Row) → Takes words (codes "show") found → (task : Task) → AsksFor words task → (scope : Scope) × AsksToShow found scope
+show_asked words found takes (Check scope) (asked, (program, rest, are, options), taken) =
+    absurd (not_both words program takes.program rest takes.rest are takes.are)
+show_asked words found takes (Show scope) (asked, (program, rest, are, options), taken) =
+    let same = rest_same words (codes "show") (codes "show") takes.program program takes.rest rest takes.are are in
+    let Of : List Row → Type 0 = λ rows. AreDevices (values_of (codes "without") rows) asked.left_out in
+    let finds = show_finds rest asked options taken.not_joined taken.no_setups in
+    (scope, (asked.left_out, subst Of (sym (takes.rows ∙ ap (rows_after show_task.rules []) same)) finds.found.devices, taken.is))
+
+-- ---- one task with one scope
+
+one_scope : (one_reply : BlockHasOneReply) (asked : Asked) (a b : Scope) → IsFromPowerOn asked a ⊎ IsJoined asked a → IsFromPowerOn asked b ⊎ IsJoined asked b → a ≡ b
+one_scope one_reply asked a b (inl is_a) (inl is_b) = is_a.is ∙ sym is_b.is
+one_scope one_reply asked a b (inl is_a) (inr is_b) = absurd (true≢false (sym is_b.joined ∙ is_a.not_joined))
+one_scope one_reply asked a b (inr is_a) (inl is_b) = absurd (true≢false (sym is_a.joined ∙ is_b.not_joined))
+one_scope one_reply asked a b (inr is_a) (inr is_b) =
+    is_a.is ∙ ap (λ setups. in_mid_session setups asked.left_out) (one_setups one_reply asked.left_out nothing_known asked.setups is_a.setups is_b.setups is_a.told is_b.told) ∙ sym is_b.is
+
+-- the same options ask for the same
+asked_same : (words : List Text) (name : Text) (a b : Asked) → NamesTask words name a → NamesTask words name b → a ≡ b
+asked_same words name a b (program, rest, are, options) (other, more, too, also) =
+    let same = rest_same words name name program other rest more are too in
+    one_asked rest a b options (subst (λ all. AreOptions all b) (sym same) also)
+
+pub one_check : (one_reply : BlockHasOneReply) (words : List Text) (a b : Scope) → NamesCheck words a → NamesCheck words b → a ≡ b
+one_check one_reply words a b (asked, names, taken) (also, names_too, taken_too) =
+    let same = asked_same words (codes "check") asked also names names_too in
+    one_scope one_reply asked a b taken (subst (λ k. IsFromPowerOn k b ⊎ IsJoined k b) (sym same) taken_too)
+
+pub one_show : (words : List Text) (a b : Scope) → NamesShow words a → NamesShow words b → a ≡ b
+one_show words a b (asked, names, taken) (also, names_too, taken_too) =
+    let same = asked_same words (codes "show") asked also names names_too in
+    taken.is ∙ ap (λ (k : Asked). leaving_out k.left_out) same ∙ sym taken_too.is
+
+pub not_check_and_show : (words : List Text) (a b : Scope) → NamesCheck words a → NamesShow words b → ⊥
+not_check_and_show words a b (asked, (program, rest, are, options), taken) (also, (other, more, too, options_too), taken_too) =
+    not_both words program other rest more are too

@@ -12,7 +12,7 @@ use Rattle.mdb_msgs.specs.DeviceSets.{with_device}
 use Rattle.mdb_check.specs.inner.CommandLine.{AreDevices}
 
 -- no two devices have the same word
-one_device : (a b : Device) → device_word a ≡ device_word b → a ≡ b
+pub one_device : (a b : Device) → device_word a ≡ device_word b → a ≡ b
 one_device Changer Changer same = refl
 one_device Bill Bill same = refl
 one_device (Reader First) (Reader First) same = refl

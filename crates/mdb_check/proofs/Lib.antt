@@ -1,3 +1,4 @@
+pub mod AddedOptions
 pub mod Batches
 pub mod CommandLine
 pub mod Devices
@@ -5,6 +6,7 @@ pub mod Endings
 pub mod Fields
 pub mod Found
 pub mod Headline
+pub mod KnownSetups
 pub mod LongWords
 pub mod OneAnswer
 pub mod OneShowing
@@ -14,10 +16,13 @@ pub mod Outputs
 pub mod Refusals
 pub mod Rows
 pub mod SameFault
+pub mod SetupData
+pub mod SetupValues
 pub mod Showings
 pub mod ShowSteps
 pub mod ShowTexts
 pub mod Status
+pub mod TakenScopes
 pub mod TaskOptions
 pub mod Texts
 pub mod Verdicts

@@ -1,4 +1,4 @@
--- What a command of `clap` takes that has no subcommand and no positional, and whose options have one value each.
+-- What a command of `clap` takes that has no subcommand and no positional, and whose options have one value each, or none.
 use Rattle.std.proofs.Common.{ap, ap₂, refl, subst, sym, true, false, ◌∙◌, ◌≡◌, ◌≢◌, ◌⊎◌, ℕ, Bool, List, [], ◌∷◌, inl, inr, length, codes, Option, Some, None, IfSome}
 use Rattle.std.specs.Prelude.{drop, encode_utf8, fold, if◌then◌else◌, nat_lt, slice_get}
 use Rattle.std.specs.Option.{option_map_or}
@@ -10,22 +10,29 @@ use Rattle.clap.specs.Kinds.{Kinds, or_else}
 use Rattle.clap.specs.declared.error.kind.ErrorKind.TheVariants as kind
 use Rattle.clap.specs.Lexer.{long_of, short_of}
 use Rattle.clap.specs.Simple.{Shape, filled, with_index}
-use Rattle.clap.specs.Walk.{Held, Row, Rule, Step, Text, Waiting, Outcome, Walk, after_flag, after_step, arg_by_id, arg_by_index, arg_by_long, arg_by_short, idle, long_or_other, long_met, next as to_next, nothing_held, option, option_word, plain, plain_word, positional, rows_after, settled_rows, short_or_plain, subcommand_or_other, trailing, used, used_by_id, value as stray, walked, with_default}
+use Rattle.clap.specs.Walk.{Held, Row, Rule, Step, Text, Waiting, Outcome, Walk, after_flag, after_step, arg_by_id, arg_by_index, arg_by_long, arg_by_short, idle, long_or_other, long_met, next as to_next, nothing_held, option, option_word, plain, plain_word, positional, rows_after, settled_rows, short_or_plain, subcommand_or_other, trailing, used, used_by_id, value as stray, walked, with_default, with_values}
+use Rattle.clap.specs.declared.builder.value_parser.Reading.TheVariants.{AsWritten}
+use Rattle.clap.specs.declared.parser.matches.ValueSource.TheVariants.{CommandLine}
 use Rattle.clap.proofs.FaultLemmas.{fault_ends}
 use Rattle.clap.proofs.WalkLemmas.{bundle_ends}
-use Rattle.mdb_check.specs.inner.CommandLine.{option_rule}
+use Rattle.mdb_check.specs.inner.CommandLine.{flag_rule, option_rule}
 use Rattle.mdb_check.proofs.Refusals.{IsOneOf, both_pass}
 
 -- an option as it is built
 abbrev pub built_option : Text → Rule
 built_option name = with_index 1 (filled (option_rule name))
 
--- What such a command knows: these options, and flags that fail.
-pub record HasOptions (s : Shape) (names : List Text) : Type 0 where
+-- and one without a value
+abbrev pub built_flag : Text → Rule
+built_flag name = with_index 1 (filled (flag_rule name))
+
+-- What such a command knows: these options with a value, these without one, and flags that fail.
+pub record HasOptions (s : Shape) (names flags : List Text) : Type 0 where
   pub no_positional : arg_by_index s.rules 1 ≡ None
   pub by_id : (name : Text) → IsOneOf name names → arg_by_id s.rules name ≡ Some (built_option name)
   pub by_long : (name : Text) → IsOneOf name names → arg_by_long s.rules name ≡ Some (built_option name)
-  pub others : (name : Text) → IsOneOf name names
+  pub by_flag : (name : Text) → IsOneOf name flags → arg_by_long s.rules name ≡ Some (built_flag name)
+  pub others : (name : Text) → (IsOneOf name names ⊎ IsOneOf name flags)
       ⊎ ((value : Option Text) (h : Held) → long_fault s.rules s.args_override_self (arg_by_long s.rules name) value h ≢ [])
   pub no_short : (c : ℕ) (rest : Text) (h : Held) (next : Held → Kinds) → short_fault s.rules s.args_override_self (arg_by_short s.rules c) rest h next ≢ []
   pub no_defaults : (rows : List Row) → (defaults_fault rows s.rules ≡ []) × (fold with_default rows s.rules ≡ rows)
@@ -37,27 +44,29 @@ pub record IsPlain (word : Text) : Type 0 where
   pub no_long : long_of word ≡ None
   pub no_flags : IfSome (short_of word) (λ flags. slice_get (chars flags) 0 ≡ None)
 
--- the uses of options, each with its name and its value
+-- the uses of options, each with its name and its value, or none
 abbrev pub Uses : Type 0
-Uses = List (Text × Text)
+Uses = List (Text × List Text)
 
 -- the words are these uses, and at their end nothing, or `--`
-pub data AreUses (names : List Text) : List Text → Uses → Type 0 where
-  nothing : AreUses names [] []
-  dashes : AreUses names (codes "--" ∷ []) []
-  apart : {word name value : Text} {rest : List Text} {uses : Uses} → long_of word ≡ Some (name, None) → IsOneOf name names → IsPlain value → AreUses names rest uses
-      → AreUses names (word ∷ value ∷ rest) ((name, value) ∷ uses)
-  in_one : {word name value : Text} {rest : List Text} {uses : Uses} → long_of word ≡ Some (name, Some value) → IsOneOf name names → AreUses names rest uses
-      → AreUses names (word ∷ rest) ((name, value) ∷ uses)
+pub data AreUses (names flags : List Text) : List Text → Uses → Type 0 where
+  nothing : AreUses names flags [] []
+  dashes : AreUses names flags (codes "--" ∷ []) []
+  apart : {word name value : Text} {rest : List Text} {uses : Uses} → long_of word ≡ Some (name, None) → IsOneOf name names → IsPlain value → AreUses names flags rest uses
+      → AreUses names flags (word ∷ value ∷ rest) ((name, value ∷ []) ∷ uses)
+  in_one : {word name value : Text} {rest : List Text} {uses : Uses} → long_of word ≡ Some (name, Some value) → IsOneOf name names → AreUses names flags rest uses
+      → AreUses names flags (word ∷ rest) ((name, value ∷ []) ∷ uses)
+  alone : {word name : Text} {rest : List Text} {uses : Uses} → long_of word ≡ Some (name, None) → IsOneOf name flags → AreUses names flags rest uses
+      → AreUses names flags (word ∷ rest) ((name, []) ∷ uses)
 
--- what is found after one more use, and after these
-abbrev pub found_with : List Row → Text × Text → List Row
-found_with rows one = used (built_option one.0) (one.1 ∷ []) rows
+-- what is found after one more use, and after these: an option without a value is found in the same way
+abbrev pub found_with : List Row → Text × List Text → List Row
+found_with rows one = with_values one.0 AsWritten CommandLine one.1 rows
 
 abbrev pub found_after : Uses → List Row → List Row
 found_after uses rows = fold found_with rows uses
 
-module _ (s : Shape) (names : List Text) (has : HasOptions s names) where
+module _ (s : Shape) (names flags : List Text) (has : HasOptions s names flags) where
   abbrev again : Bool
   again = s.args_override_self
 
@@ -136,15 +145,32 @@ module _ (s : Shape) (names : List Text) (has : HasOptions s names) where
   -- `--name=value`
   goes_in_one : (waiting : Waiting) (word name value : Text) (rows : List Row) (pending : Option (Text × List Text)) → long_of word ≡ Some (name, Some value)
       → arg_by_long s.rules name ≡ Some (built_option name)
-      → Goes waiting word rows pending (settle_fault s.rules again (held rows pending)) (at (found_with (settled_rows s.rules pending rows) (name, value)) None idle)
+      → Goes waiting word rows pending (settle_fault s.rules again (held rows pending)) (at (found_with (settled_rows s.rules pending rows) (name, value ∷ [])) None idle)
   goes_in_one waiting word name value rows pending long found =
       let h = held rows pending in
       let other = no_dashes word (name, Some value) long in
-      goes waiting word rows pending (settle_fault s.rules again h) (held (found_with (settled_rows s.rules pending rows) (name, value)) None) idle
+      goes waiting word rows pending (settle_fault s.rules again h) (held (found_with (settled_rows s.rules pending rows) (name, value ∷ [])) None) idle
       (flag_fault word h other ∙ ap (λ o. flag_word_fault s.rules again o word h) long ∙ ap (λ a. long_fault s.rules again a (Some value) h) found
       ∙ or_nothing (settle_fault s.rules again h))
       (flag_met waiting word h other ∙ ap (λ o. long_or_other s.rules waiting word o h) long
       ∙ ap (λ a. after_flag s.rules waiting word (long_met s.rules a (Some value) h).0 (long_met s.rules a (Some value) h).1) found)
+
+  -- `--name` of an option that has no value
+  goes_flag : (waiting : Waiting) (word name : Text) (rows : List Row) (pending : Option (Text × List Text)) → long_of word ≡ Some (name, None)
+      → arg_by_long s.rules name ≡ Some (built_flag name)
+      → Goes waiting word rows pending (settle_fault s.rules again (held rows pending)) (at (found_with (settled_rows s.rules pending rows) (name, [])) None idle)
+  goes_flag waiting word name rows pending long found =
+      let h = held rows pending in
+      let other = no_dashes word (name, None) long in
+      goes waiting word rows pending (settle_fault s.rules again h) (held (found_with (settled_rows s.rules pending rows) (name, [])) None) idle
+      (flag_fault word h other ∙ ap (λ o. flag_word_fault s.rules again o word h) long ∙ ap (λ a. long_fault s.rules again a None h) found
+      ∙ or_nothing (settle_fault s.rules again h))
+      (flag_met waiting word h other ∙ ap (λ o. long_or_other s.rules waiting word o h) long
+      ∙ ap (λ a. after_flag s.rules waiting word (long_met s.rules a None h).0 (long_met s.rules a None h).1) found)
+
+  -- which has one all the same
+  flag_with_value : (name value : Text) → arg_by_long s.rules name ≡ Some (built_flag name) → (h : Held) → long_fault s.rules again (arg_by_long s.rules name) (Some value) h ≢ []
+  flag_with_value name value found h e = let bad : ◌≡◌ {A = Kinds} (kind.TooManyValues ∷ []) [] = sym (ap (λ a. long_fault s.rules again a (Some value) h) found) ∙ e in cc bad
 
   -- a word that is no flag
   plain_fault : (word : Text) (h : Held) → IsPlain word → Fault word h ≡ []
@@ -183,6 +209,7 @@ module _ (s : Shape) (names : List Text) (has : HasOptions s names) where
     is_dashes : word ≡ codes "--" → WordKind word
     is_alone : (name : Text) → long_of word ≡ Some (name, None) → IsOneOf name names → WordKind word
     is_in_one : (name value : Text) → long_of word ≡ Some (name, Some value) → IsOneOf name names → WordKind word
+    is_flag : (name : Text) → long_of word ≡ Some (name, None) → IsOneOf name flags → WordKind word
     is_plain : IsPlain word → WordKind word
     is_refused : ((waiting : Waiting) (rows : List Row) (pending : Option (Text × List Text)) → turn_fault s [] (at rows pending waiting) word ≢ []) → WordKind word
 
@@ -232,10 +259,16 @@ module _ (s : Shape) (names : List Text) (has : HasOptions s names) where
       with_value name None long known = is_alone name long known
       with_value name (Some value) long known = is_in_one name value long known
 
+      without_value : bytes_eq word (codes "--") ≡ false → (name : Text) (value : Option Text) → long_of word ≡ Some (name, value) → IsOneOf name flags → WordKind word
+      without_value other name None long known = is_flag name long known
+      without_value other name (Some value) long known = is_refused (fails word (λ h skip e.
+          flag_with_value name value (has.by_flag name known) h (sym (flag_fault word h other ∙ ap (λ o. flag_word_fault s.rules again o word h) long) ∙ e)))
+
       by_long : (other : bytes_eq word (codes "--") ≡ false) → (long : Option (Text × Option Text)) → long_of word ≡ long → WordKind word
       by_long other None long = by_short other long (short_of word) refl
       by_long other (Some (name, value)) long = elim (has.others name) [
-        | inl known ↦ with_value name value long known
+        | inl (inl known) ↦ with_value name value long known
+        | inl (inr known) ↦ without_value other name value long known
         | inr refuses ↦ is_refused (fails word (λ h skip e. refuses value h (sym (flag_fault word h other ∙ ap (λ o. flag_word_fault s.rules again o word h) long) ∙ e)))
       ]
 
@@ -290,7 +323,7 @@ module _ (s : Shape) (names : List Text) (has : HasOptions s names) where
   has_value : (name value : Text) (rows : List Row) → IsOneOf name names → settle_fault s.rules again (held rows (Some (name, value ∷ []))) ≡ []
   has_value name value rows known = ap (λ a. option_map_or (λ r. use_fault again r (value ∷ []) rows) a []) (has.by_id name known)
 
-  value_found : (name value : Text) (rows : List Row) → IsOneOf name names → settled_rows s.rules (Some (name, value ∷ [])) rows ≡ found_with rows (name, value)
+  value_found : (name value : Text) (rows : List Row) → IsOneOf name names → settled_rows s.rules (Some (name, value ∷ [])) rows ≡ found_with rows (name, value ∷ [])
   value_found name value rows known = ap (λ a. used_by_id a (value ∷ []) rows) (has.by_id name known)
 
   -- where words pass, they are uses of options; where a value is to come, they are that value and then uses
@@ -300,10 +333,10 @@ module _ (s : Shape) (names : List Text) (has : HasOptions s names) where
     are : words ≡ value ∷ rest
     is : IsPlain value
     uses : Uses
-    used : AreUses names rest uses
+    used : AreUses names flags rest uses
 
   abbrev AreFromIdle : List Text → Type 0
-  AreFromIdle words = (rows : List Row) (pending : Option (Text × List Text)) → Passes (at rows pending idle) words → (uses : Uses) × AreUses names words uses
+  AreFromIdle words = (rows : List Row) (pending : Option (Text × List Text)) → Passes (at rows pending idle) words → (uses : Uses) × AreUses names flags words uses
 
   abbrev AreFromName : List Text → Type 0
   AreFromName words = (name : Text) → IsOneOf name names → (rows : List Row) → Passes (at rows (Some (name, [])) (option name)) words → HasValue words
@@ -313,15 +346,19 @@ module _ (s : Shape) (names : List Text) (has : HasOptions s names) where
       let Here : Text → Type 0 = λ w. Passes (walked s.rules [] (at rows pending idle) w) rest in
       let there = subst (λ w. Passes w rest) (dashes_end idle rows pending) (subst Here is (one_passes (at rows pending idle) word rest passes).1) in
       let nothing_more = after_dashes rows pending idle rest there.walk in
-      ([], subst (λ ws. AreUses names ws []) (ap₂ (λ w ws. w ∷ ws) (sym is) (sym nothing_more)) dashes)
+      ([], subst (λ ws. AreUses names flags ws []) (ap₂ (λ w ws. w ∷ ws) (sym is) (sym nothing_more)) dashes)
   from_idle word rest (is_alone name long known) idles names_too rows pending passes =
       let to = goes_alone idle word name rows pending long (has.by_long name known) in
       let more = names_too name known (settled_rows s.rules pending rows) (subst (λ w. Passes w rest) to.to (one_passes (at rows pending idle) word rest passes).1) in
-      ((name, more.value) ∷ more.uses, subst (λ ws. AreUses names (word ∷ ws) ((name, more.value) ∷ more.uses)) (sym more.are) (apart long known more.is more.used))
+      ((name, more.value ∷ []) ∷ more.uses, subst (λ ws. AreUses names flags (word ∷ ws) ((name, more.value ∷ []) ∷ more.uses)) (sym more.are) (apart long known more.is more.used))
   from_idle word rest (is_in_one name value long known) idles names_too rows pending passes =
       let to = goes_in_one idle word name value rows pending long (has.by_long name known) in
-      let more = idles (found_with (settled_rows s.rules pending rows) (name, value)) None (subst (λ w. Passes w rest) to.to (one_passes (at rows pending idle) word rest passes).1) in
-      ((name, value) ∷ more.0, in_one long known more.1)
+      let more = idles (found_with (settled_rows s.rules pending rows) (name, value ∷ [])) None (subst (λ w. Passes w rest) to.to (one_passes (at rows pending idle) word rest passes).1) in
+      ((name, value ∷ []) ∷ more.0, in_one long known more.1)
+  from_idle word rest (is_flag name long known) idles names_too rows pending passes =
+      let to = goes_flag idle word name rows pending long (has.by_flag name known) in
+      let more = idles (found_with (settled_rows s.rules pending rows) (name, [])) None (subst (λ w. Passes w rest) to.to (one_passes (at rows pending idle) word rest passes).1) in
+      ((name, []) ∷ more.0, alone long known more.1)
   from_idle word rest (is_plain is) idles names_too rows pending passes =
       let h = held rows pending in
       let fails_there : or_else (Fault word h) (step_fault s 1 (Met idle word h).0 (Met idle word h).1) ≡ [] = sym (turn_is idle word rows pending) ∙ (one_passes (at rows pending idle) word rest passes).0 in
@@ -342,6 +379,9 @@ module _ (s : Shape) (names : List Text) (has : HasOptions s names) where
       absurd (wants_value name rows known (sym to.turn ∙ (one_passes (at rows (Some (name, [])) (option name)) word rest passes).0))
   from_name word rest (is_in_one other value long also) idles name known rows passes =
       let to = goes_in_one (option name) word other value rows (Some (name, [])) long (has.by_long other also) in
+      absurd (wants_value name rows known (sym to.turn ∙ (one_passes (at rows (Some (name, [])) (option name)) word rest passes).0))
+  from_name word rest (is_flag other long also) idles name known rows passes =
+      let to = goes_flag (option name) word other rows (Some (name, [])) long (has.by_flag other also) in
       absurd (wants_value name rows known (sym to.turn ∙ (one_passes (at rows (Some (name, [])) (option name)) word rest passes).0))
   from_name word rest (is_plain is) idles name known rows passes =
       let to = goes_plain word name rows is (has.by_id name known) in
@@ -366,7 +406,7 @@ module _ (s : Shape) (names : List Text) (has : HasOptions s names) where
       let there = subst (λ v. Finds v rest rows) (sym to) finds in
       record { passes = all_pass w word rest turn there.passes; found = there.found }
 
-  uses_pass : (words : List Text) (uses : Uses) → AreUses names words uses → (rows : List Row) (pending : Option (Text × List Text))
+  uses_pass : (words : List Text) (uses : Uses) → AreUses names flags words uses → (rows : List Row) (pending : Option (Text × List Text))
       → settle_fault s.rules again (held rows pending) ≡ []
       → Finds (at rows pending idle) words (found_after uses (settled_rows s.rules pending rows))
   unfolding walk_fault
@@ -382,27 +422,32 @@ module _ (s : Shape) (names : List Text) (has : HasOptions s names) where
       let takes = goes_plain value name before is (has.by_id name known) in
       let ends = uses_pass rest more are before (Some (name, value ∷ [])) (has_value name value before known) in
       let found = subst (λ all. Finds after rest (found_after more all)) (value_found name value before known) ends in
-      one_finds (at rows pending idle) waits word (value ∷ rest) (found_after more (found_with before (name, value))) (to.turn ∙ settles) to.to
-      (one_finds waits after value rest (found_after more (found_with before (name, value))) takes.turn takes.to found)
+      one_finds (at rows pending idle) waits word (value ∷ rest) (found_after more (found_with before (name, value ∷ []))) (to.turn ∙ settles) to.to
+      (one_finds waits after value rest (found_after more (found_with before (name, value ∷ []))) takes.turn takes.to found)
   uses_pass words uses (in_one {word = word} {name = name} {value = value} {rest = rest} {uses = more} long known are) rows pending settles =
       let before = settled_rows s.rules pending rows in
       let to = goes_in_one idle word name value rows pending long (has.by_long name known) in
-      one_finds (at rows pending idle) (at (found_with before (name, value)) None idle) word rest (found_after more (found_with before (name, value))) (to.turn ∙ settles) to.to
-      (uses_pass rest more are (found_with before (name, value)) None refl)
+      one_finds (at rows pending idle) (at (found_with before (name, value ∷ [])) None idle) word rest (found_after more (found_with before (name, value ∷ []))) (to.turn ∙ settles) to.to
+      (uses_pass rest more are (found_with before (name, value ∷ [])) None refl)
+  uses_pass words uses (alone {word = word} {name = name} {rest = rest} {uses = more} long known are) rows pending settles =
+      let before = settled_rows s.rules pending rows in
+      let to = goes_flag idle word name rows pending long (has.by_flag name known) in
+      one_finds (at rows pending idle) (at (found_with before (name, [])) None idle) word rest (found_after more (found_with before (name, []))) (to.turn ∙ settles) to.to
+      (uses_pass rest more are (found_with before (name, [])) None refl)
 
   -- ---- what the command takes, and what it finds
 
   abbrev fault_at : List Text → Kinds
   fault_at words = level_fault s [] nothing_held words false []
 
-  pub takes_uses : (words : List Text) → fault_at words ≡ [] → (uses : Uses) × AreUses names words uses
+  pub takes_uses : (words : List Text) → fault_at words ≡ [] → (uses : Uses) × AreUses names flags words uses
   takes_uses words e =
       let end = end_of (at [] None idle) words in
       let level = both_pass (walk_fault s [] (at [] None idle) words) _ e in
       let settles = both_pass (settle_fault s.rules again end) _ level.1 in
       (are_uses words).0 [] None (record { walk = level.0; end = settles.0 })
 
-  pub finds_uses : (words : List Text) (uses : Uses) → AreUses names words uses → (fault_at words ≡ []) × (rows_after s.rules [] words ≡ found_after uses [])
+  pub finds_uses : (words : List Text) (uses : Uses) → AreUses names flags words uses → (fault_at words ≡ []) × (rows_after s.rules [] words ≡ found_after uses [])
   finds_uses words uses are =
       let end = end_of (at [] None idle) words in
       let finds = uses_pass words uses are [] None refl in

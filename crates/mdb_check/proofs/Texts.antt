@@ -1,5 +1,5 @@
 -- Texts that are written in parts.
-use Rattle.std.proofs.Common.{[], Bool, true, false, codes, refl, ap, sym, ◌∙◌, ◌≡◌, ◌-◌, ℕ, List, ◌++◌, Option, Some, None, Result, Ok, Err, append_assoc, drop, get_or, length, ◌+◌, ◌<◌, ◌≤◌, subst, take, take-append-drop}
+use Rattle.std.proofs.Common.{[], Bool, true, false, refl, ap, sym, ◌∙◌, ◌≡◌, ◌-◌, ℕ, List, ◌++◌, Option, Some, None, Result, Ok, Err, append_assoc, drop, get_or, length, ◌+◌, ◌<◌, ◌≤◌, subst, take, take-append-drop}
 use Rattle.std.proofs.lemmas.List.{flat_map_more, take_all, take_more, take_rest}
 use Rattle.std.specs.List.{flat_map}
 use Rattle.std.specs.Prelude.{OnOk}
@@ -46,19 +46,19 @@ pub all_parts : {X : Type 0} (part : X → List ℕ) (a b : Option (List ℕ)) (
 all_parts part a b head xs i past so_far =
     subst (λ ys. Appends a b (head ++ flat_map part ys)) (take_all i xs past) so_far
 
--- the line of the devices of a set, where there are some
-some_words : (changer bill first second : Bool)
+-- the line of a word and of the devices of a set, where there are some
+some_words : (word : List ℕ) (changer bill first second : Bool)
     → ((record { changer = changer; bill = bill; first_reader = first; second_reader = second }) ≡ NONE → ⊥)
     → (let set : DeviceSet = record { changer = changer; bill = bill; first_reader = first; second_reader = second } in
-    line_of_devices (devices_text set) ≡ line (codes "without" ++ devices_text set))
-some_words true bill first second some = refl
-some_words false true first second some = refl
-some_words false false true second some = refl
-some_words false false false true some = refl
-some_words false false false false some = absurd (some refl)
+    line_of_devices word (devices_text set) ≡ line (word ++ devices_text set))
+some_words word true bill first second some = refl
+some_words word false true first second some = refl
+some_words word false false true second some = refl
+some_words word false false false true some = refl
+some_words word false false false false some = absurd (some refl)
 
-pub with_line : (set : DeviceSet) → (set ≡ NONE → ⊥) → line (codes "without" ++ devices_text set) ≡ line_of_devices (devices_text set)
-with_line set some = sym (some_words set.changer set.bill set.first_reader set.second_reader some)
+pub with_line : (word : List ℕ) (set : DeviceSet) → (set ≡ NONE → ⊥) → line (word ++ devices_text set) ≡ line_of_devices word (devices_text set)
+with_line word set some = sym (some_words word set.changer set.bill set.first_reader set.second_reader some)
 
-pub without_line : (set : DeviceSet) → set ≡ NONE → line_of_devices (devices_text set) ≡ []
-without_line set none = ap (λ s. line_of_devices (devices_text s)) none
+pub without_line : (word : List ℕ) (set : DeviceSet) → set ≡ NONE → line_of_devices word (devices_text set) ≡ []
+without_line word set none = ap (λ s. line_of_devices word (devices_text s)) none

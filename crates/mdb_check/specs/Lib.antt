@@ -2,6 +2,7 @@ pub mod Accounts
 pub mod Complaint
 pub mod Headline
 pub mod Program
+pub mod SetupData
 pub mod Show
 pub mod ShowText
 pub mod ShownFault

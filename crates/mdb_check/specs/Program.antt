@@ -1,50 +1,127 @@
 -- What the words of a command line name, and what the program's exit status says.
-use Rattle.std.specs.Prelude.{◌≡◌, ◌⊎◌, ◌++◌, ℕ, List, [], ◌∷◌, codes, Option, Some, None, Result}
+use Rattle.std.specs.Prelude.{◌≡◌, ◌⊎◌, ◌++◌, ℕ, Bool, true, false, List, [], ◌∷◌, codes, Option, Some, None, Result}
 use Rattle.std.specs.Prelude.{Ok, Err}
 use Rattle.std.specs.Io.KnownBytes.{Appends}
 use Rattle.mdb_msgs.specs.declared.command.Device.{Device}
 use Rattle.mdb_msgs.specs.declared.device_set.DeviceSet.{DeviceSet}
 use Rattle.mdb_msgs.specs.declared.device_set.TheConstants.DeviceSet.{NONE}
 use Rattle.mdb_msgs.specs.Devices.{device_word}
-use Rattle.mdb_msgs.specs.DeviceSets.{with_device}
+use Rattle.mdb_msgs.specs.DeviceSets.{has, with_device}
+use Rattle.mdb_msgs.specs.declared.setups.Setups.{Setups}
+use Rattle.mdb_msgs.specs.Setups.{nothing_known}
 use Rattle.mdb_bus.specs.declared.fault.LinkFault.{LinkFault}
 use Rattle.mdb_follow.specs.declared.follower.TheConstants.{ROWS_MAX}
 use Rattle.mdb_follow.specs.declared.offence.Offence.{Offence}
 use Rattle.mdb_follow.specs.declared.report.Report.{Report}
+use Rattle.mdb_check.specs.SetupData.{IsSetupOf, known_devices}
 use Rattle.mdb_check.specs.Show.{IsCutShort, IsShownToFault, IsShownWhole}
+use Rattle.mdb_check.specs.ShowText.{bytes_text}
 use Rattle.mdb_check.specs.Text.{IsCutReport, report_text}
 use Rattle.mdb_check.specs.Verdict.{IsImpossible, IsPossible}
 use Rattle.mdb_check.specs.declared.outcome.Outcome.{Outcome}
 use Rattle.mdb_check.specs.declared.outcome.Outcome.TheVariants.{Yes, No}
 use Rattle.mdb_check.specs.declared.outcome.RunFault.{RunFault}
 use Rattle.mdb_bus.specs.declared.scope.Scope.{Scope}
-use Rattle.mdb_bus.specs.Scopes.{leaving_out}
+use Rattle.mdb_bus.specs.Scopes.{leaving_out, joined as in_mid_session}
 
--- These words are the options of a task, which leave out these devices. An option is `--without`
--- and a device's word after it, or both in one word with `=` between them. It may stand again, for
--- another device or for the same, which is left out once. At the end may stand `--`, where the
--- options of a command end.
-pub data AreOptions : List (List ℕ) → DeviceSet → Type 0 where
-  end : AreOptions [] NONE
-  dashes : AreOptions (codes "--" ∷ []) NONE
-  without : (device : Device) {more : List (List ℕ)} {left_out : DeviceSet}
-      → AreOptions more left_out
-      → AreOptions (codes "--without" ∷ device_word device ∷ more) (with_device left_out device)
-  without_in_one : (device : Device) {more : List (List ℕ)} {left_out : DeviceSet}
-      → AreOptions more left_out
+-- the word of a device, and bytes as `show` writes them behind it
+abbrev pub setup_text : Device → List ℕ → List ℕ
+setup_text device bytes = device_word device ++ bytes_text bytes
+
+-- What the options of a task ask for.
+pub record Asked : Type 0 where
+  -- whether there is `--joined`
+  pub joined : Bool
+  -- the values of `--setup`, in their order
+  pub setups : List (List ℕ)
+  -- the devices that are left out
+  pub left_out : DeviceSet
+
+abbrev pub nothing_asked : Asked
+nothing_asked = record { joined = false; setups = []; left_out = NONE }
+
+abbrev pub asked_joined : Asked → Asked
+asked_joined asked = record asked { joined = true }
+
+abbrev pub asked_setup : List ℕ → Asked → Asked
+asked_setup text asked = record asked { setups = text ∷ asked.setups }
+
+abbrev pub asked_without : Device → Asked → Asked
+asked_without device asked = record asked { left_out = with_device asked.left_out device }
+
+-- These words are the options of a task, which ask for this: `--joined`, `--setup` and a device's
+-- word with bytes, `--without` and a device's word. A value stands in the word after its option, or
+-- in one word with it and `=` between them. Each may stand again; a device is left out once then.
+-- At the end may stand `--`, where the options of a command end.
+pub data AreOptions : List (List ℕ) → Asked → Type 0 where
+  end : AreOptions [] nothing_asked
+  dashes : AreOptions (codes "--" ∷ []) nothing_asked
+  joined : {more : List (List ℕ)} {asked : Asked} → AreOptions more asked
+      → AreOptions (codes "--joined" ∷ more) (asked_joined asked)
+  setup : (device : Device) (bytes : List ℕ) {more : List (List ℕ)} {asked : Asked}
+      → AreOptions more asked
+      → AreOptions (codes "--setup" ∷ setup_text device bytes ∷ more)
+      (asked_setup (setup_text device bytes) asked)
+  setup_in_one : (device : Device) (bytes : List ℕ) {more : List (List ℕ)} {asked : Asked}
+      → AreOptions more asked
+      → AreOptions ((codes "--setup=" ++ setup_text device bytes) ∷ more)
+      (asked_setup (setup_text device bytes) asked)
+  without : (device : Device) {more : List (List ℕ)} {asked : Asked} → AreOptions more asked
+      → AreOptions (codes "--without" ∷ device_word device ∷ more) (asked_without device asked)
+  without_in_one : (device : Device) {more : List (List ℕ)} {asked : Asked}
+      → AreOptions more asked
       → AreOptions ((codes "--without=" ++ device_word device) ∷ more)
-      (with_device left_out device)
+      (asked_without device asked)
 
--- The words of a command line, the program's name first, name a task with these devices left out:
--- they are its word, and after it its options.
-abbrev pub NamesTask : List (List ℕ) → List ℕ → DeviceSet → Type 0
-NamesTask words task left_out = (program : List ℕ) × (options : List (List ℕ))
-    × (words ≡ program ∷ task ∷ options) × AreOptions options left_out
+-- The words of a command line, the program's name first, name a task with options that ask for
+-- this: they are its word, and after it its options.
+abbrev pub NamesTask : List (List ℕ) → List ℕ → Asked → Type 0
+NamesTask words task asked = (program : List ℕ) × (options : List (List ℕ))
+    × (words ≡ program ∷ task ∷ options) × AreOptions options asked
+
+-- A value of `--setup`, the next after those with which this was known: the answer to SETUP of a
+-- device that isn't left out, and of which nothing was known.
+pub record AddsSetup (left_out : DeviceSet) (before : Setups) (text : List ℕ) (after : Setups)
+    : Type 0 where
+  pub device : Device
+  pub bytes : List ℕ
+  pub spelled : text ≡ setup_text device bytes
+  pub followed : has left_out device ≡ false
+  pub new : has (known_devices before) device ≡ false
+  pub is : IsSetupOf device bytes before after
+
+-- The values of `--setup`, in their order, and what is known with them.
+abbrev pub AreSetups : DeviceSet → Setups → List (List ℕ) → Setups → Type 0
+AreSetups left_out before [] after = after ≡ before
+AreSetups left_out before (text ∷ more) after = (next : Setups)
+    × AddsSetup left_out before text next × AreSetups left_out next more after
+
+-- A recording from power-on on is asked for, with no setup data, and it is taken so.
+pub record IsFromPowerOn (asked : Asked) (scope : Scope) : Type 0 where
+  pub not_joined : asked.joined ≡ false
+  pub no_setups : asked.setups ≡ []
+  pub is : scope ≡ leaving_out asked.left_out
+
+-- A recording in mid-session is asked for, with these setup data, and it is taken so.
+pub record IsJoined (asked : Asked) (scope : Scope) : Type 0 where
+  pub joined : asked.joined ≡ true
+  pub setups : Setups
+  pub told : AreSetups asked.left_out nothing_known asked.setups setups
+  pub is : scope ≡ in_mid_session setups asked.left_out
+
+-- the words name `check`, of a recording that is taken so
+abbrev pub NamesCheck : List (List ℕ) → Scope → Type 0
+NamesCheck words scope = (asked : Asked) × NamesTask words (codes "check") asked
+    × (IsFromPowerOn asked scope ⊎ IsJoined asked scope)
+
+-- they name `show`, which shows no recording from mid-session on
+abbrev pub NamesShow : List (List ℕ) → Scope → Type 0
+NamesShow words scope = (asked : Asked) × NamesTask words (codes "show") asked
+    × IsFromPowerOn asked scope
 
 -- they name one of the tasks
 abbrev pub NameATask : List (List ℕ) → Type 0
-NameATask words = (left_out : DeviceSet)
-    × (NamesTask words (codes "check") left_out ⊎ NamesTask words (codes "show") left_out)
+NameATask words = (scope : Scope) × (NamesCheck words scope ⊎ NamesShow words scope)
 
 -- What the statuses of `check` say of the records of a text, and of the bytes that the writer held
 -- before and after. At 2 nothing was written, or the writer failed, and took a front of the text of
@@ -66,17 +143,16 @@ pub record SaysShown (scope : Scope) (records : List (List (List ℕ))) (before 
       × IsShownToFault scope records fault text × Appends before after text
   pub unanswered : status ≡ 2 → IsCutShort scope records before after
 
--- What the status of the program says: what it says of the task that the words name, or that the
--- words were refused, with nothing written. Words that name no task always are. (That others are
--- for want of memory alone is a promise of a private function, `task_of`.)
+-- What the status of the program says: what it says of the task that the words name, of a recording
+-- that is taken as they ask, or that the words were refused, with nothing written. Words that name
+-- no task always are. (That others are for want of memory alone is a promise of a private function,
+-- `task_of`.)
 pub data Says (words : List (List ℕ)) (records : List (List (List ℕ)))
     (before after : Option (List ℕ)) (status : ℕ) : Type 0 where
-  checked : (left_out : DeviceSet) → NamesTask words (codes "check") left_out
-      → SaysChecked (leaving_out left_out) records before after status
-      → Says words records before after status
-  shown : (left_out : DeviceSet) → NamesTask words (codes "show") left_out
-      → SaysShown (leaving_out left_out) records before after status
-      → Says words records before after status
+  checked : (scope : Scope) → NamesCheck words scope
+      → SaysChecked scope records before after status → Says words records before after status
+  shown : (scope : Scope) → NamesShow words scope
+      → SaysShown scope records before after status → Says words records before after status
   refused : status ≡ 2 → after ≡ before → Says words records before after status
 
 -- The rest serves private functions: the status for an answer of `check`, and of `show`.

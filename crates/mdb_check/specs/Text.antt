@@ -15,13 +15,16 @@ use Rattle.mdb_follow.specs.declared.range.Range.{Range}
 use Rattle.mdb_follow.specs.declared.report.Report.{Report}
 use Rattle.mdb_follow.specs.declared.report.TheConstants.Report.{DEVICES}
 use Rattle.mdb_follow.specs.AccountNames.{account_word}
-use Rattle.mdb_follow.specs.Report.{account_of, device_decimals, device_silences}
+use Rattle.mdb_follow.specs.Report.{account_of, device_decimals, device_silences, device_unvalued}
 use Rattle.mdb_check.specs.declared.outcome.Outcome.{Outcome}
 use Rattle.mdb_check.specs.declared.outcome.Outcome.TheVariants.{Yes, No}
 use Rattle.mdb_check.specs.Accounts.{OfController, OfDevice, OfDifference, range_of, side_word}
 use Rattle.mdb_check.specs.Verdict.{IsAnswer}
 use Rattle.mdb_check.specs.Written.{HasTaken}
+use Rattle.mdb_bus.specs.declared.scope.Beginning.{Beginning}
+use Rattle.mdb_bus.specs.declared.scope.Beginning.TheVariants.{PowerOn, Joined}
 use Rattle.mdb_bus.specs.declared.scope.Scope.{Scope}
+use Rattle.mdb_check.specs.SetupData.{known_devices}
 
 -- a line of a text
 abbrev pub line : List ℕ → List ℕ
@@ -48,6 +51,12 @@ abbrev pub silences_line : Report → List ℕ
 silences_line report =
     line (codes "silences"
     ++ flat_map (λ device. count_text device (device_silences device report)) DEVICES)
+
+-- how often money moved on each device whose value isn't known
+abbrev pub unvalued_line : Report → List ℕ
+unvalued_line report =
+    line (codes "unvalued"
+    ++ flat_map (λ device. count_text device (device_unvalued device report)) DEVICES)
 
 -- what an account comes to on one side: the least and the greatest
 abbrev pub side_text : List ℕ → Range → List ℕ
@@ -78,14 +87,21 @@ word_in set device = if has set device then codes " " ++ device_word device else
 abbrev pub devices_text : DeviceSet → List ℕ
 devices_text set = flat_map (word_in set) DEVICES
 
--- the line of these words, if there are any
-abbrev pub line_of_devices : List ℕ → List ℕ
-line_of_devices [] = []
-line_of_devices (byte ∷ bytes) = line (codes "without" ++ byte ∷ bytes)
+-- the line of a word and of these words of devices, if there are any
+abbrev pub line_of_devices : List ℕ → List ℕ → List ℕ
+line_of_devices word [] = []
+line_of_devices word (byte ∷ bytes) = line (word ++ byte ∷ bytes)
 
 -- the line of the devices that are left out; there is none where none is
 abbrev pub without_line : Scope → List ℕ
-without_line scope = line_of_devices (devices_text scope.without)
+without_line scope = line_of_devices (codes "without") (devices_text scope.without)
+
+-- what is said of where the recording begins: from power-on on nothing; in mid-session what has no
+-- value, and then the line of the devices of which setup data are known, where there are some
+abbrev pub beginning_text : Beginning → Report → List ℕ
+beginning_text PowerOn report = []
+beginning_text (Joined setups) report =
+    unvalued_line report ++ line_of_devices (codes "setup") (devices_text (known_devices setups))
 
 -- the four lines of a no
 abbrev pub offence_text : Offence → List ℕ
@@ -98,7 +114,7 @@ offence_text offence =
 abbrev pub report_text : Scope → Outcome → List ℕ
 report_text scope (Yes report) =
     head_text report.rows ++ decimals_line report ++ accounts_text report ++ silences_line report
-    ++ without_line scope
+    ++ beginning_text scope.begins report ++ without_line scope
 report_text scope (No offence) = offence_text offence
 
 -- The records of a text have a verdict, and a writer took a front of its text.

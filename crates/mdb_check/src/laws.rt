@@ -3,7 +3,6 @@
 
 ghost use Rattle.std.specs.Prelude.{◌≡◌, ◌+◌, ℕ, List, None, Option, Result, Ok, Some, length};
 ghost use Rattle.mdb_msgs.specs.declared.command.Device.{Device};
-ghost use Rattle.mdb_msgs.specs.declared.device_set.DeviceSet.{DeviceSet};
 ghost use Rattle.mdb_bus.specs.ActLists.{events_of};
 ghost use Rattle.mdb_bus.specs.declared.fault.LinkFault.{LinkFault};
 ghost use Rattle.mdb_bus.specs.LeavingOut.{LeavesOutMore};
@@ -19,13 +18,14 @@ ghost use Rattle.mdb_check.specs.declared.outcome.Outcome.{Outcome};
 ghost use Rattle.mdb_check.specs.declared.outcome.Outcome.TheVariants.{No, Yes};
 ghost use Rattle.mdb_check.specs.declared.outcome.RunFault.{RunFault};
 ghost use Rattle.mdb_check.specs.Headline.{Headline};
-ghost use Rattle.mdb_check.specs.Program.{NamesTask};
+ghost use Rattle.mdb_check.specs.Program.{NamesCheck, NamesShow};
 ghost use Rattle.mdb_check.specs.Show.{IsOwnShowing, IsShowing, IsShownToFault};
 ghost use Rattle.mdb_check.specs.ShownFault.{IsNoUpTo};
 ghost use Rattle.mdb_check.specs.Verdict.{IsAnswer, IsOwnAnswer};
 
 use mdb_bus::laws as links;
 use mdb_follow::laws;
+use mdb_msgs::laws as messages;
 
 /// The headline: what a verdict says, phrase by phrase.
 ///
@@ -125,16 +125,21 @@ pub fn answers_have_nothing_of_devices_left_out()
     laws::reports_have_nothing_of_devices_left_out();
 }
 
-/// The words of a command line name one task at most, with one set of devices that are left out.
+/// The words of a command line name one task at most, of a recording that is taken in one way.
 ///
-/// So where they name one, the status of the program says what it says of that task with that set,
-/// or it is 2, and nothing was written. (The program does that for want of memory alone: that is a
-/// promise of the private `task_of`.)
+/// So where they name one, the status of the program says what it says of that task and of that
+/// recording, or it is 2, and nothing was written. (The program does that for want of memory alone:
+/// that is a promise of the private `task_of`.)
 pub fn command_lines_name_one_task()
-    ensures { (words : List (List ℕ)) (a b : List ℕ) (left_out_a left_out_b : DeviceSet)
-        → NamesTask words a left_out_a → NamesTask words b left_out_b
-        → (a ≡ b) × (left_out_a ≡ left_out_b) }
-{}
+    ensures check { (words : List (List ℕ)) (a b : Scope)
+        → NamesCheck words a → NamesCheck words b → a ≡ b }
+    ensures show { (words : List (List ℕ)) (a b : Scope)
+        → NamesShow words a → NamesShow words b → a ≡ b }
+    ensures not_both { (words : List (List ℕ)) (a b : Scope)
+        → NamesCheck words a → NamesShow words b → ⊥ }
+{
+    messages::block_has_one_reply();
+}
 
 /// The limits of a transcript (this profile).
 pub fn limits_are_those_of_this_profile()

@@ -13,7 +13,10 @@ mod outcome;
 mod page;
 mod program;
 mod reading;
+mod refusal;
 mod row;
+mod setup_data;
+mod setup_value;
 mod show_text;
 mod showing;
 mod text;
@@ -22,9 +25,11 @@ mod writing;
 
 pub use mdb_bus::{Beginning, Blame, LinkFault, Rule, Scope};
 pub use mdb_follow::{Account, AccountName, Offence, ROWS_MAX, Range, Report};
-pub use mdb_msgs::{Device, DeviceSet, ReaderUnit};
+pub use mdb_msgs::{BillSetup, ChangerSetup, Device, DeviceSet, ReaderConfig, ReaderUnit, Setups};
 pub use outcome::{Outcome, RunFault};
 pub use program::run;
 pub use showing::{show, show_scoped};
 pub use text::{text_of, text_scoped};
-pub use verdict::{BYTES_MAX, check, check_scoped, check_scoped_within, check_within};
+pub use verdict::{
+    BYTES_MAX, check, check_joined, check_scoped, check_scoped_within, check_within,
+};

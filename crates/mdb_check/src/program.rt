@@ -1,7 +1,6 @@
 //! The program over its words.
 
 ghost use Rattle.std.specs.Prelude.{◌≡◌, ◌≢◌, ◌<◌, ◌⊎◌, IfSome, length, map, string_bytes};
-ghost use Rattle.mdb_bus.specs.Scopes.{leaving_out};
 ghost use Rattle.mdb_check.specs.Program.{NameATask, Says, SaysChecked, SaysShown, show_status_of, status_of};
 ghost use Rattle.mdb_check.specs.declared.verdict.TheConstants.{BYTES_MAX};
 ghost use Rattle.mdb_records.specs.ToCome.{IsOverLimit, ToCome, limit_of};
@@ -10,6 +9,7 @@ ghost use Rattle.csv.specs.Reading.{default_config, records, strip_bom};
 use super::command_line::{Task, USAGE, VERSION, task_of};
 use super::complaint::complain;
 use super::outcome::{Outcome, RunFault};
+use super::refusal::Refusal;
 use super::showing::show_records;
 use super::verdict::{BYTES_MAX, check_records, records_of};
 use clap::error::ErrorKind;
@@ -60,22 +60,22 @@ pub fn run<R: Read + Drop, W: Write, E: Write>(
     ensures silent { result < 2 → err.new ≡ err.old }
 {
     match task_of(alloc, words.as_slice()) {
-        Ok(Task::Check(options)) => run_check(alloc, options.scope(), reader, out, err),
-        Ok(Task::Show(options)) => run_show(alloc, options.scope(), reader, out, err),
-        Err(kind) => refuse(kind, err),
+        Ok(Task::Check(scope)) => run_check(alloc, &scope, reader, out, err),
+        Ok(Task::Show(scope)) => run_show(alloc, &scope, reader, out, err),
+        Err(refusal) => refuse(refusal, err),
     }
 }
 
 /// Gives the verdict on the text that the reader has left.
 fn run_check<R: Read + Drop, W: Write, E: Write>(
     alloc: Global,
-    scope: Scope,
+    scope: &Scope,
     reader: R,
     out: &mut W,
     err: &mut E,
 ) -> u8
     ensures status { result < 3 }
-    ensures says { IfSome (R.remaining reader) (λ text. SaysChecked scope
+    ensures says { IfSome (R.remaining reader) (λ text. SaysChecked scope.now
         (records default_config (strip_bom text)) (W.contents out.old) (W.contents out.new)
         result) }
     ensures whole { IfSome (R.remaining reader) (λ text. BYTES_MAX < length text
@@ -90,13 +90,13 @@ fn run_check<R: Read + Drop, W: Write, E: Write>(
 /// Shows the acts of the text that the reader has left.
 fn run_show<R: Read + Drop, W: Write, E: Write>(
     alloc: Global,
-    scope: Scope,
+    scope: &Scope,
     reader: R,
     out: &mut W,
     err: &mut E,
 ) -> u8
     ensures status { result < 3 }
-    ensures says { IfSome (R.remaining reader) (λ text. SaysShown scope
+    ensures says { IfSome (R.remaining reader) (λ text. SaysShown scope.now
         (records default_config (strip_bom text)) (W.contents out.old) (W.contents out.new)
         result) }
     ensures whole { IfSome (R.remaining reader) (λ text. BYTES_MAX < length text
@@ -160,9 +160,20 @@ fn finish_show<R: Read + Drop, E: Write>(
 }
 
 /// Tells why a command line is refused.
-fn refuse<E: Write>(kind: ErrorKind, err: &mut E) -> u8
+fn refuse<E: Write>(refusal: Refusal, err: &mut E) -> u8
     ensures { result ≡ NO_VERDICT }
 {
+    match refusal {
+        Refusal::Words(kind) => refuse_words(kind, err),
+        Refusal::Setup(fault) => {
+            let _ = writeln!(err, "mdbcheck: {fault}; {USAGE}");
+        }
+    }
+    NO_VERDICT
+}
+
+/// Tells what `clap` says of the words, or that there is no memory.
+fn refuse_words<E: Write>(kind: ErrorKind, err: &mut E) {
     let _ = match kind {
         ErrorKind::OutOfMemory => writeln!(err, "mdbcheck: {}", RunFault::Memory),
         ErrorKind::DisplayHelp | ErrorKind::DisplayHelpOnMissingArgumentOrSubcommand => {
@@ -171,5 +182,4 @@ fn refuse<E: Write>(kind: ErrorKind, err: &mut E) -> u8
         ErrorKind::DisplayVersion => writeln!(err, "mdbcheck {VERSION}"),
         kind => writeln!(err, "mdbcheck: {kind}; {USAGE}"),
     };
-    NO_VERDICT
 }

@@ -7,7 +7,7 @@ ghost use Rattle.mdb_records.specs.declared.ReadFault.{ReadFault};
 ghost use Rattle.mdb_check.specs.declared.verdict.TheConstants.{BYTES_MAX};
 ghost use Rattle.mdb_bus.specs.Bus.{scope_of};
 ghost use Rattle.mdb_bus.specs.declared.scope.Scope.{Scope};
-ghost use Rattle.mdb_bus.specs.declared.scope.TheConstants.Scope.{POWER_ON};
+ghost use Rattle.mdb_bus.specs.Scopes.{power_on};
 ghost use Rattle.mdb_check.specs.Show.{Shows};
 ghost use Rattle.mdb_check.specs.inner.ShowSteps.{HasShown, IsShownAs, PutsShowing, begun, output};
 
@@ -46,12 +46,12 @@ pub fn show<R: Read + Drop, W: Write>(
     writer: &mut W,
 ) -> Result<Option<LinkFault>, RunFault>
     ensures shows { IfSome (R.remaining reader) (λ text.
-        Shows POWER_ON (records default_config (strip_bom text)) (W.contents writer.old)
+        Shows power_on (records default_config (strip_bom text)) (W.contents writer.old)
         (W.contents writer.new) result) }
     ensures whole { IfSome (R.remaining reader) (λ text.
         BYTES_MAX < length text → result ≢ Ok None) }
 {
-    show_scoped(alloc, Scope::POWER_ON, reader, writer)
+    show_scoped(alloc, &Scope::POWER_ON, reader, writer)
 }
 
 /// Does as [`show`] does, of a recording that is taken as `scope` says: each row of what is said to
@@ -62,12 +62,12 @@ pub fn show<R: Read + Drop, W: Write>(
 /// Those of `show`.
 pub fn show_scoped<R: Read + Drop, W: Write>(
     alloc: Global,
-    scope: Scope,
+    scope: &Scope,
     reader: R,
     writer: &mut W,
 ) -> Result<Option<LinkFault>, RunFault>
     ensures shows { IfSome (R.remaining reader) (λ text.
-        Shows scope (records default_config (strip_bom text)) (W.contents writer.old)
+        Shows scope.now (records default_config (strip_bom text)) (W.contents writer.old)
         (W.contents writer.new) result) }
     ensures whole { IfSome (R.remaining reader) (λ text.
         BYTES_MAX < length text → result ≢ Ok None) }
@@ -80,12 +80,12 @@ pub fn show_scoped<R: Read + Drop, W: Write>(
 /// be asked then.
 pub(crate) fn show_records<R: Read + Drop, W: Write>(
     alloc: Global,
-    scope: Scope,
+    scope: &Scope,
     records: &mut Records<R>,
     writer: &mut W,
 ) -> Result<Option<LinkFault>, RunFault>
     ensures shows { (all : List (List (List ℕ))) → ToCome R.remaining records.old all
-        → Shows scope all (W.contents writer.old) (W.contents writer.new) result }
+        → Shows scope.now all (W.contents writer.old) (W.contents writer.new) result }
     ensures whole { IsOverLimit R.remaining records.old → result ≢ Ok None }
 {
     let mut showing = Showing::new(alloc, scope);
@@ -133,10 +133,10 @@ impl Showing {
     ghost use Rattle.mdb_check.specs.inner.ShowSteps.{HasShown, begun, output};
 
     /// Before the first row.
-    fn new(alloc: Global, scope: Scope) -> Showing
+    fn new(alloc: Global, scope: &Scope) -> Showing
         ensures shown { (contents : Option (List ℕ))
-            → HasShown scope result.lines (begun contents) (output contents result.page) [] }
-        ensures scope { scope_of result.lines.bus ≡ scope }
+            → HasShown scope.now result.lines (begun contents) (output contents result.page) [] }
+        ensures scope { scope_of result.lines.bus ≡ scope.now }
     {
         Showing {
             lines: Lines::new(scope),
@@ -196,8 +196,8 @@ impl Lines {
     ghost use Rattle.mdb_check.specs.inner.ShowSteps.{HasAdded, HasPieces, HasShown, Output};
 
     /// No lines: before the first row.
-    fn new(scope: Scope) -> Lines
-        ensures scope { scope_of result.bus ≡ scope }
+    fn new(scope: &Scope) -> Lines
+        ensures scope { scope_of result.bus ≡ scope.now }
         ensures stands { StandsFor result.bus [] }
         ensures rows { result.rows ≡ 0 }
         ensures shown { result.shown ≡ 0 }

@@ -2,12 +2,12 @@
 
 ghost use Rattle.std.specs.Prelude.{◌≡◌, IfOk, OnOk};
 ghost use Rattle.std.specs.Io.KnownBytes.{Appends};
-ghost use Rattle.mdb_check.specs.Text.{account_line, accounts_text, count_text, decimals_line, head_text, devices_text, line_of_devices, offence_text, places_text, report_text, side_text, silences_line, word_in};
-ghost use Rattle.mdb_bus.specs.declared.scope.Scope.{Scope};
-ghost use Rattle.mdb_bus.specs.declared.scope.TheConstants.Scope.{POWER_ON};
+ghost use Rattle.mdb_check.specs.Text.{account_line, accounts_text, beginning_text, count_text, decimals_line, head_text, devices_text, line_of_devices, offence_text, places_text, report_text, side_text, silences_line, unvalued_line, word_in};
+ghost use Rattle.mdb_bus.specs.Scopes.{power_on};
 
 use super::outcome::Outcome;
-use mdb_bus::Scope;
+use super::setup_data::known_devices;
+use mdb_bus::{Beginning, Scope};
 use mdb_follow::{Account, AccountName, Offence, Range, Report};
 use mdb_msgs::{Device, DeviceSet};
 use std::alloc::Global;
@@ -17,15 +17,15 @@ use std::io::Write;
 /// The text of an outcome as bytes: what `check` writes of it. Only want of memory is an error
 /// here.
 pub fn text_of(alloc: Global, outcome: &Outcome) -> io::Result<Vec<u8>>
-    ensures { IfOk result (λ text. text.items ≡ report_text POWER_ON outcome.now) }
+    ensures { IfOk result (λ text. text.items ≡ report_text power_on outcome.now) }
 {
-    text_scoped(alloc, Scope::POWER_ON, outcome)
+    text_scoped(alloc, &Scope::POWER_ON, outcome)
 }
 
 /// The text of an outcome of a recording that is taken so: what `check_scoped` writes of it. Only
 /// want of memory is an error here.
-pub fn text_scoped(alloc: Global, scope: Scope, outcome: &Outcome) -> io::Result<Vec<u8>>
-    ensures { IfOk result (λ text. text.items ≡ report_text scope outcome.now) }
+pub fn text_scoped(alloc: Global, scope: &Scope, outcome: &Outcome) -> io::Result<Vec<u8>>
+    ensures { IfOk result (λ text. text.items ≡ report_text scope.now outcome.now) }
 {
     let mut text = Vec::new(alloc);
     write_outcome(&mut text, scope, outcome)?;
@@ -33,9 +33,10 @@ pub fn text_scoped(alloc: Global, scope: Scope, outcome: &Outcome) -> io::Result
 }
 
 /// Writes the text of an outcome, line by line.
-fn write_outcome<W: Write>(writer: &mut W, scope: Scope, outcome: &Outcome) -> io::Result<()>
+fn write_outcome<W: Write>(writer: &mut W, scope: &Scope, outcome: &Outcome) -> io::Result<()>
     ensures { OnOk result
-        (Appends (W.contents writer.old) (W.contents writer.new) (report_text scope outcome.now)) }
+        (Appends (W.contents writer.old)
+        (W.contents writer.new) (report_text scope.now outcome.now)) }
 {
     match outcome {
         Outcome::Yes(report) => write_report(writer, scope, report),
@@ -44,16 +45,17 @@ fn write_outcome<W: Write>(writer: &mut W, scope: Scope, outcome: &Outcome) -> i
 }
 
 /// Writes the lines of a yes.
-fn write_report<W: Write>(writer: &mut W, scope: Scope, report: &Report) -> io::Result<()>
+fn write_report<W: Write>(writer: &mut W, scope: &Scope, report: &Report) -> io::Result<()>
     ensures { OnOk result
         (Appends (W.contents writer.old)
-        (W.contents writer.new) (report_text scope (Outcome.Yes report.now))) }
+        (W.contents writer.new) (report_text scope.now (Outcome.Yes report.now))) }
 {
     write_head(writer, report.rows)?;
     write_decimals(writer, report)?;
     write_accounts(writer, report)?;
     write_silences(writer, report)?;
-    write_without(writer, scope.without)
+    write_beginning(writer, &scope.begins, report)?;
+    write_devices(writer, "without", scope.without)
 }
 
 /// Writes the first two lines of a yes.
@@ -146,33 +148,58 @@ fn write_count<W: Write>(writer: &mut W, device: Device, count: u64) -> io::Resu
     write!(writer, " {device} {count}")
 }
 
-/// Writes which devices are left out, if one is.
-fn write_without<W: Write>(writer: &mut W, left_out: DeviceSet) -> io::Result<()>
+/// Writes what a yes says of a recording that begins in mid-session: what has no value, and of
+/// which devices setup data are known.
+fn write_beginning<W: Write>(writer: &mut W, begins: &Beginning, report: &Report) -> io::Result<()>
     ensures { OnOk result
         (Appends (W.contents writer.old)
-        (W.contents writer.new) (line_of_devices (devices_text left_out))) }
+        (W.contents writer.new) (beginning_text begins.now report.now)) }
 {
-    if left_out == DeviceSet::NONE {
-        return Ok(());
+    match begins {
+        Beginning::PowerOn => Ok(()),
+        Beginning::Joined(setups) => {
+            write_unvalued(writer, report)?;
+            write_devices(writer, "setup", known_devices(setups))
+        }
     }
-    write!(writer, "without")?;
+}
+
+/// Writes how often money moved on each device whose value isn't known.
+fn write_unvalued<W: Write>(writer: &mut W, report: &Report) -> io::Result<()>
+    ensures { OnOk result
+        (Appends (W.contents writer.old)
+        (W.contents writer.new) (unvalued_line report.now)) }
+{
+    write!(writer, "unvalued")?;
     for device in Report::DEVICES {
-        write_if_left_out(writer, left_out, device)?;
+        write_count(writer, device, report.device_unvalued(device))?;
     }
     write!(writer, "\n")
 }
 
-/// Writes the word of a device that is left out.
-fn write_if_left_out<W: Write>(
-    writer: &mut W,
-    left_out: DeviceSet,
-    device: Device,
-) -> io::Result<()>
+/// Writes a word and after it which devices are of a set, if one is.
+fn write_devices<W: Write>(writer: &mut W, word: &str, devices: DeviceSet) -> io::Result<()>
     ensures { OnOk result
         (Appends (W.contents writer.old)
-        (W.contents writer.new) (word_in left_out device)) }
+        (W.contents writer.new) (line_of_devices word.now (devices_text devices))) }
 {
-    if left_out.has(device) {
+    if devices == DeviceSet::NONE {
+        return Ok(());
+    }
+    write!(writer, "{word}")?;
+    for device in Report::DEVICES {
+        write_if_in(writer, devices, device)?;
+    }
+    write!(writer, "\n")
+}
+
+/// Writes the word of a device that is of a set.
+fn write_if_in<W: Write>(writer: &mut W, devices: DeviceSet, device: Device) -> io::Result<()>
+    ensures { OnOk result
+        (Appends (W.contents writer.old)
+        (W.contents writer.new) (word_in devices device)) }
+{
+    if devices.has(device) {
         write!(writer, " {device}")
     } else {
         Ok(())

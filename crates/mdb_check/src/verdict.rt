@@ -11,7 +11,7 @@ ghost use Rattle.mdb_check.specs.inner.Ending.{HasFollowed};
 ghost use Rattle.mdb_follow.specs.Follower.{StandsFor, rows_of, scope_of};
 ghost use Rattle.mdb_follow.specs.Offences.{HasOffence};
 ghost use Rattle.mdb_bus.specs.declared.scope.Scope.{Scope};
-ghost use Rattle.mdb_bus.specs.declared.scope.TheConstants.Scope.{POWER_ON};
+ghost use Rattle.mdb_bus.specs.Scopes.{all_joined, power_on};
 ghost use Rattle.mdb_words.specs.declared.event.Event.{Event};
 
 use super::batch::Batch;
@@ -22,6 +22,7 @@ use super::text::text_scoped;
 use super::writing::write_text;
 use mdb_bus::Scope;
 use mdb_follow::{Follower, Offence, ROWS_MAX, laws};
+use mdb_msgs::{DeviceSet, Setups};
 use mdb_records::Records;
 use mdb_words::Event;
 use std::alloc::Global;
@@ -50,19 +51,51 @@ pub fn check<R: Read + Drop, W: Write>(
     writer: &mut W,
 ) -> Result<Outcome, RunFault>
     ensures answer { IfSome (R.remaining reader)
-        (λ text. IsAnswer POWER_ON ROWS_MAX (records default_config (strip_bom text)) result) }
+        (λ text. IsAnswer power_on ROWS_MAX (records default_config (strip_bom text)) result) }
     ensures headline { IfSome (R.remaining reader) (λ text.
-        IfOk result (Headline POWER_ON ROWS_MAX (records default_config (strip_bom text)))) }
+        IfOk result (Headline power_on ROWS_MAX (records default_config (strip_bom text)))) }
     ensures whole { IfSome (R.remaining reader) (λ text. BYTES_MAX < length text → IsNoYes result) }
     ensures written { IfOk result (λ outcome. Appends (W.contents writer.old)
-        (W.contents writer.new) (report_text POWER_ON outcome)) }
+        (W.contents writer.new) (report_text power_on outcome)) }
     ensures nothing_written { IfErr result (λ fault. fault ≢ RunFault.Write
         → writer.new ≡ writer.old) }
     ensures cut { IfSome (R.remaining reader) (λ text. result ≡ Err RunFault.Write
-        → IsCutReport POWER_ON ROWS_MAX (records default_config (strip_bom text))
+        → IsCutReport power_on ROWS_MAX (records default_config (strip_bom text))
         (W.contents writer.old) (W.contents writer.new)) }
 {
-    check_scoped(alloc, Scope::POWER_ON, reader, writer)
+    check_scoped(alloc, &Scope::POWER_ON, reader, writer)
+}
+
+/// Does as [`check`] does, of a recording that begins in mid-session, of which nothing is known
+/// from elsewhere: this is [`check_scoped`] of [`Scope::joined`] with [`Setups::NONE`] and
+/// [`DeviceSet::NONE`].
+///
+/// What was said before isn't known, and each device may be in any state. The text of a yes has one
+/// line more, its last: how often money moved on each device whose value isn't known.
+///
+/// # Errors
+///
+/// Those of `check`.
+pub fn check_joined<R: Read + Drop, W: Write>(
+    alloc: Global,
+    reader: R,
+    writer: &mut W,
+) -> Result<Outcome, RunFault>
+    ensures answer { IfSome (R.remaining reader)
+        (λ text. IsAnswer all_joined ROWS_MAX (records default_config (strip_bom text)) result) }
+    ensures headline { IfSome (R.remaining reader) (λ text.
+        IfOk result (Headline all_joined ROWS_MAX (records default_config (strip_bom text)))) }
+    ensures whole { IfSome (R.remaining reader) (λ text. BYTES_MAX < length text → IsNoYes result) }
+    ensures written { IfOk result (λ outcome. Appends (W.contents writer.old)
+        (W.contents writer.new) (report_text all_joined outcome)) }
+    ensures nothing_written { IfErr result (λ fault. fault ≢ RunFault.Write
+        → writer.new ≡ writer.old) }
+    ensures cut { IfSome (R.remaining reader) (λ text. result ≡ Err RunFault.Write
+        → IsCutReport all_joined ROWS_MAX (records default_config (strip_bom text))
+        (W.contents writer.old) (W.contents writer.new)) }
+{
+    let scope = Scope::joined(Setups::NONE, DeviceSet::NONE);
+    check_scoped(alloc, &scope, reader, writer)
 }
 
 /// Does as [`check`] does, with other limits: at most `rows_max` rows and `bytes_max` bytes, where
@@ -83,45 +116,47 @@ pub fn check_within<R: Read + Drop, W: Write>(
     requires rows { rows_max ≤ ROWS_MAX }
     requires bytes { bytes_max ≤ BYTES_MAX }
     ensures answer { IfSome (R.remaining reader)
-        (λ text. IsAnswer POWER_ON rows_max (records default_config (strip_bom text)) result) }
+        (λ text. IsAnswer power_on rows_max (records default_config (strip_bom text)) result) }
     ensures headline { IfSome (R.remaining reader) (λ text.
-        IfOk result (Headline POWER_ON rows_max (records default_config (strip_bom text)))) }
+        IfOk result (Headline power_on rows_max (records default_config (strip_bom text)))) }
     ensures whole { IfSome (R.remaining reader) (λ text. bytes_max < length text → IsNoYes result) }
     ensures written { IfOk result (λ outcome. Appends (W.contents writer.old)
-        (W.contents writer.new) (report_text POWER_ON outcome)) }
+        (W.contents writer.new) (report_text power_on outcome)) }
     ensures nothing_written { IfErr result (λ fault. fault ≢ RunFault.Write
         → writer.new ≡ writer.old) }
     ensures cut { IfSome (R.remaining reader) (λ text. result ≡ Err RunFault.Write
-        → IsCutReport POWER_ON rows_max (records default_config (strip_bom text))
+        → IsCutReport power_on rows_max (records default_config (strip_bom text))
         (W.contents writer.old) (W.contents writer.new)) }
 {
-    check_scoped_within(alloc, Scope::POWER_ON, reader, writer, rows_max, bytes_max)
+    check_scoped_within(alloc, &Scope::POWER_ON, reader, writer, rows_max, bytes_max)
 }
 
 /// Does as [`check`] does, of a recording that is taken as `scope` says: what is said to a device
 /// that is left out, and what it answers, is foreign traffic, whatever it is, and the text of a yes
-/// names that device in one line more, its last.
+/// names that device in one line more, its last. Where recording began in mid-session, as for
+/// [`check_joined`], the line of what has no value stands before it, and, where setup data are
+/// known from elsewhere, a line that names their devices.
 ///
 /// # Errors
 ///
 /// Those of `check`.
 pub fn check_scoped<R: Read + Drop, W: Write>(
     alloc: Global,
-    scope: Scope,
+    scope: &Scope,
     reader: R,
     writer: &mut W,
 ) -> Result<Outcome, RunFault>
     ensures answer { IfSome (R.remaining reader)
-        (λ text. IsAnswer scope ROWS_MAX (records default_config (strip_bom text)) result) }
+        (λ text. IsAnswer scope.now ROWS_MAX (records default_config (strip_bom text)) result) }
     ensures headline { IfSome (R.remaining reader) (λ text.
-        IfOk result (Headline scope ROWS_MAX (records default_config (strip_bom text)))) }
+        IfOk result (Headline scope.now ROWS_MAX (records default_config (strip_bom text)))) }
     ensures whole { IfSome (R.remaining reader) (λ text. BYTES_MAX < length text → IsNoYes result) }
     ensures written { IfOk result (λ outcome. Appends (W.contents writer.old)
-        (W.contents writer.new) (report_text scope outcome)) }
+        (W.contents writer.new) (report_text scope.now outcome)) }
     ensures nothing_written { IfErr result (λ fault. fault ≢ RunFault.Write
         → writer.new ≡ writer.old) }
     ensures cut { IfSome (R.remaining reader) (λ text. result ≡ Err RunFault.Write
-        → IsCutReport scope ROWS_MAX (records default_config (strip_bom text))
+        → IsCutReport scope.now ROWS_MAX (records default_config (strip_bom text))
         (W.contents writer.old) (W.contents writer.new)) }
 {
     check_scoped_within(alloc, scope, reader, writer, ROWS_MAX, BYTES_MAX)
@@ -134,7 +169,7 @@ pub fn check_scoped<R: Read + Drop, W: Write>(
 /// Those of `check_within`.
 pub fn check_scoped_within<R: Read + Drop, W: Write>(
     alloc: Global,
-    scope: Scope,
+    scope: &Scope,
     reader: R,
     writer: &mut W,
     rows_max: u64,
@@ -143,16 +178,16 @@ pub fn check_scoped_within<R: Read + Drop, W: Write>(
     requires rows { rows_max ≤ ROWS_MAX }
     requires bytes { bytes_max ≤ BYTES_MAX }
     ensures answer { IfSome (R.remaining reader)
-        (λ text. IsAnswer scope rows_max (records default_config (strip_bom text)) result) }
+        (λ text. IsAnswer scope.now rows_max (records default_config (strip_bom text)) result) }
     ensures headline { IfSome (R.remaining reader) (λ text.
-        IfOk result (Headline scope rows_max (records default_config (strip_bom text)))) }
+        IfOk result (Headline scope.now rows_max (records default_config (strip_bom text)))) }
     ensures whole { IfSome (R.remaining reader) (λ text. bytes_max < length text → IsNoYes result) }
     ensures written { IfOk result (λ outcome. Appends (W.contents writer.old)
-        (W.contents writer.new) (report_text scope outcome)) }
+        (W.contents writer.new) (report_text scope.now outcome)) }
     ensures nothing_written { IfErr result (λ fault. fault ≢ RunFault.Write
         → writer.new ≡ writer.old) }
     ensures cut { IfSome (R.remaining reader) (λ text. result ≡ Err RunFault.Write
-        → IsCutReport scope rows_max (records default_config (strip_bom text))
+        → IsCutReport scope.now rows_max (records default_config (strip_bom text))
         (W.contents writer.old) (W.contents writer.new)) }
 {
     let mut records = records_of(alloc, reader, bytes_max);
@@ -163,24 +198,24 @@ pub fn check_scoped_within<R: Read + Drop, W: Write>(
 /// What the records tell of where the reading ended is still to be asked then.
 pub(crate) fn check_records<R: Read + Drop, W: Write>(
     alloc: Global,
-    scope: Scope,
+    scope: &Scope,
     records: &mut Records<R>,
     writer: &mut W,
     rows_max: u64,
 ) -> Result<Outcome, RunFault>
     requires { rows_max ≤ ROWS_MAX }
     ensures answer { (all : List (List (List ℕ))) → ToCome R.remaining records.old all
-        → IsAnswer scope rows_max all result }
+        → IsAnswer scope.now rows_max all result }
     ensures headline { (all : List (List (List ℕ))) → ToCome R.remaining records.old all
-        → IfOk result (Headline scope rows_max all) }
+        → IfOk result (Headline scope.now rows_max all) }
     ensures whole { IsOverLimit R.remaining records.old → IsNoYes result }
     ensures written { IfOk result (λ outcome. Appends (W.contents writer.old)
-        (W.contents writer.new) (report_text scope outcome)) }
+        (W.contents writer.new) (report_text scope.now outcome)) }
     ensures nothing_written { IfErr result (λ fault. fault ≢ RunFault.Write
         → writer.new ≡ writer.old) }
     ensures cut { (all : List (List (List ℕ))) → ToCome R.remaining records.old all
         → result ≡ Err RunFault.Write
-        → IsCutReport scope rows_max all (W.contents writer.old) (W.contents writer.new) }
+        → IsCutReport scope.now rows_max all (W.contents writer.old) (W.contents writer.new) }
 {
     verdicts_say_the_headline();
     let outcome = verdict_on(scope, records, rows_max)?;
@@ -207,13 +242,13 @@ pub(crate) fn records_of<R: Read + Drop>(alloc: Global, reader: R, bytes_max: u6
 
 /// The verdict on the records that are still to come, at most so many.
 fn verdict_on<R: Read + Drop>(
-    scope: Scope,
+    scope: &Scope,
     records: &mut Records<R>,
     rows_max: u64,
 ) -> Result<Outcome, RunFault>
     requires { rows_max ≤ ROWS_MAX }
     ensures answer { (all : List (List (List ℕ))) → ToCome R.remaining records.old all
-        → IsAnswer scope rows_max all result }
+        → IsAnswer scope.now rows_max all result }
     ensures whole { IsOverLimit R.remaining records.old → IsNoYes result }
     ensures heard { IfErr result (HasMet (fault_of records.new)) }
     ensures met { fault_of records.old ≡ None → IfSome (fault_of records.new)

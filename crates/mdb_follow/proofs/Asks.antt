@@ -10,6 +10,7 @@ use Rattle.mdb_bus.specs.declared.act.Act.{Act}
 use Rattle.mdb_bus.specs.declared.act.Act.TheVariants as acts
 use Rattle.mdb_bus.specs.ActLists.{AskTail, IsTail, Piece, RepeatTail, ReplyTail, Whole, act_in}
 use Rattle.mdb_bus.specs.ActLists.{acts_of, last_of, piece_events}
+use Rattle.mdb_bus.specs.declared.scope.Beginning.{Beginning}
 use Rattle.mdb_bus.specs.Bus.{Grown}
 use Rattle.mdb_follow.specs.declared.sides.Sides.{Sides}
 use Rattle.mdb_follow.specs.Sides.{AreSides}
@@ -17,12 +18,13 @@ use Rattle.mdb_follow.specs.Silences.{TimedAsk, asks_of, last_start, limit_of, r
 use Rattle.mdb_follow.specs.inner.SilenceSteps.{asks_after, limit_in}
 
 -- tails ask nothing
-tail-asks : (device : Device) (tail : Piece) (pieces : List Piece) → IsTail tail
-    → asks_of device (tail ∷ pieces) ≡ asks_of device pieces
-tail-asks device (Whole act events) pieces is = absurd is
-tail-asks device (AskTail bytes events) pieces is = refl
-tail-asks device (ReplyTail command bytes events) pieces is = refl
-tail-asks device (RepeatTail command reply bytes events) pieces is = refl
+tail-asks : (begins : Beginning) (device : Device) (tail : Piece) (pieces : List Piece)
+    → IsTail tail
+    → asks_of begins device (tail ∷ pieces) ≡ asks_of begins device pieces
+tail-asks begins device (Whole act events) pieces is = absurd is
+tail-asks begins device (AskTail bytes events) pieces is = refl
+tail-asks begins device (ReplyTail command bytes events) pieces is = refl
+tail-asks begins device (RepeatTail command reply bytes events) pieces is = refl
 
 tail-acts : (tail : Piece) (pieces : List Piece) → IsTail tail
     → acts_of (tail ∷ pieces) ≡ acts_of pieces
@@ -38,13 +40,15 @@ no-act (ReplyTail command bytes events) none = tt
 no-act (RepeatTail command reply bytes events) none = tt
 
 -- the pieces before the newest have the asks and the acts of those that went on
-earlier-asks : (device : Device) (pieces : List Piece) (row : Event) (act : Option Act)
+earlier-asks : (begins : Beginning) (device : Device) (pieces : List Piece) (row : Event)
+    (act : Option Act)
     (longer : List Piece) (grown : Grown pieces row act longer)
-    → asks_of device grown.earlier ≡ asks_of device pieces
-earlier-asks device pieces row act longer grown =
+    → asks_of begins device grown.earlier ≡ asks_of begins device pieces
+earlier-asks begins device pieces row act longer grown =
     elim grown.from [
-      | inl alone ↦ ap (asks_of device) (sym alone.1)
-      | inr on ↦ sym (tail-asks device on.0 grown.earlier on.1) ∙ ap (asks_of device) (sym on.3)
+      | inl alone ↦ ap (asks_of begins device) (sym alone.1)
+      | inr on ↦ sym (tail-asks begins device on.0 grown.earlier on.1)
+          ∙ ap (asks_of begins device) (sym on.3)
     ]
 
 earlier-acts : (pieces : List Piece) (row : Event) (act : Option Act) (longer : List Piece)
@@ -56,12 +60,13 @@ earlier-acts pieces row act longer grown =
     ]
 
 -- a row that ends no act leaves the lists
-pub asks-stay : (device : Device) (pieces : List Piece) (row : Event) (longer : List Piece)
-    → Grown pieces row None longer → asks_of device longer ≡ asks_of device pieces
-asks-stay device pieces row longer grown =
-    ap (asks_of device) grown.are
-    ∙ tail-asks device grown.newest grown.earlier (no-act grown.newest grown.ends)
-    ∙ earlier-asks device pieces row None longer grown
+pub asks-stay : (begins : Beginning) (device : Device) (pieces : List Piece) (row : Event)
+    (longer : List Piece)
+    → Grown pieces row None longer → asks_of begins device longer ≡ asks_of begins device pieces
+asks-stay begins device pieces row longer grown =
+    ap (asks_of begins device) grown.are
+    ∙ tail-asks begins device grown.newest grown.earlier (no-act grown.newest grown.ends)
+    ∙ earlier-asks begins device pieces row None longer grown
 
 last-is : (events : List Event) (row : Event) → last_of (events ++ row ∷ []) ≡ Some row
 last-is [] row = refl
@@ -69,70 +74,76 @@ last-is (event ∷ []) row = refl
 last-is (event ∷ next ∷ events) row = last-is (next ∷ events) row
 
 -- the lists after a whole act
-whole-asks : (device : Device) (newest : Piece) (earlier : List Piece) (begun : List Event)
+whole-asks : (begins : Beginning) (device : Device) (newest : Piece) (earlier : List Piece)
+    (begun : List Event)
     (row : Event) (act : Act) → piece_events newest ≡ begun ++ row ∷ []
-    → act_in newest ≡ Some act → asks_of device (newest ∷ earlier)
+    → act_in newest ≡ Some act → asks_of begins device (newest ∷ earlier)
     ≡ asks_after device act
-    (record { at = start_of row; limit = limit_of device (acts_of earlier) })
-    (asks_of device earlier)
-whole-asks device (Whole one events) earlier begun row act are is =
+    (record { at = start_of row; limit = limit_of begins device (acts_of earlier) })
+    (asks_of begins device earlier)
+whole-asks begins device (Whole one events) earlier begun row act are is =
     let same : one ≡ act = cc is in
     let start : last_start events ≡ start_of row =
     ap last_start are ∙ ap (λ found. elim found [ Some event ↦ start_of event | None ↦ 0 ])
     (last-is begun row) in
     ap (λ at. asks_after device one
-    (record { at = at; limit = limit_of device (acts_of earlier) }) (asks_of device earlier)) start
+    (record { at = at; limit = limit_of begins device (acts_of earlier) })
+    (asks_of begins device earlier)) start
     ∙ ap (λ one. asks_after device one
-    (record { at = start_of row; limit = limit_of device (acts_of earlier) })
-    (asks_of device earlier)) same
-whole-asks device (AskTail bytes events) earlier begun row act are is = absurd (cc is)
-whole-asks device (ReplyTail command bytes events) earlier begun row act are is = absurd (cc is)
-whole-asks device (RepeatTail command reply bytes events) earlier begun row act are is =
+    (record { at = start_of row; limit = limit_of begins device (acts_of earlier) })
+    (asks_of begins device earlier)) same
+whole-asks begins device (AskTail bytes events) earlier begun row act are is = absurd (cc is)
+whole-asks begins device (ReplyTail command bytes events) earlier begun row act are is = absurd
+    (cc is)
+whole-asks begins device (RepeatTail command reply bytes events) earlier begun row act are is =
     absurd (cc is)
 
 -- an ask leaves the limit
-same-limit : (device : Device) (act : Act) (acts : List Act) (at : ℕ) (lists : List (List TimedAsk))
-    → asks_after device act (record { at = at; limit = limit_of device acts }) lists
-    ≡ asks_after device act (record { at = at; limit = limit_of device (act ∷ acts) }) lists
-same-limit devices.Changer act acts at lists = refl
-same-limit devices.Bill act acts at lists = refl
-same-limit (devices.Reader unit) (acts.Ask command) acts at lists = refl
-same-limit device (acts.Ack command) acts at lists = refl
-same-limit device (acts.Nak command) acts at lists = refl
-same-limit device (acts.Reply command reply) acts at lists = refl
-same-limit device (acts.VmcAck command reply) acts at lists = refl
-same-limit device (acts.VmcNak command reply) acts at lists = refl
-same-limit device (acts.VmcRet command reply) acts at lists = refl
-same-limit device (acts.Repeat command reply) acts at lists = refl
-same-limit device acts.Foreign acts at lists = refl
-same-limit device (acts.Break length) acts at lists = refl
+same-limit : (begins : Beginning) (device : Device) (act : Act) (acts : List Act) (at : ℕ)
+    (lists : List (List TimedAsk))
+    → asks_after device act (record { at = at; limit = limit_of begins device acts }) lists
+    ≡ asks_after device act (record { at = at; limit = limit_of begins device (act ∷ acts) }) lists
+same-limit begins devices.Changer act acts at lists = refl
+same-limit begins devices.Bill act acts at lists = refl
+same-limit begins (devices.Reader unit) (acts.Ask command) acts at lists = refl
+same-limit begins device (acts.Ack command) acts at lists = refl
+same-limit begins device (acts.Nak command) acts at lists = refl
+same-limit begins device (acts.Reply command reply) acts at lists = refl
+same-limit begins device (acts.VmcAck command reply) acts at lists = refl
+same-limit begins device (acts.VmcNak command reply) acts at lists = refl
+same-limit begins device (acts.VmcRet command reply) acts at lists = refl
+same-limit begins device (acts.Repeat command reply) acts at lists = refl
+same-limit begins device acts.Foreign acts at lists = refl
+same-limit begins device (acts.Break length) acts at lists = refl
 
 -- sides have the limits of their acts
-limit-is : (device : Device) (sides : Sides) (acts : List Act) → AreSides sides acts
-    → limit_of device acts ≡ limit_in sides device
-limit-is devices.Changer sides acts on = refl
-limit-is devices.Bill sides acts on = refl
-limit-is (devices.Reader unit) sides acts on =
+limit-is : (begins : Beginning) (device : Device) (sides : Sides) (acts : List Act)
+    → AreSides begins sides acts
+    → limit_of begins device acts ≡ limit_in sides device
+limit-is begins devices.Changer sides acts on = refl
+limit-is begins devices.Bill sides acts on = refl
+limit-is begins (devices.Reader unit) sides acts on =
     ap (λ facts. reader_limit (option_map (λ config. config.response) facts.config))
     (sym (on (devices.Reader unit)).facts)
 
 -- an act, and the lists go on by it
-pub asks-go-on : (device : Device) (pieces : List Piece) (row : Event) (act : Act)
+pub asks-go-on : (begins : Beginning) (device : Device) (pieces : List Piece) (row : Event)
+    (act : Act)
     (longer : List Piece) (sides : Sides) → Grown pieces row (Some act) longer
-    → AreSides sides (act ∷ acts_of pieces)
+    → AreSides begins sides (act ∷ acts_of pieces)
     → asks_after device act (record { at = start_of row; limit = limit_in sides device })
-    (asks_of device pieces) ≡ asks_of device longer
-asks-go-on device pieces row act longer sides grown on =
+    (asks_of begins device pieces) ≡ asks_of begins device longer
+asks-go-on begins device pieces row act longer sides grown on =
     let at = start_of row in
     let later : ℕ → List (List TimedAsk) → List (List TimedAsk) = λ limit lists.
     asks_after device act (record { at = at; limit = limit }) lists in
-    ap (λ limit. later limit (asks_of device pieces))
-    (sym (limit-is device sides (act ∷ acts_of pieces) on))
-    ∙ sym (same-limit device act (acts_of pieces) at (asks_of device pieces))
-    ∙ ap (λ acts. later (limit_of device acts) (asks_of device pieces))
+    ap (λ limit. later limit (asks_of begins device pieces))
+    (sym (limit-is begins device sides (act ∷ acts_of pieces) on))
+    ∙ sym (same-limit begins device act (acts_of pieces) at (asks_of begins device pieces))
+    ∙ ap (λ acts. later (limit_of begins device acts) (asks_of begins device pieces))
     (sym (earlier-acts pieces row (Some act) longer grown))
-    ∙ ap (later (limit_of device (acts_of grown.earlier)))
-    (sym (earlier-asks device pieces row (Some act) longer grown))
-    ∙ sym (whole-asks device grown.newest grown.earlier grown.begun row act grown.events
+    ∙ ap (later (limit_of begins device (acts_of grown.earlier)))
+    (sym (earlier-asks begins device pieces row (Some act) longer grown))
+    ∙ sym (whole-asks begins device grown.newest grown.earlier grown.begun row act grown.events
     grown.ends)
-    ∙ ap (asks_of device) (sym grown.are)
+    ∙ ap (asks_of begins device) (sym grown.are)

@@ -19,6 +19,7 @@ use Rattle.mdb_bus.specs.ActLists.{RepeatTail, act_in, acts_of, events_of, piece
 use Rattle.mdb_bus.specs.Bus as link
 use Rattle.mdb_bus.specs.Bus.{GoesOn}
 use Rattle.mdb_bus.specs.LinkFaults.{IsLinkFault}
+use Rattle.mdb_bus.specs.declared.scope.Beginning.{Beginning}
 use Rattle.mdb_cash.specs.Machine.{Machine}
 use Rattle.mdb_follow.specs.declared.account_name.AccountName.{AccountName}
 use Rattle.mdb_follow.specs.declared.account_name.AccountName.TheVariants.{CoinsIn, BillsIn}
@@ -28,6 +29,8 @@ use Rattle.mdb_follow.specs.declared.follower.Follower.{Follower}
 use Rattle.mdb_follow.specs.declared.offence.Offence.{Offence}
 use Rattle.mdb_follow.specs.declared.range.Range.{Range}
 use Rattle.mdb_follow.specs.declared.report.Report.{Report}
+use Rattle.mdb_follow.specs.declared.sides.Sides.{Sides}
+use Rattle.mdb_follow.specs.declared.silence.Silence.{Silence}
 use Rattle.mdb_follow.specs.Follower.{StandsFor, scope_of}
 use Rattle.mdb_follow.specs.inner.FollowerSteps.{HasFollowed, HasStopped}
 use Rattle.mdb_follow.specs.Ranges.{IsAccount, IsCell, IsRange}
@@ -101,11 +104,11 @@ list-on bus events row pieces act whole goes = record {
 -- each device's way of a run leads through the acts of an act list of its rows
 arrived : (scope : Scope) → OneActList scope → (rows : List Event) (pieces : List Piece) (sums : AllSums)
     → IsActList scope pieces rows → (run : Run scope rows sums)
-    → EachArrives (acts_of pieces) run.states sums
+    → EachArrives scope.begins (acts_of pieces) run.states sums
 arrived scope one rows pieces sums list run =
-    subst (λ ps. EachArrives (acts_of ps) run.states sums)
+    subst (λ ps. EachArrives scope.begins (acts_of ps) run.states sums)
     (one rows run.pieces pieces run.act_list list)
-    (split run.loss run.pieces run.states sums run.way)
+    (split scope.begins run.loss run.pieces run.states sums run.way)
 
 -- a table has some way
 some-in : {State : Type 0} {code_of : State → ℕ} {machine : Machine State} {acts : List Act}
@@ -114,7 +117,7 @@ some-in table = record { state = table.some.0; sums = table.some.1; way = table.
 
 -- the tables of a follower have some way of each device
 pub some-ways : (follower : Follower) (events : List Event) (on : StandsFor follower events)
-    → SomeArrive (acts_of on.pieces)
+    → SomeArrive (scope_of follower).begins (acts_of on.pieces)
 some-ways follower events on device = some-in (on.sides device).table
 
 -- so its rows are reached
@@ -128,49 +131,73 @@ reached-by joins follower events on =
     )
 
 -- where a machine has no step by an act, no way of all leads over it
-stuck : (rule : Rule) (act : Act) (before : List Act) → NoStep rule act before
-    → (states : States) (sums : AllSums) → EachArrives (act ∷ before) states sums → ⊥
-stuck rule act before stops states sums ways =
+stuck : (begins : Beginning) (rule : Rule) (act : Act) (before : List Act)
+    → NoStep begins rule act before → (states : States) (sums : AllSums)
+    → EachArrives begins (act ∷ before) states sums → ⊥
+stuck begins rule act before stops states sums ways =
     let way = ways stops.device in
     stops.none way.before way.sums_before way.way way.choice way.stands
     (states stops.device) way.gains way.step
 
 -- and rows with such acts aren't reached
 unreached : (scope : Scope) → OneActList scope → (rows : List Event) (pieces : List Piece) → IsActList scope pieces rows
-    → ((states : States) (sums : AllSums) → EachArrives (acts_of pieces) states sums → ⊥)
-    → IsReached scope rows → ⊥
+    → ((states : States) (sums : AllSums) → EachArrives scope.begins (acts_of pieces) states sums
+    → ⊥) → IsReached scope rows → ⊥
 unreached scope one rows pieces list none reached =
     none reached.1.states reached.0 (arrived scope one rows pieces reached.0 list reached.1)
+
+-- sides that stand for acts stand for them in a recording that is taken in the same way, and so do
+-- silences
+sides-as : (one other : Scope) (sides : Sides) (so_far : List Act) → other ≡ one
+    → AreSides one.begins sides so_far → AreSides other.begins sides so_far
+sides-as one other sides so_far same =
+    subst (λ (s : Scope). AreSides s.begins sides so_far) (sym same)
+
+asks-as : (one other : Scope) (device : Device) (silence : Silence) (pieces : List Piece)
+    → other ≡ one → StandsForAsks silence (asks_of one.begins device pieces)
+    → StandsForAsks silence (asks_of other.begins device pieces)
+asks-as one other device silence pieces same =
+    subst (λ (s : Scope). StandsForAsks silence (asks_of s.begins device pieces)) (sym same)
 
 -- no act ended
 pub stands-still : (old new : Follower) (bus : Bus) (events : List Event) (row : Event)
     (on : StandsFor old events) → GoesOn bus on.pieces row None → new.bus ≡ bus
-    → new.sides ≡ old.sides → new.silences ≡ old.silences → new.rows ≡ old.rows + 1
-    → new.offence ≡ old.offence → StandsFor new (events ++ row ∷ [])
-stands-still old new bus events row on goes same_bus same_sides same_silences more same = record {
-  pieces = goes.longer;
-  on_bus = subst (λ b. link.StandsFor b goes.longer) (sym same_bus) goes.stands;
-  whole = goes.rows ∙ ap (λ rows. rows ++ row ∷ []) on.whole;
-  rows = more ∙ ap (λ n. n + 1) on.rows ∙ sym (length-append events (row ∷ []));
-  going = same ∙ on.going;
-  sides = subst (AreSides new.sides) (sym goes.acts)
-      (subst (λ sides. AreSides sides (acts_of on.pieces)) (sym same_sides) on.sides);
-  silences = λ device. subst (StandsForAsks (silence_in new.silences device))
-      (sym (asks-stay device on.pieces row goes.longer goes.grown))
-      (subst (λ silences. StandsForAsks (silence_in silences device) (asks_of device on.pieces))
-      (sym same_silences) (on.silences device));
-}
+    → scope_of new ≡ scope_of old → new.sides ≡ old.sides → new.silences ≡ old.silences
+    → new.rows ≡ old.rows + 1 → new.offence ≡ old.offence → StandsFor new (events ++ row ∷ [])
+stands-still old new bus events row on goes same_bus same_scope same_sides same_silences more
+    same =
+    let begins : Beginning = (scope_of old).begins in
+    record {
+      pieces = goes.longer;
+      on_bus = subst (λ b. link.StandsFor b goes.longer) (sym same_bus) goes.stands;
+      whole = goes.rows ∙ ap (λ rows. rows ++ row ∷ []) on.whole;
+      rows = more ∙ ap (λ n. n + 1) on.rows ∙ sym (length-append events (row ∷ []));
+      going = same ∙ on.going;
+      sides = sides-as (scope_of old) (scope_of new) new.sides (acts_of goes.longer) same_scope
+          (subst (AreSides begins new.sides) (sym goes.acts)
+          (subst (λ sides. AreSides begins sides (acts_of on.pieces)) (sym same_sides) on.sides));
+      silences = λ device. asks-as (scope_of old) (scope_of new) device
+          (silence_in new.silences device) goes.longer same_scope
+          (subst (StandsForAsks (silence_in new.silences device))
+          (sym (asks-stay begins device on.pieces row goes.longer goes.grown))
+          (subst (λ silences. StandsForAsks (silence_in silences device)
+          (asks_of begins device on.pieces)) (sym same_silences) (on.silences device)));
+    }
 
 -- an act was followed
 pub stands-on : (old mid new : Follower) (events : List Event) (row : Event) (act : Act)
     (on : StandsFor old events) → GoesOn mid.bus on.pieces row (Some act)
-    → mid.sides ≡ old.sides → mid.silences ≡ old.silences → mid.rows ≡ old.rows
-    → mid.offence ≡ old.offence → (at : ℕ) → at ≡ start_of row → HasFollowed mid act at new
-    → StandsFor new (events ++ row ∷ [])
-stands-on old mid new events row act on goes same_sides same_silences same_rows same at start has =
-    let sides : AreSides new.sides (act ∷ acts_of on.pieces) =
-    λ device. (has.sides device).stands (acts_of on.pieces)
-    (subst (λ sides. AreSides sides (acts_of on.pieces)) (sym same_sides) on.sides device) in
+    → scope_of mid ≡ scope_of old → mid.sides ≡ old.sides → mid.silences ≡ old.silences
+    → mid.rows ≡ old.rows → mid.offence ≡ old.offence → (at : ℕ) → at ≡ start_of row
+    → HasFollowed mid act at new → StandsFor new (events ++ row ∷ [])
+stands-on old mid new events row act on goes old_scope same_sides same_silences same_rows same at
+    start has =
+    let begins : Beginning = (scope_of old).begins in
+    let same_scope : scope_of new ≡ scope_of old = ap link.scope_of has.on_bus ∙ old_scope in
+    let sides : AreSides begins new.sides (act ∷ acts_of on.pieces) =
+    λ device. (has.sides device).stands begins (acts_of on.pieces)
+    (subst (λ sides. AreSides begins sides (acts_of on.pieces)) (sym same_sides) on.sides device)
+    in
     let follows : SilencesFollow mid.silences act (start_of row) new.sides new.silences =
     subst (λ at. SilencesFollow mid.silences act at new.sides new.silences) start has.silences in
     record {
@@ -180,12 +207,15 @@ stands-on old mid new events row act on goes same_sides same_silences same_rows 
       rows = has.rows ∙ ap (λ n. n + 1) (same_rows ∙ on.rows)
           ∙ sym (length-append events (row ∷ []));
       going = has.going ∙ same ∙ on.going;
-      sides = subst (AreSides new.sides) (sym goes.acts) sides;
-      silences = λ device. subst (StandsForAsks (silence_in new.silences device))
-          (asks-go-on device on.pieces row act goes.longer new.sides goes.grown sides)
-          ((follows device).stands (asks_of device on.pieces)
-          (subst (λ silences. StandsForAsks (silence_in silences device) (asks_of device on.pieces))
-          (sym same_silences) (on.silences device)));
+      sides = sides-as (scope_of old) (scope_of new) new.sides (acts_of goes.longer) same_scope
+          (subst (AreSides begins new.sides) (sym goes.acts) sides);
+      silences = λ device. asks-as (scope_of old) (scope_of new) device
+          (silence_in new.silences device) goes.longer same_scope
+          (subst (StandsForAsks (silence_in new.silences device))
+          (asks-go-on begins device on.pieces row act goes.longer new.sides goes.grown sides)
+          ((follows device).stands (asks_of begins device on.pieces)
+          (subst (λ silences. StandsForAsks (silence_in silences device)
+          (asks_of begins device on.pieces)) (sym same_silences) (on.silences device))));
     }
 
 -- a row breaks a rule of the link
@@ -238,11 +268,12 @@ machine-offence one joins old mid new events row act offence on goes same_scope 
     let list : IsActList scope goes.longer (events ++ row ∷ []) =
     subst (λ s. IsActList s goes.longer (events ++ row ∷ [])) same_scope
     (list-on mid.bus events row on.pieces (Some act) on.whole goes) in
-    let none : NoStep offence.rule act (acts_of on.pieces) = record {
+    let none : NoStep scope.begins offence.rule act (acts_of on.pieces) = record {
       device = has.none.0;
       rule = has.none.1.rule;
-      none = has.none.1.none (acts_of on.pieces)
-          (subst (λ sides. AreSides sides (acts_of on.pieces)) (sym same_sides) on.sides
+      none = has.none.1.none scope.begins (acts_of on.pieces)
+          (subst (λ sides. AreSides scope.begins sides (acts_of on.pieces))
+          (sym same_sides) on.sides
           has.none.0);
     } in
     let grown = goes.grown in
@@ -254,15 +285,15 @@ machine-offence one joins old mid new events row act offence on goes same_scope 
     record {
       reached = reached-by joins old events on;
       not_reached = unreached scope (one scope) (events ++ row ∷ []) goes.longer list
-          (λ states sums ways. stuck offence.rule act (acts_of on.pieces) none states sums
-          (subst (λ acts. EachArrives acts states sums) goes.acts ways));
+          (λ states sums ways. stuck scope.begins offence.rule act (acts_of on.pieces) none states
+          sums (subst (λ acts. EachArrives scope.begins acts states sums) goes.acts ways));
       number = has.number ∙ ap (λ n. n + 1) (same_rows ∙ on.rows);
       why = inr (record {
         act = act;
         begun = grown.begun;
         earlier = grown.earlier;
         act_list = subst (λ ps. IsActList scope ps (events ++ row ∷ [])) are list;
-        no_step = subst (NoStep offence.rule act) same none;
+        no_step = subst (NoStep scope.begins offence.rule act) same none;
         blame = has.blame;
       });
     }
@@ -302,18 +333,19 @@ account-of-runs scope rows Kind of are account ranges is = record {
 
 -- A way of one device is one of all, beside some way of each other device.
 device-is : (scope : Scope) → OneActList scope → Joins scope → (rows : List Event) (pieces : List Piece)
-    → IsActList scope pieces rows → SomeArrive (acts_of pieces) → (device : Device)
-    → AreOf scope rows (ArrivesAnywhere (Arrives (machine_of device) (acts_of pieces)))
+    → IsActList scope pieces rows → SomeArrive scope.begins (acts_of pieces) → (device : Device)
+    → AreOf scope rows (ArrivesAnywhere (Arrives (machine_of scope.begins device) (acts_of pieces)))
     (λ sums. sums device)
 device-is scope one joins rows pieces list some device = record {
   lift = λ sums at.
-      let its : SomeWay (machine_of device) (acts_of pieces) =
+      let its : SomeWay (machine_of scope.begins device) (acts_of pieces) =
       record { state = at.state; sums = sums; way = at.way } in
-      let all : SomeArrive (acts_of pieces) =
-      with_one (λ d. SomeWay (machine_of d) (acts_of pieces)) device its some in (
+      let all : SomeArrive scope.begins (acts_of pieces) =
+      with_one (λ d. SomeWay (machine_of scope.begins d) (acts_of pieces)) device its some in (
         (λ d. (all d).sums),
         ap (λ way. way.sums)
-            (with_one-same (λ d. SomeWay (machine_of d) (acts_of pieces)) device its some),
+            (with_one-same (λ d. SomeWay (machine_of scope.begins d) (acts_of pieces)) device its
+            some),
         run_of scope joins rows pieces (λ d. (all d).state) (λ d. (all d).sums) list
             (λ d. (all d).way),
       );
@@ -359,8 +391,10 @@ pub reported : ((scope : Scope) → OneActList scope) → ((scope : Scope) → J
     → (follower : Follower) (events : List Event)
     (report : Report) (cells : Device → Cell) (on : StandsFor follower events)
     → ((device : Device)
-    → IsCell (ArrivesAnywhere (Arrives (machine_of device) (acts_of on.pieces))) (cells device))
-    → report ≡ report_of follower.rows on.pieces (accounts_in cells) → IsReport (scope_of follower) events report
+    → IsCell (ArrivesAnywhere (Arrives (machine_of (scope_of follower).begins device)
+    (acts_of on.pieces))) (cells device))
+    → report ≡ report_of (scope_of follower).begins follower.rows on.pieces (accounts_in cells)
+    → IsReport (scope_of follower) events report
 reported one joins follower events report cells on are telling =
     let list = list-of follower events on in
     let some = some-ways follower events on in
@@ -373,7 +407,9 @@ reported one joins follower events report cells on are telling =
           cell-of-runs (scope_of follower) events _ _ (device-is (scope_of follower) (one (scope_of follower))
           (joins (scope_of follower)) events on.pieces list some device)
           (cells device) (are device));
-      telling = telling ∙ ap (λ rows. report_of rows on.pieces (accounts_in cells)) on.rows;
+      telling = telling
+          ∙ ap (λ rows. report_of (scope_of follower).begins rows on.pieces (accounts_in cells))
+          on.rows;
     }
 
 -- a follower has taken so many events, and met no offence

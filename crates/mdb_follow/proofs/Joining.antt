@@ -9,6 +9,7 @@ use Rattle.mdb_bus.specs.ActLists.{events_of}
 use Rattle.mdb_bus.specs.Acts.{IsAck}
 use Rattle.mdb_bus.specs.Wish.{HearsAsWished}
 use Rattle.mdb_bus.specs.Loss.{IsHeard, Loss, LossFits}
+use Rattle.mdb_bus.specs.declared.scope.Beginning.{Beginning}
 use Rattle.mdb_cash.specs.declared.choice.Choice.{Choice}
 use Rattle.mdb_cash.specs.declared.choice.Choice.TheVariants.{Plain, Lost, Restart}
 use Rattle.mdb_cash.specs.declared.gains.Gains.{Gains}
@@ -41,19 +42,21 @@ by_one machine acts act choice stands before state sums_before sums way go = rec
 }
 
 -- each way of all is a way of each device
-pub split : (loss : Loss) (pieces : List Piece) (states : States) (sums : AllSums)
-    → IsWay loss pieces states sums → EachArrives (acts_of pieces) states sums
-split loss [] states sums way = way
-split loss (Whole act events ∷ pieces) states sums way =
-    let earlier = split loss pieces way.before way.sums_before way.way in
-    λ device. by_one (machine_of device) (acts_of pieces) act way.choice way.stands
+pub split : (begins : Beginning) (loss : Loss) (pieces : List Piece) (states : States)
+    (sums : AllSums) → IsWay begins loss pieces states sums
+    → EachArrives begins (acts_of pieces) states sums
+split begins loss [] states sums way = way
+split begins loss (Whole act events ∷ pieces) states sums way =
+    let earlier = split begins loss pieces way.before way.sums_before way.way in
+    λ device. by_one (machine_of begins device) (acts_of pieces) act way.choice way.stands
     (way.before device) (states device) (way.sums_before device) (sums device)
     (earlier device) (way.go device)
-split loss (AskTail bytes events ∷ pieces) states sums way = split loss pieces states sums way
-split loss (ReplyTail command bytes events ∷ pieces) states sums way =
-    split loss pieces states sums way
-split loss (RepeatTail command reply words events ∷ pieces) states sums way =
-    split loss pieces states sums way
+split begins loss (AskTail bytes events ∷ pieces) states sums way =
+    split begins loss pieces states sums way
+split begins loss (ReplyTail command bytes events ∷ pieces) states sums way =
+    split begins loss pieces states sums way
+split begins loss (RepeatTail command reply words events ∷ pieces) states sums way =
+    split begins loss pieces states sums way
 
 -- one of two, by whether two numbers are the same
 pick : ℕ → ℕ → Bool → Bool → Bool
@@ -140,9 +143,10 @@ agrees scope choice loss (RepeatTail command reply words events ∷ pieces) choi
     (λ before less. same before (omega (arith, less, rows))) hears
 
 -- each device has a way with the same choices
-abbrev AllFollow : (acts : List Act) → Choices acts → States → AllSums → Type 0
-AllFollow acts choices states sums =
-    (device : Device) → Follows (machine_of device) acts choices (states device) (sums device)
+abbrev AllFollow : Beginning → (acts : List Act) → Choices acts → States → AllSums → Type 0
+AllFollow begins acts choices states sums =
+    (device : Device)
+    → Follows (machine_of begins device) acts choices (states device) (sums device)
 
 -- the last step of a way
 gone : {State : Type 0} {Before : State → Sums → Type 0}
@@ -152,27 +156,28 @@ gone : {State : Type 0} {Before : State → Sums → Type 0}
 gone way = record { gains = way.gains; step = way.step; adds = way.adds }
 
 -- then there is a way of all, under the loss of the choices
-way_of : (loss : Loss) (pieces : List Piece) (choices : Choices (acts_of pieces)) (states : States)
-    (sums : AllSums) → Agrees loss pieces choices → AllFollow (acts_of pieces) choices states sums
-    → IsWay loss pieces states sums
-way_of loss [] choices states sums agree ways = ways
-way_of loss (Whole act events ∷ pieces) choices states sums agree ways = record {
+way_of : (begins : Beginning) (loss : Loss) (pieces : List Piece)
+    (choices : Choices (acts_of pieces)) (states : States) (sums : AllSums)
+    → Agrees loss pieces choices → AllFollow begins (acts_of pieces) choices states sums
+    → IsWay begins loss pieces states sums
+way_of begins loss [] choices states sums agree ways = ways
+way_of begins loss (Whole act events ∷ pieces) choices states sums agree ways = record {
   choice = choices.choice;
   stands = choices.stands;
   as_lost = λ ack. lost_as choices.choice
       (IsHeard loss act (length (events_of pieces)) (length events)) (agree.0 ack);
   before = λ device. (ways device).before;
   sums_before = λ device. (ways device).sums_before;
-  way = way_of loss pieces choices.before (λ device. (ways device).before)
+  way = way_of begins loss pieces choices.before (λ device. (ways device).before)
       (λ device. (ways device).sums_before) agree.1 (λ device. (ways device).way);
   go = λ device. gone (ways device);
 }
-way_of loss (AskTail bytes events ∷ pieces) choices states sums agree ways =
-    way_of loss pieces choices states sums agree ways
-way_of loss (ReplyTail command bytes events ∷ pieces) choices states sums agree ways =
-    way_of loss pieces choices states sums agree ways
-way_of loss (RepeatTail command reply words events ∷ pieces) choices states sums agree ways =
-    way_of loss pieces choices states sums agree ways
+way_of begins loss (AskTail bytes events ∷ pieces) choices states sums agree ways =
+    way_of begins loss pieces choices states sums agree ways
+way_of begins loss (ReplyTail command bytes events ∷ pieces) choices states sums agree ways =
+    way_of begins loss pieces choices states sums agree ways
+way_of begins loss (RepeatTail command reply words events ∷ pieces) choices states sums agree ways =
+    way_of begins loss pieces choices states sums agree ways
 
 -- a device's way is one with the choices of all
 as_merged : {State : Type 0} (device : Device) (machine : Machine State)
@@ -187,12 +192,13 @@ as_merged device machine is acts all state sums way =
 pub joined : (scope : Scope) → ((pieces : List Piece) → ArePieces scope pieces → (choice : ℕ → Bool)
     → (loss : Loss) × LossFits loss pieces × HearsAsWished loss choice pieces)
     → (pieces : List Piece) (states : States) (sums : AllSums) → ArePieces scope pieces
-    → EachArrives (acts_of pieces) states sums
-    → (loss : Loss) × LossFits loss pieces × IsWay loss pieces states sums
+    → EachArrives scope.begins (acts_of pieces) states sums
+    → (loss : Loss) × LossFits loss pieces × IsWay scope.begins loss pieces states sums
 joined scope law pieces states sums are ways =
     let own : (device : Device) → (choices : Choices (acts_of pieces))
-    × Follows (machine_of device) (acts_of pieces) choices (states device) (sums device) =
-    λ device. chosen (machine_of device) (acts_of pieces) (states device) (sums device)
+    × Follows (machine_of scope.begins device) (acts_of pieces) choices (states device)
+    (sums device) =
+    λ device. chosen (machine_of scope.begins device) (acts_of pieces) (states device) (sums device)
     (ways device) in
     let all : Device → Choices (acts_of pieces) = λ device. (own device).0 in
     let choices = merged (acts_of pieces) all in
@@ -201,16 +207,18 @@ joined scope law pieces states sums are ways =
     (λ before less. refl) found.2 in (
       found.0,
       found.1,
-      way_of found.0 pieces choices states sums agree
-          (λ device. as_merged device (machine_of device) (is_machine_of device) (acts_of pieces)
+      way_of scope.begins found.0 pieces choices states sums agree
+          (λ device. as_merged device (machine_of scope.begins device)
+          (is_machine_of scope.begins device) (acts_of pieces)
           all (states device) (sums device) (own device).1),
     )
 
 -- where the same ACKs were heard, a way under one loss is one under the other
-heard_alike : (one other : Loss) (pieces : List Piece) (states : States) (sums : AllSums)
-    → HearSameAcks one other pieces → IsWay one pieces states sums → IsWay other pieces states sums
-heard_alike one other [] states sums same way = way
-heard_alike one other (Whole act events ∷ pieces) states sums same way = record {
+heard_alike : (begins : Beginning) (one other : Loss) (pieces : List Piece) (states : States)
+    (sums : AllSums) → HearSameAcks one other pieces → IsWay begins one pieces states sums
+    → IsWay begins other pieces states sums
+heard_alike begins one other [] states sums same way = way
+heard_alike begins one other (Whole act events ∷ pieces) states sums same way = record {
   choice = way.choice;
   stands = way.stands;
   as_lost = λ ack. (
@@ -219,15 +227,15 @@ heard_alike one other (Whole act events ∷ pieces) states sums same way = recor
   );
   before = way.before;
   sums_before = way.sums_before;
-  way = heard_alike one other pieces way.before way.sums_before same.1 way.way;
+  way = heard_alike begins one other pieces way.before way.sums_before same.1 way.way;
   go = way.go;
 }
-heard_alike one other (AskTail bytes events ∷ pieces) states sums same way =
-    heard_alike one other pieces states sums same way
-heard_alike one other (ReplyTail command bytes events ∷ pieces) states sums same way =
-    heard_alike one other pieces states sums same way
-heard_alike one other (RepeatTail command reply words events ∷ pieces) states sums same way =
-    heard_alike one other pieces states sums same way
+heard_alike begins one other (AskTail bytes events ∷ pieces) states sums same way =
+    heard_alike begins one other pieces states sums same way
+heard_alike begins one other (ReplyTail command bytes events ∷ pieces) states sums same way =
+    heard_alike begins one other pieces states sums same way
+heard_alike begins one other (RepeatTail command reply words events ∷ pieces) states sums same way =
+    heard_alike begins one other pieces states sums same way
 
 same_back : (one other : Loss) (pieces : List Piece) → HearSameAcks one other pieces
     → HearSameAcks other one pieces
@@ -239,10 +247,10 @@ same_back one other (ReplyTail command bytes events ∷ pieces) same = same_back
 same_back one other (RepeatTail command reply words events ∷ pieces) same =
     same_back one other pieces same
 
-pub ways_alike : (one other : Loss) (pieces : List Piece) → HearSameAcks one other pieces
-    → (states : States) (sums : AllSums)
-    → IsWay one pieces states sums ↔ IsWay other pieces states sums
-ways_alike one other pieces same states sums = (
-  heard_alike one other pieces states sums same,
-  heard_alike other one pieces states sums (same_back one other pieces same),
+pub ways_alike : (begins : Beginning) (one other : Loss) (pieces : List Piece)
+    → HearSameAcks one other pieces → (states : States) (sums : AllSums)
+    → IsWay begins one pieces states sums ↔ IsWay begins other pieces states sums
+ways_alike begins one other pieces same states sums = (
+  heard_alike begins one other pieces states sums same,
+  heard_alike begins other one pieces states sums (same_back one other pieces same),
 )

@@ -1,9 +1,10 @@
 -- Runs where further devices are left out.
-use Rattle.std.proofs.Common.{ap, refl, subst, sym, ◌∙◌, ◌≡◌, Bool, true, false, List, [], ◌∷◌}
+use Rattle.std.proofs.Common.{refl, subst, sym, ◌∙◌, ◌≡◌, Bool, true, false, List}
 use Rattle.mdb_words.specs.declared.event.Event.{Event}
 use Rattle.mdb_msgs.specs.declared.command.Device.{Device}
 use Rattle.mdb_msgs.specs.DeviceSets.{has}
 use Rattle.mdb_bus.specs.declared.act.Act.{Act}
+use Rattle.mdb_bus.specs.declared.scope.Beginning.{Beginning}
 use Rattle.mdb_bus.specs.declared.scope.Scope.{Scope}
 use Rattle.mdb_bus.specs.ActLists.{ArePieces, IsActList, Piece, acts_of}
 use Rattle.mdb_bus.specs.LeavingOut.{LeavesOutMore, acts_with, breaks_among, leave_out}
@@ -11,7 +12,7 @@ use Rattle.mdb_bus.specs.Scopes.{IsFollowed, IsLeftOut}
 use Rattle.mdb_follow.specs.Arrivals.{Arrives, EachArrives}
 use Rattle.mdb_follow.specs.LeavingOut.{AreSumsWithout}
 use Rattle.mdb_follow.specs.Machines.{StateOf, machine_of}
-use Rattle.mdb_follow.specs.Runs.{AllSums, IsReached, Run, States}
+use Rattle.mdb_follow.specs.Runs.{AllSums, IsReached, Run}
 use Rattle.mdb_follow.specs.Sums.{Sums, no_sums}
 use Rattle.mdb_follow.proofs.Joining.{split}
 use Rattle.mdb_follow.proofs.Machines.{is_machine_of}
@@ -40,30 +41,33 @@ not_both scope device followed left_out = let clash : false ≡ true = sym follo
 
 -- a way of a device, whose sums are those of another way where it is followed, and nothing where it
 -- is left out
-record OneWithout (scope : Scope) (device : Device) (so_far : List Act) (its : Sums) : Type 0 where
+record OneWithout (begins : Beginning) (scope : Scope) (device : Device) (so_far : List Act)
+    (its : Sums) : Type 0 where
   state : StateOf device
   sums : Sums
-  way : Arrives (machine_of device) so_far state sums
+  way : Arrives (machine_of begins device) so_far state sums
   followed : IsFollowed scope device → sums ≡ its
   left_out : IsLeftOut scope device → sums ≡ no_sums
 
-one_without : WithoutLaws → (more : Scope) (pieces : List Piece) (device : Device)
+one_without : WithoutLaws → (begins : Beginning) (more : Scope) (pieces : List Piece)
+    (device : Device)
     (state : StateOf device) (sums : Sums)
-    → Arrives (machine_of device) (acts_of pieces) state sums → (its : Bool)
+    → Arrives (machine_of begins device) (acts_of pieces) state sums → (its : Bool)
     → has more.without device ≡ its
-    → OneWithout more device (acts_of (leave_out more pieces)) sums
-one_without laws more pieces device state sums way false followed = record {
+    → OneWithout begins more device (acts_of (leave_out more pieces)) sums
+one_without laws begins more pieces device state sums way false followed = record {
   state = state;
   sums = sums;
-  way = ways_alike laws.own_acts device (machine_of device) (is_machine_of device)
+  way = ways_alike laws.own_acts device (machine_of begins device) (is_machine_of begins device)
       (acts_of pieces) (acts_of (leave_out more pieces))
       (sym (laws.followed more pieces device followed)) state sums way;
   followed = λ is. refl;
   left_out = λ is. absurd (not_both more device followed is);
 }
-one_without laws more pieces device state sums way true left_out =
-    let first = first_of (machine_of device) (acts_of pieces) state sums way in
-    let over = some_way laws.own_acts device (machine_of device) (is_machine_of device)
+one_without laws begins more pieces device state sums way true left_out =
+    let first = first_of (machine_of begins device) (acts_of pieces) state sums way in
+    let over = some_way laws.own_acts device (machine_of begins device)
+    (is_machine_of begins device)
     (acts_of (leave_out more pieces)) (acts_of pieces)
     (laws.left_out more pieces device left_out) first.0 first.1 in
     record {
@@ -79,11 +83,13 @@ pub run_without : WithoutLaws → (less more : Scope) (rows : List Event) (sums 
     → LeavesOutMore less more → Run less rows sums
     → (other : AllSums) × AreSumsWithout more sums other × Run more rows other
 run_without laws less more rows sums leaves run =
-    let ways = split run.loss run.pieces run.states sums run.way in
-    let all : (device : Device)
-    → OneWithout more device (acts_of (leave_out more run.pieces)) (sums device) =
-    λ device. one_without laws more run.pieces device (run.states device) (sums device)
-    (ways device) (has more.without device) refl in (
+    let ways : EachArrives more.begins (acts_of run.pieces) run.states sums =
+    subst (λ begins. EachArrives begins (acts_of run.pieces) run.states sums) leaves.begins
+    (split less.begins run.loss run.pieces run.states sums run.way) in
+    let all : (device : Device) → OneWithout more.begins more device
+    (acts_of (leave_out more run.pieces)) (sums device) =
+    λ device. one_without laws more.begins more run.pieces device (run.states device)
+    (sums device) (ways device) (has more.without device) refl in (
       (λ device. (all device).sums),
       record {
         followed = λ device is. (all device).followed is;
@@ -96,33 +102,35 @@ run_without laws less more rows sums leaves run =
     )
 
 -- a way of a device, whose sums are those of a way without further devices where it is followed
-record OneWith (scope : Scope) (device : Device) (so_far : List Act) (its : Sums) : Type 0 where
+record OneWith (begins : Beginning) (scope : Scope) (device : Device) (so_far : List Act)
+    (its : Sums) : Type 0 where
   state : StateOf device
   sums : Sums
-  way : Arrives (machine_of device) so_far state sums
+  way : Arrives (machine_of begins device) so_far state sums
   followed : IsFollowed scope device → its ≡ sums
   left_out : IsLeftOut scope device → its ≡ no_sums
 
-one_with : WithoutLaws → (more : Scope) (pieces : List Piece) (device : Device)
+one_with : WithoutLaws → (begins : Beginning) (more : Scope) (pieces : List Piece) (device : Device)
     (state other : StateOf device) (sums its : Sums)
-    → Arrives (machine_of device) (acts_of pieces) state sums
-    → Arrives (machine_of device) (acts_of (leave_out more pieces)) other its → (is : Bool)
-    → has more.without device ≡ is → OneWith more device (acts_of pieces) its
-one_with laws more pieces device state other sums its way without false followed = record {
+    → Arrives (machine_of begins device) (acts_of pieces) state sums
+    → Arrives (machine_of begins device) (acts_of (leave_out more pieces)) other its → (is : Bool)
+    → has more.without device ≡ is → OneWith begins more device (acts_of pieces) its
+one_with laws begins more pieces device state other sums its way without false followed = record {
   state = other;
   sums = its;
-  way = ways_alike laws.own_acts device (machine_of device) (is_machine_of device)
+  way = ways_alike laws.own_acts device (machine_of begins device) (is_machine_of begins device)
       (acts_of (leave_out more pieces)) (acts_of pieces)
       (laws.followed more pieces device followed) other its without;
   followed = λ is. refl;
   left_out = λ is. absurd (not_both more device followed is);
 }
-one_with laws more pieces device state other sums its way without true left_out = record {
+one_with laws begins more pieces device state other sums its way without true left_out = record {
   state = state;
   sums = sums;
   way = way;
   followed = λ is. absurd (not_both more device is left_out);
-  left_out = λ is. adds_nothing laws.own_acts device (machine_of device) (is_machine_of device)
+  left_out = λ is. adds_nothing laws.own_acts device (machine_of begins device)
+      (is_machine_of begins device)
       (acts_of (leave_out more pieces)) (acts_of pieces)
       (laws.left_out more pieces device left_out) other its without;
 }
@@ -132,17 +140,20 @@ pub run_with : WithoutLaws → (less more : Scope) (rows : List Event) (other : 
     → LeavesOutMore less more → IsReached less rows → Run more rows other
     → (sums : AllSums) × AreSumsWithout more sums other × Run less rows sums
 run_with laws less more rows other leaves reached run =
+    let begins : Beginning = less.begins in
     let some = reached.1 in
     let is : run.pieces ≡ leave_out more some.pieces =
     laws.left less more rows some.pieces run.pieces leaves some.act_list run.act_list in
-    let ways = split some.loss some.pieces some.states reached.0 some.way in
-    let without : EachArrives (acts_of (leave_out more some.pieces)) run.states other =
-    subst (λ ps. EachArrives (acts_of ps) run.states other) is
-    (split run.loss run.pieces run.states other run.way) in
-    let all : (device : Device) → OneWith more device (acts_of some.pieces) (other device) =
-    λ device. one_with laws more some.pieces device (some.states device) (run.states device)
-    (reached.0 device) (other device) (ways device) (without device) (has more.without device)
-    refl in (
+    let ways = split begins some.loss some.pieces some.states reached.0 some.way in
+    let without : EachArrives begins (acts_of (leave_out more some.pieces)) run.states other =
+    subst (λ b. EachArrives b (acts_of (leave_out more some.pieces)) run.states other)
+    (sym leaves.begins)
+    (subst (λ ps. EachArrives more.begins (acts_of ps) run.states other) is
+    (split more.begins run.loss run.pieces run.states other run.way)) in
+    let all : (device : Device) → OneWith begins more device (acts_of some.pieces) (other device) =
+    λ device. one_with laws begins more some.pieces device (some.states device)
+    (run.states device) (reached.0 device) (other device) (ways device) (without device)
+    (has more.without device) refl in (
       (λ device. (all device).sums),
       record {
         followed = λ device at. (all device).followed at;
@@ -159,7 +170,8 @@ pub run_leaves_nothing : OwnActs
     → (scope : Scope) (rows : List Event) (sums : AllSums) → Run scope rows sums
     → (device : Device) → IsLeftOut scope device → sums device ≡ no_sums
 run_leaves_nothing own alone scope rows sums run device left_out =
-    adds_nothing own device (machine_of device) (is_machine_of device) (acts_of run.pieces)
+    adds_nothing own device (machine_of scope.begins device) (is_machine_of scope.begins device)
+    (acts_of run.pieces)
     (acts_of run.pieces) (alone scope run.pieces device run.act_list.in_order left_out)
     (run.states device) (sums device)
-    (split run.loss run.pieces run.states sums run.way device)
+    (split scope.begins run.loss run.pieces run.states sums run.way device)

@@ -1,6 +1,6 @@
 -- What the steps from all entries lead to.
 use Rattle.std.proofs.Common.{◌≡◌, ◌⊎◌, inl, inr, ℕ, ◌+◌, ◌<◌, ◌^◌, sym, ap, subst, List, [], ◌∷◌}
-use Rattle.std.proofs.Common.{◌++◌, length, get_or, take}
+use Rattle.std.proofs.Common.{◌++◌, ◌∙◌, refl, length, get_or, take}
 use Rattle.std.specs.Prelude.{Contains, All, ◌↔◌}
 use Rattle.std.proofs.lemmas.List.Elements.{All-head, All-tail, Contains-append_left}
 use Rattle.std.proofs.lemmas.List.Elements.{Contains-get_or, Contains-push, Contains-push_cases}
@@ -35,6 +35,13 @@ pub record Led (Comes : ℕ → Sums → Type 0) (Move : ℕ → ℕ → Gains �
   pub gains : Gains
   pub move : Move code next gains
   pub moved : Moved (Comes code) gains sums
+
+-- the moves of two lists are taken in one after the other
+pub with_moves-append : (entries : List (ℕ × Cell)) (cell : Cell) (one other : List (ℕ × Gains))
+    → with_moves entries cell (one ++ other) ≡ with_moves (with_moves entries cell one) cell other
+with_moves-append entries cell [] other = refl
+with_moves-append entries cell (move ∷ one) other =
+    with_moves-append (with_cell entries move.0 (moved_cell cell move.1)) cell one other
 
 pub keyed-with_moves : (number : ℕ) (entries : List (ℕ × Cell)) (cell : Cell)
     (moves : List (ℕ × Gains)) → All (λ move. move.0 < number) moves → IsKeyed number entries
@@ -211,3 +218,15 @@ pub within-read : (limit : ℕ) (into after : List (ℕ × Cell)) (cell : Cell)
 within-read limit into after cell slice small is made all =
     subst (IsTableWithin (limit + 2 ^ 32)) (sym made)
     (within-with_moves limit into cell slice small is all)
+
+-- one move more was read, and its cell was taken in
+pub moves-read : (entries before after : List (ℕ × Cell)) (cell : Cell)
+    (moves : List (ℕ × Gains)) (i : ℕ) (d : ℕ × Gains) → i < length moves
+    → before ≡ with_moves entries cell (take i moves)
+    → after ≡ with_cell before (get_or moves i d).0 (moved_cell cell (get_or moves i d).1)
+    → after ≡ with_moves entries cell (take (i + 1) moves)
+moves-read entries before after cell moves i d within so_far made =
+    let move : ℕ × Gains = get_or moves i d in
+    made ∙ ap (λ es. with_cell es move.0 (moved_cell cell move.1)) so_far
+    ∙ sym (with_moves-append entries cell (take i moves) (move ∷ []))
+    ∙ ap (with_moves entries cell) (sym (take_more moves i d within))

@@ -22,6 +22,7 @@ pub mod Sales
 pub mod Sided
 pub mod Silent
 pub mod Slices
+pub mod Starts
 pub mod Told
 pub mod TwoSteps
 pub mod Ways

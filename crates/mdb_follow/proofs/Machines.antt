@@ -6,6 +6,7 @@ use Rattle.mdb_msgs.specs.declared.command.Device.TheVariants as devices
 use Rattle.mdb_msgs.specs.declared.command.ReaderUnit.TheVariants.{First, Second}
 use Rattle.mdb_bus.specs.declared.act.Act.{Act}
 use Rattle.mdb_bus.specs.declared.act.Act.TheVariants as kinds
+use Rattle.mdb_bus.specs.declared.scope.Beginning.{Beginning}
 use Rattle.mdb_cash.specs.declared.choice.Choice.{Choice}
 use Rattle.mdb_cash.specs.declared.choice.Choice.TheVariants.{Plain, Lost, Restart}
 use Rattle.mdb_cash.specs.declared.gains.Gains.{Gains}
@@ -23,10 +24,11 @@ use Rattle.mdb_follow.specs.Sums.{Sums}
 use Rattle.mdb_follow.proofs.ByDevice.{same_or_not}
 
 -- each device has a machine of its own
-pub is_machine_of : (device : Device) → IsMachineOf device (machine_of device)
-is_machine_of devices.Changer = changer_ways.is_machine
-is_machine_of devices.Bill = bill_ways.is_machine
-is_machine_of (devices.Reader unit) = reader_ways.is_machine unit
+pub is_machine_of : (begins : Beginning) (device : Device)
+    → IsMachineOf device (machine_of begins device)
+is_machine_of begins devices.Changer = changer_ways.is_machine begins
+is_machine_of begins devices.Bill = bill_ways.is_machine begins
+is_machine_of begins (devices.Reader unit) = reader_ways.is_machine unit begins
 
 -- something of each device: of one this, and of the others what they have
 pub with_one : (P : Device → Type 0) (device : Device) → P device → ((other : Device) → P other)

@@ -11,6 +11,7 @@ use Rattle.mdb_bus.specs.declared.fault.Rule.{Rule}
 use Rattle.mdb_bus.specs.ActLists.{ArePieces, HasActList, IsActList, Piece, Whole, acts_of}
 use Rattle.mdb_bus.specs.ActLists.{events_of, with_act}
 use Rattle.mdb_bus.specs.LinkFaults.{IsLinkFault, RowBreaks, situation_of}
+use Rattle.mdb_bus.specs.declared.scope.Beginning.{Beginning}
 use Rattle.mdb_follow.specs.declared.account_name.AccountName.{AccountName}
 use Rattle.mdb_follow.specs.declared.account_name.AccountName.TheVariants.{CoinsIn, BillsIn}
 use Rattle.mdb_follow.specs.declared.account_name.AccountName.TheVariants.{PaidOut, Approved, Sold}
@@ -76,22 +77,23 @@ one-list Kind a b p q = map-alike a b
     (λ name. one-account Kind (sums_of name) (a name) (b name) (p name) (q name)) ALL
 
 -- what a report has of an account
-named : (rows : ℕ) (pieces : List Piece) (accounts : AccountName → Account)
-    (account : AccountName) → account_of account (report_of rows pieces accounts) ≡ accounts account
-named rows pieces accounts CoinsIn = refl
-named rows pieces accounts BillsIn = refl
-named rows pieces accounts PaidOut = refl
-named rows pieces accounts (Approved First) = refl
-named rows pieces accounts (Sold First) = refl
-named rows pieces accounts (Approved Second) = refl
-named rows pieces accounts (Sold Second) = refl
+named : (begins : Beginning) (rows : ℕ) (pieces : List Piece) (accounts : AccountName → Account)
+    (account : AccountName)
+    → account_of account (report_of begins rows pieces accounts) ≡ accounts account
+named begins rows pieces accounts CoinsIn = refl
+named begins rows pieces accounts BillsIn = refl
+named begins rows pieces accounts PaidOut = refl
+named begins rows pieces accounts (Approved First) = refl
+named begins rows pieces accounts (Sold First) = refl
+named begins rows pieces accounts (Approved Second) = refl
+named begins rows pieces accounts (Sold Second) = refl
 
 pub named-account : (scope : Scope) (rows : List Event) (report : Report) → IsReport scope rows report
     → (account : AccountName) → IsAccount (Run scope rows) (sums_of account) (account_of account report)
 named-account scope rows report is account =
     subst (IsAccount (Run scope rows) (sums_of account))
     (sym (ap (account_of account) is.telling
-    ∙ named (length rows) is.pieces is.accounts account)) (is.of_runs account)
+    ∙ named scope.begins (length rows) is.pieces is.accounts account)) (is.of_runs account)
 
 abbrev with_accounts : Report → List Account → Report
 with_accounts report accounts = record report { accounts = accounts }
@@ -100,9 +102,9 @@ pub one-report : (scope : Scope) → OneActList scope → (rows : List Event) (a
     → IsReport scope rows b → a ≡ b
 one-report scope one rows a b p q =
     p.telling
-    ∙ (ap (λ pieces. report_of (length rows) pieces p.accounts)
+    ∙ (ap (λ pieces. report_of scope.begins (length rows) pieces p.accounts)
     (one rows p.pieces q.pieces p.act_list q.act_list)
-    ∙ (ap (with_accounts (report_of (length rows) q.pieces p.accounts))
+    ∙ (ap (with_accounts (report_of scope.begins (length rows) q.pieces p.accounts))
     (one-list (Run scope rows) p.accounts q.accounts p.of_runs q.of_runs) ∙ sym q.telling))
 
 -- what the laws of the bus say
@@ -116,31 +118,32 @@ pub record BusLaws (scope : Scope) : Type 0 where
   pub goes : GoOnRowByRow scope
 
 -- after acts of reached rows, and before an act of the next, each device has some way
-cut : (more : Option Act) (acts : List Act) (act : Act) (before : List Act)
-    → with_act more acts ≡ act ∷ before → SomeArrive acts → SomeArrive before
-cut None acts act before same some = before_last act before (subst SomeArrive same some)
-cut (Some last) acts act before same some =
+cut : (begins : Beginning) (more : Option Act) (acts : List Act) (act : Act) (before : List Act)
+    → with_act more acts ≡ act ∷ before → SomeArrive begins acts → SomeArrive begins before
+cut begins None acts act before same some =
+    before_last begins act before (subst (SomeArrive begins) same some)
+cut begins (Some last) acts act before same some =
     let rest : acts ≡ before = cc same in
-    subst SomeArrive rest some
+    subst (SomeArrive begins) rest some
 
 some-before-act : (scope : Scope) → BusLaws scope → (events : List Event) (row : Event) → IsReached scope events
     → (pieces : List Piece) → IsActList scope pieces (events ++ row ∷ []) → (act : Act)
-    (before : List Act) → acts_of pieces ≡ act ∷ before → SomeArrive before
+    (before : List Act) → acts_of pieces ≡ act ∷ before → SomeArrive scope.begins before
 some-before-act scope laws events row reached pieces list act before ends =
     let run = reached.1 in
     let from = laws.goes events row pieces list in
-    cut from.act (acts_of from.before) act before (sym from.acts ∙ ends)
-    (subst (λ ps. SomeArrive (acts_of ps))
+    cut scope.begins from.act (acts_of from.before) act before (sym from.acts ∙ ends)
+    (subst (λ ps. SomeArrive scope.begins (acts_of ps))
     (laws.one events run.pieces from.before run.act_list from.act_list)
     (some_of scope events reached.0 run))
 
 -- a machine without a step by an act is that of the one device that has a part in it
-whose_rule : (broken : Rule) (act : Act) (before : List Act) → NoStep broken act before
-    → SomeArrive before → rule_of (whose act) ≡ broken
-whose_rule broken act before stops some =
+whose_rule : (begins : Beginning) (broken : Rule) (act : Act) (before : List Act)
+    → NoStep begins broken act before → SomeArrive begins before → rule_of (whose act) ≡ broken
+whose_rule begins broken act before stops some =
     let way = some stops.device in
-    ap rule_of (whose_none stops.device (machine_of stops.device) (is_machine_of stops.device)
-    act before stops.none way.state way.sums way.way)
+    ap rule_of (whose_none stops.device (machine_of begins stops.device)
+    (is_machine_of begins stops.device) act before stops.none way.state way.sums way.way)
     ∙ sym stops.rule
 
 -- the act list up to a row that ends an act by which a machine has no step
@@ -175,9 +178,11 @@ one-why scope laws events row reached r s a b (inr p) (inr q) =
     let same : one ≡ other = laws.one (events ++ row ∷ []) one other p.act_list q.act_list in
     let acts : p.act ∷ acts_of p.earlier ≡ q.act ∷ acts_of q.earlier = ap acts_of same in
     let act : p.act ≡ q.act = cc acts in
-    let by-p : rule_of (whose p.act) ≡ r = whose_rule r p.act (acts_of p.earlier) p.no_step
+    let by-p : rule_of (whose p.act) ≡ r = whose_rule scope.begins r p.act
+    (acts_of p.earlier) p.no_step
     (some-before-act scope laws events row reached one p.act_list p.act (acts_of p.earlier) refl) in
-    let by-q : rule_of (whose q.act) ≡ s = whose_rule s q.act (acts_of q.earlier) q.no_step
+    let by-q : rule_of (whose q.act) ≡ s = whose_rule scope.begins s q.act
+    (acts_of q.earlier) q.no_step
     (some-before-act scope laws events row reached other q.act_list q.act (acts_of q.earlier) refl) in (
       sym by-p ∙ (ap (λ x. rule_of (whose x)) act ∙ by-q),
       p.blame ∙ (ap sender_of act ∙ sym q.blame),

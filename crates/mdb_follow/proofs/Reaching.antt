@@ -5,6 +5,7 @@ use Rattle.mdb_msgs.specs.declared.command.Device.{Device}
 use Rattle.mdb_bus.specs.declared.act.Act.{Act}
 use Rattle.mdb_bus.specs.ActLists.{ArePieces, GoesOnFrom, IsActList, Piece, acts_of, with_act}
 use Rattle.mdb_bus.specs.Loss.{Loss, LossFits}
+use Rattle.mdb_bus.specs.declared.scope.Beginning.{Beginning}
 use Rattle.mdb_cash.specs.Machine.{Machine}
 use Rattle.mdb_follow.specs.Arrivals.{Arrives, EachArrives}
 use Rattle.mdb_follow.specs.Machines.{machine_of}
@@ -16,8 +17,8 @@ use Rattle.mdb_bus.specs.declared.scope.Scope.{Scope}
 -- ways of each device are together a way of all
 abbrev pub Joins : (scope : Scope) → Type 0
 Joins scope = (pieces : List Piece) (states : States) (sums : AllSums) → ArePieces scope pieces
-    → EachArrives (acts_of pieces) states sums
-    → (loss : Loss) × LossFits loss pieces × IsWay loss pieces states sums
+    → EachArrives scope.begins (acts_of pieces) states sums
+    → (loss : Loss) × LossFits loss pieces × IsWay scope.begins loss pieces states sums
 
 -- the act list of rows goes on from that of the rows before the last
 abbrev pub GoOnRowByRow : (scope : Scope) → Type 0
@@ -31,23 +32,25 @@ pub record SomeWay {State : Type 0} (machine : Machine State) (acts : List Act) 
   pub way : Arrives machine acts state sums
 
 -- and that of each device has one
-abbrev pub SomeArrive : List Act → Type 0
-SomeArrive acts = (device : Device) → SomeWay (machine_of device) acts
+abbrev pub SomeArrive : Beginning → List Act → Type 0
+SomeArrive begins acts = (device : Device) → SomeWay (machine_of begins device) acts
 
 -- a way through acts begins with one through the acts before the last
-pub before_last : (act : Act) (before : List Act) → SomeArrive (act ∷ before) → SomeArrive before
-before_last act before some device =
+pub before_last : (begins : Beginning) (act : Act) (before : List Act)
+    → SomeArrive begins (act ∷ before) → SomeArrive begins before
+before_last begins act before some device =
     let last = (some device).way in
     record { state = last.before; sums = last.sums_before; way = last.way }
 
-pub some_before : (act : Option Act) (before : List Act) → SomeArrive (with_act act before)
-    → SomeArrive before
-some_before None before some = some
-some_before (Some act) before some = before_last act before some
+pub some_before : (begins : Beginning) (act : Option Act) (before : List Act)
+    → SomeArrive begins (with_act act before) → SomeArrive begins before
+some_before begins None before some = some
+some_before begins (Some act) before some = before_last begins act before some
 
 -- the run of an act list with a way of each device
-pub run_of : (scope : Scope) → Joins scope → (rows : List Event) (pieces : List Piece) (states : States) (sums : AllSums)
-    → IsActList scope pieces rows → EachArrives (acts_of pieces) states sums → Run scope rows sums
+pub run_of : (scope : Scope) → Joins scope → (rows : List Event) (pieces : List Piece)
+    (states : States) (sums : AllSums) → IsActList scope pieces rows
+    → EachArrives scope.begins (acts_of pieces) states sums → Run scope rows sums
 run_of scope joins rows pieces states sums list ways =
     let found = joins pieces states sums list.in_order ways in
     record {
@@ -61,11 +64,11 @@ run_of scope joins rows pieces states sums list ways =
 
 -- the ways of a run's devices
 pub some_of : (scope : Scope) (rows : List Event) (sums : AllSums) (run : Run scope rows sums)
-    → SomeArrive (acts_of run.pieces)
+    → SomeArrive scope.begins (acts_of run.pieces)
 some_of scope rows sums run device = record {
   state = run.states device;
   sums = sums device;
-  way = split run.loss run.pieces run.states sums run.way device;
+  way = split scope.begins run.loss run.pieces run.states sums run.way device;
 }
 
 pub without_last : (scope : Scope) → Joins scope → GoOnRowByRow scope → (rows : List Event) (row : Event)
@@ -73,8 +76,8 @@ pub without_last : (scope : Scope) → Joins scope → GoOnRowByRow scope → (r
 without_last scope joins goes rows row reached =
     let run = reached.1 in
     let from = goes rows row run.pieces run.act_list in
-    let earlier = some_before from.act (acts_of from.before)
-    (subst SomeArrive from.acts (some_of scope (rows ++ row ∷ []) reached.0 run)) in (
+    let earlier = some_before scope.begins from.act (acts_of from.before)
+    (subst (SomeArrive scope.begins) from.acts (some_of scope (rows ++ row ∷ []) reached.0 run)) in (
       (λ device. (earlier device).sums),
       run_of scope joins rows from.before (λ device. (earlier device).state)
           (λ device. (earlier device).sums) from.act_list (λ device. (earlier device).way),

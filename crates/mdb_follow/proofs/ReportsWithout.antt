@@ -1,5 +1,5 @@
 -- Reports, reached rows and offences where further devices are left out.
-use Rattle.std.proofs.Common.{ap, refl, subst, sym, ◌∙◌, ◌≡◌, ◌⊎◌, inl, inr, ℕ, ℤ, ◌≤ℤ◌, pos}
+use Rattle.std.proofs.Common.{ap, refl, subst, sym, ◌∙◌, ◌≡◌, inl, inr, ℤ, ◌≤ℤ◌, pos}
 use Rattle.std.specs.Prelude.{◌-ℤ◌}
 use Rattle.std.proofs.Common.{Bool, true, false, arith, length}
 use Rattle.std.proofs.Common.{List, [], ◌∷◌, ◌++◌, Option, Some, None, All, option_map}
@@ -17,8 +17,10 @@ use Rattle.mdb_bus.specs.declared.act.Act.TheVariants as acts
 use Rattle.mdb_bus.specs.declared.fault.Blame.{Blame}
 use Rattle.mdb_bus.specs.declared.fault.Blame.TheVariants as blame
 use Rattle.mdb_bus.specs.declared.fault.Rule.{Rule}
+use Rattle.mdb_bus.specs.declared.scope.Beginning.{Beginning}
+use Rattle.mdb_bus.specs.declared.scope.Beginning.TheVariants.{PowerOn, Joined}
 use Rattle.mdb_bus.specs.declared.scope.Scope.{Scope}
-use Rattle.mdb_bus.specs.ActLists.{ArePieces, IsActList, Piece, Whole, acts_of}
+use Rattle.mdb_bus.specs.ActLists.{ArePieces, IsActList, Piece, acts_of}
 use Rattle.mdb_bus.specs.LeavingOut.{LeavesOutMore, acts_with, breaks_among, device_in, leave_out}
 use Rattle.mdb_bus.specs.LinkFaults.{IsLinkFault, blame_on}
 use Rattle.mdb_bus.specs.Scopes.{IsFollowed, IsLeftOut}
@@ -35,10 +37,11 @@ use Rattle.mdb_follow.specs.declared.range.Range.{Range}
 use Rattle.mdb_follow.specs.declared.report.Report.{Report}
 use Rattle.mdb_follow.specs.AccountNames.{account_device, sums_of}
 use Rattle.mdb_follow.specs.LeavingOut.{AreSumsWithout, HasNothingLeftOut, HaveSameFollowed}
-use Rattle.mdb_follow.specs.Offences.{BreaksLink, BreaksMachine, IsOffence}
+use Rattle.mdb_follow.specs.LeavingOut.{IsNotKnown}
+use Rattle.mdb_follow.specs.Offences.{IsOffence}
 use Rattle.mdb_follow.specs.Ranges.{IsAccount, IsRange}
-use Rattle.mdb_follow.specs.Report.{IsReport, account_of, decimals_of, device_decimals}
-use Rattle.mdb_follow.specs.Report.{device_silences, no_account, report_of}
+use Rattle.mdb_follow.specs.Report.{IsReport, account_of, decimals_of}
+use Rattle.mdb_follow.specs.Report.{no_account, report_of, unvalued_of}
 use Rattle.mdb_follow.specs.Runs.{AllSums, IsReached, Run}
 use Rattle.mdb_follow.specs.Senders.{sender_of}
 use Rattle.mdb_follow.specs.Silences.{limit_of, reader_limit, silences}
@@ -47,59 +50,108 @@ use Rattle.mdb_follow.proofs.Following.{OneActList}
 use Rattle.mdb_follow.proofs.OneAnswer.{named-account, one-account}
 use Rattle.mdb_follow.proofs.OwnWays.{are_breaks}
 use Rattle.mdb_follow.proofs.SilencesWithout.{NamesFollowed, no_silences, silences_stay}
-use Rattle.mdb_follow.proofs.Told.{decimals-told, silences-told}
+use Rattle.mdb_follow.proofs.Told.{decimals-told, silences-told, unvalued-told}
 
--- what is known of devices is of their own acts
+-- what is known of devices, and the amounts without a value, are of their own acts
 pub record FactsAlike : Type 0 where
-  pub changer : (one other : List Act)
+  pub changer : (begins : Beginning) (one other : List Act)
       → own_acts devices.Changer one ≡ own_acts devices.Changer other
-      → changer_facts.facts_of one ≡ changer_facts.facts_of other
-  pub bill : (one other : List Act) → own_acts devices.Bill one ≡ own_acts devices.Bill other
-      → bill_facts.facts_of one ≡ bill_facts.facts_of other
-  pub reader : (unit : ReaderUnit) (one other : List Act)
+      → changer_facts.known_of begins one ≡ changer_facts.known_of begins other
+  pub bill : (begins : Beginning) (one other : List Act)
+      → own_acts devices.Bill one ≡ own_acts devices.Bill other
+      → bill_facts.known_of begins one ≡ bill_facts.known_of begins other
+  pub reader : (begins : Beginning) (unit : ReaderUnit) (one other : List Act)
       → own_acts (devices.Reader unit) one ≡ own_acts (devices.Reader unit) other
-      → reader_facts.facts_of unit one ≡ reader_facts.facts_of unit other
+      → reader_facts.known_of begins unit one ≡ reader_facts.known_of begins unit other
+  pub unvalued : (begins : Beginning) (device : Device) (one other : List Act)
+      → own_acts device one ≡ own_acts device other
+      → unvalued_of begins device one ≡ unvalued_of begins device other
 
 -- and breaks tell nothing of them
 pub record BreaksTellNothing : Type 0 where
-  pub changer : (so_far : List Act) → All IsBreak (own_acts devices.Changer so_far)
-      → changer_facts.facts_of so_far ≡ changer_facts.facts_of []
-  pub bill : (so_far : List Act) → All IsBreak (own_acts devices.Bill so_far)
-      → bill_facts.facts_of so_far ≡ bill_facts.facts_of []
-  pub reader : (unit : ReaderUnit) (so_far : List Act)
+  pub changer : (begins : Beginning) (so_far : List Act)
+      → All IsBreak (own_acts devices.Changer so_far)
+      → (changer_facts.known_of begins so_far).setup ≡ (changer_facts.known_of begins []).setup
+  pub bill : (begins : Beginning) (so_far : List Act) → All IsBreak (own_acts devices.Bill so_far)
+      → (bill_facts.known_of begins so_far).setup ≡ (bill_facts.known_of begins []).setup
+  pub reader : (begins : Beginning) (unit : ReaderUnit) (so_far : List Act)
       → All IsBreak (own_acts (devices.Reader unit) so_far)
-      → reader_facts.facts_of unit so_far ≡ reader_facts.facts_of unit []
+      → (reader_facts.known_of begins unit so_far).config
+      ≡ (reader_facts.known_of begins unit []).config
+  pub unvalued : (begins : Beginning) (device : Device) (so_far : List Act)
+      → All IsBreak (own_acts device so_far) → unvalued_of begins device so_far ≡ 0
+
+-- the amounts without a value of each device: they are of its own acts, and breaks tell none
+abbrev pub IsOfOwnActs : Beginning → Device → Type 0
+IsOfOwnActs begins device = (one other : List Act) → own_acts device one ≡ own_acts device other
+    → unvalued_of begins device one ≡ unvalued_of begins device other
+
+abbrev pub IsNoneOfBreaks : Beginning → Device → Type 0
+IsNoneOfBreaks begins device = (so_far : List Act) → All IsBreak (own_acts device so_far)
+    → unvalued_of begins device so_far ≡ 0
+
+pub unvalued_alike : (begins : Beginning) → IsOfOwnActs begins devices.Changer
+    → IsOfOwnActs begins devices.Bill
+    → ((unit : ReaderUnit) → IsOfOwnActs begins (devices.Reader unit)) → (device : Device)
+    → IsOfOwnActs begins device
+unvalued_alike begins changer bill reader devices.Changer = changer
+unvalued_alike begins changer bill reader devices.Bill = bill
+unvalued_alike begins changer bill reader (devices.Reader unit) = reader unit
+
+pub nothing_unvalued : (begins : Beginning) → IsNoneOfBreaks begins devices.Changer
+    → IsNoneOfBreaks begins devices.Bill
+    → ((unit : ReaderUnit) → IsNoneOfBreaks begins (devices.Reader unit)) → (device : Device)
+    → IsNoneOfBreaks begins device
+nothing_unvalued begins changer bill reader devices.Changer = changer
+nothing_unvalued begins changer bill reader devices.Bill = bill
+nothing_unvalued begins changer bill reader (devices.Reader unit) = reader unit
 
 -- a device's limit and decimals are those of its own acts
-limits_alike : FactsAlike → (device : Device) (one other : List Act)
-    → own_acts device one ≡ own_acts device other → limit_of device one ≡ limit_of device other
-limits_alike laws devices.Changer one other same = refl
-limits_alike laws devices.Bill one other same = refl
-limits_alike laws (devices.Reader unit) one other same =
-    ap (λ facts. reader_limit (option_map (λ config. config.response) facts.config))
-    (laws.reader unit one other same)
-
-decimals_alike : FactsAlike → (device : Device) (one other : List Act)
+limits_alike : FactsAlike → (begins : Beginning) (device : Device) (one other : List Act)
     → own_acts device one ≡ own_acts device other
-    → decimals_of device one ≡ decimals_of device other
-decimals_alike laws devices.Changer one other same =
-    ap (λ facts. option_map (λ setup. setup.decimals) facts.setup) (laws.changer one other same)
-decimals_alike laws devices.Bill one other same =
-    ap (λ facts. option_map (λ setup. setup.decimals) facts.setup) (laws.bill one other same)
-decimals_alike laws (devices.Reader unit) one other same =
-    ap (λ facts. option_map (λ config. config.decimals) facts.config)
-    (laws.reader unit one other same)
+    → limit_of begins device one ≡ limit_of begins device other
+limits_alike laws begins devices.Changer one other same = refl
+limits_alike laws begins devices.Bill one other same = refl
+limits_alike laws begins (devices.Reader unit) one other same =
+    ap (λ facts. reader_limit (option_map (λ config. config.response) facts.config))
+    (laws.reader begins unit one other same)
 
--- and breaks alone tell no decimals
-no_decimals : BreaksTellNothing → (device : Device) (so_far : List Act)
-    → All IsBreak (own_acts device so_far) → decimals_of device so_far ≡ None
-no_decimals laws devices.Changer so_far alone =
-    ap (λ facts. option_map (λ setup. setup.decimals) facts.setup) (laws.changer so_far alone)
-no_decimals laws devices.Bill so_far alone =
-    ap (λ facts. option_map (λ setup. setup.decimals) facts.setup) (laws.bill so_far alone)
-no_decimals laws (devices.Reader unit) so_far alone =
+decimals_alike : FactsAlike → (begins : Beginning) (device : Device) (one other : List Act)
+    → own_acts device one ≡ own_acts device other
+    → decimals_of begins device one ≡ decimals_of begins device other
+decimals_alike laws begins devices.Changer one other same =
+    ap (λ facts. option_map (λ setup. setup.decimals) facts.setup)
+    (laws.changer begins one other same)
+decimals_alike laws begins devices.Bill one other same =
+    ap (λ facts. option_map (λ setup. setup.decimals) facts.setup)
+    (laws.bill begins one other same)
+decimals_alike laws begins (devices.Reader unit) one other same =
     ap (λ facts. option_map (λ config. config.decimals) facts.config)
-    (laws.reader unit so_far alone)
+    (laws.reader begins unit one other same)
+
+-- breaks alone tell no decimals
+same_decimals : BreaksTellNothing → (begins : Beginning) (device : Device) (so_far : List Act)
+    → All IsBreak (own_acts device so_far)
+    → decimals_of begins device so_far ≡ decimals_of begins device []
+same_decimals laws begins devices.Changer so_far alone =
+    ap (option_map (λ setup. setup.decimals)) (laws.changer begins so_far alone)
+same_decimals laws begins devices.Bill so_far alone =
+    ap (option_map (λ setup. setup.decimals)) (laws.bill begins so_far alone)
+same_decimals laws begins (devices.Reader unit) so_far alone =
+    ap (option_map (λ config. config.decimals)) (laws.reader begins unit so_far alone)
+
+-- and where nothing is known from elsewhere there are none after no act
+none_before : (begins : Beginning) (device : Device) → IsNotKnown begins device
+    → decimals_of begins device [] ≡ None
+none_before PowerOn devices.Changer none = refl
+none_before PowerOn devices.Bill none = refl
+none_before PowerOn (devices.Reader unit) none = refl
+none_before (Joined setups) devices.Changer none =
+    ap (option_map (λ setup. setup.decimals)) none
+none_before (Joined setups) devices.Bill none =
+    ap (option_map (λ setup. setup.decimals)) none
+none_before (Joined setups) (devices.Reader unit) none =
+    ap (option_map (λ config. config.decimals)) none
 
 -- what an account has come to in a run is of its device's sums there
 of_device : (account : AccountName) (one other : AllSums)
@@ -213,16 +265,26 @@ same_followed laws less more rows one other leaves is other_is =
       accounts = same_account laws.runs less more rows one other leaves is other_is;
       decimals = λ device followed.
           decimals-told less (laws.one less) rows one is.pieces is is.act_list device
-          ∙ sym (decimals_alike laws.facts device (acts_of (leave_out more is.pieces))
-          (acts_of is.pieces) (own is.pieces device followed))
+          ∙ ap (λ b. decimals_of b device (acts_of is.pieces)) leaves.begins
+          ∙ sym (decimals_alike laws.facts more.begins device
+          (acts_of (leave_out more is.pieces)) (acts_of is.pieces) (own is.pieces device followed))
           ∙ sym (decimals-told more (laws.one more) rows other (leave_out more is.pieces) other_is
           list device);
       silences = λ device followed.
           silences-told less (laws.one less) rows one is.pieces is is.act_list device
-          ∙ sym (silences_stay more device followed
-          (λ pieces. limits_alike laws.facts device (acts_of (leave_out more pieces))
-          (acts_of pieces) (own pieces device followed)) is.pieces)
+          ∙ ap (λ b. silences b device is.pieces) leaves.begins
+          ∙ sym (silences_stay more.begins more device followed
+          (λ pieces. limits_alike laws.facts more.begins device
+          (acts_of (leave_out more pieces)) (acts_of pieces) (own pieces device followed))
+          is.pieces)
           ∙ sym (silences-told more (laws.one more) rows other (leave_out more is.pieces) other_is
+          list device);
+      unvalued = λ device followed.
+          unvalued-told less (laws.one less) rows one is.pieces is is.act_list device
+          ∙ ap (λ b. unvalued_of b device (acts_of is.pieces)) leaves.begins
+          ∙ sym (laws.facts.unvalued more.begins device (acts_of (leave_out more is.pieces))
+          (acts_of is.pieces) (own is.pieces device followed))
+          ∙ sym (unvalued-told more (laws.one more) rows other (leave_out more is.pieces) other_is
           list device);
     }
 
@@ -303,7 +365,7 @@ report_without laws adds less more rows one leaves is =
     let reached : IsReached more rows =
     let other = laws.runs.to less more rows is.reached.0 leaves is.reached.1 in
     (other.0, other.2) in
-    let other : Report = report_of (length rows) (leave_out more is.pieces) accounts in
+    let other : Report = report_of more.begins (length rows) (leave_out more is.pieces) accounts in
     let other_is : IsReport more rows other = record {
       reached = reached;
       pieces = leave_out more is.pieces;
@@ -370,12 +432,17 @@ nothing_left laws scope rows report is =
           no_account_left scope rows account (account_of account report)
           (λ sums run. laws.adds scope rows sums run (account_device account) left)
           (named-account scope rows report is account);
-      decimals = λ device left.
+      decimals = λ device left none.
           decimals-told scope (laws.one scope) rows report is.pieces is is.act_list device
-          ∙ no_decimals laws.facts device (acts_of is.pieces) (alone device left);
+          ∙ same_decimals laws.facts scope.begins device (acts_of is.pieces) (alone device left)
+          ∙ none_before scope.begins device none;
       silences = λ device left.
           silences-told scope (laws.one scope) rows report is.pieces is is.act_list device
-          ∙ no_silences scope (laws.names scope) device left is.pieces is.act_list.in_order;
+          ∙ no_silences scope.begins scope (laws.names scope) device left is.pieces
+          is.act_list.in_order;
+      unvalued = λ device left.
+          unvalued-told scope (laws.one scope) rows report is.pieces is is.act_list device
+          ∙ laws.facts.unvalued scope.begins device (acts_of is.pieces) (alone device left);
     }
 
 -- the device that a blame is on

@@ -1,5 +1,5 @@
 -- That each sale in a run follows its approval.
-use Rattle.std.proofs.Common.{sym, ap, subst, ◌≡◌, ◌⊎◌, inl, inr, ℕ, List, [], ◌∷◌, ◌++◌}
+use Rattle.std.proofs.Common.{ap, subst, ◌≡◌, ◌⊎◌, inl, inr, ℕ, List, [], ◌∷◌, ◌++◌}
 use Rattle.std.proofs.lemmas.List.Elements.{All-cons, All-nil}
 use Rattle.mdb_words.specs.declared.event.Event.{Event}
 use Rattle.mdb_msgs.specs.declared.command.Command.{Command}
@@ -16,16 +16,15 @@ use Rattle.mdb_cash.specs.declared.gains.Gains.{Gains}
 use Rattle.mdb_cash.specs.declared.choice.Choice.{Choice}
 use Rattle.mdb_cashless.specs.declared.reader.state.ReaderState.{ReaderState}
 use Rattle.mdb_cashless.specs.Reader as reader
-use Rattle.mdb_cashless.specs.Reader.{ReaderStep}
-use Rattle.mdb_cashless.specs.ReaderFacts.{facts_of}
-use Rattle.mdb_cashless.specs.inner.SaleViews.{AcksLastReply, TellsOfSale}
-use Rattle.mdb_cashless.specs.Sales.{EndsInReply, IsApproved, SalesAreApproved}
+use Rattle.mdb_cashless.specs.inner.SaleViews.{AcksLastReply, MayTellOfSale}
+use Rattle.mdb_cashless.specs.Sales.{EndsInReply, IsApproved, MayBeRequestedBefore}
+use Rattle.mdb_cashless.specs.Sales.{SalesAreApproved}
 use Rattle.mdb_follow.specs.Arrivals.{Arrives}
 use Rattle.mdb_follow.specs.Sales.{SalesFollowApprovals}
 use Rattle.mdb_follow.specs.Sums.{Sums}
 use Rattle.mdb_follow.proofs.Joining.{split}
 use Rattle.mdb_bus.specs.declared.scope.Beginning.{Beginning}
-use Rattle.mdb_bus.specs.declared.scope.Beginning.TheVariants.{PowerOn}
+use Rattle.mdb_bus.specs.declared.scope.Beginning.TheVariants.{PowerOn, Joined}
 use Rattle.mdb_bus.specs.declared.scope.Scope.{Scope}
 
 -- a reply, RET for it, or its repeat
@@ -53,6 +52,8 @@ first_closed : (command : Command) (reply : Reply) (begins : Beginning)
     → IsOpen command reply (first_position begins) → ⊥
 first_closed command reply PowerOn (inl e) = cc
 first_closed command reply PowerOn (inr e) = cc
+first_closed command reply (Joined setups) (inl e) = cc
+first_closed command reply (Joined setups) (inr e) = cc
 
 -- pieces where a reply is open end in it
 ends_in : (scope : Scope) (command : Command) (reply : Reply) (pieces : List Piece) → ArePieces scope pieces
@@ -122,56 +123,63 @@ acks_fit scope (RepeatTail c r words events ∷ pieces) are = acks_fit scope pie
 
 -- the laws of the views
 pub record ViewLaws : Type 0 where
-  pub tells : (unit : ReaderUnit) (so_far : List Act) (act : Act) (choice : Choice)
-      (before after : ReaderState) (gains : Gains) → AcksLastReply act so_far
-      → TellsOfSale unit before.view so_far
-      → ReaderStep unit (facts_of unit so_far) act choice before after gains
-      → TellsOfSale unit after.view (act ∷ so_far)
-  pub approved : (unit : ReaderUnit) (so_far : List Act) (item : ℕ) (choice : Choice)
-      (before after : ReaderState) (gains : Gains) → TellsOfSale unit before.view so_far
-      → ReaderStep unit (facts_of unit so_far)
+  pub start : (unit : ReaderUnit) (begins : Beginning) (state : ReaderState)
+      → (reader.machine unit begins).Starts state → MayTellOfSale begins unit state.view []
+  pub tells : (unit : ReaderUnit) (begins : Beginning) (so_far : List Act) (act : Act)
+      (choice : Choice) (before after : ReaderState) (gains : Gains) → AcksLastReply act so_far
+      → MayTellOfSale begins unit before.view so_far
+      → (reader.machine unit begins).Step so_far act choice before after gains
+      → MayTellOfSale begins unit after.view (act ∷ so_far)
+  pub approved : (unit : ReaderUnit) (begins : Beginning) (so_far : List Act) (item : ℕ)
+      (choice : Choice) (before after : ReaderState) (gains : Gains)
+      → MayTellOfSale begins unit before.view so_far
+      → (reader.machine unit begins).Step so_far
       (acts.Ask (commands.Reader unit (readers.VendSuccess item))) choice before after gains
-      → IsApproved unit item so_far
+      → IsApproved unit item so_far ⊎ MayBeRequestedBefore begins unit so_far
 
 -- before the first act there is no sale
-none_sold : (unit : ReaderUnit) (item : ℕ) (later before : List Act)
+none_sold : (begins : Beginning) (unit : ReaderUnit) (item : ℕ) (later before : List Act)
     → [] ≡ later ++ (acts.Ask (commands.Reader unit (readers.VendSuccess item)) ∷ before)
-    → IsApproved unit item before
-none_sold unit item [] before order = absurd cc
-none_sold unit item (act ∷ later) before order = absurd cc
+    → IsApproved unit item before ⊎ MayBeRequestedBefore begins unit before
+none_sold begins unit item [] before order = absurd cc
+none_sold begins unit item (act ∷ later) before order = absurd cc
 
 -- one act more: a sale is the last act, or stands before it
-one_more : (unit : ReaderUnit) (act : Act) (so_far : List Act)
+one_more : (begins : Beginning) (unit : ReaderUnit) (act : Act) (so_far : List Act)
     → ((item : ℕ) → act ≡ acts.Ask (commands.Reader unit (readers.VendSuccess item))
-    → IsApproved unit item so_far)
-    → SalesAreApproved unit so_far → SalesAreApproved unit (act ∷ so_far)
-one_more unit act so_far last earlier [] before item order =
-    let same : so_far ≡ before = cc in subst (IsApproved unit item) same (last item cc)
-one_more unit act so_far last earlier (other ∷ later) before item order =
+    → IsApproved unit item so_far ⊎ MayBeRequestedBefore begins unit so_far)
+    → SalesAreApproved begins unit so_far → SalesAreApproved begins unit (act ∷ so_far)
+one_more begins unit act so_far last earlier [] before item order =
+    let same : so_far ≡ before = cc in
+    subst (λ l. IsApproved unit item l ⊎ MayBeRequestedBefore begins unit l) same (last item cc)
+one_more begins unit act so_far last earlier (other ∷ later) before item order =
     earlier later before item cc
 
--- a way of a reader through acts: the view where it leads tells of the sale, and each sale is
--- approved
-all_sold : ViewLaws → (unit : ReaderUnit) (so_far : List Act) (state : ReaderState) (sums : Sums)
-    → AcksFit so_far → Arrives (reader.machine unit) so_far state sums
-    → TellsOfSale unit state.view so_far × SalesAreApproved unit so_far
-all_sold laws unit [] state sums fit way = (
-  subst (λ (s : ReaderState). TellsOfSale unit s.view []) (sym way.0) tt,
-  λ later before item order. none_sold unit item later before order,
+-- a way of a reader through acts: the view where it leads may tell of the sale, and each sale is
+-- approved, or may have been requested before
+all_sold : ViewLaws → (begins : Beginning) (unit : ReaderUnit) (so_far : List Act)
+    (state : ReaderState) (sums : Sums) → AcksFit so_far
+    → Arrives (reader.machine unit begins) so_far state sums
+    → MayTellOfSale begins unit state.view so_far × SalesAreApproved begins unit so_far
+all_sold laws begins unit [] state sums fit way = (
+  laws.start unit begins state way.0,
+  λ later before item order. none_sold begins unit item later before order,
 )
-all_sold laws unit (act ∷ so_far) state sums fit way =
-    let earlier = all_sold laws unit so_far way.before way.sums_before fit.1 way.way in (
-      laws.tells unit so_far act way.choice way.before state way.gains fit.0 earlier.0 way.step,
-      one_more unit act so_far
-          (λ item is. laws.approved unit so_far item way.choice way.before state way.gains earlier.0
-          (subst (λ (a : Act). ReaderStep unit (facts_of unit so_far) a way.choice
+all_sold laws begins unit (act ∷ so_far) state sums fit way =
+    let earlier = all_sold laws begins unit so_far way.before way.sums_before fit.1 way.way in (
+      laws.tells unit begins so_far act way.choice way.before state way.gains fit.0 earlier.0
+          way.step,
+      one_more begins unit act so_far
+          (λ item is. laws.approved unit begins so_far item way.choice way.before state way.gains
+          earlier.0 (subst (λ (a : Act). (reader.machine unit begins).Step so_far a way.choice
           way.before state way.gains) is way.step))
           earlier.1,
     )
 
-pub sales_follow : (scope : Scope) → ViewLaws → (rows : List Event) → SalesFollowApprovals scope rows
+pub sales_follow : (scope : Scope) → ViewLaws → (rows : List Event)
+    → SalesFollowApprovals scope rows
 sales_follow scope laws rows sums run unit =
-    let ways = split run.loss run.pieces run.states sums run.way in
+    let ways = split scope.begins run.loss run.pieces run.states sums run.way in
     let device = devices.Reader unit in
-    (all_sold laws unit (acts_of run.pieces) (run.states device) (sums device)
+    (all_sold laws scope.begins unit (acts_of run.pieces) (run.states device) (sums device)
     (acks_fit scope run.pieces run.act_list.in_order) (ways device)).1

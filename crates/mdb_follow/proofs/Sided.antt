@@ -7,6 +7,7 @@ use Rattle.mdb_msgs.specs.declared.command.Device.TheVariants as devices
 use Rattle.mdb_msgs.specs.declared.command.ReaderUnit.TheVariants.{First, Second}
 use Rattle.mdb_bus.specs.declared.act.Act.{Act}
 use Rattle.mdb_bus.specs.declared.fault.Rule.{Rule}
+use Rattle.mdb_bus.specs.declared.scope.Beginning.{Beginning}
 use Rattle.mdb_cash.specs.BillValues as bill_values
 use Rattle.mdb_cash.specs.ChangerValues as changer_values
 use Rattle.mdb_cash.specs.Pair.{IsActOf}
@@ -21,37 +22,46 @@ use Rattle.mdb_follow.specs.Arrivals.{Arrives}
 use Rattle.mdb_follow.specs.Machines.{machine_of}
 use Rattle.mdb_follow.specs.Offences.{HasNoStep, rule_of}
 use Rattle.mdb_follow.specs.Ranges.{IsCell}
-use Rattle.mdb_follow.specs.Report.{decimals_of}
+use Rattle.mdb_follow.specs.Report.{decimals_of, unvalued_of}
 use Rattle.mdb_follow.specs.Sides.{AreSides, FactsOf, IsSideOf, SideOf, code_of, side_in}
 use Rattle.mdb_follow.specs.Sides.{stands_for}
 use Rattle.mdb_follow.specs.Tables.{ArrivesAnywhere}
-use Rattle.mdb_follow.specs.inner.Limits.{IsTableWithin}
-use Rattle.mdb_follow.specs.inner.SideSteps.{AreWithin, FollowsOf, IsWithin, OneFollows}
-use Rattle.mdb_follow.specs.inner.SideSteps.{SidesFollow, SidesStop, Stops}
+use Rattle.mdb_follow.specs.inner.SideSteps.{AreWithin, FollowsOf, IsSideWithin, IsWithin}
+use Rattle.mdb_follow.specs.inner.SideSteps.{OneFollows, SidesFollow, SidesStop, Stops}
 use Rattle.mdb_follow.proofs.ByDevice.{Front, front-next, same_or_not}
-use Rattle.mdb_follow.proofs.Limits.{table-within-weaker}
 use Rattle.mdb_follow.proofs.Machines.{is_machine_of}
 use Rattle.mdb_follow.proofs.Ways.{table-same}
+use Rattle.mdb_follow.proofs.Within.{side-within-weaker}
 
 -- an act in which a device has no part leaves its facts
-unmoved : (device : Device) (facts : FactsOf device) (acts : List Act) (act : Act)
-    → (IsActOf device act → ⊥) → stands_for device facts acts
-    → stands_for device facts (act ∷ acts)
-unmoved devices.Changer facts = changer_ways.unmoved (changer_values.facts_in facts)
-unmoved devices.Bill facts = bill_ways.unmoved (bill_values.facts_in facts)
-unmoved (devices.Reader unit) facts = reader_ways.unmoved unit (reader_values.facts_in facts)
+unmoved : (begins : Beginning) (device : Device) (facts : FactsOf device) (acts : List Act)
+    (act : Act) → (IsActOf device act → ⊥) → stands_for begins device facts acts
+    → stands_for begins device facts (act ∷ acts)
+unmoved begins devices.Changer facts = changer_ways.unmoved begins (changer_values.known_in facts)
+unmoved begins devices.Bill facts = bill_ways.unmoved begins (bill_values.known_in facts)
+unmoved begins (devices.Reader unit) facts =
+    reader_ways.unmoved unit begins (reader_values.known_in facts)
+
+-- and tells no amount of it
+untold : (begins : Beginning) (device : Device) (acts : List Act) (act : Act)
+    → (IsActOf device act → ⊥)
+    → unvalued_of begins device (act ∷ acts) ≡ unvalued_of begins device acts
+untold begins devices.Changer = changer_ways.untold begins
+untold begins devices.Bill = bill_ways.untold begins
+untold begins (devices.Reader unit) = reader_ways.untold unit begins
 
 -- and its side
 still : (device : Device) (side : SideOf device) (act : Act) → (IsActOf device act → ⊥)
     → FollowsOf act device side side
 still device side act other = record {
-  stands = λ acts on. record {
-    facts = unmoved device side.facts acts act other on.facts;
-    table = table-same (code_of device) (machine_of device) act acts side.table
+  stands = λ begins acts on. record {
+    facts = unmoved begins device side.facts acts act other on.facts;
+    table = table-same (code_of device) (machine_of begins device) act acts side.table
         (λ acts choice before after gains.
-        (is_machine_of device).elsewhere acts act choice before after gains other) on.table;
+        (is_machine_of begins device).elsewhere acts act choice before after gains other) on.table;
+    counted = on.counted ∙ sym (untold begins device acts act other);
   };
-  within = λ limit. table-within-weaker limit (limit + 2 ^ 32) side.table (omega arith);
+  within = λ limit. side-within-weaker limit (limit + 2 ^ 32) side (omega arith);
 }
 
 -- sides with one in place of a device's
@@ -91,8 +101,9 @@ one-follows (Err e) device which sides side act is goes = tt
 -- It has no step.
 pub one-stops : {T : Type 0} (r : Result T Rule) (device which : Device) (sides : Sides)
     (act : Act) → device ≡ which
-    → OnErr r ((acts : List Act) → IsSideOf which (side_in sides which) acts
-    → HasNoStep (machine_of which) act acts)
+    → OnErr r ((begins : Beginning) (acts : List Act)
+    → IsSideOf begins which (side_in sides which) acts
+    → HasNoStep (machine_of begins which) act acts)
     → IfErr r (λ broken. broken ≡ rule_of which)
     → IfErr r (Stops device sides act)
 one-stops (Ok x) device which sides act is none its = tt
@@ -135,8 +146,8 @@ front-stops count old act mid d broken within front stops =
       device,
       record {
         rule = stops.rule;
-        none = subst (λ (s : SideOf device). (acts : List Act) → IsSideOf device s acts
-            → HasNoStep (machine_of device) act acts)
+        none = subst (λ (s : SideOf device). (begins : Beginning) (acts : List Act)
+            → IsSideOf begins device s acts → HasNoStep (machine_of begins device) act acts)
             (front-next SideOf (FollowsOf act) count (side_in old) (side_in mid) d within front)
             stops.none;
       },
@@ -148,40 +159,49 @@ pub front-fits : (count : ℕ) (old : Sides) (act : Act) (mid : Sides) (d : Devi
     → IsWithin (get_or DEVICES count d) limit mid
 front-fits count old act mid d limit within front on =
     let device : Device = get_or DEVICES count d in
-    subst (λ (s : SideOf device). IsTableWithin limit s.table)
+    subst (λ (s : SideOf device). IsSideWithin limit s)
     (sym (front-next SideOf (FollowsOf act) count (side_in old) (side_in mid) d within front))
     (on device)
 
 -- the decimal places that the facts of a device have
 abbrev pub decimals_in : (device : Device) → FactsOf device → Option ℕ
 decimals_in devices.Changer facts =
-    option_map (λ setup. setup.decimals) (changer_values.facts_in facts).setup
+    option_map (λ setup. setup.decimals) (changer_values.known_in facts).setup
 decimals_in devices.Bill facts =
-    option_map (λ setup. setup.decimals) (bill_values.facts_in facts).setup
+    option_map (λ setup. setup.decimals) (bill_values.known_in facts).setup
 decimals_in (devices.Reader unit) facts =
-    option_map (λ config. config.decimals) (reader_values.facts_in facts).config
+    option_map (λ config. config.decimals) (reader_values.known_in facts).config
 
-decimals-are : (device : Device) (facts : FactsOf device) (acts : List Act)
-    → stands_for device facts acts → decimals_in device facts ≡ decimals_of device acts
-decimals-are devices.Changer facts acts =
+decimals-are : (begins : Beginning) (device : Device) (facts : FactsOf device) (acts : List Act)
+    → stands_for begins device facts acts
+    → decimals_in device facts ≡ decimals_of begins device acts
+decimals-are begins devices.Changer facts acts =
     ap (λ known. option_map (λ setup. setup.decimals) known.setup)
-decimals-are devices.Bill facts acts =
+decimals-are begins devices.Bill facts acts =
     ap (λ known. option_map (λ setup. setup.decimals) known.setup)
-decimals-are (devices.Reader unit) facts acts =
+decimals-are begins (devices.Reader unit) facts acts =
     ap (λ known. option_map (λ config. config.decimals) known.config)
 
--- what is told of the device that an arm is of: its decimal places, and the ranges of its sums
+-- what is told of the device that an arm is of: its decimal places, the amounts without a value,
+-- and the ranges of its sums
 pub decimals-at : (device which : Device) (sides : Sides) (found : Option ℕ) → device ≡ which
-    → found ≡ decimals_in which (side_in sides which).facts → (acts : List Act)
-    → AreSides sides acts → found ≡ decimals_of device acts
-decimals-at device which sides found is known acts on =
-    known ∙ decimals-are which (side_in sides which).facts acts (on which).facts
-    ∙ ap (λ d. decimals_of d acts) (sym is)
+    → found ≡ decimals_in which (side_in sides which).facts → (begins : Beginning)
+    (acts : List Act) → AreSides begins sides acts → found ≡ decimals_of begins device acts
+decimals-at device which sides found is known begins acts on =
+    known ∙ decimals-are begins which (side_in sides which).facts acts (on which).facts
+    ∙ ap (λ d. decimals_of begins d acts) (sym is)
+
+pub unvalued-at : (device which : Device) (sides : Sides) (count : ℕ) → device ≡ which
+    → count ≡ (side_in sides which).unvalued → (begins : Beginning) (acts : List Act)
+    → AreSides begins sides acts → count ≡ unvalued_of begins device acts
+unvalued-at device which sides count is known begins acts on =
+    known ∙ (on which).counted ∙ ap (λ d. unvalued_of begins d acts) (sym is)
 
 pub ranges-at : (device which : Device) (sides : Sides) (cell : Cell) → device ≡ which
-    → ((acts : List Act) → IsSideOf which (side_in sides which) acts
-    → IsCell (ArrivesAnywhere (Arrives (machine_of which) acts)) cell) → (acts : List Act)
-    → AreSides sides acts → IsCell (ArrivesAnywhere (Arrives (machine_of device) acts)) cell
-ranges-at device which sides cell is known acts on =
-    subst (λ d. IsCell (ArrivesAnywhere (Arrives (machine_of d) acts)) cell) (sym is)
-    (known acts (on which))
+    → ((begins : Beginning) (acts : List Act) → IsSideOf begins which (side_in sides which) acts
+    → IsCell (ArrivesAnywhere (Arrives (machine_of begins which) acts)) cell)
+    → (begins : Beginning) (acts : List Act) → AreSides begins sides acts
+    → IsCell (ArrivesAnywhere (Arrives (machine_of begins device) acts)) cell
+ranges-at device which sides cell is known begins acts on =
+    subst (λ d. IsCell (ArrivesAnywhere (Arrives (machine_of begins d) acts)) cell) (sym is)
+    (known begins acts (on which))

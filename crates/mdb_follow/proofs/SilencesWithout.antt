@@ -1,6 +1,6 @@
 -- The lists of asks to a device, and its silences, where further devices are left out.
 use Rattle.std.proofs.Common.{ap, arith, cond, refl, subst, sym, ◌∙◌, ◌+◌, ◌≡◌, ℕ, Bool, true, false, not}
-use Rattle.std.proofs.Common.{List, [], ◌∷◌, Option, Some, None}
+use Rattle.std.proofs.Common.{List, [], ◌∷◌, Some}
 use Rattle.std.proofs.lemmas.Bool.{eqb-true}
 use Rattle.std.proofs.lemmas.List.Sums.{sum_by-cons}
 use Rattle.std.specs.List.{AllByRecursion, count_by}
@@ -11,6 +11,7 @@ use Rattle.mdb_msgs.specs.declared.command.Device.{Device}
 use Rattle.mdb_msgs.specs.declared.device_set.DeviceSet.{DeviceSet}
 use Rattle.mdb_bus.specs.declared.act.Act.{Act}
 use Rattle.mdb_bus.specs.declared.act.Act.TheVariants as acts
+use Rattle.mdb_bus.specs.declared.scope.Beginning.{Beginning}
 use Rattle.mdb_bus.specs.declared.scope.Scope.{Scope}
 use Rattle.mdb_bus.specs.ActLists.{ArePieces, AskTail, Piece, RepeatTail, ReplyTail, Whole, acts_of}
 use Rattle.mdb_bus.specs.ActLists.{piece_events}
@@ -43,108 +44,115 @@ go_on : Bool → Bool → TimedAsk → List (List TimedAsk) → List (List Timed
 go_on ends more ask lists =
     cond ends ([] ∷ lists) (cond more (with_ask ask lists) lists)
 
-one_more : (device : Device) (act : Act) (events : List Event) (pieces : List Piece)
-    → asks_of device (Whole act events ∷ pieces)
+one_more : (begins : Beginning) (device : Device) (act : Act) (events : List Event)
+    (pieces : List Piece)
+    → asks_of begins device (Whole act events ∷ pieces)
     ≡ go_on (ends_asking device act) (asks device act)
-    (record { at = last_start events; limit = limit_of device (acts_of pieces) })
-    (asks_of device pieces)
+    (record { at = last_start events; limit = limit_of begins device (acts_of pieces) })
+    (asks_of begins device pieces)
 unfolding go_on
-one_more device act events pieces = refl
+one_more begins device act events pieces = refl
 
 -- an act that neither ends asking nor asks leaves the lists
-leaves : (device : Device) (act : Act) (events : List Event) (pieces : List Piece)
+leaves : (begins : Beginning) (device : Device) (act : Act) (events : List Event)
+    (pieces : List Piece)
     → ends_asking device act ≡ false → asks device act ≡ false
-    → asks_of device (Whole act events ∷ pieces) ≡ asks_of device pieces
+    → asks_of begins device (Whole act events ∷ pieces) ≡ asks_of begins device pieces
 unfolding go_on
-leaves device act events pieces ends none =
+leaves begins device act events pieces ends none =
     let ask : TimedAsk =
-    record { at = last_start events; limit = limit_of device (acts_of pieces) } in
-    one_more device act events pieces
-    ∙ ap (λ b. go_on b (asks device act) ask (asks_of device pieces)) ends
-    ∙ ap (λ b. go_on false b ask (asks_of device pieces)) none
+    record { at = last_start events; limit = limit_of begins device (acts_of pieces) } in
+    one_more begins device act events pieces
+    ∙ ap (λ b. go_on b (asks device act) ask (asks_of begins device pieces)) ends
+    ∙ ap (λ b. go_on false b ask (asks_of begins device pieces)) none
 
 -- foreign acts leave the lists
-over_foreign : (device : Device) (events : List Event) (pieces : List Piece)
-    → asks_of device (with_foreign events pieces) ≡ asks_of device pieces
-over_foreign device [] pieces = refl
-over_foreign device (event ∷ events) pieces =
-    over_foreign device events (Whole acts.Foreign (event ∷ []) ∷ pieces)
+over_foreign : (begins : Beginning) (device : Device) (events : List Event) (pieces : List Piece)
+    → asks_of begins device (with_foreign events pieces) ≡ asks_of begins device pieces
+over_foreign begins device [] pieces = refl
+over_foreign begins device (event ∷ events) pieces =
+    over_foreign begins device events (Whole acts.Foreign (event ∷ []) ∷ pieces)
 
 -- and so does a piece of a device that is left out
-of_other : (scope : Scope) (device : Device) (piece : Piece) (pieces : List Piece)
+of_other : (begins : Beginning) (scope : Scope) (device : Device) (piece : Piece)
+    (pieces : List Piece)
     → IsFollowed scope device → is_left_out scope piece ≡ true
-    → asks_of device (piece ∷ pieces) ≡ asks_of device pieces
-of_other scope device (Whole (acts.Ask command) events) pieces followed left =
-    leaves device (acts.Ask command) events pieces refl
+    → asks_of begins device (piece ∷ pieces) ≡ asks_of begins device pieces
+of_other begins scope device (Whole (acts.Ask command) events) pieces followed left =
+    leaves begins device (acts.Ask command) events pieces refl
     (two_devices scope.without device (device_of command) false followed left)
-of_other scope device (Whole (acts.Ack command) events) pieces followed left =
-    leaves device (acts.Ack command) events pieces
+of_other begins scope device (Whole (acts.Ack command) events) pieces followed left =
+    leaves begins device (acts.Ack command) events pieces
     (two_devices scope.without device (device_of command) false followed left) refl
-of_other scope device (Whole (acts.Nak command) events) pieces followed left =
-    leaves device (acts.Nak command) events pieces
+of_other begins scope device (Whole (acts.Nak command) events) pieces followed left =
+    leaves begins device (acts.Nak command) events pieces
     (two_devices scope.without device (device_of command) false followed left) refl
-of_other scope device (Whole (acts.Reply command reply) events) pieces followed left =
-    leaves device (acts.Reply command reply) events pieces
+of_other begins scope device (Whole (acts.Reply command reply) events) pieces followed left =
+    leaves begins device (acts.Reply command reply) events pieces
     (two_devices scope.without device (device_of command) false followed left) refl
-of_other scope device (Whole (acts.VmcAck command reply) events) pieces followed left = refl
-of_other scope device (Whole (acts.VmcNak command reply) events) pieces followed left = refl
-of_other scope device (Whole (acts.VmcRet command reply) events) pieces followed left = refl
-of_other scope device (Whole (acts.Repeat command reply) events) pieces followed left = refl
-of_other scope device (Whole acts.Foreign events) pieces followed left = refl
-of_other scope device (Whole (acts.Break length) events) pieces followed left =
+of_other begins scope device (Whole (acts.VmcAck command reply) events) pieces followed left = refl
+of_other begins scope device (Whole (acts.VmcNak command reply) events) pieces followed left = refl
+of_other begins scope device (Whole (acts.VmcRet command reply) events) pieces followed left = refl
+of_other begins scope device (Whole (acts.Repeat command reply) events) pieces followed left = refl
+of_other begins scope device (Whole acts.Foreign events) pieces followed left = refl
+of_other begins scope device (Whole (acts.Break length) events) pieces followed left =
     let clash : false ≡ true = left in absurd (cc clash)
-of_other scope device (AskTail bytes events) pieces followed left = refl
-of_other scope device (ReplyTail command bytes events) pieces followed left = refl
-of_other scope device (RepeatTail command reply words events) pieces followed left = refl
+of_other begins scope device (AskTail bytes events) pieces followed left = refl
+of_other begins scope device (ReplyTail command bytes events) pieces followed left = refl
+of_other begins scope device (RepeatTail command reply words events) pieces followed left = refl
 
 -- after pieces with the same lists and the same limit, a piece makes the same lists
-alike : (device : Device) (piece : Piece) (one other : List Piece)
-    → asks_of device one ≡ asks_of device other
-    → limit_of device (acts_of one) ≡ limit_of device (acts_of other)
-    → asks_of device (piece ∷ one) ≡ asks_of device (piece ∷ other)
-alike device (Whole act events) one other same limits =
-    one_more device act events one
+alike : (begins : Beginning) (device : Device) (piece : Piece) (one other : List Piece)
+    → asks_of begins device one ≡ asks_of begins device other
+    → limit_of begins device (acts_of one) ≡ limit_of begins device (acts_of other)
+    → asks_of begins device (piece ∷ one) ≡ asks_of begins device (piece ∷ other)
+alike begins device (Whole act events) one other same limits =
+    one_more begins device act events one
     ∙ ap (λ (n : ℕ). go_on (ends_asking device act) (asks device act)
-    (record { at = last_start events; limit = n }) (asks_of device one)) limits
+    (record { at = last_start events; limit = n }) (asks_of begins device one)) limits
     ∙ ap (λ (lists : List (List TimedAsk)). go_on (ends_asking device act) (asks device act)
-    (record { at = last_start events; limit = limit_of device (acts_of other) }) lists) same
-    ∙ sym (one_more device act events other)
-alike device (AskTail bytes events) one other same limits = same
-alike device (ReplyTail command bytes events) one other same limits = same
-alike device (RepeatTail command reply words events) one other same limits = same
+    (record { at = last_start events; limit = limit_of begins device (acts_of other) }) lists) same
+    ∙ sym (one_more begins device act events other)
+alike begins device (AskTail bytes events) one other same limits = same
+alike begins device (ReplyTail command bytes events) one other same limits = same
+alike begins device (RepeatTail command reply words events) one other same limits = same
 
 -- The limit of a device that is followed is the same without further devices, after any pieces.
-abbrev pub LimitsStay : Scope → Device → Type 0
-LimitsStay scope device = (pieces : List Piece)
-    → limit_of device (acts_of (leave_out scope pieces)) ≡ limit_of device (acts_of pieces)
+abbrev pub LimitsStay : Beginning → Scope → Device → Type 0
+LimitsStay begins scope device = (pieces : List Piece)
+    → limit_of begins device (acts_of (leave_out scope pieces))
+    ≡ limit_of begins device (acts_of pieces)
 
 -- the newest piece is left out, or it stays
-newest : (scope : Scope) (device : Device) (piece : Piece) (pieces : List Piece)
-    → IsFollowed scope device → LimitsStay scope device
-    → asks_of device (leave_out scope pieces) ≡ asks_of device pieces → (left : Bool)
+newest : (begins : Beginning) (scope : Scope) (device : Device) (piece : Piece)
+    (pieces : List Piece)
+    → IsFollowed scope device → LimitsStay begins scope device
+    → asks_of begins device (leave_out scope pieces) ≡ asks_of begins device pieces → (left : Bool)
     → is_left_out scope piece ≡ left
-    → asks_of device (cond left (with_foreign (piece_events piece) (leave_out scope pieces))
-    (piece ∷ leave_out scope pieces)) ≡ asks_of device (piece ∷ pieces)
-newest scope device piece pieces followed stay earlier true left =
-    over_foreign device (piece_events piece) (leave_out scope pieces) ∙ earlier
-    ∙ sym (of_other scope device piece pieces followed left)
-newest scope device piece pieces followed stay earlier false left =
-    alike device piece (leave_out scope pieces) pieces earlier (stay pieces)
+    → asks_of begins device (cond left (with_foreign (piece_events piece) (leave_out scope pieces))
+    (piece ∷ leave_out scope pieces)) ≡ asks_of begins device (piece ∷ pieces)
+newest begins scope device piece pieces followed stay earlier true left =
+    over_foreign begins device (piece_events piece) (leave_out scope pieces) ∙ earlier
+    ∙ sym (of_other begins scope device piece pieces followed left)
+newest begins scope device piece pieces followed stay earlier false left =
+    alike begins device piece (leave_out scope pieces) pieces earlier (stay pieces)
 
 -- so the lists of a device that is followed are the same without further devices
-lists_stay : (scope : Scope) (device : Device) → IsFollowed scope device → LimitsStay scope device
-    → (pieces : List Piece) → asks_of device (leave_out scope pieces) ≡ asks_of device pieces
-lists_stay scope device followed stay [] = refl
-lists_stay scope device followed stay (piece ∷ pieces) =
-    newest scope device piece pieces followed stay
-    (lists_stay scope device followed stay pieces) (is_left_out scope piece) refl
+lists_stay : (begins : Beginning) (scope : Scope) (device : Device) → IsFollowed scope device
+    → LimitsStay begins scope device
+    → (pieces : List Piece) → asks_of begins device (leave_out scope pieces)
+    ≡ asks_of begins device pieces
+lists_stay begins scope device followed stay [] = refl
+lists_stay begins scope device followed stay (piece ∷ pieces) =
+    newest begins scope device piece pieces followed stay
+    (lists_stay begins scope device followed stay pieces) (is_left_out scope piece) refl
 
 -- and so are its silences
-pub silences_stay : (scope : Scope) (device : Device) → IsFollowed scope device
-    → LimitsStay scope device → (pieces : List Piece)
-    → silences device (leave_out scope pieces) ≡ silences device pieces
-silences_stay scope device followed stay pieces =
-    ap (count_by is_silence) (lists_stay scope device followed stay pieces)
+pub silences_stay : (begins : Beginning) (scope : Scope) (device : Device) → IsFollowed scope device
+    → LimitsStay begins scope device → (pieces : List Piece)
+    → silences begins device (leave_out scope pieces) ≡ silences begins device pieces
+silences_stay begins scope device followed stay pieces =
+    ap (count_by is_silence) (lists_stay begins scope device followed stay pieces)
 
 -- acts of pieces name devices that are followed
 abbrev pub NamesFollowed : Scope → Type 0
@@ -156,41 +164,49 @@ NamesFollowed scope = (act : Act) (events : List Event) (pieces : List Piece) (d
 abbrev AreEmpty : List (List TimedAsk) → Type 0
 AreEmpty = AllByRecursion (λ list. list ≡ [])
 
-no_asks : (scope : Scope) → NamesFollowed scope → (device : Device) → IsLeftOut scope device
+no_asks : (begins : Beginning) (scope : Scope) → NamesFollowed scope → (device : Device)
+    → IsLeftOut scope device
     → (piece : Piece) (pieces : List Piece) → ArePieces scope (piece ∷ pieces)
-    → AreEmpty (asks_of device pieces) → AreEmpty (asks_of device (piece ∷ pieces))
-no_asks scope names device left (Whole (acts.Ask command) events) pieces are empty =
-    subst AreEmpty (sym (leaves device (acts.Ask command) events pieces refl
+    → AreEmpty (asks_of begins device pieces) → AreEmpty (asks_of begins device (piece ∷ pieces))
+no_asks begins scope names device left (Whole (acts.Ask command) events) pieces are empty =
+    subst AreEmpty (sym (leaves begins device (acts.Ask command) events pieces refl
     (two_devices scope.without device (device_of command) true left
     (names (acts.Ask command) events pieces (device_of command) are refl)))) empty
-no_asks scope names device left (Whole (acts.Ack command) events) pieces are empty =
-    subst AreEmpty (sym (leaves device (acts.Ack command) events pieces
+no_asks begins scope names device left (Whole (acts.Ack command) events) pieces are empty =
+    subst AreEmpty (sym (leaves begins device (acts.Ack command) events pieces
     (two_devices scope.without device (device_of command) true left
     (names (acts.Ack command) events pieces (device_of command) are refl)) refl)) empty
-no_asks scope names device left (Whole (acts.Nak command) events) pieces are empty =
-    subst AreEmpty (sym (leaves device (acts.Nak command) events pieces
+no_asks begins scope names device left (Whole (acts.Nak command) events) pieces are empty =
+    subst AreEmpty (sym (leaves begins device (acts.Nak command) events pieces
     (two_devices scope.without device (device_of command) true left
     (names (acts.Nak command) events pieces (device_of command) are refl)) refl)) empty
-no_asks scope names device left (Whole (acts.Reply command reply) events) pieces are empty =
-    subst AreEmpty (sym (leaves device (acts.Reply command reply) events pieces
+no_asks begins scope names device left (Whole (acts.Reply command reply) events) pieces are empty =
+    subst AreEmpty (sym (leaves begins device (acts.Reply command reply) events pieces
     (two_devices scope.without device (device_of command) true left
     (names (acts.Reply command reply) events pieces (device_of command) are refl)) refl)) empty
-no_asks scope names device left (Whole (acts.Break length) events) pieces are empty = (refl, empty)
-no_asks scope names device left (Whole acts.Foreign events) pieces are empty = empty
-no_asks scope names device left (Whole (acts.VmcAck command reply) events) pieces are empty = empty
-no_asks scope names device left (Whole (acts.VmcNak command reply) events) pieces are empty = empty
-no_asks scope names device left (Whole (acts.VmcRet command reply) events) pieces are empty = empty
-no_asks scope names device left (Whole (acts.Repeat command reply) events) pieces are empty = empty
-no_asks scope names device left (AskTail bytes events) pieces are empty = empty
-no_asks scope names device left (ReplyTail command bytes events) pieces are empty = empty
-no_asks scope names device left (RepeatTail command reply words events) pieces are empty = empty
+no_asks begins scope names device left (Whole (acts.Break length) events) pieces are empty =
+    (refl, empty)
+no_asks begins scope names device left (Whole acts.Foreign events) pieces are empty = empty
+no_asks begins scope names device left (Whole (acts.VmcAck command reply) events) pieces are empty =
+    empty
+no_asks begins scope names device left (Whole (acts.VmcNak command reply) events) pieces are empty =
+    empty
+no_asks begins scope names device left (Whole (acts.VmcRet command reply) events) pieces are empty =
+    empty
+no_asks begins scope names device left (Whole (acts.Repeat command reply) events) pieces are empty =
+    empty
+no_asks begins scope names device left (AskTail bytes events) pieces are empty = empty
+no_asks begins scope names device left (ReplyTail command bytes events) pieces are empty = empty
+no_asks begins scope names device left (RepeatTail command reply words events) pieces are empty =
+    empty
 
-never_asked : (scope : Scope) → NamesFollowed scope → (device : Device) → IsLeftOut scope device
-    → (pieces : List Piece) → ArePieces scope pieces → AreEmpty (asks_of device pieces)
-never_asked scope names device left [] are = (refl, tt)
-never_asked scope names device left (piece ∷ pieces) are =
-    no_asks scope names device left piece pieces are
-    (never_asked scope names device left pieces are.2)
+never_asked : (begins : Beginning) (scope : Scope) → NamesFollowed scope → (device : Device)
+    → IsLeftOut scope device
+    → (pieces : List Piece) → ArePieces scope pieces → AreEmpty (asks_of begins device pieces)
+never_asked begins scope names device left [] are = (refl, tt)
+never_asked begins scope names device left (piece ∷ pieces) are =
+    no_asks begins scope names device left piece pieces are
+    (never_asked begins scope names device left pieces are.2)
 
 -- empty lists are no silences
 none_among : (lists : List (List TimedAsk)) → AreEmpty lists → count_by is_silence lists ≡ 0
@@ -203,8 +219,9 @@ none_among (list ∷ lists) empty =
     omega (arith, first, rest)
 
 -- so a device that is left out has no silences
-pub no_silences : (scope : Scope) → NamesFollowed scope → (device : Device)
+pub no_silences : (begins : Beginning) (scope : Scope) → NamesFollowed scope → (device : Device)
     → IsLeftOut scope device → (pieces : List Piece) → ArePieces scope pieces
-    → silences device pieces ≡ 0
-no_silences scope names device left pieces are =
-    none_among (asks_of device pieces) (never_asked scope names device left pieces are)
+    → silences begins device pieces ≡ 0
+no_silences begins scope names device left pieces are =
+    none_among (asks_of begins device pieces)
+    (never_asked begins scope names device left pieces are)

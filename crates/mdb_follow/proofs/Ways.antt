@@ -199,7 +199,7 @@ range-start Kind value range none only nothing is = record {
       omega (arith, ints, here, there);
 }
 
-account-start : (Kind : Sums → Type 0) (account : Sums → AccountSums) (ranges : Account)
+pub account-start : (Kind : Sums → Type 0) (account : Sums → AccountSums) (ranges : Account)
     → Kind no_sums → ((sums : Sums) → Kind sums → sums ≡ no_sums)
     → account no_sums ≡ record { device = 0; controller = 0 } → ranges ≡ no_account
     → IsAccount Kind account ranges
@@ -211,33 +211,6 @@ account-start Kind account ranges none only nothing is = record {
   difference = range-start Kind _ ranges.difference none only
       (ap (λ a. pos a.device -ℤ pos a.controller) nothing) (ap (λ r. r.difference) is);
 }
-
--- The table after no act: the one code of the states in which the machine may start, with no sums.
-pub table-start : {State : Type 0} (code_of : State → ℕ) (machine : Machine State) (code : ℕ)
-    (cell : Cell) → cell.first ≡ no_account → cell.second ≡ no_account
-    → ((state : State) → machine.Starts state ↔ (code_of state ≡ code))
-    → (state : State) × (code_of state ≡ code) → IsTable code_of machine [] ((code, cell) ∷ [])
-table-start {State} code_of machine code cell first second starts some =
-    let Comes : ℕ → Sums → Type 0 = ArrivesAt code_of (Arrives machine []) in
-    let way : Arrives machine [] some.0 no_sums = ((starts some.0).1 some.1, refl) in
-    let here : Comes code no_sums = record { state = some.0; is = some.1; way = way } in
-    let only : (sums : Sums) → Comes code sums → sums ≡ no_sums = λ sums comes. comes.way.1 in
-    let exact : IsCell (Comes code) cell = record {
-      first = account-start (Comes code) (λ sums. sums.first) cell.first here only refl first;
-      second = account-start (Comes code) (λ sums. sums.second) cell.second here only refl second;
-    } in
-    record {
-      some = (some.0, no_sums, way);
-      bounds = record {
-        exact = λ other found has. elim (contains-cases (code, cell) [] (other, found) has) [
-          | inl same ↦ subst (λ (e : ℕ × Cell). IsCell (Comes e.0) e.1) same exact
-          | inr rest ↦ absurd (contains-none (other, found) rest)
-        ];
-        whole = λ other sums comes.
-            let same : code ≡ other = sym ((starts comes.state).0 comes.way.0) ∙ comes.is in
-            (cell, contains-here (code, cell) [] (other, cell) (ap (λ c. (c, cell)) same));
-      };
-    }
 
 -- Where there is no entry, nothing arrives.
 pub nothing-arrives : {State : Type 0} (code_of : State → ℕ)

@@ -1,15 +1,26 @@
--- How far from 0 the ends of the tables of all sides are, by the rows of a recording.
+-- How far from 0 the ends of the tables of all sides and their counts are, by the rows of a
+-- recording.
 use Rattle.std.proofs.Common.{ℕ, ◌+◌, ◌*◌, ◌≤◌, ◌^◌, arith}
+use Rattle.mdb_follow.specs.declared.side.Side.{Side}
 use Rattle.mdb_follow.specs.declared.sides.Sides.{Sides}
 use Rattle.mdb_bus.specs.declared.act.Act.{Act}
 use Rattle.mdb_follow.specs.Sides.{side_in}
-use Rattle.mdb_follow.specs.inner.SideSteps.{AreWithin, SidesFollow}
+use Rattle.mdb_follow.specs.inner.SideSteps.{AreWithin, IsSideWithin, SidesFollow}
 use Rattle.mdb_follow.proofs.Limits.{table-within-weaker}
+
+pub side-within-weaker : {Facts : Type 0} {N : ℕ} (limit more : ℕ) (side : Side Facts N)
+    → limit ≤ more → IsSideWithin limit side → IsSideWithin more side
+side-within-weaker limit more side le is =
+    let count = is.count in
+    record {
+      ends = table-within-weaker limit more side.table le is.ends;
+      count = omega (arith, le, count);
+    }
 
 pub sides-within-weaker : (limit more : ℕ) (sides : Sides) → limit ≤ more
     → AreWithin limit sides → AreWithin more sides
 sides-within-weaker limit more sides le is device =
-    table-within-weaker limit more (side_in sides device).table le (is device)
+    side-within-weaker limit more (side_in sides device) le (is device)
 
 -- what `lead` requires, of a recording of at most 100,000,000 rows
 pub sides-within-rows : (rows : ℕ) (sides : Sides) → rows ≤ 100000000

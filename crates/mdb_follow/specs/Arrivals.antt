@@ -3,6 +3,7 @@
 use Rattle.std.specs.Prelude.{◌≡◌, List, [], ◌∷◌}
 use Rattle.mdb_msgs.specs.declared.command.Device.{Device}
 use Rattle.mdb_bus.specs.declared.act.Act.{Act}
+use Rattle.mdb_bus.specs.declared.scope.Beginning.{Beginning}
 use Rattle.mdb_cash.specs.declared.choice.Choice.{Choice}
 use Rattle.mdb_cash.specs.declared.gains.Gains.{Gains}
 use Rattle.mdb_cash.specs.Choices.{CanStand}
@@ -31,7 +32,8 @@ Arrives machine [] state sums = machine.Starts state × (sums ≡ no_sums)
 Arrives machine (act ∷ acts) state sums =
     ArrivesBy act (Arrives machine acts) (machine.Step acts act) state sums
 
--- Each device has a way of its own through acts, by its machine, to its state with its sums.
-abbrev pub EachArrives : List Act → States → AllSums → Type 0
-EachArrives acts states sums =
-    (device : Device) → Arrives (machine_of device) acts (states device) (sums device)
+-- Each device has a way of its own through acts, by its machine, to its state with its sums, in a
+-- recording that begins so.
+abbrev pub EachArrives : Beginning → List Act → States → AllSums → Type 0
+EachArrives begins acts states sums =
+    (device : Device) → Arrives (machine_of begins device) acts (states device) (sums device)

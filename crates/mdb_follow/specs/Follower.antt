@@ -29,5 +29,6 @@ pub record StandsFor (follower : Follower) (events : List Event) : Type 0 where
   pub whole : events_of pieces ≡ events
   pub rows : follower.rows ≡ length events
   pub going : follower.offence ≡ None
-  pub sides : AreSides follower.sides (acts_of pieces)
-  pub silences : AllStandForAsks follower.silences (λ device. asks_of device pieces)
+  pub sides : AreSides (scope_of follower).begins follower.sides (acts_of pieces)
+  pub silences : AllStandForAsks follower.silences
+      (λ device. asks_of (scope_of follower).begins device pieces)

@@ -1,12 +1,17 @@
 -- What runs and reports come to where further devices are left out (this profile).
-use Rattle.std.specs.Prelude.{◌≡◌, Option, None}
+use Rattle.std.specs.Prelude.{◌≡◌, None}
 use Rattle.mdb_msgs.specs.declared.command.Device.{Device}
+use Rattle.mdb_msgs.specs.declared.command.Device.TheVariants as devices
+use Rattle.mdb_msgs.specs.Setups.{config_known}
+use Rattle.mdb_bus.specs.declared.scope.Beginning.{Beginning}
+use Rattle.mdb_bus.specs.declared.scope.Beginning.TheVariants.{PowerOn, Joined}
 use Rattle.mdb_bus.specs.declared.scope.Scope.{Scope}
 use Rattle.mdb_bus.specs.Scopes.{IsFollowed, IsLeftOut}
 use Rattle.mdb_follow.specs.declared.account_name.AccountName.{AccountName}
 use Rattle.mdb_follow.specs.declared.report.Report.{Report}
 use Rattle.mdb_follow.specs.AccountNames.{account_device}
-use Rattle.mdb_follow.specs.Report.{account_of, device_decimals, device_silences, no_account}
+use Rattle.mdb_follow.specs.Report.{account_of, device_decimals, device_silences, device_unvalued}
+use Rattle.mdb_follow.specs.Report.{no_account}
 use Rattle.mdb_follow.specs.Runs.{AllSums}
 use Rattle.mdb_follow.specs.Sums.{no_sums}
 
@@ -15,12 +20,22 @@ pub record AreSumsWithout (scope : Scope) (sums other : AllSums) : Type 0 where
   pub followed : (device : Device) → IsFollowed scope device → other device ≡ sums device
   pub left_out : (device : Device) → IsLeftOut scope device → other device ≡ no_sums
 
--- a report has nothing of the devices that a scope leaves out
+-- Nothing is known from elsewhere of how a device is set up; from power-on nothing ever is.
+abbrev pub IsNotKnown : Beginning → Device → Type 0
+IsNotKnown PowerOn device = Unit {0}
+IsNotKnown (Joined setups) devices.Changer = setups.changer ≡ None
+IsNotKnown (Joined setups) devices.Bill = setups.bill ≡ None
+IsNotKnown (Joined setups) (devices.Reader unit) = config_known setups unit ≡ None
+
+-- A report has nothing of the devices that a scope leaves out, but for decimal places that are
+-- known from elsewhere.
 pub record HasNothingLeftOut (scope : Scope) (report : Report) : Type 0 where
   pub accounts : (account : AccountName) → IsLeftOut scope (account_device account)
       → account_of account report ≡ no_account
-  pub decimals : (device : Device) → IsLeftOut scope device → device_decimals device report ≡ None
+  pub decimals : (device : Device) → IsLeftOut scope device → IsNotKnown scope.begins device
+      → device_decimals device report ≡ None
   pub silences : (device : Device) → IsLeftOut scope device → device_silences device report ≡ 0
+  pub unvalued : (device : Device) → IsLeftOut scope device → device_unvalued device report ≡ 0
 
 -- two reports have the same of the devices that a scope follows
 pub record HaveSameFollowed (scope : Scope) (one other : Report) : Type 0 where
@@ -31,3 +46,5 @@ pub record HaveSameFollowed (scope : Scope) (one other : Report) : Type 0 where
       → device_decimals device one ≡ device_decimals device other
   pub silences : (device : Device) → IsFollowed scope device
       → device_silences device one ≡ device_silences device other
+  pub unvalued : (device : Device) → IsFollowed scope device
+      → device_unvalued device one ≡ device_unvalued device other

@@ -1,6 +1,7 @@
 -- The machine of each device: what the device and the controller may do.
 use Rattle.mdb_msgs.specs.declared.command.Device.{Device}
 use Rattle.mdb_msgs.specs.declared.command.Device.TheVariants as devices
+use Rattle.mdb_bus.specs.declared.scope.Beginning.{Beginning}
 use Rattle.mdb_cash.specs.declared.bill.state.BillState.{BillState}
 use Rattle.mdb_cash.specs.declared.changer.state.ChangerState.{ChangerState}
 use Rattle.mdb_cash.specs.Bill as bill
@@ -15,8 +16,8 @@ StateOf devices.Changer = ChangerState
 StateOf devices.Bill = BillState
 StateOf (devices.Reader unit) = ReaderState
 
--- the machine of the changer, of the validator and of each reader
-abbrev pub machine_of : (device : Device) → Machine (StateOf device)
-machine_of devices.Changer = changer.machine
-machine_of devices.Bill = bill.machine
-machine_of (devices.Reader unit) = reader.machine unit
+-- the machine of the changer, of the validator and of each reader, in a recording that begins so
+abbrev pub machine_of : Beginning → (device : Device) → Machine (StateOf device)
+machine_of begins devices.Changer = changer.machine begins
+machine_of begins devices.Bill = bill.machine begins
+machine_of begins (devices.Reader unit) = reader.machine unit begins

@@ -9,6 +9,7 @@ use Rattle.mdb_bus.specs.declared.fault.Rule.{Rule}
 use Rattle.mdb_bus.specs.declared.fault.Rule.TheVariants as rules
 use Rattle.mdb_bus.specs.ActLists.{Piece, Whole, IsActList, acts_of}
 use Rattle.mdb_bus.specs.LinkFaults.{IsLinkFault}
+use Rattle.mdb_bus.specs.declared.scope.Beginning.{Beginning}
 use Rattle.mdb_cash.specs.declared.choice.Choice.{Choice}
 use Rattle.mdb_cash.specs.declared.gains.Gains.{Gains}
 use Rattle.mdb_cash.specs.Choices.{CanStand}
@@ -43,10 +44,11 @@ rule_of devices.Bill = rules.Bill
 rule_of (devices.Reader unit) = rules.Cashless
 
 -- The machine of a device that a rule is of has no step by an act.
-pub record NoStep (broken : Rule) (act : Act) (before : List Act) : Type 0 where
+pub record NoStep (begins : Beginning) (broken : Rule) (act : Act) (before : List Act)
+    : Type 0 where
   pub device : Device
   pub rule : broken ≡ rule_of device
-  pub none : HasNoStep (machine_of device) act before
+  pub none : HasNoStep (machine_of begins device) act before
 
 -- The act that a row ends can't have been done by its device and the controller.
 pub record BreaksMachine (scope : Scope) (events : List Event) (row : Event) (broken : Rule)
@@ -56,11 +58,12 @@ pub record BreaksMachine (scope : Scope) (events : List Event) (row : Event) (br
   pub begun : List Event
   pub earlier : List Piece
   pub act_list : IsActList scope (Whole act (begun ++ row ∷ []) ∷ earlier) (events ++ row ∷ [])
-  pub no_step : NoStep broken act (acts_of earlier)
+  pub no_step : NoStep scope.begins broken act (acts_of earlier)
   pub blame : blamed ≡ sender_of act
 
 -- the offence of a row after rows that are reached: the row isn't
-pub record IsOffence (scope : Scope) (events : List Event) (row : Event) (offence : Offence) : Type 0 where
+pub record IsOffence (scope : Scope) (events : List Event) (row : Event) (offence : Offence)
+    : Type 0 where
   pub reached : IsReached scope events
   pub not_reached : IsReached scope (events ++ row ∷ []) → ⊥
   pub number : offence.row ≡ length events + 1
@@ -68,7 +71,8 @@ pub record IsOffence (scope : Scope) (events : List Event) (row : Event) (offenc
       ⊎ BreaksMachine scope events row offence.rule offence.blame
 
 -- the offence of some row of these events, after the earlier ones and those before it
-pub record HasOffence (scope : Scope) (earlier events : List Event) (offence : Offence) : Type 0 where
+pub record HasOffence (scope : Scope) (earlier events : List Event) (offence : Offence)
+    : Type 0 where
   pub front : List Event
   pub row : Event
   pub rest : List Event

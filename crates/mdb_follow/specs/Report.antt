@@ -5,8 +5,12 @@ use Rattle.mdb_msgs.specs.declared.command.Device.{Device}
 use Rattle.mdb_msgs.specs.declared.command.Device.TheVariants as devices
 use Rattle.mdb_bus.specs.declared.act.Act.{Act}
 use Rattle.mdb_bus.specs.ActLists.{IsActList, Piece, acts_of}
+use Rattle.mdb_bus.specs.declared.scope.Beginning.{Beginning}
+use Rattle.mdb_cash.specs.Bill as bill
 use Rattle.mdb_cash.specs.BillFacts as bill_facts
+use Rattle.mdb_cash.specs.Changer as changer
 use Rattle.mdb_cash.specs.ChangerFacts as changer_facts
+use Rattle.mdb_cashless.specs.Reader as reader
 use Rattle.mdb_cashless.specs.ReaderFacts as reader_facts
 use Rattle.mdb_follow.specs.declared.account_name.AccountName.{AccountName}
 use Rattle.mdb_follow.specs.declared.account_name.TheConstants.AccountName.{ALL}
@@ -37,15 +41,23 @@ abbrev pub AreAccounts : (AllSums → Type 0) → (AccountName → Account) → 
 AreAccounts Kind accounts =
     (account : AccountName) → IsAccount Kind (sums_of account) (accounts account)
 
--- the decimal places that a device has told in these acts: in its last setup table, a reader in its
--- last config message, heard or not
-abbrev pub decimals_of : Device → List Act → Option ℕ
-decimals_of devices.Changer acts =
-    option_map (λ setup. setup.decimals) (changer_facts.facts_of acts).setup
-decimals_of devices.Bill acts =
-    option_map (λ setup. setup.decimals) (bill_facts.facts_of acts).setup
-decimals_of (devices.Reader unit) acts =
-    option_map (λ config. config.decimals) (reader_facts.facts_of unit acts).config
+-- the decimal places of a device after these acts, in a recording that begins so: those that it
+-- has told in its last setup table, a reader in its last config message, heard or not; where it has
+-- told none, those that are known from elsewhere
+abbrev pub decimals_of : Beginning → Device → List Act → Option ℕ
+decimals_of begins devices.Changer acts =
+    option_map (λ setup. setup.decimals) (changer_facts.known_of begins acts).setup
+decimals_of begins devices.Bill acts =
+    option_map (λ setup. setup.decimals) (bill_facts.known_of begins acts).setup
+decimals_of begins (devices.Reader unit) acts =
+    option_map (λ config. config.decimals) (reader_facts.known_of begins unit acts).config
+
+-- how many amounts these acts tell of a device that have no value, since nothing tells how it is
+-- set up
+abbrev pub unvalued_of : Beginning → Device → List Act → ℕ
+unvalued_of begins devices.Changer = changer.unvalued begins
+unvalued_of begins devices.Bill = bill.unvalued begins
+unvalued_of begins (devices.Reader unit) = reader.unvalued unit begins
 
 -- the decimal places that a report has of a device
 abbrev pub device_decimals : Device → Report → Option ℕ
@@ -55,21 +67,27 @@ device_decimals device report = get_or report.decimals (device_place device) Non
 abbrev pub device_silences : Device → Report → ℕ
 device_silences device report = get_or report.silences (device_place device) 0
 
--- the report of so many rows, which are these pieces, with these accounts
-abbrev pub report_of : ℕ → List Piece → (AccountName → Account) → Report
-report_of rows pieces accounts = record {
+-- how many amounts without a value a report has of it
+abbrev pub device_unvalued : Device → Report → ℕ
+device_unvalued device report = get_or report.unvalued (device_place device) 0
+
+-- the report of so many rows, which are these pieces of a recording that begins so, with these
+-- accounts
+abbrev pub report_of : Beginning → ℕ → List Piece → (AccountName → Account) → Report
+report_of begins rows pieces accounts = record {
   rows = rows;
-  decimals = map (λ device. decimals_of device (acts_of pieces)) DEVICES;
+  decimals = map (λ device. decimals_of begins device (acts_of pieces)) DEVICES;
   accounts = map accounts ALL;
-  silences = map (λ device. silences device pieces) DEVICES;
+  silences = map (λ device. silences begins device pieces) DEVICES;
+  unvalued = map (λ device. unvalued_of begins device (acts_of pieces)) DEVICES;
 }
 
 -- The report on rows that are reached: each end of each range is the value of some run, and no
--- run's lies outside. Decimals and silences are those of the act list.
+-- run's lies outside. Decimals, silences and the amounts without a value are those of the act list.
 pub record IsReport (scope : Scope) (events : List Event) (report : Report) : Type 0 where
   pub reached : IsReached scope events
   pub pieces : List Piece
   pub act_list : IsActList scope pieces events
   pub accounts : AccountName → Account
   pub of_runs : AreAccounts (Run scope events) accounts
-  pub telling : report ≡ report_of (length events) pieces accounts
+  pub telling : report ≡ report_of scope.begins (length events) pieces accounts

@@ -7,6 +7,7 @@ use Rattle.mdb_bus.specs.declared.act.Act.{Act}
 use Rattle.mdb_bus.specs.ActLists.{Piece, Whole, IsActList, acts_of, events_of}
 use Rattle.mdb_bus.specs.Acts.{IsAck}
 use Rattle.mdb_bus.specs.Loss.{IsHeard, Loss, LossFits}
+use Rattle.mdb_bus.specs.declared.scope.Beginning.{Beginning}
 use Rattle.mdb_cash.specs.declared.choice.Choice.{Choice}
 use Rattle.mdb_cash.specs.declared.choice.Choice.TheVariants.{Lost}
 use Rattle.mdb_cash.specs.declared.gains.Gains.{Gains}
@@ -30,16 +31,17 @@ pub record Goes {State : Type 0} (Step : State → State → Gains → Type 0) (
   pub step : Step before after gains
   pub adds : sums ≡ added sums_before gains
 
--- A step of all by an act under one choice, after other acts: each device and the controller by its
--- machine.
-abbrev pub AllGo : List Act → Act → Choice → States → States → AllSums → AllSums → Type 0
-AllGo acts act choice before after sums_before sums =
-    (device : Device) → Goes ((machine_of device).Step acts act choice) (before device)
+-- A step of all by an act under one choice, after other acts of a recording that begins so: each
+-- device and the controller by its machine.
+abbrev pub AllGo : Beginning → List Act → Act → Choice → States → States → AllSums → AllSums
+    → Type 0
+AllGo begins acts act choice before after sums_before sums =
+    (device : Device) → Goes ((machine_of begins device).Step acts act choice) (before device)
     (after device) (sums_before device) (sums device)
 
 -- A way goes on by one act, under a choice that can stand on it: an ACK is one that its receiver
 -- didn't hear exactly where the loss of its rows has it so.
-pub record GoesOnBy (loss : Loss) (pieces : List Piece) (act : Act) (count : ℕ)
+pub record GoesOnBy (begins : Beginning) (loss : Loss) (pieces : List Piece) (act : Act) (count : ℕ)
     (Before : States → AllSums → Type 0) (states : States) (sums : AllSums) : Type 0 where
   pub choice : Choice
   pub stands : CanStand act choice
@@ -48,16 +50,17 @@ pub record GoesOnBy (loss : Loss) (pieces : List Piece) (act : Act) (count : ℕ
   pub before : States
   pub sums_before : AllSums
   pub way : Before before sums_before
-  pub go : AllGo (acts_of pieces) act choice before states sums_before sums
+  pub go : AllGo begins (acts_of pieces) act choice before states sums_before sums
 
--- A way through pieces under a loss, from states in which the machines may start, leads to these
--- states with these sums. Tails change nothing.
-abbrev pub IsWay : Loss → List Piece → States → AllSums → Type 0
-IsWay loss [] states sums =
-    (device : Device) → (machine_of device).Starts (states device) × (sums device ≡ no_sums)
-IsWay loss (Whole act events ∷ pieces) states sums =
-    GoesOnBy loss pieces act (length events) (IsWay loss pieces) states sums
-IsWay loss (piece ∷ pieces) states sums = IsWay loss pieces states sums
+-- A way through pieces of a recording that begins so, under a loss, from states in which the
+-- machines may start, leads to these states with these sums. Tails change nothing.
+abbrev pub IsWay : Beginning → Loss → List Piece → States → AllSums → Type 0
+IsWay begins loss [] states sums =
+    (device : Device)
+    → (machine_of begins device).Starts (states device) × (sums device ≡ no_sums)
+IsWay begins loss (Whole act events ∷ pieces) states sums =
+    GoesOnBy begins loss pieces act (length events) (IsWay begins loss pieces) states sums
+IsWay begins loss (piece ∷ pieces) states sums = IsWay begins loss pieces states sums
 
 -- Under two losses the same ACKs of the pieces, of devices and of the controller, were heard.
 abbrev pub HearSameAcks : Loss → Loss → List Piece → Type 0
@@ -75,7 +78,7 @@ pub record Run (scope : Scope) (events : List Event) (sums : AllSums) : Type 0 w
   pub loss : Loss
   pub fits : LossFits loss pieces
   pub states : States
-  pub way : IsWay loss pieces states sums
+  pub way : IsWay scope.begins loss pieces states sums
 
 -- rows are reached where they have a run
 abbrev pub IsReached : Scope → List Event → Type 0

@@ -7,7 +7,8 @@ use Rattle.mdb_cashless.specs.Sales.{SalesAreApproved}
 use Rattle.mdb_follow.specs.Runs.{AllSums, Run}
 use Rattle.mdb_bus.specs.declared.scope.Scope.{Scope}
 
--- In every run of the rows, each sale at either reader follows its approval.
+-- In every run of the rows, each sale at either reader follows its approval. In a recording that
+-- begins in mid-session so does each before which the controller requests one there.
 abbrev pub SalesFollowApprovals : Scope → List Event → Type 0
 SalesFollowApprovals scope rows = (sums : AllSums) (run : Run scope rows sums) (unit : ReaderUnit)
-    → SalesAreApproved unit (acts_of run.pieces)
+    → SalesAreApproved scope.begins unit (acts_of run.pieces)

@@ -4,6 +4,7 @@ use Rattle.mdb_msgs.specs.declared.command.Device.{Device}
 use Rattle.mdb_msgs.specs.declared.command.Device.TheVariants as devices
 use Rattle.mdb_msgs.specs.declared.command.ReaderUnit.TheVariants.{First, Second}
 use Rattle.mdb_bus.specs.declared.act.Act.{Act}
+use Rattle.mdb_bus.specs.declared.scope.Beginning.{Beginning}
 use Rattle.mdb_cash.specs.BillFacts as bill_facts
 use Rattle.mdb_cash.specs.BillValues as bill_values
 use Rattle.mdb_cash.specs.ChangerFacts as changer_facts
@@ -11,35 +12,40 @@ use Rattle.mdb_cash.specs.ChangerValues as changer_values
 use Rattle.mdb_cash.specs.Machine.{Machine}
 use Rattle.mdb_cash.specs.inner.BillCodes as bill_codes
 use Rattle.mdb_cash.specs.inner.ChangerCodes as changer_codes
-use Rattle.mdb_cashless.specs.declared.reader.facts.ReaderFacts.{ReaderFacts}
+use Rattle.mdb_cashless.specs.declared.reader.known.ReaderKnown.{ReaderKnown}
 use Rattle.mdb_cashless.specs.ReaderFacts as reader_facts
 use Rattle.mdb_cashless.specs.ReaderValues as reader_values
 use Rattle.mdb_cashless.specs.inner.ReaderCodes as reader_codes
 use Rattle.mdb_follow.specs.declared.side.Side.{Side}
 use Rattle.mdb_follow.specs.declared.sides.Sides.{Sides}
 use Rattle.mdb_follow.specs.Machines.{StateOf, machine_of}
+use Rattle.mdb_follow.specs.Report.{unvalued_of}
 use Rattle.mdb_follow.specs.Tables.{IsTable}
 
--- A side stands for acts, the newest first: its facts are those after them, and its table has the
--- states that the ways through them lead to.
+-- A side stands for acts, the newest first: what it has of the facts is what is known after them,
+-- its table has the states that the ways through them lead to, and its count is that of the amounts
+-- without a value that they tell.
 pub record IsSide {Facts State : Type 0} {N : ℕ} (stands_for : Facts → List Act → Type 0)
-    (code_of : State → ℕ) (machine : Machine State) (side : Side Facts N)
+    (code_of : State → ℕ) (machine : Machine State) (unvalued : List Act → ℕ) (side : Side Facts N)
     (acts : List Act) : Type 0 where
   pub facts : stands_for side.facts acts
   pub table : IsTable code_of machine acts side.table
+  pub counted : side.unvalued ≡ unvalued acts
 
--- what is kept of the facts of a device, and that they are those after acts
+-- what is kept of the facts of a device, and that this is what is known after acts of a recording
+-- that begins so
 abbrev pub FactsOf : Device → Type 0
 FactsOf devices.Changer = changer_values.Value
 FactsOf devices.Bill = bill_values.Value
-FactsOf (devices.Reader unit) = ReaderFacts
+FactsOf (devices.Reader unit) = ReaderKnown
 
-abbrev pub stands_for : (device : Device) → FactsOf device → List Act → Type 0
-stands_for devices.Changer facts acts =
-    changer_values.facts_in facts ≡ changer_facts.facts_of acts
-stands_for devices.Bill facts acts = bill_values.facts_in facts ≡ bill_facts.facts_of acts
-stands_for (devices.Reader unit) facts acts =
-    reader_values.facts_in facts ≡ reader_facts.facts_of unit acts
+abbrev pub stands_for : Beginning → (device : Device) → FactsOf device → List Act → Type 0
+stands_for begins devices.Changer facts acts =
+    changer_values.known_in facts ≡ changer_facts.known_of begins acts
+stands_for begins devices.Bill facts acts =
+    bill_values.known_in facts ≡ bill_facts.known_of begins acts
+stands_for begins (devices.Reader unit) facts acts =
+    reader_values.known_in facts ≡ reader_facts.known_of begins unit acts
 
 -- how many states its machine has, and their codes
 abbrev pub codes_of : Device → ℕ
@@ -52,13 +58,14 @@ code_of devices.Changer = changer_codes.code_of
 code_of devices.Bill = bill_codes.code_of
 code_of (devices.Reader unit) = reader_codes.code_of
 
--- what a follower keeps of a device, and that it stands for acts
+-- what a follower keeps of a device, and that it stands for acts of a recording that begins so
 abbrev pub SideOf : Device → Type 0
 SideOf device = Side (FactsOf device) (codes_of device)
 
-abbrev pub IsSideOf : (device : Device) → SideOf device → List Act → Type 0
-IsSideOf device side acts =
-    IsSide (stands_for device) (code_of device) (machine_of device) side acts
+abbrev pub IsSideOf : Beginning → (device : Device) → SideOf device → List Act → Type 0
+IsSideOf begins device side acts =
+    IsSide (stands_for begins device) (code_of device) (machine_of begins device)
+    (unvalued_of begins device) side acts
 
 -- the side of a device
 abbrev pub side_in : Sides → (device : Device) → SideOf device
@@ -68,5 +75,6 @@ side_in sides (devices.Reader First) = sides.first_reader
 side_in sides (devices.Reader Second) = sides.second_reader
 
 -- each side stands for acts
-abbrev pub AreSides : Sides → List Act → Type 0
-AreSides sides acts = (device : Device) → IsSideOf device (side_in sides device) acts
+abbrev pub AreSides : Beginning → Sides → List Act → Type 0
+AreSides begins sides acts =
+    (device : Device) → IsSideOf begins device (side_in sides device) acts

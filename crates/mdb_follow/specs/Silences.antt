@@ -14,6 +14,7 @@ use Rattle.mdb_msgs.specs.Commands.{device_of}
 use Rattle.mdb_bus.specs.declared.act.Act.{Act}
 use Rattle.mdb_bus.specs.declared.act.Act.TheVariants as acts
 use Rattle.mdb_bus.specs.ActLists.{Piece, Whole, acts_of, last_of}
+use Rattle.mdb_bus.specs.declared.scope.Beginning.{Beginning}
 use Rattle.mdb_cashless.specs.ReaderFacts as reader_facts
 use Rattle.mdb_follow.specs.Devices.{same_device}
 use Rattle.mdb_follow.specs.declared.silence.TheConstants.{CHANGER_SILENCE_MAX, BILL_SILENCE_MAX}
@@ -24,16 +25,17 @@ abbrev pub reader_limit : Option ℕ → ℕ
 reader_limit None = READER_SILENCE_MAX
 reader_limit (Some seconds) = max READER_SILENCE_MAX (MICROS_PER_SECOND * seconds)
 
--- the response time that a reader has told last in these acts
-abbrev pub response_time_of : ReaderUnit → List Act → Option ℕ
-response_time_of unit acts =
-    option_map (λ config. config.response) (reader_facts.facts_of unit acts).config
+-- the response time that a reader has told last in these acts, or that is known from elsewhere
+abbrev pub response_time_of : Beginning → ReaderUnit → List Act → Option ℕ
+response_time_of begins unit acts =
+    option_map (λ config. config.response) (reader_facts.known_of begins unit acts).config
 
--- how long a device may be silent, by what it has told in these acts
-abbrev pub limit_of : Device → List Act → ℕ
-limit_of devices.Changer acts = CHANGER_SILENCE_MAX
-limit_of devices.Bill acts = BILL_SILENCE_MAX
-limit_of (devices.Reader unit) acts = reader_limit (response_time_of unit acts)
+-- how long a device may be silent after these acts, in a recording that begins so, by what it has
+-- told
+abbrev pub limit_of : Beginning → Device → List Act → ℕ
+limit_of begins devices.Changer acts = CHANGER_SILENCE_MAX
+limit_of begins devices.Bill acts = BILL_SILENCE_MAX
+limit_of begins (devices.Reader unit) acts = reader_limit (response_time_of begins unit acts)
 
 -- whether an act asks a device
 abbrev pub asks : Device → Act → Bool
@@ -58,10 +60,10 @@ pub record TimedAsk : Type 0 where
   pub at : ℕ
   pub limit : ℕ
 
--- an ask of these words to a device, after pieces
-abbrev pub timed_ask : Device → List Event → List Piece → TimedAsk
-timed_ask device events pieces =
-    record { at = last_start events; limit = limit_of device (acts_of pieces) }
+-- an ask of these words to a device, after pieces of a recording that begins so
+abbrev pub timed_ask : Beginning → Device → List Event → List Piece → TimedAsk
+timed_ask begins device events pieces =
+    record { at = last_start events; limit = limit_of begins device (acts_of pieces) }
 
 -- lists of asks with one more in the newest of them
 abbrev pub with_ask : TimedAsk → List (List TimedAsk) → List (List TimedAsk)
@@ -70,13 +72,14 @@ with_ask ask (list ∷ lists) = (ask ∷ list) ∷ lists
 
 -- The lists of asks to a device: its answers and breaks part them, and nothing else does. A list
 -- may be empty.
-abbrev pub asks_of : Device → List Piece → List (List TimedAsk)
-asks_of device [] = [] ∷ []
-asks_of device (Whole act events ∷ pieces) =
-    if ends_asking device act then [] ∷ asks_of device pieces
-    else if asks device act then with_ask (timed_ask device events pieces) (asks_of device pieces)
-    else asks_of device pieces
-asks_of device (piece ∷ pieces) = asks_of device pieces
+abbrev pub asks_of : Beginning → Device → List Piece → List (List TimedAsk)
+asks_of begins device [] = [] ∷ []
+asks_of begins device (Whole act events ∷ pieces) =
+    if ends_asking device act then [] ∷ asks_of begins device pieces
+    else if asks device act then
+    with_ask (timed_ask begins device events pieces) (asks_of begins device pieces)
+    else asks_of begins device pieces
+asks_of begins device (piece ∷ pieces) = asks_of begins device pieces
 
 -- the first ask of a list, which stands last
 abbrev pub first_ask : List TimedAsk → Option TimedAsk
@@ -94,5 +97,5 @@ is_silence list =
     ]
 
 -- how many silences of a device there are: each list counts once
-abbrev pub silences : Device → List Piece → ℕ
-silences device pieces = count_by is_silence (asks_of device pieces)
+abbrev pub silences : Beginning → Device → List Piece → ℕ
+silences begins device pieces = count_by is_silence (asks_of begins device pieces)

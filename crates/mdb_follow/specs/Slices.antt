@@ -28,4 +28,5 @@ TellsInSlices scope earlier (slice ∷ slices) (Ok report) =
     IsReached scope (earlier ++ slice) × TellsInSlices scope (earlier ++ slice) slices (Ok report)
 TellsInSlices scope earlier (slice ∷ slices) (Err offence) =
     HasOffence scope earlier slice offence
-    ⊎ (IsReached scope (earlier ++ slice) × TellsInSlices scope (earlier ++ slice) slices (Err offence))
+    ⊎ (IsReached scope (earlier ++ slice)
+    × TellsInSlices scope (earlier ++ slice) slices (Err offence))

@@ -15,7 +15,7 @@ use crate::sides::Sides;
 use crate::silence::Silences;
 use crate::{Offence, Report, laws};
 use mdb_bus::{Act, Blame, Bus, LinkFault, Scope, laws as bus_laws};
-use mdb_msgs::{Device, ReaderUnit};
+use mdb_msgs::{Device, DeviceSet, ReaderUnit, Setups};
 use mdb_words::{Event, Time};
 
 /// The most rows of a recording (this profile).
@@ -23,8 +23,9 @@ pub const ROWS_MAX: u64 = 100_000_000;
 
 /// What all that may have happened in the rows so far comes to.
 ///
-/// It keeps the bus, and of each device the facts, a table of its possible states, and what counts
-/// of its silences; no rows. After an offence nothing but the offence is of any matter.
+/// It keeps the bus, and of each device what is known of it, a table of its possible states, how
+/// many amounts have no value, and what counts of its silences; no rows. After an offence nothing
+/// but the offence is of any matter.
 #[derive(Drop)]
 pub struct Follower {
     bus: Bus,
@@ -44,32 +45,42 @@ impl Follower {
     ghost use Rattle.mdb_bus.specs.Bus.{GoesOn};
     ghost use Rattle.mdb_bus.specs.ActLists.{Piece};
     ghost use Rattle.mdb_follow.specs.Runs.{IsReached};
-    ghost use Rattle.mdb_bus.specs.declared.scope.TheConstants.Scope.{POWER_ON};
+    ghost use Rattle.mdb_bus.specs.Scopes.{all_joined, power_on};
     ghost use Rattle.mdb_follow.specs.Follower.{StandsFor, offence_of, rows_of, scope_of};
     ghost use Rattle.mdb_follow.specs.inner.FollowerSteps.{HasFollowed, HasStopped};
     ghost use Rattle.mdb_follow.specs.Offences.{HasOffence, IsOffence};
     ghost use Rattle.mdb_follow.specs.Report.{IsReport};
     ghost use Rattle.mdb_follow.specs.Sales.{SalesFollowApprovals};
 
-    /// The follower before the first row: recording began at power-on or at a break, and all devices
-    /// are followed.
+    /// The follower before the first row: recording began at power-on or at a break, and all
+    /// devices are followed.
     pub fn new() -> Follower
         ensures stands { StandsFor result [] }
         ensures empty { rows_of result ≡ 0 }
-        ensures scope { scope_of result ≡ POWER_ON }
+        ensures scope { scope_of result ≡ power_on }
     {
-        Follower::scoped(Scope::POWER_ON)
+        Follower::scoped(&Scope::POWER_ON)
+    }
+
+    /// The follower before the first row: recording began in mid-session, and all devices are
+    /// followed.
+    pub fn joined() -> Follower
+        ensures stands { StandsFor result [] }
+        ensures empty { rows_of result ≡ 0 }
+        ensures scope { scope_of result ≡ all_joined }
+    {
+        Follower::scoped(&Scope::joined(Setups::NONE, DeviceSet::NONE))
     }
 
     /// The follower before the first row, of a recording that is taken so.
-    pub fn scoped(scope: Scope) -> Follower
+    pub fn scoped(scope: &Scope) -> Follower
         ensures stands { StandsFor result [] }
         ensures empty { rows_of result ≡ 0 }
-        ensures scope { scope_of result ≡ scope }
+        ensures scope { scope_of result ≡ scope.now }
     {
         Follower {
             bus: Bus::scoped(scope),
-            sides: Sides::start(),
+            sides: Sides::start(&scope.begins),
             silences: Silences::NONE,
             rows: 0,
             offence: None,

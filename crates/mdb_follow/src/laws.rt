@@ -4,6 +4,7 @@ ghost use Rattle.std.specs.Prelude.{◌≡◌, ◌↔◌, List, [], ◌∷◌, �
 ghost use Rattle.mdb_words.specs.declared.event.Event.{Event};
 ghost use Rattle.mdb_msgs.specs.declared.command.Device.{Device};
 ghost use Rattle.mdb_bus.specs.ActLists.{ArePieces, IsActList, Piece, acts_of};
+ghost use Rattle.mdb_bus.specs.declared.scope.Beginning.{Beginning};
 ghost use Rattle.mdb_bus.specs.declared.scope.Scope.{Scope};
 ghost use Rattle.mdb_bus.specs.LeavingOut.{LeavesOutMore};
 ghost use Rattle.mdb_bus.specs.LinkFaults.{blame_on};
@@ -25,7 +26,8 @@ ghost use Rattle.mdb_follow.specs.LeavingOut.{HaveSameFollowed};
 ghost use Rattle.mdb_follow.specs.Offences.{HasOffence, IsOffence};
 ghost use Rattle.mdb_follow.specs.Ranges.{IsAccount};
 ghost use Rattle.mdb_follow.specs.Report.{IsReport, account_of, decimals_of};
-ghost use Rattle.mdb_follow.specs.Report.{device_decimals, device_silences};
+ghost use Rattle.mdb_follow.specs.Report.{device_decimals, device_silences, device_unvalued};
+ghost use Rattle.mdb_follow.specs.Report.{unvalued_of};
 ghost use Rattle.mdb_follow.specs.Runs.{AllSums, HearSameAcks, IsReached, IsWay, Run, States};
 ghost use Rattle.mdb_follow.specs.Sales.{SalesFollowApprovals};
 ghost use Rattle.mdb_follow.specs.Silences.{silences};
@@ -38,16 +40,17 @@ use mdb_cashless::laws as cashless_laws;
 
 /// Each way of all is a way of each device.
 pub fn ways_split()
-    ensures { (loss : Loss) (pieces : List Piece) (states : States) (sums : AllSums)
-        → IsWay loss pieces states sums → EachArrives (acts_of pieces) states sums }
+    ensures { (begins : Beginning) (loss : Loss) (pieces : List Piece) (states : States)
+        (sums : AllSums) → IsWay begins loss pieces states sums
+        → EachArrives begins (acts_of pieces) states sums }
 {}
 
 /// Ways of each device are together a way of all, under one loss that fits.
 pub fn ways_join()
     ensures { (scope : Scope) (pieces : List Piece) (states : States) (sums : AllSums)
         → ArePieces scope pieces
-        → EachArrives (acts_of pieces) states sums
-        → (loss : Loss) × LossFits loss pieces × IsWay loss pieces states sums }
+        → EachArrives scope.begins (acts_of pieces) states sums
+        → (loss : Loss) × LossFits loss pieces × IsWay scope.begins loss pieces states sums }
 {
     laws::acks_may_be_heard_or_not();
 }
@@ -55,9 +58,9 @@ pub fn ways_join()
 /// Only the loss of an ACK, a device's or the controller's, can change a state or a sum: where the
 /// same ACKs were heard, whatever else was lost, the same ways lead through the pieces.
 pub fn only_the_loss_of_an_ack_matters()
-    ensures { (one other : Loss) (pieces : List Piece) → HearSameAcks one other pieces
-        → (states : States) (sums : AllSums)
-        → IsWay one pieces states sums ↔ IsWay other pieces states sums }
+    ensures { (begins : Beginning) (one other : Loss) (pieces : List Piece)
+        → HearSameAcks one other pieces → (states : States) (sums : AllSums)
+        → IsWay begins one pieces states sums ↔ IsWay begins other pieces states sums }
 {}
 
 /// Where rows are reached, the rows before the last are too.
@@ -93,14 +96,21 @@ pub fn reports_name_the_accounts_of_runs()
 {}
 
 /// What a report has of each device are the decimal places that it has told in the act list of the
-/// rows, and its silences there.
+/// rows, or that are known from elsewhere, its silences there, and the amounts without a value
+/// there.
 pub fn reports_name_the_decimals_and_silences_of_devices()
     ensures decimals { (scope : Scope) (rows : List Event) (report : Report)
-        (pieces : List Piece) → IsReport scope rows report → IsActList scope pieces rows → (device : Device)
-        → device_decimals device report ≡ decimals_of device (acts_of pieces) }
+        (pieces : List Piece) → IsReport scope rows report → IsActList scope pieces rows
+        → (device : Device)
+        → device_decimals device report ≡ decimals_of scope.begins device (acts_of pieces) }
     ensures silences { (scope : Scope) (rows : List Event) (report : Report)
-        (pieces : List Piece) → IsReport scope rows report → IsActList scope pieces rows → (device : Device)
-        → device_silences device report ≡ silences device pieces }
+        (pieces : List Piece) → IsReport scope rows report → IsActList scope pieces rows
+        → (device : Device)
+        → device_silences device report ≡ silences scope.begins device pieces }
+    ensures unvalued { (scope : Scope) (rows : List Event) (report : Report)
+        (pieces : List Piece) → IsReport scope rows report → IsActList scope pieces rows
+        → (device : Device)
+        → device_unvalued device report ≡ unvalued_of scope.begins device (acts_of pieces) }
 {
     laws::transcripts_have_one_act_list();
 }
@@ -151,7 +161,8 @@ pub fn followers_stand_for_reached_rows()
 
 /// In every run of rows, each sale at either reader follows its approval: before each VEND SUCCESS
 /// the controller has requested a sale, the reader has approved one, and the controller has
-/// acknowledged that.
+/// acknowledged that. In a recording that begins in mid-session so it is with each VEND SUCCESS
+/// before which the controller requests a sale there.
 pub fn sales_follow_their_approvals()
     ensures { (scope : Scope) (rows : List Event) → SalesFollowApprovals scope rows }
 {
@@ -246,7 +257,8 @@ pub fn reports_go_on_without_further_devices()
     runs_add_nothing_of_devices_left_out();
 }
 
-/// A report has nothing of the devices that are left out.
+/// A report has nothing of the devices that are left out, but for decimal places that are known
+/// from elsewhere.
 pub fn reports_have_nothing_of_devices_left_out()
     ensures { (scope : Scope) (rows : List Event) (report : Report) → IsReport scope rows report
         → HasNothingLeftOut scope report }

@@ -11,24 +11,28 @@ use mdb_msgs::{Device, ReaderUnit};
 pub struct Report {
     /// How many rows there are.
     pub rows: u64,
-    /// The decimal places that each of `Report::DEVICES` has told last; `None` where one has told
-    /// none.
+    /// The decimal places of each of `Report::DEVICES`: those that it has told last, or that are
+    /// known from elsewhere; `None` where there are none.
     pub decimals: [Option<u8>; 4],
     /// What each of `AccountName::ALL` comes to, in smallest units of money.
     pub accounts: [Account; 7],
     /// How often each of `Report::DEVICES` left the controller's asks without an answer for too
     /// long.
     pub silences: [u64; 4],
+    /// How many amounts each of `Report::DEVICES` told, or was asked for, that have no value, since
+    /// nothing told how it is set up. They are in no sum.
+    pub unvalued: [u64; 4],
 }
 
 impl Report {
     ghost use Rattle.std.specs.Prelude.{◌≡◌, ◌<◌, List, map};
     ghost use Rattle.mdb_bus.specs.ActLists.{Piece, acts_of};
+    ghost use Rattle.mdb_bus.specs.declared.scope.Beginning.{Beginning};
     ghost use Rattle.mdb_follow.specs.declared.account_name.AccountName.{AccountName};
     ghost use Rattle.mdb_follow.specs.declared.account_name.TheConstants.AccountName.{ALL};
     ghost use Rattle.mdb_follow.specs.declared.account.Account.{Account};
     ghost use Rattle.mdb_follow.specs.Report.{account_of, device_decimals, device_silences};
-    ghost use Rattle.mdb_follow.specs.Report.{report_of};
+    ghost use Rattle.mdb_follow.specs.Report.{device_unvalued, report_of};
     ghost use Rattle.mdb_follow.specs.Sides.{AreSides};
     ghost use Rattle.mdb_follow.specs.Silences.{asks_of};
     ghost use Rattle.mdb_follow.specs.SilencesKept.{AllStandForAsks};
@@ -49,11 +53,11 @@ impl Report {
         sides: &Sides,
         silences: &Silences,
     ) -> Report
-        ensures { (pieces : List Piece) (named : AccountName → Account)
-            → AreSides sides.now (acts_of pieces)
-            → AllStandForAsks silences.now (λ device. asks_of device pieces)
+        ensures { (begins : Beginning) (pieces : List Piece) (named : AccountName → Account)
+            → AreSides begins sides.now (acts_of pieces)
+            → AllStandForAsks silences.now (λ device. asks_of begins device pieces)
             → accounts ≡ map named ALL
-            → result ≡ report_of rows pieces named }
+            → result ≡ report_of begins rows pieces named }
     {
         let first = Device::Reader(ReaderUnit::First);
         let second = Device::Reader(ReaderUnit::Second);
@@ -72,6 +76,12 @@ impl Report {
                 silences.count(first),
                 silences.count(second),
             ],
+            unvalued: [
+                sides.unvalued(Device::Changer),
+                sides.unvalued(Device::Bill),
+                sides.unvalued(first),
+                sides.unvalued(second),
+            ],
         }
     }
 
@@ -82,7 +92,7 @@ impl Report {
         self.accounts[name.place()]
     }
 
-    /// The decimal places that a device has told last; `None` where it has told none.
+    /// The decimal places of a device; `None` where there are none.
     pub fn device_decimals(&self, device: Device) -> Option<u8>
         ensures { result ≡ device_decimals device self.now }
     {
@@ -94,5 +104,11 @@ impl Report {
         ensures { result ≡ device_silences device self.now }
     {
         self.silences[device_place(device)]
+    }
+    /// How many amounts a device told, or was asked for, that have no value.
+    pub fn device_unvalued(&self, device: Device) -> u64
+        ensures { result ≡ device_unvalued device self.now }
+    {
+        self.unvalued[device_place(device)]
     }
 }

@@ -2,10 +2,11 @@
 
 ghost use Rattle.std.specs.Prelude.{◌≡◌, ◌^◌, List, [], IfOk, IfErr};
 ghost use Rattle.mdb_bus.specs.declared.act.Act.{Act};
+ghost use Rattle.mdb_bus.specs.declared.scope.Beginning.{Beginning};
 ghost use Rattle.mdb_follow.specs.Arrivals.{Arrives};
 ghost use Rattle.mdb_follow.specs.Machines.{machine_of};
 ghost use Rattle.mdb_follow.specs.Ranges.{IsCell};
-ghost use Rattle.mdb_follow.specs.Report.{decimals_of};
+ghost use Rattle.mdb_follow.specs.Report.{decimals_of, unvalued_of};
 ghost use Rattle.mdb_follow.specs.Tables.{ArrivesAnywhere};
 ghost use Rattle.mdb_follow.specs.Sides.{AreSides};
 ghost use Rattle.mdb_follow.specs.inner.SideSteps.{AreWithin, IsWithin, OneFollows, SidesFollow};
@@ -14,9 +15,9 @@ ghost use Rattle.mdb_follow.specs.inner.SideSteps.{SidesStop, Stops};
 use crate::owner::{Owner, owner_of};
 use crate::side::{self, Side};
 use crate::{Cell, Report};
-use mdb_bus::{Act, Rule};
-use mdb_cash::{Bill, BillFacts, Changer, ChangerFacts};
-use mdb_cashless::{Reader, ReaderFacts};
+use mdb_bus::{Act, Beginning, Rule};
+use mdb_cash::{Bill, BillKnown, Changer, ChangerKnown};
+use mdb_cashless::{Reader, ReaderKnown};
 use mdb_msgs::{Device, ReaderUnit};
 
 /// The reader at 10H.
@@ -29,23 +30,23 @@ type SecondReader = Reader<1>;
 /// states.
 #[derive(Drop)]
 pub(crate) struct Sides {
-    changer: Side<ChangerFacts, 4>,
-    bill: Side<BillFacts, 66>,
-    pub(crate) first_reader: Side<ReaderFacts, 176>,
-    pub(crate) second_reader: Side<ReaderFacts, 176>,
+    changer: Side<ChangerKnown, 4>,
+    bill: Side<BillKnown, 66>,
+    pub(crate) first_reader: Side<ReaderKnown, 176>,
+    pub(crate) second_reader: Side<ReaderKnown, 176>,
 }
 
 impl Sides {
-    /// The sides after no act.
-    pub(crate) fn start() -> Sides
-        ensures stands { AreSides result [] }
+    /// The sides after no act, of a recording that begins so.
+    pub(crate) fn start(begins: &Beginning) -> Sides
+        ensures stands { AreSides begins.now result [] }
         ensures within { AreWithin 0 result }
     {
         Sides {
-            changer: side::start::<Changer, _>(),
-            bill: side::start::<Bill, _>(),
-            first_reader: side::start::<FirstReader, _>(),
-            second_reader: side::start::<SecondReader, _>(),
+            changer: side::start::<Changer, _>(begins),
+            bill: side::start::<Bill, _>(begins),
+            first_reader: side::start::<FirstReader, _>(begins),
+            second_reader: side::start::<SecondReader, _>(begins),
         }
     }
 
@@ -109,9 +110,11 @@ impl Sides {
         }
     }
 
-    /// The decimal places that a device has told last; `None` where it has told none.
+    /// The decimal places of a device: those that it has told last, or that are known from
+    /// elsewhere; `None` where there are none.
     pub(crate) fn decimals(&self, device: Device) -> Option<u8>
-        ensures { (acts : List Act) → AreSides self.now acts → result ≡ decimals_of device acts }
+        ensures { (begins : Beginning) (acts : List Act) → AreSides begins self.now acts
+            → result ≡ decimals_of begins device acts }
     {
         match device {
             Device::Changer => self.changer.facts.decimals(),
@@ -123,10 +126,25 @@ impl Sides {
         }
     }
 
+    /// How many amounts a device told that have no value.
+    pub(crate) fn unvalued(&self, device: Device) -> u64
+        ensures { (begins : Beginning) (acts : List Act) → AreSides begins self.now acts
+            → result ≡ unvalued_of begins device acts }
+    {
+        match device {
+            Device::Changer => self.changer.unvalued,
+            Device::Bill => self.bill.unvalued,
+            Device::Reader(unit) => match unit {
+                ReaderUnit::First => self.first_reader.unvalued,
+                ReaderUnit::Second => self.second_reader.unvalued,
+            },
+        }
+    }
+
     /// What the sums of a device's accounts may be, whatever its state is.
     pub(crate) fn ranges(&self, device: Device) -> Cell
-        ensures { (acts : List Act) → AreSides self.now acts
-            → IsCell (ArrivesAnywhere (Arrives (machine_of device) acts)) result }
+        ensures { (begins : Beginning) (acts : List Act) → AreSides begins self.now acts
+            → IsCell (ArrivesAnywhere (Arrives (machine_of begins device) acts)) result }
     {
         match device {
             Device::Changer => side::ranges::<Changer, _>(&self.changer),

@@ -14,7 +14,7 @@ use crate::Report;
 use crate::devices::device_place;
 use crate::sides::Sides;
 use mdb_bus::Act;
-use mdb_cashless::ReaderFacts;
+use mdb_cashless::ReaderKnown;
 use mdb_msgs::{Device, ReaderUnit};
 use mdb_words::Time;
 
@@ -164,7 +164,7 @@ fn limit_in(sides: &Sides, device: Device) -> u64
 }
 
 /// How long a reader may be silent, by what it has told.
-fn reader_limit(facts: &ReaderFacts) -> u64
+fn reader_limit(facts: &ReaderKnown) -> u64
     ensures limit { result ≡ limit_by facts.now }
     ensures small { result < 2 ^ 62 }
 {

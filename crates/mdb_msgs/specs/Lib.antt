@@ -12,5 +12,6 @@ pub mod Reader
 pub mod ReaderBytes
 pub mod Replies
 pub mod Setup
+pub mod Setups
 pub mod TwoBytes
 pub mod inner

@@ -12,6 +12,7 @@ pub mod laws;
 mod need;
 mod needs;
 mod reply;
+mod setups;
 mod two_bytes;
 
 pub use answer::AnswerForm;
@@ -27,3 +28,4 @@ pub use reply::changer::ChangerMsg;
 pub use reply::reader::{ReaderIter, ReaderList, ReaderMsg};
 pub use reply::setup::{BillSetup, ChangerSetup, Stacker, TubeStatus};
 pub use reply::{Reply, read_reply, reply_of, write_reply};
+pub use setups::{ReaderConfig, Setups};

@@ -2,7 +2,10 @@
 
 use super::asserts::{check_gives, same, same_at};
 use super::streams::{ENDED, POLLS, Pieces, ROWS, Sheet, WRONG_SUM, polls};
-use mdb_check::{Account, Blame, Offence, Outcome, Range, Report, Rule, RunFault, check, text_of};
+use mdb_check::{
+    Account, Blame, Device, DeviceSet, Offence, Outcome, Range, ReaderConfig, Report, Rule,
+    RunFault, Scope, Setups, check, text_of, text_scoped,
+};
 use mdb_words::RowFault;
 use std::io::ErrorKind;
 
@@ -106,6 +109,7 @@ fn each_number() -> Outcome {
             account([40, 49, 41, 50, 42, 51]),
         ],
         silences: [1, 22, 0, 4_294_967_296],
+        unvalued: [3, 0, 4_294_967_297, 55],
     })
 }
 
@@ -126,6 +130,36 @@ silences changer 1 bill 22 cashless 0 cashless-2 4294967296\n";
 fn a_report_has_its_text(rt: HostRuntime) {
     let text = text_of(rt.alloc(), &each_number()).expect(&rt, "memory");
     same(&rt, text.as_slice(), EACH_NUMBER_TEXT);
+}
+
+/// What the text of a recording that begins in mid-session has after that, where setup data of both
+/// readers are known, and the validator is left out.
+const JOINED_TEXT: &[u8] = b"unvalued changer 3 bill 0 cashless 4294967297 cashless-2 55\n\
+setup cashless cashless-2\nwithout bill\n";
+
+/// What is known of a reader.
+const CONFIG: ReaderConfig = ReaderConfig {
+    scale: 1,
+    decimals: 2,
+    response: 5,
+};
+
+/// So do those of a recording that begins in mid-session, and the words of devices after them.
+#[test]
+fn a_joined_report_has_its_further_lines(rt: HostRuntime) {
+    let setups = Setups {
+        changer: None,
+        bill: None,
+        first_reader: Some(CONFIG),
+        second_reader: Some(CONFIG),
+    };
+    let scope = Scope::joined(setups, DeviceSet::NONE.with(Device::Bill));
+    let text = text_scoped(rt.alloc(), &scope, &each_number()).expect(&rt, "memory");
+    let (front, rest) = text
+        .as_slice()
+        .split_at(text.len().min(EACH_NUMBER_TEXT.len()));
+    same(&rt, front, EACH_NUMBER_TEXT);
+    same(&rt, rest, JOINED_TEXT);
 }
 
 /// Nothing but what the byte limit says ends a long recording early.

@@ -24,38 +24,56 @@ const CHECK: &str = "mdbcheck check";
 /// The command line that asks for the acts.
 const SHOW: &str = "mdbcheck show";
 
+/// The command line that asks for a verdict on a recording in mid-session.
+const JOINED: &str = "mdbcheck check --joined";
+
+/// The report on nothing of such a recording.
+const NOTHING_JOINED: &[u8] = b"verdict yes\nrows 0\n\
+decimals changer - bill - cashless - cashless-2 -\n\
+coins-in device 0..0 controller 0..0 difference 0..0\n\
+bills-in device 0..0 controller 0..0 difference 0..0\n\
+paid-out device 0..0 controller 0..0 difference 0..0\n\
+approved device 0..0 controller 0..0 difference 0..0\n\
+sold device 0..0 controller 0..0 difference 0..0\n\
+approved-2 device 0..0 controller 0..0 difference 0..0\n\
+sold-2 device 0..0 controller 0..0 difference 0..0\n\
+silences changer 0 bill 0 cashless 0 cashless-2 0\n\
+unvalued changer 0 bill 0 cashless 0 cashless-2 0\n";
+
+/// The command line that tells setup data of two devices, and leaves out a third.
+const TOLD: &str =
+    "mdbcheck check --setup cashless~01~01~00~01~01~02~05~00~0B --joined --setup=changer~02~00~01~05~02~00~07~01~02~05~19 --without bill";
+
+/// The report on nothing of such a recording.
+const NOTHING_TOLD: &[u8] = b"verdict yes\nrows 0\n\
+decimals changer 2 bill - cashless 2 cashless-2 -\n\
+coins-in device 0..0 controller 0..0 difference 0..0\n\
+bills-in device 0..0 controller 0..0 difference 0..0\n\
+paid-out device 0..0 controller 0..0 difference 0..0\n\
+approved device 0..0 controller 0..0 difference 0..0\n\
+sold device 0..0 controller 0..0 difference 0..0\n\
+approved-2 device 0..0 controller 0..0 difference 0..0\n\
+sold-2 device 0..0 controller 0..0 difference 0..0\n\
+silences changer 0 bill 0 cashless 0 cashless-2 0\n\
+unvalued changer 0 bill 0 cashless 0 cashless-2 0\n\
+setup changer cashless\nwithout bill\n";
+
 /// What is told of a command line that asks for help.
-const USAGE: &[u8] = b"usage: mdbcheck check|show [--without DEVICE].. < TRANSCRIPT; \
-DEVICE is changer, bill, cashless or cashless-2\n";
-
-/// What is told of one that asks for nothing.
-const NO_COMMAND: &[u8] = b"mdbcheck: a subcommand is required but one was not provided; \
-usage: mdbcheck check|show [--without DEVICE].. < TRANSCRIPT; \
-DEVICE is changer, bill, cashless or cashless-2\n";
-
-/// What is told of one that asks for what isn't known.
-const UNKNOWN: &[u8] = b"mdbcheck: unrecognized subcommand; \
-usage: mdbcheck check|show [--without DEVICE].. < TRANSCRIPT; \
-DEVICE is changer, bill, cashless or cashless-2\n";
-
-/// What is told of one with a word or a flag too many.
-const UNEXPECTED: &[u8] = b"mdbcheck: unexpected argument found; \
-usage: mdbcheck check|show [--without DEVICE].. < TRANSCRIPT; \
-DEVICE is changer, bill, cashless or cashless-2\n";
-
-/// What is told of one with an option that has no value, or none of its own.
-const INVALID: &[u8] = b"mdbcheck: one of the values isn't valid for an argument; \
-usage: mdbcheck check|show [--without DEVICE].. < TRANSCRIPT; \
+const USAGE: &[u8] = b"usage: mdbcheck check [--joined] [--setup 'DEVICE BYTES'].. \
+[--without DEVICE].. | show [--without DEVICE].. < TRANSCRIPT; \
 DEVICE is changer, bill, cashless or cashless-2\n";
 
 /// What is told of one that asks for the version.
 const VERSION: &[u8] = b"mdbcheck 0.1.0\n";
 
 /// Runs of the program.
-static RUNS: [Run; 51] = [
+static RUNS: [Run; 28] = [
     // Recordings with a verdict.
     (CHECK, ROWS, (0, REPORT, b"")),
     (CHECK, WRONG_SUM, (1, WRONG_SUM_REPORT, b"")),
+    // Recordings that begin in mid-session.
+    (JOINED, b"", (0, NOTHING_JOINED, b"")),
+    (TOLD, b"", (0, NOTHING_TOLD, b"")),
     // Recordings that are shown.
     (SHOW, ROWS, (0, ACTS, b"")),
     (SHOW, WRONG_SUM, (1, WRONG_SUM_ACTS, b"")),
@@ -187,64 +205,17 @@ static RUNS: [Run; 51] = [
         ),
     ),
     // Command lines that ask for no verdict, each with its line on standard error.
-    ("", ROWS, (2, b"", NO_COMMAND)),
-    ("mdbcheck", ROWS, (2, b"", NO_COMMAND)),
-    ("mdbcheck frobnicate", ROWS, (2, b"", UNKNOWN)),
-    ("mdbcheck check extra", ROWS, (2, b"", UNEXPECTED)),
-    ("mdbcheck check --all", ROWS, (2, b"", UNEXPECTED)),
     ("mdbcheck --help", ROWS, (2, b"", USAGE)),
     ("mdbcheck help", ROWS, (2, b"", USAGE)),
     ("mdbcheck --version", ROWS, (2, b"", VERSION)),
     ("mdbcheck check --help", ROWS, (2, b"", USAGE)),
-    ("mdbcheck show extra", ROWS, (2, b"", UNEXPECTED)),
     ("mdbcheck show --help", ROWS, (2, b"", USAGE)),
-    // Options without a value, or with one that is no device's word.
-    ("mdbcheck check --without", ROWS, (2, b"", INVALID)),
-    ("mdbcheck check --without --", ROWS, (2, b"", INVALID)),
-    ("mdbcheck check --without=", ROWS, (2, b"", INVALID)),
-    ("mdbcheck check --without hopper", ROWS, (2, b"", INVALID)),
-    ("mdbcheck show --without=hopper", ROWS, (2, b"", INVALID)),
-    ("mdbcheck show --without Changer", ROWS, (2, b"", INVALID)),
+    ("mdbcheck check --joined --help", ROWS, (2, b"", USAGE)),
     (
-        "mdbcheck check --without=changer,bill",
+        "mdbcheck check --setup changer~02~00~01~05~02~00~07~01~02~05~19 --help",
         ROWS,
-        (2, b"", INVALID),
+        (2, b"", USAGE),
     ),
-    ("mdbcheck check --without show", ROWS, (2, b"", INVALID)),
-    ("mdbcheck check --without -", ROWS, (2, b"", INVALID)),
-    (
-        "mdbcheck check --without --without bill",
-        ROWS,
-        (2, b"", INVALID),
-    ),
-    ("mdbcheck check --without --help", ROWS, (2, b"", INVALID)),
-    (
-        "mdbcheck check --without bill --without hopper",
-        ROWS,
-        (2, b"", INVALID),
-    ),
-    // Words that are no option of the task, or stand where none may.
-    ("mdbcheck check --without -x", ROWS, (2, b"", UNEXPECTED)),
-    ("mdbcheck check -without bill", ROWS, (2, b"", UNEXPECTED)),
-    ("mdbcheck check --with bill", ROWS, (2, b"", UNEXPECTED)),
-    ("mdbcheck --without bill check", ROWS, (2, b"", UNEXPECTED)),
-    ("mdbcheck check bill", ROWS, (2, b"", UNEXPECTED)),
-    (
-        "mdbcheck check --without bill cashless",
-        ROWS,
-        (2, b"", UNEXPECTED),
-    ),
-    (
-        "mdbcheck check --without hopper show",
-        ROWS,
-        (2, b"", UNEXPECTED),
-    ),
-    (
-        "mdbcheck check -- --without bill",
-        ROWS,
-        (2, b"", UNEXPECTED),
-    ),
-    ("mdbcheck check -- --", ROWS, (2, b"", UNEXPECTED)),
     // Requests for help among options.
     (
         "mdbcheck check --without bill --help",
@@ -262,8 +233,214 @@ fn runs_have_their_status_and_their_texts(rt: HostRuntime) {
     }
 }
 
+/// Why setup data of a recording that doesn't begin in mid-session are refused.
+const NOT_JOINED: &str = "--setup goes with --joined alone";
+
+/// Why those are that aren't written as they have to be.
+const NO_FORM: &str = "a value of --setup isn't a device's word and bytes as `show` writes them";
+
+/// Why those with a wrong sum are.
+const WRONG_SETUP_SUM: &str = "the last byte of a value of --setup isn't the sum of the others";
+
+/// Why those are that are no answer to SETUP.
+const NO_ANSWER: &str = "the bytes of a value of --setup are no answer of its device to SETUP";
+
+/// Why two answers of one device are.
+const TWICE: &str = "--setup names a device twice";
+
+/// Why those of a device that is left out are.
+const LEFT_OUT: &str = "--setup names a device that is left out";
+
+/// Why one is refused that asks for nothing.
+const NO_COMMAND: &str = "a subcommand is required but one was not provided";
+
+/// Why one is that asks for what isn't known.
+const UNKNOWN: &str = "unrecognized subcommand";
+
+/// Why one with a word or a flag too many is.
+const UNEXPECTED: &str = "unexpected argument found";
+
+/// Why one with an option is that has no value, or none of its own.
+const INVALID: &str = "one of the values isn't valid for an argument";
+
+/// Command lines that are refused, and why. `~` stands for a blank within a word.
+static REFUSED: [(&str, &str); 68] = [
+    ("", NO_COMMAND),
+    ("mdbcheck", NO_COMMAND),
+    ("mdbcheck frobnicate", UNKNOWN),
+    ("mdbcheck check extra", UNEXPECTED),
+    ("mdbcheck check --all", UNEXPECTED),
+    ("mdbcheck show extra", UNEXPECTED),
+    ("mdbcheck check --without", INVALID),
+    ("mdbcheck check --without --", INVALID),
+    ("mdbcheck check --without=", INVALID),
+    ("mdbcheck check --without hopper", INVALID),
+    ("mdbcheck show --without=hopper", INVALID),
+    ("mdbcheck show --without Changer", INVALID),
+    ("mdbcheck check --without=changer,bill", INVALID),
+    ("mdbcheck check --without show", INVALID),
+    ("mdbcheck check --without -", INVALID),
+    ("mdbcheck check --without --without bill", INVALID),
+    ("mdbcheck check --without --help", INVALID),
+    ("mdbcheck check --without bill --without hopper", INVALID),
+    ("mdbcheck check --without -x", UNEXPECTED),
+    ("mdbcheck check -without bill", UNEXPECTED),
+    ("mdbcheck check --with bill", UNEXPECTED),
+    ("mdbcheck --without bill check", UNEXPECTED),
+    ("mdbcheck check bill", UNEXPECTED),
+    ("mdbcheck check --without bill cashless", UNEXPECTED),
+    ("mdbcheck check --without hopper show", UNEXPECTED),
+    ("mdbcheck check -- --without bill", UNEXPECTED),
+    ("mdbcheck check -- --", UNEXPECTED),
+    ("mdbcheck check --joined --setup", INVALID),
+    (
+        "mdbcheck check --joined --setup changer~02~00~01~05~02~00~07~01~02~05~19 --without hopper",
+        INVALID,
+    ),
+    ("mdbcheck show --joined", UNEXPECTED),
+    (
+        "mdbcheck show --setup changer~02~00~01~05~02~00~07~01~02~05~19",
+        UNEXPECTED,
+    ),
+    ("mdbcheck --joined check", UNEXPECTED),
+    ("mdbcheck check -joined", UNEXPECTED),
+    ("mdbcheck check --joined yes", UNEXPECTED),
+    ("mdbcheck check --joined -- --setup", UNEXPECTED),
+    (
+        "mdbcheck check --setup=changer~02~00~01~05~02~00~07~01~02~05~19",
+        NOT_JOINED,
+    ),
+    ("mdbcheck check --setup hopper", NOT_JOINED),
+    ("mdbcheck check --joined --setup=", NO_FORM),
+    ("mdbcheck check --joined --setup changer", NO_FORM),
+    ("mdbcheck check --joined --setup changer~", NO_FORM),
+    (
+        "mdbcheck check --joined --setup hopper~02~00~01~05~02~00~07~01~02~05~19",
+        NO_FORM,
+    ),
+    (
+        "mdbcheck check --joined --setup Changer~02~00~01~05~02~00~07~01~02~05~19",
+        NO_FORM,
+    ),
+    (
+        "mdbcheck check --joined --setup ~02~00~01~05~02~00~07~01~02~05~19",
+        NO_FORM,
+    ),
+    (
+        "mdbcheck check --joined --setup changer~02~00~01~05~02~00~07~01~02~05~19~",
+        NO_FORM,
+    ),
+    (
+        "mdbcheck check --joined --setup changer~02~00~01~~05~02~00~07~01~02~~05~19",
+        NO_FORM,
+    ),
+    (
+        "mdbcheck check --joined --setup changer~02~00~01~5~02~00~07~01~02~5~19",
+        NO_FORM,
+    ),
+    (
+        "mdbcheck check --joined --setup changer~02~00~01~0G~02~00~07~01~02~0G~19",
+        NO_FORM,
+    ),
+    (
+        "mdbcheck check --joined --setup bill~01~00~01~00~64~02~00~C8~00~00~ff~00~01~05~35",
+        NO_FORM,
+    ),
+    (
+        "mdbcheck check --joined --setup changer,02~00~01~05~02~00~07~01~02~05~19",
+        NO_FORM,
+    ),
+    (
+        "mdbcheck check --joined --setup changer~02~00~01~05~02~00~07~01~02~05~18",
+        WRONG_SETUP_SUM,
+    ),
+    (
+        "mdbcheck check --joined --setup bill~01~00~01~00~64~02~00~C8~00~00~FF~00~01~05~34",
+        WRONG_SETUP_SUM,
+    ),
+    (
+        "mdbcheck check --joined --setup cashless~01~01~00~01~01~02~05~00~0C",
+        WRONG_SETUP_SUM,
+    ),
+    (
+        "mdbcheck check --joined --setup cashless-2~01~01~00~01~01~02~05~00~0A",
+        WRONG_SETUP_SUM,
+    ),
+    ("mdbcheck check --joined --setup changer~02", NO_ANSWER),
+    (
+        "mdbcheck check --joined --setup changer~02~00~01~05~02~00~0A",
+        NO_ANSWER,
+    ),
+    (
+        "mdbcheck check --joined --setup changer~02~00~01~05~02~00~07~01~01~01~01~01~01~01~01~01~01~01~01~01~01~01~01~01~22",
+        NO_ANSWER,
+    ),
+    (
+        "mdbcheck check --joined --setup changer~01~01~01~01~01~01~01~01~01~01~01~01~01~01~01~01~01~01~01~01~01~01~01~01~01~01~01~01~01~01~01~01~01~01~01~01~01~01~01~01~28",
+        NO_ANSWER,
+    ),
+    (
+        "mdbcheck check --joined --setup bill~01~00~01~00~64~02~00~C8~00~00~30",
+        NO_ANSWER,
+    ),
+    (
+        "mdbcheck check --joined --setup bill~01~00~01~00~64~02~00~C8~00~00~01~00~01~05~37",
+        NO_ANSWER,
+    ),
+    (
+        "mdbcheck check --joined --setup cashless~01~01~00~01~01~02~05~0B",
+        NO_ANSWER,
+    ),
+    ("mdbcheck check --joined --setup cashless~00~00", NO_ANSWER),
+    (
+        "mdbcheck check --joined --setup cashless-2~06~06",
+        NO_ANSWER,
+    ),
+    (
+        "mdbcheck check --joined --setup cashless~01~01~00~01~01~02~05~00~07~12",
+        NO_ANSWER,
+    ),
+    (
+        "mdbcheck check --joined --setup cashless~02~00~01~05~02~00~07~01~02~05~19",
+        NO_ANSWER,
+    ),
+    (
+        "mdbcheck check --joined --setup changer~02~00~01~05~02~00~07~01~02~05~19 --setup changer~02~00~01~05~02~00~07~01~02~05~19",
+        TWICE,
+    ),
+    (
+        "mdbcheck check --joined --setup=cashless~01~01~00~01~01~02~05~00~0B --setup cashless~01~01~00~01~01~00~05~00~09",
+        TWICE,
+    ),
+    (
+        "mdbcheck check --joined --setup changer~02~00~01~05~02~00~07~01~02~05~19 --without changer",
+        LEFT_OUT,
+    ),
+    (
+        "mdbcheck check --without cashless-2 --setup cashless-2~01~01~00~01~01~02~05~00~0B --joined",
+        LEFT_OUT,
+    ),
+];
+
+/// Ends the test where a command line isn't refused for this reason.
+fn refused_for(rt: &impl Abort, alloc: Global, words: &str, reason: &str) {
+    let mut line = Vec::new(alloc);
+    for part in &[b"mdbcheck: ", reason.as_bytes(), b"; ", USAGE] {
+        line.extend_from_slice(*part).expect(rt, "memory");
+    }
+    let mut reader = Pieces::new(ROWS, usize::MAX);
+    run_gives(rt, alloc, words, &mut reader, (2, b"", line.as_slice()));
+}
+
+#[test]
+fn command_lines_are_refused_for_a_reason(rt: HostRuntime) {
+    for (words, reason) in &REFUSED {
+        refused_for(&rt, rt.alloc(), *words, *reason);
+    }
+}
+
 /// Command lines with options that the program knows.
-static KNOWN: [&str; 9] = [
+static KNOWN: [&str; 17] = [
     "mdbcheck check --",
     "mdbcheck show --",
     "mdbcheck check --without changer",
@@ -273,6 +450,14 @@ static KNOWN: [&str; 9] = [
     "mdbcheck check --without bill --without=bill",
     "mdbcheck check --without changer --without=cashless --without cashless-2",
     "mdbcheck show --without=bill --without changer --without=cashless-2 --without cashless --",
+    "mdbcheck check --joined",
+    "mdbcheck check --joined --",
+    "mdbcheck check --joined --joined",
+    "mdbcheck check --joined --setup changer~02~00~01~05~02~00~07~01~02~05~19",
+    "mdbcheck check --setup=bill~01~00~01~00~64~02~00~C8~00~00~FF~00~01~05~35 --joined --",
+    "mdbcheck check --without bill --joined --setup cashless-2~01~01~00~01~01~02~05~00~0B --setup=changer~02~00~01~05~02~00~07~01~02~05~19 --setup cashless~01~01~00~01~01~02~05~00~0B",
+    "mdbcheck check --joined --setup changer~02~00~01~05~02~00~07~11",
+    "mdbcheck check --joined --setup cashless~00~01~01~00~01~01~02~05~00~0B~01~01~00~01~01~02~05~00~21",
 ];
 
 #[test]

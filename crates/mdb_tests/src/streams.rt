@@ -222,11 +222,20 @@ impl Write for Sheet {
     }
 }
 
-/// The words of a command line, which blanks part.
+/// The words of a command line, which blanks part. `~` stands for a blank within a word.
 pub(crate) fn words_of(alloc: Global, line: &str) -> Result<Vec<String>, AllocError> {
     let mut list = Vec::new(alloc);
     for word in line.split_whitespace() {
-        list.push(String::from_str(alloc, word)?)?;
+        list.push(word_of(alloc, word)?)?;
     }
     Ok(list)
+}
+
+/// A word, with a blank for each `~`.
+fn word_of(alloc: Global, text: &str) -> Result<String, AllocError> {
+    let mut word = String::new(alloc);
+    for letter in text.chars() {
+        word.push(if letter == '~' { ' ' } else { letter })?;
+    }
+    Ok(word)
 }

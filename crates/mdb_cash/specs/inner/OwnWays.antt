@@ -77,7 +77,7 @@ one_more known is act so_far own true its same =
 one_more {device = device} known is act so_far own false its same =
     sym (is.still act so_far (iff_false (decides device act) its)) ∙ same
 
-of_own : {Known : Type 0} {device : Device} (known : List Act → Known) → IsOfOwn device known
+pub of_own : {Known : Type 0} {device : Device} (known : List Act → Known) → IsOfOwn device known
     → (so_far : List Act) → known so_far ≡ known (own_acts device so_far)
 of_own known is [] = refl
 of_own {device = device} known is (act ∷ so_far) =
@@ -91,20 +91,22 @@ pub same_known : {Known : Type 0} {device : Device} (known : List Act → Known)
 same_known known is so_far other same =
     of_own known is so_far ∙ ap known same ∙ sym (of_own known is other)
 
--- and where its own are breaks alone, which tell nothing, it is what is known of no act
-broken : {Known : Type 0} {device : Device} (known : List Act → Known) → IsOfOwn device known
-    → ((length : ℕ) → known (acts.Break length ∷ []) ≡ known []) → (own : List Act)
-    → AllByRecursion IsBreak own → known own ≡ known []
-broken known is none [] all = refl
-broken known is none (acts.Break length ∷ own) all =
-    sym (is.goes_on (acts.Break length) own)
-    ∙ ap (is.more (acts.Break length)) (broken known is none own all.1)
-    ∙ is.goes_on (acts.Break length) [] ∙ none length
-broken known is none (act ∷ own) all = absurd all.0
+-- and where its own are breaks alone, a part of it that breaks leave is that of no act
+broken : {Known Part : Type 0} (known : List Act → Known) (part : Known → Part)
+    → ((length : ℕ) (so_far : List Act)
+    → part (known (acts.Break length ∷ so_far)) ≡ part (known so_far)) → (own : List Act)
+    → AllByRecursion IsBreak own → part (known own) ≡ part (known [])
+broken known part leaves [] all = refl
+broken known part leaves (acts.Break length ∷ own) all =
+    leaves length own ∙ broken known part leaves own all.1
+broken known part leaves (act ∷ own) all = absurd all.0
 
-pub known_of_none : {Known : Type 0} {device : Device} (known : List Act → Known)
-    → IsOfOwn device known → ((length : ℕ) → known (acts.Break length ∷ []) ≡ known [])
-    → (so_far : List Act) → All IsBreak (own_acts device so_far) → known so_far ≡ known []
-known_of_none {device = device} known is none so_far all =
-    of_own known is so_far
-    ∙ broken known is none (own_acts device so_far) (recursion_from_All IsBreak _ all)
+pub part_of_none : {Known Part : Type 0} {device : Device} (known : List Act → Known)
+    (part : Known → Part) → IsOfOwn device known
+    → ((length : ℕ) (so_far : List Act)
+    → part (known (acts.Break length ∷ so_far)) ≡ part (known so_far))
+    → (so_far : List Act) → All IsBreak (own_acts device so_far)
+    → part (known so_far) ≡ part (known [])
+part_of_none {device = device} known part is leaves so_far all =
+    ap part (of_own known is so_far)
+    ∙ broken known part leaves (own_acts device so_far) (recursion_from_All IsBreak _ all)

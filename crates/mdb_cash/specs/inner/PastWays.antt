@@ -14,8 +14,11 @@ use Rattle.mdb_cash.specs.declared.kept.Part.{Part}
 use Rattle.mdb_cash.specs.declared.past.Effect.{Effect}
 use Rattle.mdb_cash.specs.declared.past.Effect.TheVariants as effects
 use Rattle.mdb_cash.specs.Kept.{has_reset, kept_of}
-use Rattle.mdb_cash.specs.Past.{PastFacts, acts_from, effect_by, effect_taken, enables, last_told, or_else, past_of, powers_on, tells_out_of_sequence, unless_empty}
-use Rattle.mdb_cash.specs.PastValues.{past_with}
+use Rattle.mdb_bus.specs.declared.scope.Beginning.{Beginning}
+use Rattle.mdb_bus.specs.declared.scope.Beginning.TheVariants.{PowerOn, Joined}
+use Rattle.mdb_cash.specs.Known.{Known, known_by}
+use Rattle.mdb_cash.specs.Past.{KnownPast, PastFacts, known_past, last_list, runs_on, acts_from, effect_by, effect_taken, enables, last_told, or_else, past_of, powers_on, tells_out_of_sequence, unless_empty}
+use Rattle.mdb_cash.specs.PastValues.{known_more, known_past_with, past_with}
 
 -- what counts is the same where its fields are
 pub same_past : {M : Type 0} {one other : PastFacts M}
@@ -101,3 +104,85 @@ answered_still effect_of command reply none = either (tells_out_of_sequence repl
         → effect_taken effect_of (if refused then None else Some command) ≡ effects.Other
     either true = refl
     either false = none
+
+-- what is known is the same where its fields are
+pub same_known_past : {M : Type 0} {one other : KnownPast M}
+    → ((kind : ℕ) → one.enabled kind ≡ other.enabled kind) → one.reset_owed ≡ other.reset_owed
+    → one.last_kept ≡ other.last_kept → one ≡ other
+same_known_past {M} {one} {other} enabled reset_owed kept =
+    let masks : one.enabled ≡ other.enabled = fun_ext enabled in
+    let same : record one { last_kept = one.last_kept }
+    ≡ record other { last_kept = other.last_kept } = cc (masks, reset_owed, kept) in
+    same
+
+-- a device runs on no longer once an act puts it into its power-on state
+runs_less : (begins : Beginning) (effect_of : Command → Effect) (act : Act) (acts : List Act)
+    → runs_on begins effect_of (act ∷ acts)
+    ≡ (if powers_on effect_of act then false else runs_on begins effect_of acts)
+runs_less PowerOn effect_of act acts =
+    elim (powers_on effect_of act) as (λ b. false ≡ (if b then false else false)) [
+      | true ↦ refl
+      | false ↦ refl
+    ]
+runs_less (Joined setups) effect_of act acts =
+    elim (powers_on effect_of act) as (λ b. not (b || list_any (powers_on effect_of) acts)
+    ≡ (if b then false else not (list_any (powers_on effect_of) acts))) [
+      | true ↦ refl
+      | false ↦ refl
+    ]
+
+any_running : (p : Act → Bool) (act : Act) (rest : List Act) (b runs full : Bool)
+    → (p act || (if b then false else (list_any p rest || (runs && full))))
+    ≡ (list_any p (act ∷ (if b then [] else rest)) || ((if b then false else runs) && full))
+any_running p act rest true runs full =
+    elim (p act) as (λ x. (x || false) ≡ ((x || list_any p []) || (false && full))) [
+      | true ↦ refl
+      | false ↦ refl
+    ]
+any_running p act rest false runs full =
+    elim (p act) as (λ x. (x || (list_any p rest || (runs && full)))
+    ≡ ((x || list_any p rest) || (runs && full))) [
+      | true ↦ refl
+      | false ↦ refl
+    ]
+
+none_running : (p : Act → Bool) (act : Act) (rest : List Act) (b runs : Bool)
+    → (not (p act) && (b || (not (list_any p rest) && not runs)))
+    ≡ (not (list_any p (act ∷ (if b then [] else rest))) && not (if b then false else runs))
+none_running p act rest true runs =
+    elim (p act) as (λ x. (not x && (true || (not (list_any p rest) && not runs)))
+    ≡ (not (x || list_any p []) && not false)) [
+      | true ↦ refl
+      | false ↦ refl
+    ]
+none_running p act rest false runs =
+    elim (p act) as (λ x. (not x && (false || (not (list_any p rest) && not runs)))
+    ≡ (not (x || list_any p rest) && not runs)) [
+      | true ↦ refl
+      | false ↦ refl
+    ]
+
+pub known_by_more : {X : Type 0} (begins : Beginning) (none : X) (first second : Option X)
+    → known_more first (known_by begins none second) ≡ known_by begins none (or_else first second)
+known_by_more begins none (Some x) second = refl
+known_by_more begins none None second = refl
+
+-- what is known of what counts after one act more, from what was known before it
+pub known_past_more : {M : Type 0} (begins : Beginning) (effect_of : Command → Effect)
+    (parts_by : Act → List (Part M)) (act : Act) (acts : List Act)
+    → known_past_with effect_of parts_by act (known_past begins effect_of parts_by acts)
+    ≡ known_past begins effect_of parts_by (act ∷ acts)
+known_past_more begins effect_of parts_by act acts =
+    let powers = powers_on effect_of act in
+    let rest = acts_from (powers_on effect_of) acts in
+    let runs = runs_on begins effect_of acts in
+    let less = sym (runs_less begins effect_of act acts) in
+    same_known_past
+    (λ kind. any_running (λ a. enables kind (effect_by effect_of a)) act rest powers runs
+    (enables kind (effects.Enable 65535))
+    ∙ ap (λ r. list_any (λ a. enables kind (effect_by effect_of a))
+    (act ∷ (if powers then [] else rest)) || (r && enables kind (effects.Enable 65535))) less)
+    (none_running (λ a. has_reset (parts_by a)) act rest powers runs
+    ∙ ap (λ r. not (list_any (λ a. has_reset (parts_by a))
+    (act ∷ (if powers then [] else rest))) && not r) less)
+    (known_by_more begins [] (unless_empty (kept_of (parts_by act))) (last_list parts_by acts))

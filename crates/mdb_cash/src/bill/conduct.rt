@@ -1,6 +1,9 @@
 //! The steps of the validator and the controller.
 
+ghost use Rattle.std.proofs.Common.{rules};
+ghost use Rattle.mdb_cash.specs.declared.bill.activity.BillActivity.TheVariants.{Stacked};
 ghost use Rattle.mdb_cash.specs.Bill as spec;
+ghost use Rattle.mdb_cash.specs.inner.BillWays as ways;
 ghost use Rattle.mdb_cash.specs.KeeperValues.{facts_in};
 ghost use Rattle.mdb_cash.specs.Pair.{IsOnly};
 
@@ -18,6 +21,12 @@ impl Conduct for Bill {
     type State = BillState;
 
     ghost conduct = { spec.conduct };
+
+    ghost some_kept = { Stacked 0 };
+
+    ghost overlooks = { ways.overlooks };
+
+    ghost small_state = { Prim.search rules };
 
     fn power_on() -> BillState {
         BillState::power_on()
@@ -68,6 +77,14 @@ impl Conduct for Bill {
 
     fn second_gain(_facts: &BillFacts, _message: BillActivity) -> u64 {
         0
+    }
+
+    fn asks_amount(_command: BillCommand) -> bool {
+        false
+    }
+
+    fn tells_amount(message: BillActivity) -> bool {
+        matches!(message, BillActivity::Stacked(_))
     }
 
     fn heard_reset(state: BillState) -> BillState {

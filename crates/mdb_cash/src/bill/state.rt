@@ -141,6 +141,13 @@ pub struct BillState {
     pub holds: bool,
 }
 
+impl Default for BillState {
+    /// The state at power-on.
+    fn default() -> BillState {
+        BillState::power_on()
+    }
+}
+
 impl BillState {
     ghost use Rattle.mdb_cash.specs.Bill as spec;
     ghost use Rattle.mdb_cash.specs.inner.BillCodes.{code_of};

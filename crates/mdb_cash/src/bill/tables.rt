@@ -5,14 +5,17 @@ ghost use Rattle.mdb_cash.specs.BillFacts as spec;
 
 use super::Bill;
 use super::activity::BillActivity;
-use crate::keeper::{Keeper, KeeperFacts};
+use crate::keeper::{Keeper, KeeperFacts, KeeperKnown};
 use crate::past::Effect;
-use mdb_msgs::{BillCommand, BillMsg, BillSetup, Command, Reply};
+use mdb_msgs::{BillCommand, BillMsg, BillSetup, Command, Reply, Setups};
 use std::convert::Infallible;
 
 /// What counts of the acts so far for the validator (this profile): a running value, which doesn't
 /// grow with them.
-pub type BillFacts = KeeperFacts<Bill>;
+pub(crate) type BillFacts = KeeperFacts<Bill>;
+
+/// What is known of it, where a recording may begin in mid-session.
+pub type BillKnown = KeeperKnown<Bill>;
 
 impl Keeper for Bill {
     type Own = BillCommand;
@@ -59,6 +62,10 @@ impl Keeper for Bill {
         }
     }
 
+    fn setup_known(setups: &Setups) -> Option<BillSetup> {
+        setups.bill.as_ref().map(|setup| setup.copy())
+    }
+
     fn setup_copy(setup: &BillSetup) -> BillSetup {
         setup.copy()
     }
@@ -75,4 +82,8 @@ impl Keeper for Bill {
     }
 
     ghost few_bytes = { Prim.search rules };
+
+    ghost small_setup = { Prim.search rules };
+
+    ghost small_asked = { Prim.search rules };
 }

@@ -1,8 +1,11 @@
 //! The steps of the changer and the controller.
 
+ghost use Rattle.std.proofs.Common.{rules};
 ghost use Rattle.std.specs.Prelude.{◌≡◌, ◌↔◌, IsTrue, Option, Some};
 ghost use Rattle.std.specs.List.{AllByRecursion};
+ghost use Rattle.mdb_cash.specs.declared.changer.activity.ChangerActivity.TheVariants.{CashBox};
 ghost use Rattle.mdb_cash.specs.Changer as spec;
+ghost use Rattle.mdb_cash.specs.inner.ChangerWays as ways;
 ghost use Rattle.mdb_cash.specs.Gains.{IsSmall};
 ghost use Rattle.mdb_cash.specs.KeeperValues.{facts_in};
 ghost use Rattle.mdb_cash.specs.Pair.{IsOnlyStep};
@@ -21,6 +24,12 @@ impl Conduct for Changer {
     type State = ChangerState;
 
     ghost conduct = { spec.conduct };
+
+    ghost some_kept = { CashBox 0 };
+
+    ghost overlooks = { ways.overlooks };
+
+    ghost small_state = { Prim.search rules };
 
     fn power_on() -> ChangerState {
         ChangerState::power_on()
@@ -97,6 +106,14 @@ impl Conduct for Changer {
 
     fn second_gain(facts: &ChangerFacts, message: ChangerActivity) -> u64 {
         paid_by_hand(&facts.setup, message)
+    }
+
+    fn asks_amount(command: ChangerCommand) -> bool {
+        matches!(command, ChangerCommand::Dispense(_))
+    }
+
+    fn tells_amount(_message: ChangerActivity) -> bool {
+        true
     }
 
     fn heard_reset(state: ChangerState) -> ChangerState {

@@ -11,6 +11,13 @@ pub struct ChangerState {
     pub dispense_owed: bool,
 }
 
+impl Default for ChangerState {
+    /// The state at power-on.
+    fn default() -> ChangerState {
+        ChangerState::power_on()
+    }
+}
+
 impl ChangerState {
     ghost use Rattle.mdb_cash.specs.Changer as spec;
     ghost use Rattle.mdb_cash.specs.inner.ChangerCodes.{code_of};

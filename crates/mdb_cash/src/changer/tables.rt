@@ -5,13 +5,16 @@ ghost use Rattle.mdb_cash.specs.ChangerFacts as spec;
 
 use super::Changer;
 use super::activity::ChangerActivity;
-use crate::keeper::{Keeper, KeeperFacts};
+use crate::keeper::{Keeper, KeeperFacts, KeeperKnown};
 use crate::past::Effect;
-use mdb_msgs::{ChangerCommand, ChangerMsg, ChangerSetup, Command, Reply};
+use mdb_msgs::{ChangerCommand, ChangerMsg, ChangerSetup, Command, Reply, Setups};
 
 /// What counts of the acts so far for the changer (this profile): a running value, which doesn't
 /// grow with them.
-pub type ChangerFacts = KeeperFacts<Changer>;
+pub(crate) type ChangerFacts = KeeperFacts<Changer>;
+
+/// What is known of it, where a recording may begin in mid-session.
+pub type ChangerKnown = KeeperKnown<Changer>;
 
 impl Keeper for Changer {
     type Own = ChangerCommand;
@@ -61,6 +64,10 @@ impl Keeper for Changer {
         }
     }
 
+    fn setup_known(setups: &Setups) -> Option<ChangerSetup> {
+        setups.changer.as_ref().map(|setup| setup.copy())
+    }
+
     fn setup_copy(setup: &ChangerSetup) -> ChangerSetup {
         setup.copy()
     }
@@ -77,4 +84,8 @@ impl Keeper for Changer {
     }
 
     ghost few_bytes = { Prim.search rules };
+
+    ghost small_setup = { Prim.search rules };
+
+    ghost small_asked = { Prim.search rules };
 }

@@ -1,8 +1,9 @@
 -- That acts of other devices change nothing and tell nothing, so that a reader's facts and steps
 -- depend on its own acts alone. This proves laws of the trait `Pair` for the readers.
-use Rattle.std.specs.Prelude.{◌≡◌, ◌↔◌, Bool, true, false, ◌||◌, List, [], ◌∷◌, map, Option, Some, None, refl, unwrap_or, if◌then◌else◌}
+use Rattle.std.specs.Prelude.{◌≡◌, ◌↔◌, ℕ, ◌+◌, Bool, true, false, ◌&&◌, ◌||◌, List, [], ◌∷◌, map, sum_by, Option, Some, None, option_map, refl, if◌then◌else◌}
 use Rattle.std.specs.List.{All}
 use Rattle.std.proofs.Common.{ap, subst, sym, ◌∙◌}
+use Rattle.std.proofs.Math.Nat.{zero-add}
 use Rattle.mdb_msgs.specs.declared.command.Command.{Command}
 use Rattle.mdb_msgs.specs.declared.command.Command.TheVariants as commands
 use Rattle.mdb_msgs.specs.declared.command.Device.TheVariants as devices
@@ -11,27 +12,35 @@ use Rattle.mdb_msgs.specs.declared.command.ReaderUnit.{ReaderUnit}
 use Rattle.mdb_msgs.specs.declared.command.ReaderUnit.TheVariants.{First, Second}
 use Rattle.mdb_msgs.specs.declared.reply.Reply.{Reply}
 use Rattle.mdb_msgs.specs.declared.reply.reader.ReaderMsg.{ReaderMsg}
+use Rattle.mdb_msgs.specs.declared.setups.ReaderConfig.{ReaderConfig}
 use Rattle.mdb_msgs.specs.Commands.{device_of}
+use Rattle.mdb_msgs.specs.Setups.{config_known}
 use Rattle.mdb_bus.specs.declared.act.Act.{Act}
 use Rattle.mdb_bus.specs.declared.act.Act.TheVariants as acts
+use Rattle.mdb_bus.specs.declared.scope.Beginning.{Beginning}
 use Rattle.mdb_cash.specs.declared.choice.Choice.{Choice}
+use Rattle.mdb_cash.specs.declared.choice.Choice.TheVariants.{Plain}
 use Rattle.mdb_cash.specs.declared.gains.Gains.{Gains}
+use Rattle.mdb_cash.specs.declared.past.Effect.{Effect}
+use Rattle.mdb_cash.specs.declared.past.Effect.TheVariants as effects
 use Rattle.mdb_cash.specs.Gains.{no_gains}
+use Rattle.mdb_cash.specs.Known.{known_before, known_by}
 use Rattle.mdb_cash.specs.Machine.{IsMachineOf}
 use Rattle.mdb_cash.specs.Pair.{IsActOf, IsBreak, own_acts}
-use Rattle.mdb_cashless.specs.declared.reader.state.ReaderState.{ReaderState}
-use Rattle.mdb_cashless.specs.Reader.{ForOwn, ReaderStep, machine, power_on}
-use Rattle.mdb_cash.specs.declared.past.Effect.TheVariants as effects
-use Rattle.mdb_cash.specs.Past.{PastFacts, effect_by, last_told, or_else, past_of, powers_on, resets, tells_out_of_sequence}
-use Rattle.mdb_cash.specs.PastValues.{past_with}
-use Rattle.mdb_cash.specs.inner.OwnWays.{IsOfOwn, known_of_none, same_known}
+use Rattle.mdb_cash.specs.Past.{effect_by, last_told, or_else, powers_on, resets, tells_out_of_sequence}
+use Rattle.mdb_cash.specs.PastValues.{known_more, known_past_after}
+use Rattle.mdb_cash.specs.Unvalued as amounts
+use Rattle.mdb_cash.specs.Unvalued.{one_if}
+use Rattle.mdb_cash.specs.inner.OwnWays.{IsOfOwn, part_of_none, same_known}
 use Rattle.mdb_cash.specs.inner.PastWays as past_ways
-use Rattle.mdb_cashless.specs.declared.reader.messages.ReaderActivity.{ReaderActivity}
+use Rattle.mdb_cashless.specs.declared.reader.state.ReaderState.{ReaderState}
 use Rattle.mdb_cashless.specs.declared.reader.transaction.Transaction.{Transaction}
+use Rattle.mdb_cashless.specs.inner.KnowingReader.{as_choice, some_facts, starts_in, stays}
 use Rattle.mdb_cashless.specs.inner.PlainReader.{as_plain}
-use Rattle.mdb_cashless.specs.ReaderFacts.{Facts, amount_by, asked_by, config_by, effect_of, effect_of_own, facts_of, last_taken, messages_by, own_of, own_transaction, parts_by, transaction_taken_by}
-use Rattle.mdb_cashless.specs.ReaderValues.{facts_with}
+use Rattle.mdb_cashless.specs.Reader.{ForOwn, ReaderStep, StepKnowing, asks_sale, is_approval, is_unpriced, machine, power_on, unvalued, unvalued_by}
+use Rattle.mdb_cashless.specs.ReaderFacts.{Facts, KnownFacts, asked_by, config_by, effect_of, effect_of_own, known_of, messages_by, own_of, own_transaction, parts_by, taken_told, transaction_taken_by}
 use Rattle.mdb_cashless.specs.ReaderMessages.{amount_in, begin_session, config_in, last_said, messages_of, part_of}
+use Rattle.mdb_cashless.specs.ReaderValues.{known_with}
 use Rattle.mdb_cashless.specs.Units.{own}
 
 -- a command to another device is none to this reader
@@ -79,37 +88,33 @@ elsewhere unit facts acts.Foreign choice before after gains other =
     (λ step. step, λ step. step)
 elsewhere unit facts (acts.Break n) choice before after gains other = absurd (other tt)
 
--- the facts after one act more, by what that act is to the reader
-abbrev known_more : ReaderUnit → List Act → List ReaderMsg → Option Transaction
-    → Option Transaction → Bool → PastFacts ReaderActivity → Facts
-known_more unit before messages asked taken powers past =
+-- what is known after one act more, by what that act is to the reader
+abbrev more : KnownFacts → List ReaderMsg → Option Transaction → Option Transaction → Effect → Bool
+    → KnownFacts
+more known messages asked taken effect powers =
     record {
-      config = or_else (last_said config_in messages) (last_told (config_by unit) before);
-      asked = or_else asked (last_told (asked_by unit) before);
-      taken = if powers || begin_session messages then None
-          else or_else taken (last_taken unit before);
-      amount =
-          unwrap_or (or_else (last_said amount_in messages) (last_told (amount_by unit) before)) 0;
-      past = past;
+      config = or_else (last_said config_in messages) known.config;
+      asked = known_more (option_map (λ transaction. Some transaction) asked) known.asked;
+      taken = known_more (if powers || begin_session messages then Some None
+          else option_map (λ transaction. Some transaction) taken) known.taken;
+      amount = or_else (last_said amount_in messages) known.amount;
+      past = known_past_after powers effect (map part_of messages) known.past;
     }
 
--- an act that is nothing to the reader leaves them
-still_known : (unit : ReaderUnit) (act : Act) (before : List Act) → messages_by unit act ≡ []
+-- an act that is nothing to the reader leaves it
+still_known : (unit : ReaderUnit) (act : Act) (known : KnownFacts) → messages_by unit act ≡ []
     → asked_by unit act ≡ None → transaction_taken_by unit act ≡ None
     → effect_by (effect_of unit) act ≡ effects.Other → powers_on (effect_of unit) act ≡ false
-    → facts_of unit before ≡ facts_of unit (act ∷ before)
-still_known unit act before messages asked taken effect powers =
-    let after = past_of (effect_of unit) (parts_by unit) (act ∷ before) in
-    let past : past_of (effect_of unit) (parts_by unit) before ≡ after =
-    past_ways.still (effect_of unit) (parts_by unit) act before effect powers
-    (ap (map part_of) messages) in
-    ap (known_more unit before [] None None false) past
-    ∙ sym (ap (λ m. known_more unit before m (asked_by unit act) (transaction_taken_by unit act)
-    (powers_on (effect_of unit) act) after) messages
-    ∙ ap (λ a. known_more unit before [] a (transaction_taken_by unit act)
-    (powers_on (effect_of unit) act) after) asked
-    ∙ ap (λ t. known_more unit before [] None t (powers_on (effect_of unit) act) after) taken
-    ∙ ap (λ b. known_more unit before [] None None b after) powers)
+    → known ≡ known_with unit act known
+still_known unit act known messages asked taken effect powers =
+    sym (ap (λ m. more known m (asked_by unit act) (transaction_taken_by unit act)
+    (effect_by (effect_of unit) act) (powers_on (effect_of unit) act)) messages
+    ∙ ap (λ a. more known [] a (transaction_taken_by unit act)
+    (effect_by (effect_of unit) act) (powers_on (effect_of unit) act)) asked
+    ∙ ap (λ t. more known [] None t (effect_by (effect_of unit) act)
+    (powers_on (effect_of unit) act)) taken
+    ∙ ap (λ e. more known [] None None e (powers_on (effect_of unit) act)) effect
+    ∙ ap (λ b. more known [] None None effects.Other b) powers)
 
 -- a command to another device is no transaction that the reader takes, whatever the answer tells
 answered_none : (unit : ReaderUnit) (command : Command) (reply : Reply) → own unit command ≡ None
@@ -121,92 +126,178 @@ answered_none unit command reply none = either (tells_out_of_sequence reply)
     either true = refl
     either false = ap own_transaction none
 
-facts_still : (unit : ReaderUnit) (before : List Act) (act : Act)
-    → (IsActOf (devices.Reader unit) act → ⊥) → facts_of unit before ≡ facts_of unit (act ∷ before)
-facts_still unit before (acts.Ask c) other =
+known_still : (unit : ReaderUnit) (known : KnownFacts) (act : Act)
+    → (IsActOf (devices.Reader unit) act → ⊥) → known ≡ known_with unit act known
+known_still unit known (acts.Ask c) other =
     let none = no_own unit c other in
-    still_known unit (acts.Ask c) before refl (ap own_transaction none) refl refl refl
-facts_still unit before (acts.Ack c) other =
+    still_known unit (acts.Ask c) known refl (ap own_transaction none) refl refl refl
+known_still unit known (acts.Ack c) other =
     let none = no_own unit c other in
     let effect : effect_of unit c ≡ effects.Other = ap effect_of_own none in
-    still_known unit (acts.Ack c) before refl refl (ap own_transaction none) effect
+    still_known unit (acts.Ack c) known refl refl (ap own_transaction none) effect
     (ap resets effect)
-facts_still unit before (acts.Reply c r) other =
+known_still unit known (acts.Reply c r) other =
     let none = no_own unit c other in
     let effect = past_ways.answered_still (effect_of unit) c r (ap effect_of_own none) in
-    still_known unit (acts.Reply c r) before
+    still_known unit (acts.Reply c r) known
     (ap (λ found. elim found [ Some c ↦ messages_of r | None ↦ [] ]) none) refl
     (answered_none unit c r none) effect (ap resets effect)
-facts_still unit before (acts.Nak c) other =
-    still_known unit (acts.Nak c) before refl refl refl refl refl
-facts_still unit before (acts.VmcAck c r) other =
-    still_known unit (acts.VmcAck c r) before refl refl refl refl refl
-facts_still unit before (acts.VmcNak c r) other =
-    still_known unit (acts.VmcNak c r) before refl refl refl refl refl
-facts_still unit before (acts.VmcRet c r) other =
-    still_known unit (acts.VmcRet c r) before refl refl refl refl refl
-facts_still unit before (acts.Repeat c r) other =
-    still_known unit (acts.Repeat c r) before refl refl refl refl refl
-facts_still unit before acts.Foreign other =
-    still_known unit acts.Foreign before refl refl refl refl refl
-facts_still unit before (acts.Break n) other = absurd (other tt)
+known_still unit known (acts.Nak c) other =
+    still_known unit (acts.Nak c) known refl refl refl refl refl
+known_still unit known (acts.VmcAck c r) other =
+    still_known unit (acts.VmcAck c r) known refl refl refl refl refl
+known_still unit known (acts.VmcNak c r) other =
+    still_known unit (acts.VmcNak c r) known refl refl refl refl refl
+known_still unit known (acts.VmcRet c r) other =
+    still_known unit (acts.VmcRet c r) known refl refl refl refl refl
+known_still unit known (acts.Repeat c r) other =
+    still_known unit (acts.Repeat c r) known refl refl refl refl refl
+known_still unit known acts.Foreign other =
+    still_known unit acts.Foreign known refl refl refl refl refl
+known_still unit known (acts.Break n) other = absurd (other tt)
 
-pub unmoved : (unit : ReaderUnit) (known : Facts) (before : List Act) (act : Act)
-    → (IsActOf (devices.Reader unit) act → ⊥) → known ≡ facts_of unit before
-    → known ≡ facts_of unit (act ∷ before)
-unmoved unit known before act other is = is ∙ facts_still unit before act other
-
--- facts are the same where their fields are
-pub same_fields : {one other : Facts} → one.config ≡ other.config → one.asked ≡ other.asked
+-- what is known is the same where its fields are
+pub same_fields : {one other : KnownFacts} → one.config ≡ other.config → one.asked ≡ other.asked
     → one.taken ≡ other.taken → one.amount ≡ other.amount → one.past ≡ other.past → one ≡ other
 same_fields {one} {other} config asked taken amount past =
     let same : record one { config = one.config } ≡ record other { config = other.config } =
     cc (config, asked, taken, amount, past) in
     same
 
-first_of_two : {X : Type 0} (first second : Option X) (x : X)
-    → unwrap_or first (unwrap_or second x) ≡ unwrap_or (or_else first second) x
-first_of_two (Some y) second x = refl
-first_of_two None second x = refl
+first_of_three : {X : Type 0} (first second third : Option X)
+    → or_else first (or_else second third) ≡ or_else (or_else first second) third
+first_of_three (Some x) second third = refl
+first_of_three None second third = refl
 
--- the facts after one act more, from those before it, where what counts of the acts goes on so
-pub facts_more : (unit : ReaderUnit) (act : Act) (so_far : List Act)
-    → past_with (effect_of unit) (parts_by unit) act
-    (past_of (effect_of unit) (parts_by unit) so_far)
-    ≡ past_of (effect_of unit) (parts_by unit) (act ∷ so_far)
-    → facts_with unit act (facts_of unit so_far) ≡ facts_of unit (act ∷ so_far)
-facts_more unit act so_far past =
-    same_fields refl refl refl
-    (first_of_two (amount_by unit act) (last_told (amount_by unit) so_far) 0) past
+asked_more : (first second : Option Transaction)
+    → or_else (option_map (λ (t : Transaction). Some t) first)
+    (option_map (λ (t : Transaction). Some t) second)
+    ≡ option_map (λ (t : Transaction). Some t) (or_else first second)
+asked_more (Some x) second = refl
+asked_more None second = refl
 
--- so the facts depend on the reader's own acts alone
-of_own : (unit : ReaderUnit) → IsOfOwn (devices.Reader unit) (facts_of unit)
-of_own unit = record {
-  more = facts_with unit;
-  goes_on = λ act so_far. facts_more unit act so_far
-      (past_ways.past_more (effect_of unit) (parts_by unit) act so_far);
-  still = λ act so_far. facts_still unit so_far act;
+-- what is known after one act more, from what was known before it
+pub goes_on : (unit : ReaderUnit) (begins : Beginning) (act : Act) (so_far : List Act)
+    → known_with unit act (known_of begins unit so_far) ≡ known_of begins unit (act ∷ so_far)
+goes_on unit begins act so_far = same_fields
+    (first_of_three (config_by unit act) (last_told (config_by unit) so_far)
+    (known_before (λ setups. config_known setups unit) begins))
+    (past_ways.known_by_more begins None
+    (option_map (λ (t : Transaction). Some t) (asked_by unit act))
+    (option_map (λ (t : Transaction). Some t) (last_told (asked_by unit) so_far))
+    ∙ ap (λ o. known_by begins None o)
+    (asked_more (asked_by unit act) (last_told (asked_by unit) so_far)))
+    (past_ways.known_by_more begins None (taken_told unit act) (last_told (taken_told unit) so_far))
+    refl
+    (past_ways.known_past_more begins (effect_of unit) (parts_by unit) act so_far)
+
+pub unmoved : (unit : ReaderUnit) (begins : Beginning) (known : KnownFacts) (before : List Act)
+    (act : Act) → (IsActOf (devices.Reader unit) act → ⊥) → known ≡ known_of begins unit before
+    → known ≡ known_of begins unit (act ∷ before)
+unmoved unit begins known before act other is =
+    is ∙ known_still unit (known_of begins unit before) act other
+    ∙ goes_on unit begins act before
+
+-- so what is known depends on the reader's own acts alone
+of_own : (unit : ReaderUnit) (begins : Beginning)
+    → IsOfOwn (devices.Reader unit) (known_of begins unit)
+of_own unit begins = record {
+  more = known_with unit;
+  goes_on = goes_on unit begins;
+  still = λ act so_far other.
+      unmoved unit begins (known_of begins unit so_far) so_far act other refl;
 }
 
-pub same_facts : (unit : ReaderUnit) (so_far other : List Act)
+pub same_facts : (begins : Beginning) (unit : ReaderUnit) (so_far other : List Act)
     → own_acts (devices.Reader unit) so_far ≡ own_acts (devices.Reader unit) other
-    → facts_of unit so_far ≡ facts_of unit other
-same_facts unit = same_known (facts_of unit) (of_own unit)
+    → known_of begins unit so_far ≡ known_of begins unit other
+same_facts begins unit = same_known (known_of begins unit) (of_own unit begins)
 
--- after breaks alone they are those of no act
-pub no_facts : (unit : ReaderUnit) (so_far : List Act)
+-- an act of another device tells no amount
+none_unvalued : (config : Option ReaderConfig) → amounts.unvalued_by config 0 ≡ 0
+none_unvalued None = refl
+none_unvalued (Some config) = refl
+
+no_amount : (unit : ReaderUnit) (known : KnownFacts) (act : Act)
+    → (IsActOf (devices.Reader unit) act → ⊥) → unvalued_by unit known act ≡ 0
+no_amount unit known (acts.Ask c) other =
+    ap (λ o. one_if (asks_sale o && is_unpriced known)) (no_own unit c other)
+no_amount unit known (acts.Reply c r) other =
+    ap (λ (o : Option ReaderCommand).
+    let messages : List ReaderMsg = elim o [ Some c ↦ messages_of r | None ↦ [] ] in
+    amounts.unvalued_by (or_else (last_said config_in messages) known.config)
+    (sum_by (λ message. one_if (is_approval message)) messages)) (no_own unit c other)
+    ∙ none_unvalued known.config
+no_amount unit known (acts.Break n) other = absurd (other tt)
+no_amount unit known act other = none_unvalued known.config
+
+pub untold : (unit : ReaderUnit) (begins : Beginning) (so_far : List Act) (act : Act)
+    → (IsActOf (devices.Reader unit) act → ⊥)
+    → unvalued unit begins (act ∷ so_far) ≡ unvalued unit begins so_far
+untold unit begins so_far act other =
+    ap (λ n. n + unvalued unit begins so_far)
+    (no_amount unit (known_of begins unit so_far) act other)
+    ∙ zero-add (unvalued unit begins so_far)
+
+-- so the amounts without a value are of the reader's own acts
+abbrev counted : ReaderUnit → Beginning → List Act → KnownFacts × ℕ
+counted unit begins so_far = (known_of begins unit so_far, unvalued unit begins so_far)
+
+counted_of_own : (unit : ReaderUnit) (begins : Beginning)
+    → IsOfOwn (devices.Reader unit) (counted unit begins)
+counted_of_own unit begins = record {
+  more = λ act known. (known_with unit act known.0, unvalued_by unit known.0 act + known.1);
+  goes_on = λ act so_far. ap (λ k. (k, unvalued unit begins (act ∷ so_far)))
+      (goes_on unit begins act so_far);
+  still = λ act so_far other.
+      ap (λ k. (k, unvalued unit begins so_far))
+      (unmoved unit begins (known_of begins unit so_far) so_far act other refl)
+      ∙ ap (λ n. (known_of begins unit (act ∷ so_far), n))
+      (sym (untold unit begins so_far act other));
+}
+
+pub same_unvalued : (begins : Beginning) (unit : ReaderUnit) (so_far other : List Act)
+    → own_acts (devices.Reader unit) so_far ≡ own_acts (devices.Reader unit) other
+    → unvalued unit begins so_far ≡ unvalued unit begins other
+same_unvalued begins unit so_far other same =
+    ap (λ (known : KnownFacts × ℕ). known.1)
+    (same_known (counted unit begins) (counted_of_own unit begins) so_far other same)
+
+-- after breaks alone the config message is that of no act, and no amount was told
+pub no_config : (begins : Beginning) (unit : ReaderUnit) (so_far : List Act)
     → All IsBreak (own_acts (devices.Reader unit) so_far)
-    → facts_of unit so_far ≡ facts_of unit []
-no_facts unit = known_of_none (facts_of unit) (of_own unit) (λ length. refl)
+    → (known_of begins unit so_far).config ≡ (known_of begins unit []).config
+no_config begins unit =
+    part_of_none (known_of begins unit) (λ known. known.config) (of_own unit begins)
+    (λ length so_far. refl)
+
+pub none_told : (begins : Beginning) (unit : ReaderUnit) (so_far : List Act)
+    → All IsBreak (own_acts (devices.Reader unit) so_far) → unvalued unit begins so_far ≡ 0
+none_told begins unit =
+    part_of_none (counted unit begins) (λ known. known.1) (counted_of_own unit begins)
+    (λ length so_far. ap (λ n. n + unvalued unit begins so_far)
+    (none_unvalued (known_of begins unit so_far).config) ∙ zero-add (unvalued unit begins so_far))
 
 -- the machine is one of the device
-pub is_machine : (unit : ReaderUnit) → IsMachineOf (devices.Reader unit) (machine unit)
-is_machine unit = record {
-  elsewhere = λ acts. elsewhere unit (facts_of unit acts);
-  own = λ acts other act choice before after gains same step.
-      subst (λ facts. ReaderStep unit facts act choice before after gains)
-      (same_facts unit acts other same) step;
-  breaks = λ acts length choice before. (power_on, no_gains, (refl, refl));
-  starts_over = λ acts length choice before after gains step. step;
-  as_plain = λ acts. as_plain unit (facts_of unit acts);
+pub is_machine : (unit : ReaderUnit) (begins : Beginning)
+    → IsMachineOf (devices.Reader unit) (machine unit begins)
+is_machine unit begins = record {
+  elsewhere = λ so_far act choice before after gains other.
+      stays unit (known_of begins unit so_far) act choice before after gains
+      (λ facts. elsewhere unit facts act choice before after gains other);
+  own = λ so_far other act choice before after gains same step.
+      subst (λ known. StepKnowing unit known act choice before after gains)
+      (same_facts begins unit so_far other same) step;
+  breaks = λ so_far length choice before.
+      let some = some_facts (known_of begins unit so_far) before.holds in
+      (power_on, no_gains, record { facts = some.0; allowed = some.1; step = (refl, refl) });
+  starts_over = λ so_far length choice before after gains step.
+      (starts_in begins after step.step.0, step.step.1);
+  as_plain = λ so_far act choice before after gains barred.
+      as_choice unit (known_of begins unit so_far) act choice Plain before after gains
+      (λ facts. as_plain unit facts act choice before after gains barred);
 }
+
+pub some_start : (unit : ReaderUnit) (begins : Beginning)
+    → (state : ReaderState) × (machine unit begins).Starts state
+some_start unit begins = (power_on, starts_in begins power_on refl)

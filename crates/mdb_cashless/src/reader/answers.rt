@@ -18,7 +18,7 @@ ghost use Rattle.mdb_cashless.specs.ReaderView as reader_view;
 
 use super::device::DeviceState;
 use super::facts::ReaderFacts;
-use super::messages::{ReaderActivity, ReaderConfig, Said, is_kept, messages_of, tells_of_reset};
+use super::messages::{ReaderActivity, Said, is_kept, messages_of, tells_of_reset};
 use super::state::ReaderState;
 use super::taking::{is_poll, sold, take};
 use super::transaction::{Transaction, transaction_of};
@@ -27,7 +27,7 @@ use super::view::View;
 use mdb_cash::kept::{held, holds_after};
 use mdb_cash::past::tells_out_of_sequence;
 use mdb_cash::{Choice, Gains};
-use mdb_msgs::{ReaderCommand, ReaderIter, Reply};
+use mdb_msgs::{ReaderCommand, ReaderConfig, ReaderIter, Reply};
 
 /// The command that the reader takes by a reply that refuses it or doesn't: that says that it came
 /// out of sequence.

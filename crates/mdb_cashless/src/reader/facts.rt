@@ -1,15 +1,15 @@
-//! What is known of a reader after the acts so far.
+//! What counts of the acts so far for a reader.
 
-ghost use Rattle.std.specs.Prelude.{◌≡◌, List, [], ◌∷◌, Some};
+ghost use Rattle.std.specs.Prelude.{◌≡◌, ◌≤◌, length, List, Some};
 ghost use Rattle.mdb_cashless.specs.ReaderFacts.{effect_of_own};
 
-use super::messages::{ReaderActivity, ReaderConfig, Said, messages_of};
+use super::messages::{ReaderActivity, Said, messages_of};
 use super::transaction::{Transaction, transaction_of};
 use super::unit::own;
-use mdb_bus::Act;
-use mdb_cash::laws::what_counts_goes_on_act_by_act;
+use arrayvec::ArrayVec;
+use mdb_bus::{Act, Beginning};
 use mdb_cash::past::{Effect, Past};
-use mdb_msgs::{Command, ReaderCommand, ReaderUnit, Reply};
+use mdb_msgs::{Command, ReaderCommand, ReaderConfig, ReaderUnit, Reply};
 
 /// What counts of the acts so far for a reader (this profile): a running value, which doesn't grow
 /// with them.
@@ -21,36 +21,52 @@ pub struct ReaderFacts {
     pub(crate) asked: Option<Transaction>,
     /// The last transaction that the reader took.
     pub(crate) taken: Option<Transaction>,
-    /// The amount of the last approval, in units of the scale factor.
-    pub(crate) amount: u16,
+    /// The amount of the last approval, in units of the scale factor, where there was one.
+    pub(crate) amount: Option<u16>,
     /// The reset message, and the last kept list.
     pub(crate) past: Past<ReaderActivity, 35>,
 }
 
 impl ReaderFacts {
-    ghost use Rattle.std.specs.Prelude.{option_map};
-    ghost use Rattle.mdb_msgs.specs.declared.command.ReaderUnit.{ReaderUnit};
-    ghost use Rattle.mdb_bus.specs.declared.act.Act.{Act};
+    ghost use Rattle.std.specs.Prelude.{◌≤◌, None, length};
+    ghost use Rattle.mdb_msgs.specs.Setups.{config_known};
     ghost use Rattle.mdb_bus.specs.declared.act.Act.TheVariants as acts;
+    ghost use Rattle.mdb_cash.specs.Known.{known_before};
+    ghost use Rattle.mdb_cash.specs.PastValues.{first_past, past_in};
     ghost use Rattle.mdb_cashless.specs.Reader.{taken as answered};
-    ghost use Rattle.mdb_cashless.specs.ReaderFacts.{facts_of};
     ghost use Rattle.mdb_cashless.specs.ReaderMessages.{messages_of};
     ghost use Rattle.mdb_cash.specs.Past.{or_else};
     ghost use Rattle.mdb_msgs.specs.declared.reply.reader.ReaderMsg.{ReaderMsg};
     ghost use Rattle.mdb_cashless.specs.inner.ReaderSaid.{IsSaid};
-    ghost use Rattle.mdb_cashless.specs.ReaderValues.{facts_in, facts_with, powered, taken, told};
+    ghost use Rattle.mdb_cashless.specs.ReaderValues.{facts_in, powered, taken, told, told_in, told_with};
+    ghost use Rattle.mdb_cashless.specs.inner.Guesses.{keeping};
     ghost use Rattle.mdb_cashless.specs.Transactions.{transaction_of as transaction};
 
-    /// The facts after no act.
-    pub(crate) fn start() -> ReaderFacts
-        ensures { (unit : ReaderUnit) → facts_in result ≡ facts_of unit [] }
+    /// The facts after no act, or what is known of them, where a recording begins so: what isn't
+    /// known is of no matter.
+    pub(crate) fn start(begins: &Beginning, unit: ReaderUnit) -> ReaderFacts
+        ensures config { result.config
+            ≡ known_before (λ setups. config_known setups unit) begins.now }
+        ensures asked { result.asked ≡ None }
+        ensures taken { result.taken ≡ None }
+        ensures amount { result.amount ≡ None }
+        ensures past { past_in result.past ≡ first_past begins.now }
     {
-        ReaderFacts {
-            config: None,
-            asked: None,
-            taken: None,
-            amount: 0,
-            past: Past::start(),
+        match begins {
+            Beginning::PowerOn => ReaderFacts {
+                config: None,
+                asked: None,
+                taken: None,
+                amount: None,
+                past: Past::start(),
+            },
+            Beginning::Joined(setups) => ReaderFacts {
+                config: setups.config(unit),
+                asked: None,
+                taken: None,
+                amount: None,
+                past: Past::running(),
+            },
         }
     }
 
@@ -67,37 +83,39 @@ impl ReaderFacts {
         }
     }
 
-    /// The decimal places of the reader's amounts: Z6 of its last config message, where it has told
-    /// one (MDB/ICP 4.3, cashless device).
-    pub fn decimals(&self) -> Option<u8>
-        ensures { result ≡ option_map (λ config. config.decimals) (facts_in self.now).config }
+    /// The same facts, with another guess of the last transaction command that was sent.
+    pub(crate) fn asking(&self, asked: Option<Transaction>) -> ReaderFacts
+        ensures { facts_in result ≡ record (facts_in self.now) { asked = asked } }
     {
-        self.config.map(|config| config.decimals)
+        let mut facts = self.copy();
+        facts.asked = asked;
+        facts
     }
 
-    /// The reader's response time, in seconds: Z7 of its last config message, where it has told one
-    /// (MDB/ICP 4.3, cashless device).
-    pub fn response_time(&self) -> Option<u8>
-        ensures { result ≡ option_map (λ config. config.response) (facts_in self.now).config }
+    /// The same facts, with another guess of the last transaction that the reader took.
+    pub(crate) fn taking(&self, taken: Option<Transaction>) -> ReaderFacts
+        ensures { facts_in result ≡ record (facts_in self.now) { taken = taken } }
     {
-        self.config.map(|config| config.response)
+        let mut facts = self.copy();
+        facts.taken = taken;
+        facts
     }
 
-    /// Takes one act more into the facts.
-    // Inlined, so that an act of another device costs little more than the look at whose it is.
-    #[inline(always)]
-    pub(crate) fn learn(&mut self, unit: ReaderUnit, act: &Act)
-        ensures { (acts : List Act) → facts_in self.old ≡ facts_of unit acts
-            → facts_in self.new ≡ facts_of unit (act.now ∷ acts) }
+    /// The same facts, with another guess of the last kept list.
+    pub(crate) fn keeping(&self, kept: &[ReaderActivity]) -> ReaderFacts
+        requires { length kept.now ≤ 35 }
+        ensures { facts_in result ≡ keeping (facts_in self.now) kept.now }
     {
-        what_counts_goes_on_act_by_act::<ReaderActivity>();
-        self.note(unit, act);
+        let mut facts = self.copy();
+        facts.past.last_kept = list_of(kept);
+        facts
     }
 
     /// Notes what an act tells.
+    // Inlined, so that an act of another device costs little more than the look at whose it is.
     #[inline(always)]
-    fn note(&mut self, unit: ReaderUnit, act: &Act)
-        ensures { facts_in self.new ≡ facts_with unit act.now (facts_in self.old) }
+    pub(crate) fn note(&mut self, unit: ReaderUnit, act: &Act)
+        ensures { told_in self.new ≡ told_with unit act.now (told_in self.old) }
     {
         match act {
             Act::Ask(command) => self.ask(unit, command),
@@ -111,8 +129,8 @@ impl ReaderFacts {
     /// The controller asks.
     #[inline(always)]
     fn ask(&mut self, unit: ReaderUnit, command: &Command)
-        ensures { facts_in self.new
-            ≡ facts_with unit (acts.Ask command.now) (facts_in self.old) }
+        ensures { told_in self.new
+            ≡ told_with unit (acts.Ask command.now) (told_in self.old) }
     {
         if let Some(command) = own(unit, command) {
             if let Some(transaction) = transaction_of(command) {
@@ -124,8 +142,8 @@ impl ReaderFacts {
     /// A device acknowledges.
     #[inline(always)]
     fn acknowledge(&mut self, unit: ReaderUnit, command: &Command)
-        ensures { facts_in self.new
-            ≡ facts_with unit (acts.Ack command.now) (facts_in self.old) }
+        ensures { told_in self.new
+            ≡ told_with unit (acts.Ack command.now) (told_in self.old) }
     {
         if let Some(command) = own(unit, command) {
             self.take(command);
@@ -135,7 +153,7 @@ impl ReaderFacts {
     /// The reader takes a command.
     #[inline(always)]
     fn take(&mut self, command: ReaderCommand)
-        ensures { facts_in self.new ≡ taken (Some command) (facts_in self.old) }
+        ensures { told_in self.new ≡ taken (Some command) (told_in self.old) }
     {
         self.past.take(effect_of(command));
         match command {
@@ -157,7 +175,7 @@ impl ReaderFacts {
 
     /// A break puts the reader into its power-on state.
     fn power_on(&mut self)
-        ensures { facts_in self.new ≡ powered (facts_in self.old) }
+        ensures { told_in self.new ≡ powered (told_in self.old) }
     {
         self.past.power_on();
         self.taken = None;
@@ -166,8 +184,8 @@ impl ReaderFacts {
     /// A device replies.
     #[inline(always)]
     fn reply(&mut self, unit: ReaderUnit, command: &Command, reply: &Reply)
-        ensures { facts_in self.new
-            ≡ facts_with unit (acts.Reply command.now reply.now) (facts_in self.old) }
+        ensures { told_in self.new
+            ≡ told_with unit (acts.Reply command.now reply.now) (told_in self.old) }
     {
         if let Some(command) = own(unit, command) {
             self.answer(command, reply);
@@ -177,9 +195,9 @@ impl ReaderFacts {
     /// The reader replies.
     #[inline(never)]
     fn answer(&mut self, command: ReaderCommand, reply: &Reply)
-        ensures { facts_in self.new
+        ensures { told_in self.new
             ≡ told (messages_of reply.now)
-            (taken (answered command reply.now) (facts_in self.old)) }
+            (taken (answered command reply.now) (told_in self.old)) }
     {
         let mut said = Said::nothing();
         said.read(messages_of(reply));
@@ -193,10 +211,10 @@ impl ReaderFacts {
     #[inline(always)]
     fn note_said(&mut self, said: Said)
         ensures { (messages : List ReaderMsg) → IsSaid said messages
-            → facts_in self.new ≡ told messages (facts_in self.old) }
+            → told_in self.new ≡ told messages (told_in self.old) }
     {
         self.config = said.config.or(self.config);
-        self.amount = said.amount.unwrap_or(self.amount);
+        self.amount = said.amount.or(self.amount);
         if said.begins {
             self.taken = None;
         }
@@ -212,4 +230,14 @@ fn effect_of(command: ReaderCommand) -> Effect
         ReaderCommand::Reset => Effect::Reset,
         _ => Effect::Other,
     }
+}
+
+/// A list of so few messages.
+fn list_of(kept: &[ReaderActivity]) -> ArrayVec<ReaderActivity, 35>
+    requires { length kept.now ≤ 35 }
+    ensures { result.items ≡ kept.now }
+{
+    let mut list = ArrayVec::new();
+    let _ = list.try_extend_from_slice(kept);
+    list
 }

@@ -7,7 +7,7 @@ ghost use Rattle.mdb_cash.specs.Kept.{IsSummary, is_reset};
 ghost use Rattle.mdb_cashless.specs.ReaderMessages as spec;
 
 use mdb_cash::kept::{KeptMessage, Part, Summary};
-use mdb_msgs::{ReaderIter, ReaderMsg, Reply};
+use mdb_msgs::{ReaderConfig, ReaderIter, ReaderMsg, Reply};
 
 /// What a kept message of a cashless reader says (MDB/ICP 4.3, cashless device; what is kept, this
 /// profile). Two such messages are the same where all their bytes are.
@@ -28,17 +28,6 @@ pub enum ReaderActivity {
     VendDenied,
     /// 07: the session has ended.
     SessionEnded,
-}
-
-/// What is known of a reader by its config message (MDB/ICP 4.3, cashless device).
-#[derive(Clone, Copy, PartialEq, Eq, Debug)]
-pub struct ReaderConfig {
-    /// Z5: the scale factor, in smallest units of money.
-    pub scale: u8,
-    /// Z6: the decimal places.
-    pub decimals: u8,
-    /// Z7: the response time, in seconds.
-    pub response: u8,
 }
 
 impl KeptMessage for ReaderActivity {

@@ -16,6 +16,13 @@ pub struct ReaderState {
     pub holds: bool,
 }
 
+impl Default for ReaderState {
+    /// The state at power-on.
+    fn default() -> ReaderState {
+        ReaderState::power_on()
+    }
+}
+
 impl ReaderState {
     ghost use Rattle.mdb_cashless.specs.Reader as spec;
     ghost use Rattle.mdb_cashless.specs.inner.ReaderCodes.{code_of};

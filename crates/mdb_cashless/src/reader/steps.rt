@@ -69,7 +69,7 @@ pub(crate) fn step(
 
 /// The controller asks.
 #[inline(always)]
-fn ask(
+pub(crate) fn ask(
     facts: &ReaderFacts,
     command: ReaderCommand,
     before: ReaderState,
@@ -106,14 +106,17 @@ fn sold_to(facts: &ReaderFacts, command: ReaderCommand, view: View) -> u64
     ensures small { result ≤ 16711425 }
 {
     match transaction_of(command) {
-        Some(transaction) if view.is_sale(transaction) => value(facts.config, facts.amount),
+        Some(transaction) if view.is_sale(transaction) => value(
+            facts.config,
+            facts.amount.unwrap_or(0),
+        ),
         _ => 0,
     }
 }
 
 /// The reader acknowledges.
 #[inline(always)]
-fn ack(
+pub(crate) fn ack(
     facts: &ReaderFacts,
     command: ReaderCommand,
     choice: Choice,

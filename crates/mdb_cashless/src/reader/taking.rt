@@ -46,7 +46,7 @@ fn is_repeated(facts: &ReaderFacts, command: ReaderCommand, holds: bool) -> bool
 }
 
 /// Whether a command that the reader takes ends what it holds.
-fn drops(command: ReaderCommand) -> bool
+pub(crate) fn drops(command: ReaderCommand) -> bool
     ensures { result ≡ spec.drops command }
 {
     match command {
@@ -76,7 +76,7 @@ pub(crate) fn sold(facts: &ReaderFacts, command: ReaderCommand, before: ReaderSt
     ensures small { result ≤ 16711425 }
 {
     if !is_repeated(facts, command, before.holds) && before.device.is_sale(command) {
-        value(facts.config, facts.amount)
+        value(facts.config, facts.amount.unwrap_or(0))
     } else {
         0
     }

@@ -3,9 +3,9 @@
 ghost use Rattle.std.specs.Prelude.{◌≡◌, ◌≤◌, ◌<◌, ◌^◌, length};
 ghost use Rattle.mdb_cashless.specs.Reader as spec;
 
-use super::messages::{ReaderActivity, ReaderConfig};
+use super::messages::ReaderActivity;
 use super::view::View;
-use mdb_msgs::ReaderMsg;
+use mdb_msgs::{ReaderConfig, ReaderMsg};
 
 /// The value of an amount by a config message, in smallest units of money.
 pub(crate) fn value(config: Option<ReaderConfig>, amount: u16) -> u64

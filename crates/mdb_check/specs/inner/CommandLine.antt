@@ -1,9 +1,10 @@
 -- The command line of the program, as `clap` takes it. This file serves private functions: no
 -- public clause cites it.
-use Rattle.std.specs.Prelude.{◌≡◌, ◌⊎◌, ℕ, List, [], ◌∷◌, MatchResult, Result, Some, codes, true}
+use Rattle.std.specs.Prelude.{◌≡◌, ◌⊎◌, ℕ, List, [], ◌∷◌, MatchResult, Result, Some, codes, true, ⊤}
 use Rattle.std.specs.Prelude.{unwrap_or}
 use Rattle.clap.specs.Kinds.{or_else}
 use Rattle.clap.specs.Words.{App, IsAmong, Kinds, Row, Rule, all_of, new_app, new_rule}
+use Rattle.clap.specs.Walk.{has_row}
 use Rattle.clap.specs.Words.{with_rule, with_subcommand}
 use Rattle.clap.specs.declared.builder.action.ArgAction.TheVariants.{Append}
 use Rattle.clap.specs.declared.error.kind.ErrorKind.{ErrorKind}
@@ -13,8 +14,11 @@ use Rattle.mdb_msgs.specs.declared.device_set.TheConstants.DeviceSet.{NONE}
 use Rattle.mdb_msgs.specs.declared.command.Device.{Device}
 use Rattle.mdb_msgs.specs.Devices.{device_word}
 use Rattle.mdb_msgs.specs.DeviceSets.{with_device}
-use Rattle.mdb_check.specs.Program.{NamesTask}
-use Rattle.mdb_check.specs.declared.command_line.Options.{Options}
+use Rattle.mdb_bus.specs.declared.scope.Scope.{Scope}
+use Rattle.mdb_bus.specs.Scopes.{leaving_out}
+use Rattle.mdb_check.specs.Program.{Asked, IsFromPowerOn, IsJoined, NamesCheck, NamesShow}
+use Rattle.mdb_check.specs.declared.refusal.Refusal.{Refusal}
+use Rattle.mdb_check.specs.declared.refusal.Refusal.TheVariants.{Words, Setup}
 use Rattle.mdb_check.specs.declared.command_line.Task.{Task}
 use Rattle.mdb_check.specs.declared.command_line.Task.TheVariants.{Check, Show}
 
@@ -24,9 +28,21 @@ use Rattle.mdb_check.specs.declared.command_line.Task.TheVariants.{Check, Show}
 abbrev pub option_rule : List ℕ → Rule
 option_rule name = record (new_rule name) { long = Some name; action = Some Append }
 
--- a task with the options of `check` and `show`
-abbrev pub with_options : App → App
-with_options task = with_rule task (option_rule (codes "without"))
+-- an option that has none, and may stand more than once
+abbrev pub flag_rule : List ℕ → Rule
+flag_rule name = record (new_rule name) {
+  long = Some name;
+  action = Some Append;
+  range = Some (record { start_inclusive = 0; end_inclusive = 0 });
+}
+
+-- a task with these options
+abbrev pub check_app : App
+check_app = with_rule (with_rule (with_rule (new_app (codes "check")) (option_rule (codes "setup")))
+    (option_rule (codes "without"))) (flag_rule (codes "joined"))
+
+abbrev pub show_app : App
+show_app = with_rule (new_app (codes "show")) (option_rule (codes "without"))
 
 -- a command `mdbcheck` that has a version, and needs a subcommand
 abbrev pub bare_mdbcheck : App
@@ -36,9 +52,7 @@ bare_mdbcheck =
 
 -- the program: that command with the subcommands `check` and `show`
 abbrev pub mdbcheck : App
-mdbcheck = with_subcommand
-    (with_subcommand bare_mdbcheck (with_options (new_app (codes "check"))).top)
-    (with_options (new_app (codes "show"))).top
+mdbcheck = with_subcommand (with_subcommand bare_mdbcheck check_app.top) show_app.top
 
 -- ---- what it was asked for
 
@@ -52,17 +66,39 @@ AreDevices (word ∷ rest) devices = (device : Device) × (others : DeviceSet)
 abbrev pub values_of : List ℕ → List Row → List (List ℕ)
 values_of option found = unwrap_or (all_of option found) []
 
--- what was found are the options of a task
-abbrev pub AreOptionsOf : List Row → Options → Type 0
-AreOptionsOf found options = AreDevices (values_of (codes "without") found) options.without
+-- What was found are options that ask for this.
+pub record AreOptionsOf (found : List Row) (asked : Asked) : Type 0 where
+  pub joined : has_row (codes "joined") found ≡ asked.joined
+  pub setups : values_of (codes "setup") found ≡ asked.setups
+  pub devices : AreDevices (values_of (codes "without") found) asked.left_out
+
+-- what was found are options of `check` with which a recording is taken so
+abbrev pub AsksToCheck : List Row → Scope → Type 0
+AsksToCheck found scope = (asked : Asked) × AreOptionsOf found asked
+    × (IsFromPowerOn asked scope ⊎ IsJoined asked scope)
+
+-- they are options of `show`, which has but one
+abbrev pub AsksToShow : List Row → Scope → Type 0
+AsksToShow found scope = (left_out : DeviceSet)
+    × AreDevices (values_of (codes "without") found) left_out × (scope ≡ leaving_out left_out)
 
 -- the words ask for the task
 abbrev pub AsksFor : List (List ℕ) → Task → Type 0
-AsksFor words (Check options) = NamesTask words (codes "check") options.without
-AsksFor words (Show options) = NamesTask words (codes "show") options.without
+AsksFor words (Check scope) = NamesCheck words scope
+AsksFor words (Show scope) = NamesShow words scope
+
+-- a refusal for a value that isn't one of its option, or for want of memory
+abbrev pub IsOwnRefusal : Refusal → Type 0
+IsOwnRefusal (Words kind) = (kind ≡ OutOfMemory) ⊎ (kind ≡ InvalidValue)
+IsOwnRefusal (Setup fault) = ⊤
+
+-- a refusal that may come with these faults of `clap`
+abbrev pub IsRefusalBy : Kinds → Refusal → Type 0
+IsRefusalBy kinds (Words kind) =
+    (kind ≡ OutOfMemory) ⊎ IsAmong kind (or_else kinds (InvalidValue ∷ []))
+IsRefusalBy kinds (Setup fault) = kinds ≡ []
 
 -- A task is only there where `clap` has no fault. Else the fault is `clap`'s, or, where that has
 -- none, that a value isn't one of its option; or there is no memory.
-abbrev pub Fails : Kinds → Result Task ErrorKind → Type 0
-Fails kinds result = MatchResult result (λ task. kinds ≡ []) (λ kind. (kind ≡ OutOfMemory)
-    ⊎ IsAmong kind (or_else kinds (InvalidValue ∷ [])))
+abbrev pub Fails : Kinds → Result Task Refusal → Type 0
+Fails kinds result = MatchResult result (λ task. kinds ≡ []) (IsRefusalBy kinds)

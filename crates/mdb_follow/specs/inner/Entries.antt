@@ -6,7 +6,7 @@ use Rattle.std.specs.Prelude.{length, slice_index, slice_index_or}
 use Rattle.mdb_bus.specs.declared.act.Act.{Act}
 use Rattle.mdb_cash.specs.declared.choice.Choice.{Choice}
 use Rattle.mdb_cash.specs.declared.gains.Gains.{Gains}
-use Rattle.mdb_cash.specs.Gains.{no_gains}
+use Rattle.mdb_cash.specs.Gains.{IsSmall, no_gains}
 use Rattle.mdb_cash.specs.Machine.{Machine}
 use Rattle.mdb_follow.specs.declared.cell.Cell.{Cell}
 use Rattle.mdb_follow.specs.inner.Cells.{joined_cell, moved_cell}
@@ -67,6 +67,16 @@ AreMoves moves one other =
 abbrev pub LeadTo : Cell → Option (ℕ × Gains) → Option (ℕ × Gains) → List (ℕ × Cell) → Type 0
 LeadTo cell one other entries =
     (moves : List (ℕ × Gains)) × AreMoves moves one other × (entries ≡ with_moves [] cell moves)
+
+-- the entries with the cells that moves from a cell lead to, which are such, small, and to codes
+-- below a number
+pub record LeadBy (number : ℕ) (Are : List (ℕ × Gains) → Type 0) (old : List (ℕ × Cell))
+    (cell : Cell) (new : List (ℕ × Cell)) : Type 0 where
+  pub moves : List (ℕ × Gains)
+  pub are : Are moves
+  pub below : All (λ move. move.0 < number) moves
+  pub small : All (λ move. IsSmall move.1) moves
+  pub led : new ≡ with_moves old cell moves
 
 -- the join of a cell and those of entries
 abbrev pub joined_cells : Cell → List (ℕ × Cell) → Cell

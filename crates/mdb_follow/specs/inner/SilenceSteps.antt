@@ -3,7 +3,7 @@ use Rattle.std.specs.Prelude.{◌≤◌, ◌+◌, ℕ, option_map, List, [], ◌
 use Rattle.mdb_msgs.specs.declared.command.Device.{Device}
 use Rattle.mdb_msgs.specs.declared.command.Device.TheVariants as devices
 use Rattle.mdb_bus.specs.declared.act.Act.{Act}
-use Rattle.mdb_cashless.specs.declared.reader.facts.ReaderFacts.{ReaderFacts}
+use Rattle.mdb_cashless.specs.declared.reader.known.ReaderKnown.{ReaderKnown}
 use Rattle.mdb_cashless.specs.ReaderValues as reader_values
 use Rattle.mdb_follow.specs.declared.sides.Sides.{Sides}
 use Rattle.mdb_follow.specs.declared.silence.Silence.{Silence}
@@ -15,9 +15,9 @@ use Rattle.mdb_follow.specs.SilencesKept.{StandsForAsks, silence_in}
 use Rattle.mdb_follow.specs.inner.ByDevice.{OneGoes}
 
 -- how long a device may be silent, by the facts that its side has
-abbrev pub limit_by : ReaderFacts → ℕ
+abbrev pub limit_by : ReaderKnown → ℕ
 limit_by facts =
-    reader_limit (option_map (λ config. config.response) (reader_values.facts_in facts).config)
+    reader_limit (option_map (λ config. config.response) (reader_values.known_in facts).config)
 
 abbrev pub limit_in : Sides → Device → ℕ
 limit_in sides devices.Changer = CHANGER_SILENCE_MAX

@@ -1,7 +1,7 @@
 //! What steps make of entries: each leads a cell to the code that it goes to.
 
 ghost use Rattle.std.specs.Prelude.{◌≡◌, ◌<◌, ◌^◌, [], ◌∷◌, ◌↔◌, ℕ, List, IsTrue, None, IfSome};
-ghost use Rattle.std.specs.Prelude.{length};
+ghost use Rattle.std.specs.Prelude.{All, length};
 ghost use Rattle.std.specs.Bool.{OnFalse, OnTrue};
 ghost use Rattle.mdb_cash.specs.Gains.{IsSmall};
 ghost use Rattle.mdb_cash.specs.declared.gains.Gains.{Gains};
@@ -98,6 +98,27 @@ pub(crate) fn add_steps<const N: usize>(
     add_step(entries, places, cell, one);
     if one != other {
         add_step(entries, places, cell, other);
+    }
+}
+
+/// Takes in the cells that steps from a cell lead to, of which several may be the same.
+pub(crate) fn add_all<const N: usize>(
+    entries: &mut Entries<N>,
+    places: &mut [usize; N],
+    cell: &Cell,
+    steps: &[(usize, Gains)],
+)
+    requires within { IsCellWithin (2 ^ 62) cell.now }
+    requires below { All (λ step. step.0 < N) steps.now }
+    requires small { All (λ step. IsSmall step.1) steps.now }
+    requires keyed { IsKeyed N entries.old }
+    requires placed { IsPlaced entries.old places.old }
+    ensures entries { entries.new ≡ with_moves entries.old cell.now steps.now }
+    ensures keyed { IsKeyed N entries.new }
+    ensures placed { IsPlaced entries.new places.new }
+{
+    for (code, gains) in steps {
+        add_cell(entries, places, *code, cell, gains);
     }
 }
 

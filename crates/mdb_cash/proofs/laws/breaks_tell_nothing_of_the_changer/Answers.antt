@@ -1,5 +1,8 @@
-use Rattle.mdb_cash.specs.inner.ChangerWays.{no_facts}
+use Rattle.mdb_cash.specs.inner.ChangerWays.{no_setup, none_told}
 use Rattle.mdb_cash.proofs.laws.breaks_tell_nothing_of_the_changer.Goals as goal
 
-pub returns : goal.returns
-returns c = no_facts
+pub returns-clause-setup : goal.returns-clause-setup
+returns-clause-setup c = no_setup
+
+pub returns-clause-unvalued : goal.returns-clause-unvalued
+returns-clause-unvalued c = none_told

@@ -1,5 +1,8 @@
-use Rattle.mdb_cashless.specs.inner.ReaderWays.{same_facts}
+use Rattle.mdb_cashless.specs.inner.ReaderWays.{same_facts, same_unvalued}
 use Rattle.mdb_cashless.proofs.laws.a_readers_facts_are_of_its_own_acts.Goals as goal
 
-pub returns : goal.returns
-returns c = same_facts
+pub returns-clause-known : goal.returns-clause-known
+returns-clause-known c = same_facts
+
+pub returns-clause-unvalued : goal.returns-clause-unvalued
+returns-clause-unvalued c = same_unvalued

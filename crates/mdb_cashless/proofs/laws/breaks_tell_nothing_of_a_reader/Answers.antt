@@ -1,5 +1,8 @@
-use Rattle.mdb_cashless.specs.inner.ReaderWays.{no_facts}
+use Rattle.mdb_cashless.specs.inner.ReaderWays.{no_config, none_told}
 use Rattle.mdb_cashless.proofs.laws.breaks_tell_nothing_of_a_reader.Goals as goal
 
-pub returns : goal.returns
-returns c = no_facts
+pub returns-clause-config : goal.returns-clause-config
+returns-clause-config c = no_config
+
+pub returns-clause-unvalued : goal.returns-clause-unvalued
+returns-clause-unvalued c = none_told

@@ -1,5 +1,8 @@
-use Rattle.mdb_cashless.proofs.Sales.{steps_tell}
+use Rattle.mdb_cashless.proofs.Sales.{starts_tell, steps_may_tell}
 use Rattle.mdb_cashless.proofs.laws.views_tell_of_the_sale.Goals as goal
 
-pub returns : goal.returns
-returns c = steps_tell c.transactions_with_the_same_fields_are_the_same.ensures
+pub returns-clause-start : goal.returns-clause-start
+returns-clause-start c = starts_tell
+
+pub returns-clause-steps : goal.returns-clause-steps
+returns-clause-steps c = steps_may_tell c.transactions_with_the_same_fields_are_the_same.ensures

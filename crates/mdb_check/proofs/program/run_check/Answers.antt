@@ -5,7 +5,7 @@ use Rattle.mdb_check.proofs.program.run_check.Goals as goal
 
 pub returns-clause-says : goal.returns-clause-says
 returns-clause-says g c =
-    checked_says c.args.scope g.W.Write.contents _ _ _ _ _ (IfSome_then _ c.input_of-records.ensures.records (λ text to_come. c.check_records-answer.ensures.answer _ to_come))
+    checked_says c.args.scope.now g.W.Write.contents _ _ _ _ _ (IfSome_then _ c.input_of-records.ensures.records (λ text to_come. c.check_records-answer.ensures.answer _ to_come))
     c.check_records-answer.ensures.written c.check_records-answer.ensures.nothing_written
     (IfSome_then _ c.input_of-records.ensures.records (λ text to_come. c.check_records-answer.ensures.cut _ to_come)) c.finish_check.ensures.status
 

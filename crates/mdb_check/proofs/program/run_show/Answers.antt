@@ -5,7 +5,7 @@ use Rattle.mdb_check.proofs.program.run_show.Goals as goal
 
 pub returns-clause-says : goal.returns-clause-says
 returns-clause-says g c =
-    shown_says c.args.scope _ _ _ _ _ (IfSome_then _ c.input_of-records.ensures.records (λ text to_come. c.show_records-answer.ensures.shows _ to_come)) c.finish_show.ensures.status
+    shown_says c.args.scope.now _ _ _ _ _ (IfSome_then _ c.input_of-records.ensures.records (λ text to_come. c.show_records-answer.ensures.shows _ to_come)) c.finish_show.ensures.status
 
 pub returns-clause-whole : goal.returns-clause-whole
 returns-clause-whole g c =

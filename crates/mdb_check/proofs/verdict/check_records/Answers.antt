@@ -3,7 +3,7 @@ use Rattle.mdb_check.specs.Written.{HasTaken}
 use Rattle.mdb_check.proofs.verdict.check_records.Goals as goal
 
 pub returns-clause-headline : goal.returns-clause-headline
-returns-clause-headline g c all to_come = c.verdicts_say_the_headline.ensures c.args.scope _ all _ (c.in_ok-outcome.ensures.answer all to_come)
+returns-clause-headline g c all to_come = c.verdicts_say_the_headline.ensures c.args.scope.now _ all _ (c.in_ok-outcome.ensures.answer all to_come)
 
 pub returns-in_err-write_text-clause-cut : goal.returns-in_err-write_text-clause-cut
 returns-in_err-write_text-clause-cut g c all to_come refused =

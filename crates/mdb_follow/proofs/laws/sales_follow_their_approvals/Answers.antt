@@ -3,6 +3,7 @@ use Rattle.mdb_follow.proofs.laws.sales_follow_their_approvals.Goals as goal
 
 pub returns : goal.returns
 returns c scope = sales_follow scope (record {
-  tells = c.views_tell_of_the_sale.ensures;
+  start = c.views_tell_of_the_sale.ensures.start;
+  tells = c.views_tell_of_the_sale.ensures.steps;
   approved = c.views_allow_approved_sales_alone.ensures;
 })

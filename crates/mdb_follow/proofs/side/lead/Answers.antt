@@ -1,10 +1,11 @@
-use Rattle.std.proofs.Common.{refl}
+use Rattle.std.proofs.Common.{arith, refl}
 use Rattle.mdb_follow.specs.Sums.{added}
 use Rattle.mdb_follow.proofs.side.lead.Goals as goal
 
 pub returns-then-not-advance-clause-none : goal.returns-then-not-advance-clause-none
-returns-then-not-advance-clause-none c p acts on state sums way choice stands after gains step =
-    p.if-not-advance.ensures.none acts on.facts on.table after (added sums gains) (record {
+returns-then-not-advance-clause-none c p begins acts on state sums way choice stands after gains
+    step =
+    p.if-not-advance.ensures.none begins acts on.facts on.table after (added sums gains) (record {
       choice = choice;
       stands = stands;
       before = state;
@@ -17,9 +18,19 @@ returns-then-not-advance-clause-none c p acts on state sums way choice stands af
 
 pub returns-clause-followed : goal.returns-clause-followed
 returns-clause-followed c p = record {
-  stands = λ acts on. record {
-    facts = p.learn.ensures acts on.facts;
-    table = p.if-not-advance.ensures.table acts on.facts on.table;
+  stands = λ begins acts on. record {
+    facts = p.learn.ensures begins acts on.facts;
+    table = p.if-not-advance.ensures.table begins acts on.facts on.table;
+    counted =
+        let adds = p.unvalued_by.ensures.adds begins acts on.facts in
+        let counted = on.counted in
+        omega (arith, adds, counted);
   };
-  within = p.advance.ensures.within;
+  within = λ limit fits.
+      let small = p.unvalued_by.ensures.small in
+      let count = fits.count in
+      record {
+        ends = p.advance.ensures.within limit fits.ends;
+        count = omega (arith, small, count);
+      };
 }

@@ -1,4 +1,4 @@
 use Rattle.mdb_follow.proofs.side.ranges.Goals as goal
 
 pub returns : goal.returns
-returns c p acts on = p.ranges-2.ensures acts on.table
+returns c p begins acts on = p.ranges-2.ensures begins acts on.table

@@ -5,15 +5,15 @@ use Rattle.mdb_follow.proofs.Ways.{rests-more}
 use Rattle.mdb_follow.proofs.table.all_rest.Goals as goal
 
 pub loop-code-preserved : goal.loop-code-preserved
-loop-code-preserved g c =
+loop-code-preserved g c begins =
     let p = g.P.Pair in
-    rests-more p.code_of p.machine c.args.act.now c.args.entries.now c.loop-code.code-index _
-    c.state.result c.loop-code-test.true g.met.P.Pair.apart c.state.ensures c.if-not-rests.ensures
-    c.loop-code.invariant
+    rests-more p.code_of (p.machine begins) c.args.act.now c.args.entries.now
+    c.loop-code.code-index _ c.state.result c.loop-code-test.true g.met.P.Pair.apart
+    c.state.ensures (c.if-not-rests.ensures begins) (c.loop-code.invariant begins)
 
 pub returns : goal.returns
-returns g c =
+returns g c begins =
     let p = g.P.Pair in
-    subst (AllRest p.code_of p.machine c.args.act.now)
+    subst (AllRest p.code_of (p.machine begins) c.args.act.now)
     (take_all c.loop-code.code-index c.args.entries.now c.loop-code-test.false)
-    c.loop-code.invariant
+    (c.loop-code.invariant begins)

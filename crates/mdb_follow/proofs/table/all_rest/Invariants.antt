@@ -1,8 +1,9 @@
 use Rattle.std.proofs.Common.{take}
+use Rattle.mdb_bus.specs.declared.scope.Beginning.{Beginning}
 use Rattle.mdb_follow.specs.inner.Entries.{AllRest}
 use Rattle.mdb_follow.proofs.table.all_rest.Given as goal
 
 abbrev pub invariant-loop-code : goal.invariant-loop-code
 invariant-loop-code g l =
     let p = g.P.Pair in
-    AllRest p.code_of p.machine l.act (take l.code-index l.entries)
+    (begins : Beginning) → AllRest p.code_of (p.machine begins) l.act (take l.code-index l.entries)

@@ -50,18 +50,19 @@ loop-code-preserved g c =
     record {
       keyed = c.add_steps.ensures.keyed;
       placed = c.add_steps.ensures.placed;
-      led = λ acts stands table.
+      led = λ begins acts stands table.
           led-read g.row.N _ _ c.args.from.now c.loop-code.code-index _ moves.0 moves.0
           c.loop-code.into c.add_steps.new.entries c.loop-code-test.true
           (table.bounds.exact _ _ (Contains-get_or c.args.from.now c.loop-code.code-index _
           c.loop-code-test.true))
-          (either-moves p.device c.args.act.now p.code_of (p.machine.Step acts c.args.act.now)
+          (either-moves p.device c.args.act.now p.code_of
+          ((p.machine begins).Step acts c.args.act.now)
           _ c.step-plain.result c.second_step-second.result moves.0
-          (c.step-plain.ensures.steps acts stands)
-          (c.second_step-second.ensures.sound acts stands)
-          (c.second_step-second.ensures.whole acts stands) moves.1)
+          (c.step-plain.ensures.steps begins acts stands)
+          (c.second_step-second.ensures.sound begins acts stands)
+          (c.second_step-second.ensures.whole begins acts stands) moves.1)
           refl below c.loop-code.invariant.keyed moves.2
-          (c.loop-code.invariant.led acts stands table);
+          (c.loop-code.invariant.led begins acts stands table);
       within = λ limit all.
           within-read limit c.loop-code.into c.add_steps.new.entries _ moves.0 small
           (all c.loop-code.code-index _ c.loop-code-test.true) moves.2
@@ -69,11 +70,12 @@ loop-code-preserved g c =
     }
 
 pub returns-clause-table : goal.returns-clause-table
-returns-clause-table g c acts stands table =
+returns-clause-table g c begins acts stands table =
     let p = g.P.Pair in
-    table-led p.code_of p.machine c.args.act.now acts c.args.from.now
+    table-led p.code_of (p.machine begins) c.args.act.now acts c.args.from.now
     c.loop-code.into g.met.P.Pair.apart table
-    (subst (λ from. Bounds (Led (ArrivesAt p.code_of (Arrives p.machine acts))
-    (IsMove c.args.act.now p.code_of (p.machine.Step acts c.args.act.now)) from) c.loop-code.into)
+    (subst (λ from. Bounds (Led (ArrivesAt p.code_of (Arrives (p.machine begins) acts))
+    (IsMove c.args.act.now p.code_of ((p.machine begins).Step acts c.args.act.now)) from)
+    c.loop-code.into)
     (take_all c.loop-code.code-index c.args.from.now c.loop-code-test.false)
-    (c.loop-code.invariant.led acts stands table))
+    (c.loop-code.invariant.led begins acts stands table))

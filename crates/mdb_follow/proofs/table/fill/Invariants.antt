@@ -1,5 +1,6 @@
 use Rattle.std.proofs.Common.{ℕ, List, ◌+◌, ◌^◌, take}
 use Rattle.mdb_bus.specs.declared.act.Act.{Act}
+use Rattle.mdb_bus.specs.declared.scope.Beginning.{Beginning}
 use Rattle.mdb_cash.specs.Pair.{IsMove}
 use Rattle.mdb_follow.specs.Arrivals.{Arrives}
 use Rattle.mdb_follow.specs.inner.Limits.{IsTableWithin}
@@ -14,10 +15,11 @@ invariant-loop-code g l =
     record {
       keyed : IsKeyed g.row.N l.into;
       placed : IsPlaced l.into l.places;
-      led : (acts : List Act) → p.stands_for l.facts acts
-          → IsTable p.code_of p.machine acts l.from
-          → Bounds (Led (ArrivesAt p.code_of (Arrives p.machine acts))
-          (IsMove l.act p.code_of (p.machine.Step acts l.act)) (take l.code-index l.from)) l.into;
+      led : (begins : Beginning) (acts : List Act) → p.stands_for begins l.facts acts
+          → IsTable p.code_of (p.machine begins) acts l.from
+          → Bounds (Led (ArrivesAt p.code_of (Arrives (p.machine begins) acts))
+          (IsMove l.act p.code_of ((p.machine begins).Step acts l.act))
+          (take l.code-index l.from)) l.into;
       within : (limit : ℕ) → IsTableWithin limit l.from
           → IsTableWithin (limit + 2 ^ 32) l.into;
     }

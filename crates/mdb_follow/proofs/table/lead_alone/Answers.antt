@@ -4,6 +4,7 @@ use Rattle.std.proofs.lemmas.Bool.{OnFalse_at, OnFalse_from, OnTrue_at, OnTrue_f
 use Rattle.std.proofs.lemmas.List.Elements.{All-head}
 use Rattle.mdb_follow.specs.Sums.{Sums}
 use Rattle.mdb_bus.specs.declared.act.Act.{Act}
+use Rattle.mdb_bus.specs.declared.scope.Beginning.{Beginning}
 use Rattle.mdb_follow.specs.declared.cell.Cell.{Cell}
 use Rattle.mdb_follow.specs.Arrivals.{Arrives}
 use Rattle.mdb_follow.specs.inner.Entries.{AreBelow, LeadTo}
@@ -22,35 +23,35 @@ code-is : (entries : List (ℕ × Cell)) (entry d : ℕ × Cell) → entries ≡
 code-is entries entry d only = ap (λ (s : List (ℕ × Cell)). (get_or s 0 d).0) only
 
 -- what arrives after the act
-arrives : (g : given.Over) (c : goal.After-lead_only g) (acts : List Act)
-    (entry : ℕ × Cell) (after : List (ℕ × Cell)) → g.P.Pair.stands_for c.args.facts.now acts
-    → IsTable g.P.Pair.code_of g.P.Pair.machine acts c.args.entries.now
+arrives : (g : given.Over) (c : goal.After-lead_only g) (begins : Beginning) (acts : List Act)
+    (entry : ℕ × Cell) (after : List (ℕ × Cell)) → g.P.Pair.stands_for begins c.args.facts.now acts
+    → IsTable g.P.Pair.code_of (g.P.Pair.machine begins) acts c.args.entries.now
     → c.args.entries.now ≡ entry ∷ []
     → LeadTo entry.1 c.step-plain.result c.second_step-second.result after
     → Bounds (ArrivesAt g.P.Pair.code_of
-    (Arrives g.P.Pair.machine (c.args.act.now ∷ acts))) after
-arrives g c acts entry after stands table only led =
+    (Arrives (g.P.Pair.machine begins) (c.args.act.now ∷ acts))) after
+arrives g c begins acts entry after stands table only led =
     let p = g.P.Pair in
-    alone-led p.device p.code_of p.machine c.args.act.now acts
+    alone-led p.device p.code_of (p.machine begins) c.args.act.now acts
     g.row.N p.CODES c.args.entries.now entry _ c.step-plain.result
     c.second_step-second.result after only
     (code-is c.as_slice.result.now entry _ (c.as_slice.ensures ∙ only))
     g.met.P.Pair.apart c.requires.size c.step-plain.ensures.below
-    c.second_step-second.ensures.below (c.step-plain.ensures.steps acts stands)
-    (c.second_step-second.ensures.sound acts stands)
-    (c.second_step-second.ensures.whole acts stands) table led
+    c.second_step-second.ensures.below (c.step-plain.ensures.steps begins acts stands)
+    (c.second_step-second.ensures.sound begins acts stands)
+    (c.second_step-second.ensures.whole begins acts stands) table led
 
 table-told : (g : given.Over) (c : goal.After-lead_only g) → c.lead_only.result ≡ true
-    → (acts : List Act) → g.P.Pair.stands_for c.args.facts.now acts
-    → IsTable g.P.Pair.code_of g.P.Pair.machine acts c.args.entries.now
-    → IsTable g.P.Pair.code_of g.P.Pair.machine (c.args.act.now ∷ acts)
+    → (begins : Beginning) (acts : List Act) → g.P.Pair.stands_for begins c.args.facts.now acts
+    → IsTable g.P.Pair.code_of (g.P.Pair.machine begins) acts c.args.entries.now
+    → IsTable g.P.Pair.code_of (g.P.Pair.machine begins) (c.args.act.now ∷ acts)
     c.lead_only.new.entries
-table-told g c is acts stands table =
+table-told g c is begins acts stands table =
     let p = g.P.Pair in
     let one = only-is c.args.entries.now c.requires.only in
-    table-some p.code_of p.machine (c.args.act.now ∷ acts)
+    table-some p.code_of (p.machine begins) (c.args.act.now ∷ acts)
     c.lead_only.new.entries
-    (arrives g c acts one.0 c.lead_only.new.entries stands table one.1
+    (arrives g c begins acts one.0 c.lead_only.new.entries stands table one.1
     (OnTrue_at is c.lead_only.ensures.led one.0 one.1))
     (some-entry c.lead_only.new.entries (OnTrue_at is c.lead_only.ensures.some))
 
@@ -58,16 +59,16 @@ pub returns-clause-table : goal.returns-clause-table
 returns-clause-table g c = OnTrue_from _ _ (table-told g c)
 
 none-told : (g : given.Over) (c : goal.After-lead_only g) → c.lead_only.result ≡ false
-    → (acts : List Act) → g.P.Pair.stands_for c.args.facts.now acts
-    → IsTable g.P.Pair.code_of g.P.Pair.machine acts c.args.entries.now
+    → (begins : Beginning) (acts : List Act) → g.P.Pair.stands_for begins c.args.facts.now acts
+    → IsTable g.P.Pair.code_of (g.P.Pair.machine begins) acts c.args.entries.now
     → (state : g.row.P-State.Denot) (sums : Sums)
-    → Arrives g.P.Pair.machine (c.args.act.now ∷ acts) state sums → ⊥
-none-told g c is acts stands table state sums way =
+    → Arrives (g.P.Pair.machine begins) (c.args.act.now ∷ acts) state sums → ⊥
+none-told g c is begins acts stands table state sums way =
     let p = g.P.Pair in
     let one = only-is c.args.entries.now c.requires.only in
     let none = OnFalse_at is c.lead_only.ensures.none in
-    nothing-arrives p.code_of p.machine (c.args.act.now ∷ acts) []
-    (arrives g c acts one.0 [] stands table one.1
+    nothing-arrives p.code_of (p.machine begins) (c.args.act.now ∷ acts) []
+    (arrives g c begins acts one.0 [] stands table one.1
     (lead-none one.0.1 c.step-plain.result c.second_step-second.result none.0 none.1))
     refl state sums way
 

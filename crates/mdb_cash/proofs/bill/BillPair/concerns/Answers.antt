@@ -1,16 +1,9 @@
-use Rattle.std.proofs.Common.{◌≡◌, refl, rules}
-use Rattle.mdb_msgs.specs.declared.command.Command.TheVariants as commands
-use Rattle.mdb_bus.specs.declared.act.Act.TheVariants as acts
 use Rattle.mdb_cash.specs.Bill.{conduct}
-use Rattle.mdb_cash.specs.BillFacts.{tables}
-use Rattle.mdb_cash.specs.BillMessages.{part_of}
-use Rattle.mdb_cash.proofs.KeeperSteps.{idle}
+use Rattle.mdb_cash.specs.BillFacts.{known_of, tables}
+use Rattle.mdb_cash.specs.declared.bill.activity.BillActivity.TheVariants.{Stacked}
+use Rattle.mdb_cash.proofs.Knowing.{still_knowing}
 use Rattle.mdb_cash.proofs.bill.BillPair.concerns.Goals as goal
 
-pub returns-in-VmcAck-Bill-default-clause-still : goal.returns-in-VmcAck-Bill-default-clause-still
-returns-in-VmcAck-Bill-default-clause-still c =
-    let command = c.in-VmcAck-Bill-default.field-0-0 in
-    let reply = c.in-VmcAck-Bill-default.reply in
-    let act : c.args.act.now ≡ acts.VmcAck (commands.Bill command) reply = search rules in
-    idle tables conduct part_of c.messages_in.result.now
-    c.args.act.now (commands.Bill command) command reply c.is_empty.result act refl c.messages_in.ensures.parts c.is_empty.ensures
+pub returns-clause-still : goal.returns-clause-still
+returns-clause-still c =
+    still_knowing (Stacked 0) tables conduct c.args.act.now c.concerns.result c.concerns.ensures.still

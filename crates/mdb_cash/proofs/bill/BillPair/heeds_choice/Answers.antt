@@ -1,24 +1,8 @@
-use Rattle.std.proofs.Common.{◌≡◌, refl, rules}
-use Rattle.mdb_msgs.specs.declared.command.Command.TheVariants as commands
-use Rattle.mdb_bus.specs.declared.act.Act.TheVariants as acts
 use Rattle.mdb_cash.specs.Bill.{conduct}
 use Rattle.mdb_cash.specs.BillFacts.{tables}
-use Rattle.mdb_cash.specs.BillMessages.{part_of}
-use Rattle.mdb_cash.proofs.KeeperSteps.{unheard, unread}
+use Rattle.mdb_cash.proofs.Knowing.{unheeded_knowing}
 use Rattle.mdb_cash.proofs.bill.BillPair.heeds_choice.Goals as goal
 
-pub returns-in-Reply-Bill-default : goal.returns-in-Reply-Bill-default
-returns-in-Reply-Bill-default c =
-    let command = c.in-Reply-Bill-default.field-0-0 in
-    let reply = c.in-Reply-Bill-default.reply in
-    let act : c.args.act.now ≡ acts.Reply (commands.Bill command) reply = search rules in
-    unread tables conduct part_of c.messages_in.result.now c.args.act.now (commands.Bill command) command reply
-    c.args.state c.may_all_be_read.result act refl c.messages_in.ensures.parts c.may_all_be_read.ensures
-
-pub returns-in-VmcAck-Bill-default : goal.returns-in-VmcAck-Bill-default
-returns-in-VmcAck-Bill-default c =
-    let command = c.in-VmcAck-Bill-default.field-0-0 in
-    let reply = c.in-VmcAck-Bill-default.field-1 in
-    let act : c.args.act.now ≡ acts.VmcAck (commands.Bill command) reply = search rules in
-    unheard tables conduct c.args.act.now (commands.Bill command) command reply c.args.state
-    c.args.state.holds act refl refl
+pub returns : goal.returns
+returns c =
+    unheeded_knowing tables conduct c.args.act.now c.args.state c.heeds_choice.result c.heeds_choice.ensures

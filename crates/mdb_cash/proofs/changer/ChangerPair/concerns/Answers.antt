@@ -1,16 +1,9 @@
-use Rattle.std.proofs.Common.{◌≡◌, refl, rules}
-use Rattle.mdb_msgs.specs.declared.command.Command.TheVariants as commands
-use Rattle.mdb_bus.specs.declared.act.Act.TheVariants as acts
 use Rattle.mdb_cash.specs.Changer.{conduct}
-use Rattle.mdb_cash.specs.ChangerFacts.{tables}
-use Rattle.mdb_cash.specs.ChangerMessages.{part_of}
-use Rattle.mdb_cash.proofs.KeeperSteps.{idle}
+use Rattle.mdb_cash.specs.ChangerFacts.{known_of, tables}
+use Rattle.mdb_cash.specs.declared.changer.activity.ChangerActivity.TheVariants.{CashBox}
+use Rattle.mdb_cash.proofs.Knowing.{still_knowing}
 use Rattle.mdb_cash.proofs.changer.ChangerPair.concerns.Goals as goal
 
-pub returns-in-VmcAck-Changer-default-clause-still : goal.returns-in-VmcAck-Changer-default-clause-still
-returns-in-VmcAck-Changer-default-clause-still c =
-    let command = c.in-VmcAck-Changer-default.field-0-0 in
-    let reply = c.in-VmcAck-Changer-default.reply in
-    let act : c.args.act.now ≡ acts.VmcAck (commands.Changer command) reply = search rules in
-    idle tables conduct part_of c.messages_in.result.now
-    c.args.act.now (commands.Changer command) command reply c.is_empty.result act refl c.messages_in.ensures.parts c.is_empty.ensures
+pub returns-clause-still : goal.returns-clause-still
+returns-clause-still c =
+    still_knowing (CashBox 0) tables conduct c.args.act.now c.concerns.result c.concerns.ensures.still

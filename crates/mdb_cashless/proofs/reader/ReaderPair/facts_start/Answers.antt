@@ -1,5 +1,6 @@
-use Rattle.mdb_cashless.specs.Units as units
+use Rattle.std.proofs.Common.{◌∙◌, [], ap}
+use Rattle.mdb_cashless.specs.ReaderFacts.{known_of}
 use Rattle.mdb_cashless.proofs.reader.ReaderPair.facts_start.Goals as goal
 
 pub returns : goal.returns
-returns g c = c.start.ensures (units.unit_of g.row.UNIT)
+returns g c = c.start.ensures ∙ ap (λ unit. known_of c.args.begins.now unit []) c.unit_of.ensures

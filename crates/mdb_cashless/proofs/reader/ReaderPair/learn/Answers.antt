@@ -1,11 +1,14 @@
 use Rattle.std.proofs.Common.{◌≡◌, List, ◌∷◌, subst}
 use Rattle.mdb_msgs.specs.declared.command.ReaderUnit.{ReaderUnit}
 use Rattle.mdb_bus.specs.declared.act.Act.{Act}
-use Rattle.mdb_cashless.specs.ReaderFacts.{facts_of}
-use Rattle.mdb_cashless.specs.ReaderValues.{facts_in}
+use Rattle.mdb_bus.specs.declared.scope.Beginning.{Beginning}
+use Rattle.mdb_cashless.specs.ReaderFacts.{known_of}
+use Rattle.mdb_cashless.specs.ReaderValues.{known_in}
 use Rattle.mdb_cashless.proofs.reader.ReaderPair.learn.Goals as goal
 
 pub returns : goal.returns
 returns g c =
-    subst (λ (unit : ReaderUnit). (acts : List Act) → facts_in c.args.facts.now ≡ facts_of unit acts → facts_in c.learn.new.self ≡ facts_of unit (c.args.act.now ∷ acts))
+    subst (λ (unit : ReaderUnit). (begins : Beginning) (acts : List Act)
+    → known_in c.args.known.now ≡ known_of begins unit acts
+    → known_in c.learn.new.self ≡ known_of begins unit (c.args.act.now ∷ acts))
     c.unit_of.ensures c.learn.ensures

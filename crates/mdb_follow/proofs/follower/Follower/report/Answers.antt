@@ -2,6 +2,7 @@ use Rattle.std.proofs.Common.{refl}
 use Rattle.mdb_bus.specs.ActLists.{acts_of}
 use Rattle.mdb_follow.specs.declared.cell.Cell.{Cell}
 use Rattle.mdb_follow.specs.Arrivals.{Arrives}
+use Rattle.mdb_follow.specs.Follower.{scope_of}
 use Rattle.mdb_follow.specs.Machines.{machine_of}
 use Rattle.mdb_follow.specs.Ranges.{IsCell}
 use Rattle.mdb_follow.specs.Tables.{ArrivesAnywhere}
@@ -13,11 +14,13 @@ pub returns-in-None-clause-report : goal.returns-in-None-clause-report
 returns-in-None-clause-report c events on =
     let cells = each (λ device. Cell) c.ranges-changer.result c.ranges-bill.result
     c.ranges-first_reader.result c.ranges-second_reader.result in
+    let begins = (scope_of c.args.self.now).begins in
     let acts = acts_of on.pieces in
     reported c.transcripts_have_one_act_list.ensures c.ways_join.ensures c.args.self.now events
     c.of.result cells on
-    (each (λ device. IsCell (ArrivesAnywhere (Arrives (machine_of device) acts)) (cells device))
-    (c.ranges-changer.ensures acts on.sides) (c.ranges-bill.ensures acts on.sides)
-    (c.ranges-first_reader.ensures acts on.sides)
-    (c.ranges-second_reader.ensures acts on.sides))
-    (c.of.ensures on.pieces (accounts_in cells) on.sides on.silences refl)
+    (each (λ device. IsCell (ArrivesAnywhere (Arrives (machine_of begins device) acts))
+    (cells device))
+    (c.ranges-changer.ensures begins acts on.sides) (c.ranges-bill.ensures begins acts on.sides)
+    (c.ranges-first_reader.ensures begins acts on.sides)
+    (c.ranges-second_reader.ensures begins acts on.sides))
+    (c.of.ensures begins on.pieces (accounts_in cells) on.sides on.silences refl)

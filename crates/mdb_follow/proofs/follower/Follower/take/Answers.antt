@@ -21,7 +21,7 @@ returns-in-Ok-true-clause-reached c =
     subst (λ b. GoesOn c.feed_into.new.self on.pieces c.args.event (ended_act b c.feed_into.new.act))
     c.in-Ok-true.field-0-test (c.in-Ok-true.ensures.goes_on on.pieces on.on_bus) in
     stands-on c.args.self.now _ c.follow.new.self events c.args.event c.feed_into.new.act on
-    goes refl refl refl refl c.start.result c.start.ensures has)
+    goes c.feed_into.ensures.scope refl refl refl refl c.start.result c.start.ensures has)
     c.follow.ensures.followed
 
 pub returns-in-Ok-true-clause-offence : goal.returns-in-Ok-true-clause-offence
@@ -43,7 +43,8 @@ returns-in-Ok-false-clause-reached c events on =
     let goes : GoesOn c.feed_into.new.self on.pieces c.args.event None =
     subst (λ b. GoesOn c.feed_into.new.self on.pieces c.args.event (ended_act b c.feed_into.new.act))
     c.in-Ok-false.field-0-test (c.in-Ok-false.ensures.goes_on on.pieces on.on_bus) in
-    stands-still c.args.self.now _ c.feed_into.new.self events c.args.event on goes refl refl refl refl refl
+    stands-still c.args.self.now _ c.feed_into.new.self events c.args.event on goes refl
+    c.feed_into.ensures.scope refl refl refl refl
 
 pub returns-in-Err-clause-offence : goal.returns-in-Err-clause-offence
 returns-in-Err-clause-offence c =

@@ -1,6 +1,7 @@
 use Rattle.std.proofs.Common.{refl, ℕ, List, ◌≡◌, ◌+◌, ◌^◌, ◌∷◌, subst, sym, ◌∙◌, arith}
 use Rattle.std.specs.Bool.{OnFalse}
 use Rattle.mdb_bus.specs.declared.act.Act.{Act}
+use Rattle.mdb_bus.specs.declared.scope.Beginning.{Beginning}
 use Rattle.mdb_follow.specs.Arrivals.{Arrives}
 use Rattle.mdb_follow.specs.Sums.{Sums}
 use Rattle.mdb_follow.specs.declared.cell.Cell.{Cell}
@@ -13,15 +14,15 @@ use Rattle.mdb_follow.proofs.Ways.{nothing-arrives, table-some}
 use Rattle.mdb_follow.proofs.table.Table.replace_by_steps.Goals as goal
 
 pub returns-then-is_empty-clause-none : goal.returns-then-is_empty-clause-none
-returns-then-is_empty-clause-none g c acts stands table state sums way =
+returns-then-is_empty-clause-none g c begins acts stands table state sums way =
     let p = g.P.Pair in
     let is : c.as_slice.result.now ≡ c.args.self.now =
     c.as_slice.ensures
     ∙ seen-other c.self.inside.turned c.self.inside.one c.self.inside.other
     c.args.self.now c.self.view_is c.if-self.true in
-    nothing-arrives p.code_of p.machine (c.args.act.now ∷ acts) c.fill.new.into
-    (c.fill.ensures.table acts stands
-    (subst (IsTable p.code_of p.machine acts) (sym is) table))
+    nothing-arrives p.code_of (p.machine begins) (c.args.act.now ∷ acts) c.fill.new.into
+    (c.fill.ensures.table begins acts stands
+    (subst (IsTable p.code_of (p.machine begins) acts) (sym is) table))
     (nil-told c.fill.new.into c.is_empty.result c.is_empty.ensures c.if-is_empty.true)
     state sums way
 
@@ -33,15 +34,15 @@ returns-then-is_empty-clause-within g c limit all =
     (subst (IsTableWithin limit) (sym same) all)
 
 pub returns-then-is_empty-2-clause-none : goal.returns-then-is_empty-2-clause-none
-returns-then-is_empty-2-clause-none g c acts stands table state sums way =
+returns-then-is_empty-2-clause-none g c begins acts stands table state sums way =
     let p = g.P.Pair in
     let is : c.as_slice-else-self.result.now ≡ c.args.self.now =
     c.as_slice-else-self.ensures
     ∙ seen-one c.self.inside.turned c.self.inside.one c.self.inside.other
     c.args.self.now c.self.view_is c.if-self.false in
-    nothing-arrives p.code_of p.machine (c.args.act.now ∷ acts) c.fill-else-self.new.into
-    (c.fill-else-self.ensures.table acts stands
-    (subst (IsTable p.code_of p.machine acts) (sym is) table))
+    nothing-arrives p.code_of (p.machine begins) (c.args.act.now ∷ acts) c.fill-else-self.new.into
+    (c.fill-else-self.ensures.table begins acts stands
+    (subst (IsTable p.code_of (p.machine begins) acts) (sym is) table))
     (nil-told c.fill-else-self.new.into c.is_empty-else-self.result
     c.is_empty-else-self.ensures c.if-is_empty-2.true)
     state sums way
@@ -70,27 +71,27 @@ returns-else-is_empty-2-clause-within g c limit all =
     c.fill-else-self.ensures.within limit (subst (IsTableWithin limit) (sym is) all)
 
 pub returns-else-is_empty-clause-table : goal.returns-else-is_empty-clause-table
-returns-else-is_empty-clause-table g c acts stands table =
+returns-else-is_empty-clause-table g c begins acts stands table =
     let p = g.P.Pair in
     let is : c.as_slice.result.now ≡ c.args.self.now =
     c.as_slice.ensures
     ∙ seen-other c.self.inside.turned c.self.inside.one c.self.inside.other
     c.args.self.now c.self.view_is c.if-self.true in
-    table-some p.code_of p.machine (c.args.act.now ∷ acts) c.fill.new.into
-    (c.fill.ensures.table acts stands
-    (subst (IsTable p.code_of p.machine acts) (sym is) table))
+    table-some p.code_of (p.machine begins) (c.args.act.now ∷ acts) c.fill.new.into
+    (c.fill.ensures.table begins acts stands
+    (subst (IsTable p.code_of (p.machine begins) acts) (sym is) table))
     (some-told c.fill.new.into c.is_empty.result c.is_empty.ensures c.if-is_empty.false)
 
 pub returns-else-is_empty-2-clause-table : goal.returns-else-is_empty-2-clause-table
-returns-else-is_empty-2-clause-table g c acts stands table =
+returns-else-is_empty-2-clause-table g c begins acts stands table =
     let p = g.P.Pair in
     let is : c.as_slice-else-self.result.now ≡ c.args.self.now =
     c.as_slice-else-self.ensures
     ∙ seen-one c.self.inside.turned c.self.inside.one c.self.inside.other
     c.args.self.now c.self.view_is c.if-self.false in
-    table-some p.code_of p.machine (c.args.act.now ∷ acts) c.fill-else-self.new.into
-    (c.fill-else-self.ensures.table acts stands
-    (subst (IsTable p.code_of p.machine acts) (sym is) table))
+    table-some p.code_of (p.machine begins) (c.args.act.now ∷ acts) c.fill-else-self.new.into
+    (c.fill-else-self.ensures.table begins acts stands
+    (subst (IsTable p.code_of (p.machine begins) acts) (sym is) table))
     (some-told c.fill-else-self.new.into c.is_empty-else-self.result
     c.is_empty-else-self.ensures c.if-is_empty-2.false)
 
@@ -100,10 +101,11 @@ returns-then-len-eq1-clause-none g c =
     let is : c.self.inside.other ≡ c.args.self.now =
     seen-other c.self.inside.turned c.self.inside.one c.self.inside.other
     c.args.self.now c.self.view_is c.if-self.true in
-    subst (λ (entries : List (ℕ × Cell)). OnFalse c.lead_alone.result ((acts : List Act)
-    → p.stands_for c.args.facts.now acts → IsTable p.code_of p.machine acts entries
+    subst (λ (entries : List (ℕ × Cell)). OnFalse c.lead_alone.result
+    ((begins : Beginning) (acts : List Act) → p.stands_for begins c.args.facts.now acts
+    → IsTable p.code_of (p.machine begins) acts entries
     → (state : g.row.P-State.Denot) (sums : Sums)
-    → Arrives p.machine (c.args.act.now ∷ acts) state sums → ⊥))
+    → Arrives (p.machine begins) (c.args.act.now ∷ acts) state sums → ⊥))
     is c.lead_alone.ensures.none
 
 pub returns-then-len-eq1-clause-within : goal.returns-then-len-eq1-clause-within
@@ -122,10 +124,11 @@ returns-then-len-eq1-2-clause-none g c =
     let is : c.self.inside.one ≡ c.args.self.now =
     seen-one c.self.inside.turned c.self.inside.one c.self.inside.other
     c.args.self.now c.self.view_is c.if-self.false in
-    subst (λ (entries : List (ℕ × Cell)). OnFalse c.lead_alone-then-len-eq1-2.result ((acts : List Act)
-    → p.stands_for c.args.facts.now acts → IsTable p.code_of p.machine acts entries
+    subst (λ (entries : List (ℕ × Cell)). OnFalse c.lead_alone-then-len-eq1-2.result
+    ((begins : Beginning) (acts : List Act) → p.stands_for begins c.args.facts.now acts
+    → IsTable p.code_of (p.machine begins) acts entries
     → (state : g.row.P-State.Denot) (sums : Sums)
-    → Arrives p.machine (c.args.act.now ∷ acts) state sums → ⊥))
+    → Arrives (p.machine begins) (c.args.act.now ∷ acts) state sums → ⊥))
     is c.lead_alone-then-len-eq1-2.ensures.none
 
 pub returns-then-len-eq1-2-clause-within : goal.returns-then-len-eq1-2-clause-within

@@ -1,0 +1,16 @@
+use Rattle.std.proofs.Common.{◌≡◌, refl, rules}
+use Rattle.mdb_msgs.specs.declared.command.Command.TheVariants as commands
+use Rattle.mdb_bus.specs.declared.act.Act.TheVariants as acts
+use Rattle.mdb_cash.specs.Bill.{conduct}
+use Rattle.mdb_cash.specs.BillFacts.{tables}
+use Rattle.mdb_cash.specs.BillMessages.{part_of}
+use Rattle.mdb_cash.proofs.KeeperSteps.{idle}
+use Rattle.mdb_cash.proofs.bill.matters.concerns.Goals as goal
+
+pub returns-in-VmcAck-Bill-default-clause-still : goal.returns-in-VmcAck-Bill-default-clause-still
+returns-in-VmcAck-Bill-default-clause-still c =
+    let command = c.in-VmcAck-Bill-default.field-0-0 in
+    let reply = c.in-VmcAck-Bill-default.reply in
+    let act : c.args.act.now ≡ acts.VmcAck (commands.Bill command) reply = search rules in
+    idle tables conduct part_of c.messages_in.result.now
+    c.args.act.now (commands.Bill command) command reply c.is_empty.result act refl c.messages_in.ensures.parts c.is_empty.ensures

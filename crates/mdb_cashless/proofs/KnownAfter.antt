@@ -1,0 +1,172 @@
+-- What is known goes on act by act.
+use Rattle.std.proofs.Common.{◌≡◌, ℕ, ◌∙◌, ◌&&◌, ◌||◌, not, Bool, true, false, List, [], ◌∷◌, Option, Some, None, option_map, refl, ap, sym, unwrap_or, if◌then◌else◌}
+use Rattle.std.specs.Option.{is_some}
+use Rattle.mdb_msgs.specs.declared.command.Command.{Command}
+use Rattle.mdb_msgs.specs.declared.command.ReaderCommand.{ReaderCommand}
+use Rattle.mdb_msgs.specs.declared.command.ReaderCommand.TheVariants as reader
+use Rattle.mdb_msgs.specs.declared.command.ReaderUnit.{ReaderUnit}
+use Rattle.mdb_msgs.specs.declared.reply.Reply.{Reply}
+use Rattle.mdb_msgs.specs.declared.reply.reader.ReaderMsg.{ReaderMsg}
+use Rattle.mdb_msgs.specs.Setups.{config_known}
+use Rattle.mdb_bus.specs.declared.act.Act.{Act}
+use Rattle.mdb_bus.specs.declared.act.Act.TheVariants as acts
+use Rattle.mdb_bus.specs.declared.scope.Beginning.{Beginning}
+use Rattle.mdb_bus.specs.declared.scope.Beginning.TheVariants.{PowerOn, Joined}
+use Rattle.mdb_cash.specs.declared.kept.Part.{Part}
+use Rattle.mdb_cash.specs.declared.past.Effect.{Effect}
+use Rattle.mdb_cash.specs.declared.past.Past.{Past}
+use Rattle.mdb_cash.specs.Kept.{kept_of}
+use Rattle.mdb_cash.specs.Known.{known_before}
+use Rattle.mdb_cash.specs.Past.{effect_by, effect_taken, or_else, powers_on, resets, tells_out_of_sequence, unless_empty}
+use Rattle.mdb_cash.specs.PastValues.{first_past, from_power_on, if_known, known_more, known_past_after, past_after, past_in, past_known}
+use Rattle.mdb_cash.specs.inner.PastWays.{same_known_past}
+use Rattle.mdb_cashless.specs.declared.reader.facts.ReaderFacts.{ReaderFacts}
+use Rattle.mdb_cashless.specs.declared.reader.known.ReaderKnown.{ReaderKnown}
+use Rattle.mdb_cashless.specs.declared.reader.transaction.Transaction.{Transaction}
+use Rattle.mdb_cashless.specs.Reader.{drops}
+use Rattle.mdb_cashless.specs.ReaderFacts.{asked_by, effect_of, effect_of_own, ends_transactions, known_of, own_messages, own_of, own_transaction, parts_by, taken_told, transaction_taken_by}
+use Rattle.mdb_cashless.specs.ReaderMessages.{begin_session, messages_of}
+use Rattle.mdb_cashless.specs.ReaderValues.{ToldFacts, known_in, known_with, tells_taken, told_in, told_with}
+use Rattle.mdb_cashless.specs.Transactions.{transaction_of}
+use Rattle.mdb_cashless.specs.Units.{own}
+use Rattle.mdb_cashless.specs.inner.ReaderWays.{same_fields}
+
+-- what an act tells becomes known, and what was known stays so
+asked_after : {X : Type 0} (knows : Bool) (told old : Option X)
+    → if_known (knows || is_some told) (or_else told old)
+    ≡ known_more (option_map (λ (x : X). Some x) told) (if_known knows old)
+asked_after true (Some x) old = refl
+asked_after true None old = refl
+asked_after false (Some x) old = refl
+asked_after false None old = refl
+
+taken_after : {X : Type 0} (knows ends : Bool) (told old : Option X)
+    → if_known (knows || is_some (if ends then Some None
+    else option_map (λ (x : X). Some x) told)) (if ends then None else or_else told old)
+    ≡ known_more (if ends then Some None else option_map (λ (x : X). Some x) told)
+    (if_known knows old)
+taken_after true true told old = refl
+taken_after true false (Some x) old = refl
+taken_after true false None old = refl
+taken_after false true told old = refl
+taken_after false false (Some x) old = refl
+taken_after false false None old = refl
+
+kept_after : {M : Type 0} (knows : Bool) (kept old : List M)
+    → if_known (knows || is_some (unless_empty kept)) (unwrap_or (unless_empty kept) old)
+    ≡ known_more (unless_empty kept) (if_known knows old)
+kept_after true [] old = refl
+kept_after true (x ∷ kept) old = refl
+kept_after false [] old = refl
+kept_after false (x ∷ kept) old = refl
+
+past_more : {M : Type 0} {CAP : ℕ} (was is : Bool) (old new : Past M CAP) (powers : Bool)
+    (effect : Effect) (parts : List (Part M)) → is ≡ (was || is_some (unless_empty (kept_of parts)))
+    → past_in new ≡ past_after powers effect parts (past_in old)
+    → past_known is new ≡ known_past_after powers effect parts (past_known was old)
+past_more was is old new powers effect parts knows same = same_known_past
+    (λ kind. ap (λ past. past.enabled kind) same)
+    (ap (λ past. past.reset_owed) same)
+    (ap (λ k. if_known k new.last_kept.items) knows
+    ∙ ap (λ l. if_known (was || is_some (unless_empty (kept_of parts))) l)
+    (ap (λ past. past.last_kept) same)
+    ∙ kept_after was (kept_of parts) old.last_kept.items)
+
+pub known_after : (unit : ReaderUnit) (act : Act) (old new : ReaderKnown)
+    → new.knows_asked ≡ (old.knows_asked || is_some (asked_by unit act))
+    → new.knows_taken ≡ (old.knows_taken || is_some (taken_told unit act))
+    → new.knows_kept ≡ (old.knows_kept || is_some (unless_empty (kept_of (parts_by unit act))))
+    → told_in new.facts ≡ told_with unit act (told_in old.facts)
+    → known_in new ≡ known_with unit act (known_in old)
+known_after unit act old new asked taken kept same = same_fields
+    (ap (λ (t : ToldFacts). t.config) same)
+    (ap (λ k. if_known k new.facts.asked) asked
+    ∙ ap (λ a. if_known (old.knows_asked || is_some (asked_by unit act)) a)
+    (ap (λ (t : ToldFacts). t.asked) same)
+    ∙ asked_after old.knows_asked (asked_by unit act) old.facts.asked)
+    (ap (λ k. if_known k new.facts.taken) taken
+    ∙ ap (λ t. if_known (old.knows_taken || is_some (taken_told unit act)) t)
+    (ap (λ (t : ToldFacts). t.taken) same)
+    ∙ taken_after old.knows_taken (ends_transactions unit act) (transaction_taken_by unit act)
+    old.facts.taken)
+    (ap (λ (t : ToldFacts). t.amount) same)
+    (past_more old.knows_kept new.knows_kept old.facts.past new.facts.past
+    (powers_on (effect_of unit) act) (effect_by (effect_of unit) act) (parts_by unit act) kept
+    (ap (λ (t : ToldFacts). t.past) same))
+
+-- what is known of no act
+pub known_first : (unit : ReaderUnit) (begins : Beginning) (facts : ReaderFacts) (knows : Bool)
+    → knows ≡ from_power_on begins
+    → facts.config ≡ known_before (λ setups. config_known setups unit) begins
+    → facts.asked ≡ None → facts.taken ≡ None → facts.amount ≡ None
+    → past_in facts.past ≡ first_past begins
+    → known_in (record {
+      facts = facts;
+      knows_asked = knows;
+      knows_taken = knows;
+      knows_kept = knows;
+    })
+    ≡ known_of begins unit []
+known_first unit PowerOn facts knows so config asked taken amount past = same_fields config
+    (ap (λ k. if_known k facts.asked) so ∙ ap (λ a. if_known true a) asked)
+    (ap (λ k. if_known k facts.taken) so ∙ ap (λ a. if_known true a) taken)
+    amount
+    (same_known_past (λ kind. ap (λ p. p.enabled kind) past) (ap (λ p. p.reset_owed) past)
+    (ap (λ k. if_known k facts.past.last_kept.items) so
+    ∙ ap (λ p. if_known true p.last_kept) past))
+known_first unit (Joined setups) facts knows so config asked taken amount past = same_fields config
+    (ap (λ k. if_known k facts.asked) so)
+    (ap (λ k. if_known k facts.taken) so)
+    amount
+    (same_known_past (λ kind. ap (λ p. p.enabled kind) past) (ap (λ p. p.reset_owed) past)
+    (ap (λ k. if_known k facts.past.last_kept.items) so))
+
+-- what a reply tells of the last transaction, where the command to the reader is known
+abbrev told_own : Option ReaderCommand → Bool → List ReaderMsg → Option (Option Transaction)
+told_own found refused messages =
+    let own_ones : List ReaderMsg = elim found [ Some c ↦ messages | None ↦ [] ] in
+    let took : Option ReaderCommand = if refused then None else found in
+    if resets (effect_of_own took) || begin_session own_ones then Some None
+    else option_map (λ (t : Transaction). Some t) (own_transaction took)
+
+abbrev told_of : ReaderUnit → Command → Bool → List ReaderMsg → Option (Option Transaction)
+told_of unit command refused messages =
+    if resets (effect_taken (effect_of unit) (if refused then None else Some command))
+    || begin_session (own_messages unit command messages) then Some None
+    else option_map (λ (t : Transaction). Some t)
+    (own_transaction (own_of unit (if refused then None else Some command)))
+
+told_same : (unit : ReaderUnit) (command : Command) (refused : Bool) (messages : List ReaderMsg)
+    → told_of unit command refused messages ≡ told_own (own unit command) refused messages
+told_same unit command true messages = refl
+told_same unit command false messages = refl
+
+told_its : (its : ReaderCommand) (begins : Bool)
+    → is_some (if resets (effect_of_own (Some its)) || begins then Some None
+    else option_map (λ (t : Transaction). Some t) (transaction_of its)) ≡ (begins || drops its)
+told_its reader.Reset true = refl
+told_its reader.Reset false = refl
+told_its its true = refl
+told_its its false = refl
+
+begun : (begins : Bool) → is_some (if begins then Some None
+    else option_map (λ (t : Transaction). Some t) None) ≡ (begins || false)
+begun true = refl
+begun false = refl
+
+told_answered : (its : ReaderCommand) (refused : Bool) (messages : List ReaderMsg)
+    → is_some (told_own (Some its) refused messages)
+    ≡ (begin_session messages || (not refused && drops its))
+told_answered its true messages = begun (begin_session messages)
+told_answered its false messages = told_its its (begin_session messages)
+
+pub answered_told : (unit : ReaderUnit) (act : Act) (command : Command) (its : ReaderCommand)
+    (reply : Reply) → act ≡ acts.Reply command reply → own unit command ≡ Some its
+    → tells_taken its reply ≡ is_some (taken_told unit act)
+answered_told unit act command its reply is found =
+    let refused = tells_out_of_sequence reply in
+    let messages = messages_of reply in
+    sym (ap (λ a. is_some (taken_told unit a)) is
+    ∙ ap is_some (told_same unit command refused messages)
+    ∙ ap (λ f. is_some (told_own f refused messages)) found
+    ∙ told_answered its refused messages)

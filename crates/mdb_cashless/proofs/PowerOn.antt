@@ -1,0 +1,84 @@
+-- From power-on all is known of a reader.
+use Rattle.std.proofs.Common.{◌≡◌, ◌∙◌, ◌↔◌, ◌&&◌, ◌||◌, not, Bool, true, false, List, [], ◌∷◌, Option, Some, None, option_map, refl, ap, sym, unwrap_or, if◌then◌else◌}
+use Rattle.mdb_msgs.specs.declared.command.ReaderUnit.{ReaderUnit}
+use Rattle.std.proofs.Math.Path.{fun_ext}
+use Rattle.mdb_bus.specs.declared.act.Act.{Act}
+use Rattle.mdb_bus.specs.declared.scope.Beginning.TheVariants.{PowerOn}
+use Rattle.mdb_cash.specs.Known.{Allows, AllowsKept, known_by}
+use Rattle.mdb_cash.specs.declared.past.Effect.TheVariants as effects
+use Rattle.mdb_cash.specs.Past.{enables, last_list, last_told, or_else, past_of}
+use Rattle.mdb_cash.specs.inner.PastWays.{same_past}
+use Rattle.mdb_cashless.specs.ReaderFacts.{AllowsFacts, Facts, asked_by, config_by, effect_of, ends_transactions, facts_of, known_of, last_taken, parts_by, taken_told, transaction_taken_by}
+use Rattle.mdb_cashless.specs.declared.reader.transaction.Transaction.{Transaction}
+use Rattle.mdb_cashless.proofs.Knowing.{same_facts}
+use Rattle.mdb_cashless.proofs.Said.{or_none}
+
+-- what is known of the last transactions
+asked_known : (told asked : Option Transaction)
+    → Allows (known_by PowerOn None (option_map (λ (t : Transaction). Some t) told)) asked
+    ↔ (asked ≡ told)
+asked_known None asked = (λ e. e, λ e. e)
+asked_known (Some t) asked = (λ e. e, λ e. e)
+
+taken_known : (told : Option (Option Transaction)) (taken : Option Transaction)
+    → Allows (known_by PowerOn None told) taken ↔ (taken ≡ unwrap_or told None)
+taken_known None taken = (λ e. e, λ e. e)
+taken_known (Some t) taken = (λ e. e, λ e. e)
+
+one_taken : (ends : Bool) (its last : Option Transaction) (told : Option (Option Transaction))
+    → last ≡ unwrap_or told None
+    → (if ends then None else or_else its last)
+    ≡ unwrap_or (or_else (if ends then Some None
+    else option_map (λ (t : Transaction). Some t) its) told) None
+one_taken true its last told same = refl
+one_taken false (Some t) last told same = refl
+one_taken false None last told same = same
+
+last_taken_is : (unit : ReaderUnit) (acts : List Act)
+    → last_taken unit acts ≡ unwrap_or (last_told (taken_told unit) acts) None
+last_taken_is unit [] = refl
+last_taken_is unit (act ∷ acts) = one_taken (ends_transactions unit act)
+    (transaction_taken_by unit act) (last_taken unit acts) (last_told (taken_told unit) acts)
+    (last_taken_is unit acts)
+
+-- and of what counts
+kept_known : {M : Type 0} (told : Option (List M)) (holds : Bool) (kept : List M)
+    → AllowsKept (known_by PowerOn [] told) holds kept ↔ (kept ≡ unwrap_or told [])
+kept_known None holds kept = (λ e. e, λ e. e)
+kept_known (Some list) holds kept = (λ e. e, λ e. e)
+
+no_more : (a b : Bool) → (a || (false && b)) ≡ a
+no_more true b = refl
+no_more false b = refl
+
+owed_so : (a : Bool) → (a && not false) ≡ a
+owed_so true = refl
+owed_so false = refl
+
+pub power_on_known : (unit : ReaderUnit) (acts : List Act) (holds : Bool) (facts : Facts)
+    → AllowsFacts (known_of PowerOn unit acts) holds facts ↔ (facts ≡ facts_of unit acts)
+power_on_known unit acts holds facts =
+    let config = or_none (last_told (config_by unit) acts) in
+    let asked = asked_known (last_told (asked_by unit) acts) in
+    let taken = taken_known (last_told (taken_told unit) acts) in
+    let past = past_of (effect_of unit) (parts_by unit) acts in
+    let kept = kept_known (last_list (parts_by unit) acts) holds in
+    let all = effects.Enable 65535 in (
+      λ is. same_facts (is.config ∙ config) ((asked facts.asked).0 is.asked)
+          ((taken facts.taken).0 is.taken ∙ sym (last_taken_is unit acts)) is.amount
+          (same_past (λ kind. ap (λ e. e kind) is.past.enabled ∙ no_more (past.enabled kind) (enables kind all))
+          (is.past.reset_owed ∙ owed_so past.reset_owed)
+          ((kept facts.past.last_kept).0 is.past.last_kept)),
+      λ same. record {
+        config = ap (λ (f : Facts). f.config) same ∙ sym config;
+        asked = (asked facts.asked).1 (ap (λ (f : Facts). f.asked) same);
+        taken = (taken facts.taken).1 (ap (λ (f : Facts). f.taken) same ∙ last_taken_is unit acts);
+        amount = ap (λ (f : Facts). f.amount) same;
+        past = record {
+          enabled = fun_ext (λ kind. ap (λ (f : Facts). f.past.enabled kind) same
+              ∙ sym (no_more (past.enabled kind) (enables kind all)));
+          reset_owed = ap (λ (f : Facts). f.past.reset_owed) same ∙ sym (owed_so past.reset_owed);
+          last_kept = (kept facts.past.last_kept).1 (ap (λ (f : Facts). f.past.last_kept) same);
+        };
+      },
+    )

@@ -1,0 +1,9 @@
+use Rattle.std.proofs.Common.{◌∙◌, ap}
+use Rattle.mdb_cashless.specs.ReaderValues.{known_with}
+use Rattle.mdb_cashless.specs.inner.ReaderWays.{goes_on}
+use Rattle.mdb_cashless.proofs.reader.known.ReaderKnown.learn.Goals as goal
+
+pub returns : goal.returns
+returns c = λ begins acts before.
+    c.note.ensures ∙ ap (known_with c.args.unit c.args.act.now) before
+    ∙ goes_on c.args.unit begins c.args.act.now acts

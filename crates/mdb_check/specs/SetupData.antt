@@ -1,0 +1,77 @@
+-- What is known of how the devices are set up, by their answers to SETUP in an earlier recording of
+-- the same machine (MDB/ICP 4.3, the devices; that they may be known from elsewhere, this profile).
+use Rattle.std.specs.Prelude.{◌≡◌, ℕ, List, [], ◌∷◌, Option, Some, None, is_some, option_map}
+use Rattle.mdb_blocks.specs.Block.{IsBlock}
+use Rattle.mdb_msgs.specs.declared.command.BillCommand.TheVariants as bill
+use Rattle.mdb_msgs.specs.declared.command.ChangerCommand.TheVariants as changer
+use Rattle.mdb_msgs.specs.declared.command.Command.{Command}
+use Rattle.mdb_msgs.specs.declared.command.Command.TheVariants as command
+use Rattle.mdb_msgs.specs.declared.command.Device.{Device}
+use Rattle.mdb_msgs.specs.declared.command.Device.TheVariants.{Changer, Bill, Reader}
+use Rattle.mdb_msgs.specs.declared.command.ReaderCommand.TheVariants as reader
+use Rattle.mdb_msgs.specs.declared.command.ReaderUnit.{ReaderUnit}
+use Rattle.mdb_msgs.specs.declared.command.ReaderUnit.TheVariants.{First, Second}
+use Rattle.mdb_msgs.specs.declared.device_set.DeviceSet.{DeviceSet}
+use Rattle.mdb_msgs.specs.declared.reply.reader.ReaderMsg.{ReaderMsg}
+use Rattle.mdb_msgs.specs.declared.reply.reader.ReaderMsg.TheVariants as message
+use Rattle.mdb_msgs.specs.declared.reply.Reply.{Reply}
+use Rattle.mdb_msgs.specs.declared.reply.Reply.TheVariants as reply
+use Rattle.mdb_msgs.specs.declared.setups.ReaderConfig.{ReaderConfig}
+use Rattle.mdb_msgs.specs.declared.setups.Setups.{Setups}
+use Rattle.mdb_msgs.specs.Replies.{SpellsReply}
+
+-- the devices of which something is known
+abbrev pub known_devices : Setups → DeviceSet
+known_devices setups = record {
+  changer = is_some setups.changer;
+  bill = is_some setups.bill;
+  first_reader = is_some setups.first_reader;
+  second_reader = is_some setups.second_reader;
+}
+
+-- the command asks the device how it is set up: SETUP, of a reader SETUP config
+abbrev pub IsSetup : Device → Command → Type 0
+IsSetup Changer asked = asked ≡ command.Changer changer.Setup
+IsSetup Bill asked = asked ≡ command.Bill bill.Setup
+IsSetup (Reader unit) asked = (level : ℕ) × (columns : ℕ) × (rows : ℕ) × (display : ℕ)
+    × (asked ≡ command.Reader unit (reader.SetupConfig level columns rows display))
+
+-- what a config message says of how the reader is set up
+abbrev pub config_in : ReaderMsg → Option ReaderConfig
+config_in (message.Config level code scale decimals response options) =
+    Some (record { scale = scale; decimals = decimals; response = response })
+config_in other = None
+
+-- the one, or where there is none the other
+abbrev pub or_else : Option ReaderConfig → Option ReaderConfig → Option ReaderConfig
+or_else (Some config) other = Some config
+or_else None other = other
+
+-- what the last config message of an answer says, if it has one
+abbrev pub last_config : List ReaderMsg → Option ReaderConfig
+last_config [] = None
+last_config (first ∷ messages) = or_else (last_config messages) (config_in first)
+
+-- what is known with the config of a reader, where this is known of the others
+abbrev pub with_config : Setups → ReaderUnit → ReaderConfig → Setups
+with_config known First config = record known { first_reader = Some config }
+with_config known Second config = record known { second_reader = Some config }
+
+-- what is known with such an answer of the device: its setup table, of a reader what its last
+-- config message says
+abbrev pub known_with : Setups → Device → Reply → Option Setups
+known_with known Changer (reply.ChangerSetup table) = Some (record known { changer = Some table })
+known_with known Bill (reply.BillSetup table) = Some (record known { bill = Some table })
+known_with known (Reader unit) (reply.Reader list) =
+    option_map (with_config known unit) (last_config list.messages)
+known_with known device answer = None
+
+-- These bytes, their sum included, are the block of a device's answer to its SETUP, and so much is
+-- known with it, where this was known before.
+pub record IsSetupOf (device : Device) (bytes : List ℕ) (before after : Setups) : Type 0 where
+  pub block : IsBlock bytes
+  pub asked : Command
+  pub asks : IsSetup device asked
+  pub answer : Reply
+  pub spells : SpellsReply asked answer bytes
+  pub told : known_with before device answer ≡ Some after

@@ -1,0 +1,110 @@
+use Rattle.std.proofs.Common.{rules, ◌≡◌, ◌<◌, ◌∙◌, ◌++◌, ℕ, List, ap, subst, sym}
+use Rattle.std.specs.Prelude.{Contains, ◌↔◌}
+use Rattle.std.proofs.lemmas.List.Elements.{All-append}
+use Rattle.mdb_cash.specs.declared.gains.Gains.{Gains}
+use Rattle.mdb_cash.specs.Gains.{IsSmall}
+use Rattle.mdb_cash.specs.Pair.{IsMove}
+use Rattle.mdb_follow.specs.declared.cell.Cell.{Cell}
+use Rattle.mdb_follow.specs.inner.Entries.{with_moves}
+use Rattle.mdb_follow.proofs.Led.{moves-below, moves-small, with_moves-append}
+use Rattle.mdb_follow.proofs.TwoSteps.{all-moves, plain-moves}
+use Rattle.mdb_follow.proofs.table.add_all_steps.Goals as goal
+
+pub add_all-requires : goal.add_all-requires
+add_all-requires g c = (
+  search rules,
+  (
+    search rules,
+    (
+      c.requires.within,
+      (
+        moves-below g.row.N _ c.steps-plain.result.items c.as_slice.result.now c.requires.size
+            c.as_slice.ensures.value c.steps-plain.ensures.below,
+        (
+          moves-small _ c.steps-plain.result.items c.as_slice.result.now
+              c.as_slice.ensures.value c.steps-plain.ensures.below,
+          (c.requires.keyed, c.requires.placed),
+        ),
+      ),
+    ),
+  ),
+)
+
+pub add_all-requires-in-Some : goal.add_all-requires-in-Some
+add_all-requires-in-Some g c = (
+  search rules,
+  (
+    search rules,
+    (
+      c.requires.within,
+      (
+        moves-below g.row.N _ c.steps-other.result.items c.as_slice-in-Some.result.now
+            c.requires.size c.as_slice-in-Some.ensures.value c.steps-other.ensures.below,
+        (
+          moves-small _ c.steps-other.result.items c.as_slice-in-Some.result.now
+              c.as_slice-in-Some.ensures.value c.steps-other.ensures.below,
+          (c.add_all.ensures.keyed, c.add_all.ensures.placed),
+        ),
+      ),
+    ),
+  ),
+)
+
+-- one list was taken in after the other
+both-led : (old middle new : List (ℕ × Cell)) (cell : Cell) (one other : List (ℕ × Gains))
+    → middle ≡ with_moves old cell one → new ≡ with_moves middle cell other
+    → new ≡ with_moves old cell (one ++ other)
+both-led old middle new cell one other first second =
+    second ∙ ap (λ es. with_moves es cell other) first ∙ sym (with_moves-append old cell one other)
+
+pub returns-in-Some-clause-entries : goal.returns-in-Some-clause-entries
+returns-in-Some-clause-entries g c =
+    let p = g.P.Pair in
+    let one = c.as_slice.result.now in
+    let other = c.as_slice-in-Some.result.now in
+    record {
+      moves = one ++ other;
+      are = λ begins acts stands.
+          subst (λ s. (next : ℕ) (gains : Gains) → Contains s (next, gains)
+          ↔ IsMove c.args.act.now p.code_of ((p.machine begins).Step acts c.args.act.now)
+          c.args.code next gains)
+          (ap (λ s. s ++ c.steps-other.result.items) (sym c.as_slice.ensures.value)
+          ∙ ap (λ s. one ++ s) (sym c.as_slice-in-Some.ensures.value))
+          (all-moves c.args.act.now p.code_of ((p.machine begins).Step acts c.args.act.now)
+          c.args.code c.other_choice.result c.in-Some.choice c.steps-plain.result.items
+          c.steps-other.result.items c.in-Some.is c.other_choice.ensures
+          (c.steps-plain.ensures.steps begins acts stands)
+          (c.steps-other.ensures.steps begins acts stands));
+      below = All-append (λ (move : ℕ × Gains). move.0 < g.row.N) one other
+          (moves-below g.row.N _ c.steps-plain.result.items one c.requires.size
+          c.as_slice.ensures.value c.steps-plain.ensures.below)
+          (moves-below g.row.N _ c.steps-other.result.items other c.requires.size
+          c.as_slice-in-Some.ensures.value c.steps-other.ensures.below);
+      small = All-append (λ (move : ℕ × Gains). IsSmall move.1) one other
+          (moves-small _ c.steps-plain.result.items one c.as_slice.ensures.value
+          c.steps-plain.ensures.below)
+          (moves-small _ c.steps-other.result.items other c.as_slice-in-Some.ensures.value
+          c.steps-other.ensures.below);
+      led = both-led c.args.into.now c.add_all.new.entries c.add_all-in-Some.new.entries
+          c.args.cell.now one other c.add_all.ensures.entries c.add_all-in-Some.ensures.entries;
+    }
+
+pub returns-in_default-clause-entries : goal.returns-in_default-clause-entries
+returns-in_default-clause-entries g c =
+    let p = g.P.Pair in
+    let one = c.as_slice.result.now in
+    record {
+      moves = one;
+      are = λ begins acts stands.
+          subst (λ s. (next : ℕ) (gains : Gains) → Contains s (next, gains)
+          ↔ IsMove c.args.act.now p.code_of ((p.machine begins).Step acts c.args.act.now)
+          c.args.code next gains) (sym c.as_slice.ensures.value)
+          (plain-moves c.args.act.now p.code_of ((p.machine begins).Step acts c.args.act.now)
+          c.args.code c.other_choice.result c.steps-plain.result.items c.in_default.is
+          c.other_choice.ensures (c.steps-plain.ensures.steps begins acts stands));
+      below = moves-below g.row.N _ c.steps-plain.result.items one c.requires.size
+          c.as_slice.ensures.value c.steps-plain.ensures.below;
+      small = moves-small _ c.steps-plain.result.items one c.as_slice.ensures.value
+          c.steps-plain.ensures.below;
+      led = c.add_all.ensures.entries;
+    }
