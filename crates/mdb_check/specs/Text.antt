@@ -52,7 +52,7 @@ silences_line report =
     line (codes "silences"
     ++ flat_map (λ device. count_text device (device_silences device report)) DEVICES)
 
--- how often money moved on each device whose value isn't known
+-- how many amounts each device told, or was asked for, that have no value
 abbrev pub unvalued_line : Report → List ℕ
 unvalued_line report =
     line (codes "unvalued"

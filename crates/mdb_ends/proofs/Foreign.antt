@@ -1,0 +1,104 @@
+-- Foreign words in front of a recording: they change nothing. Lists of acts and of pieces stand
+-- newest first.
+use Rattle.std.proofs.Common.{ap, refl, subst, sym, ◌≡◌, List, [], ◌∷◌, ◌++◌, if◌then◌else◌}
+use Rattle.mdb_words.specs.declared.event.Event.{Event}
+use Rattle.mdb_msgs.specs.declared.command.Device.{Device}
+use Rattle.mdb_msgs.specs.declared.command.Device.TheVariants as devices
+use Rattle.mdb_msgs.specs.declared.setups.Setups.{Setups}
+use Rattle.mdb_bus.specs.declared.act.Act.{Act}
+use Rattle.mdb_bus.specs.declared.act.Act.TheVariants as acts
+use Rattle.mdb_bus.specs.declared.scope.Beginning.{Beginning}
+use Rattle.mdb_bus.specs.declared.scope.Beginning.TheVariants.{Joined}
+use Rattle.mdb_bus.specs.ActLists.{Piece, Whole, acts_of}
+use Rattle.mdb_bus.specs.LeavingOut.{has_part, with_foreign}
+use Rattle.mdb_cash.specs.inner.BillWays as bill_ways
+use Rattle.mdb_cash.specs.inner.ChangerWays as changer_ways
+use Rattle.mdb_cash.specs.declared.choice.Choice.TheVariants.{Plain}
+use Rattle.mdb_cash.specs.Gains.{no_gains}
+use Rattle.mdb_cash.specs.Machine.{IsMachineOf}
+use Rattle.mdb_cash.specs.Pair.{own_acts}
+use Rattle.mdb_cashless.specs.inner.ReaderWays as reader_ways
+use Rattle.mdb_follow.specs.Arrivals.{Arrives}
+use Rattle.mdb_follow.specs.Machines.{StateOf, machine_of}
+use Rattle.mdb_follow.specs.Sums.{Sums, added, no_sums}
+use Rattle.std.proofs.Math.Nat.{add-zero}
+
+-- each device has a machine of its own
+pub is_machine_of : (begins : Beginning) (device : Device)
+    → IsMachineOf device (machine_of begins device)
+is_machine_of begins devices.Changer = changer_ways.is_machine begins
+is_machine_of begins devices.Bill = bill_ways.is_machine begins
+is_machine_of begins (devices.Reader unit) = reader_ways.is_machine unit begins
+
+-- in mid-session a machine may start in each state
+pub starts_anywhere : (setups : Setups) (device : Device) (state : StateOf device)
+    → (machine_of (Joined setups) device).Starts state
+starts_anywhere setups devices.Changer state = tt
+starts_anywhere setups devices.Bill state = tt
+starts_anywhere setups (devices.Reader unit) state = tt
+
+-- no gains leave sums as they are
+no_more : (sums : Sums) → sums ≡ added sums no_gains
+no_more sums = simp add-zero
+
+-- foreign words are acts of no device
+pub none_own : (device : Device) (words : List Event) (pieces : List Piece)
+    → own_acts device (acts_of (with_foreign words pieces)) ≡ own_acts device (acts_of pieces)
+none_own device [] pieces = refl
+none_own device (word ∷ words) pieces =
+    none_own device words (Whole acts.Foreign (word ∷ []) ∷ pieces)
+
+-- a way leads through foreign words where it was
+pub through_foreign : (begins : Beginning) (device : Device) (words : List Event)
+    (pieces : List Piece) (state : StateOf device) (sums : Sums)
+    → Arrives (machine_of begins device) (acts_of pieces) state sums
+    → Arrives (machine_of begins device) (acts_of (with_foreign words pieces)) state sums
+through_foreign begins device [] pieces state sums way = way
+through_foreign begins device (word ∷ words) pieces state sums way =
+    let is = is_machine_of begins device in
+    through_foreign begins device words (Whole acts.Foreign (word ∷ []) ∷ pieces) state sums
+    (record {
+      choice = Plain;
+      stands = tt;
+      before = state;
+      sums_before = sums;
+      gains = no_gains;
+      way = way;
+      step = (is.elsewhere (acts_of pieces) acts.Foreign Plain state state no_gains
+          (λ part. part)).1 (refl, refl);
+      adds = no_more sums;
+    })
+
+-- a device's own acts don't change where others stand in front
+own_later : (device : Device) (later others : List Act) → own_acts device others ≡ []
+    → own_acts device (later ++ others) ≡ own_acts device later
+own_later device [] others none = none
+own_later device (act ∷ later) others none =
+    ap (λ (own : List Act). if has_part device act then act ∷ own else own)
+    (own_later device later others none)
+
+-- a way in mid-session leads on where foreign words stand in front
+pub after_foreign : (setups : Setups) (device : Device) (words : List Event) (later : List Act)
+    (state : StateOf device) (sums : Sums)
+    → Arrives (machine_of (Joined setups) device) later state sums
+    → Arrives (machine_of (Joined setups) device) (later ++ acts_of (with_foreign words [])) state
+    sums
+after_foreign setups device words [] state sums way =
+    subst (λ u. Arrives (machine_of (Joined setups) device) (acts_of (with_foreign words [])) state
+    u) (sym way.1)
+    (through_foreign (Joined setups) device words [] state no_sums
+    (starts_anywhere setups device state, refl))
+after_foreign setups device words (act ∷ later) state sums way =
+    let is = is_machine_of (Joined setups) device in
+    let foreign = acts_of (with_foreign words []) in
+    record {
+      choice = way.choice;
+      stands = way.stands;
+      before = way.before;
+      sums_before = way.sums_before;
+      gains = way.gains;
+      way = after_foreign setups device words later way.before way.sums_before way.way;
+      step = is.own later (later ++ foreign) act way.choice way.before state way.gains
+          (sym (own_later device later foreign (none_own device words []))) way.step;
+      adds = way.adds;
+    }

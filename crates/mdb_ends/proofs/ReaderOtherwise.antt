@@ -1,0 +1,379 @@
+-- A step of a reader after some facts is one after facts that differ in what is told of values, and
+-- in whether a reset message is owed. It gains the same where what it values has the same value.
+use Rattle.std.proofs.Common.{◌≡◌, ◌⊎◌, ℕ, ◌+◌, Bool, true, false, ◌||◌, List, [], ◌∷◌, ◌++◌, map, Option, Some, None, refl, inl, inr, if◌then◌else◌, sum_by, unwrap_or, arith, ap, sym, ◌∙◌}
+use Rattle.std.proofs.lemmas.List.Sums.{sum_by-cons}
+use Rattle.mdb_msgs.specs.declared.command.ReaderCommand.{ReaderCommand}
+use Rattle.mdb_msgs.specs.declared.command.ReaderCommand.TheVariants as reader
+use Rattle.mdb_msgs.specs.declared.command.ReaderUnit.{ReaderUnit}
+use Rattle.mdb_msgs.specs.declared.reply.Reply.{Reply}
+use Rattle.mdb_msgs.specs.declared.reply.reader.ReaderMsg.{ReaderMsg}
+use Rattle.mdb_msgs.specs.declared.reply.reader.ReaderMsg.TheVariants as messages
+use Rattle.mdb_msgs.specs.declared.setups.ReaderConfig.{ReaderConfig}
+use Rattle.mdb_bus.specs.declared.act.Act.{Act}
+use Rattle.mdb_bus.specs.declared.act.Act.TheVariants as acts
+use Rattle.mdb_cash.specs.declared.choice.Choice.{Choice}
+use Rattle.mdb_cash.specs.declared.gains.Gains.{Gains}
+use Rattle.mdb_cash.specs.Gains.{controller_gains, device_gains}
+use Rattle.mdb_cash.specs.Kept.{IsNew, kept_of}
+use Rattle.mdb_cash.specs.Past.{or_else, resets, tells_out_of_sequence}
+use Rattle.mdb_cash.specs.Unvalued.{one_if}
+use Rattle.mdb_cashless.specs.declared.reader.device.DeviceState.{DeviceState}
+use Rattle.mdb_cashless.specs.declared.reader.messages.ReaderActivity.{ReaderActivity}
+use Rattle.mdb_cashless.specs.declared.reader.state.ReaderState.{ReaderState}
+use Rattle.mdb_cashless.specs.declared.reader.view.View.{View}
+use Rattle.mdb_cashless.specs.Reader.{AckStep, AskStep, ForOwn, ReaderStep, ReplyStep, VmcAckStep, all_approved, all_approved_to, approved, asked, asks_sale, is_approval, is_repeated, read, sold, sold_any, sold_to, taken, value, view_answered}
+use Rattle.mdb_cashless.specs.ReaderDevice as reader_device
+use Rattle.mdb_cashless.specs.ReaderFacts.{Facts, KnownFacts, effect_of_own}
+use Rattle.mdb_cashless.specs.ReaderMessages.{config_in, last_said, messages_of, part_of, parts_of}
+use Rattle.mdb_cashless.specs.ReaderView as reader_view
+use Rattle.mdb_cashless.specs.ReaderView.{heard}
+use Rattle.mdb_cashless.specs.Transactions.{transaction_of}
+use Rattle.mdb_cashless.specs.Units.{own}
+
+-- the facts that may be where this is known, with what they guess of the rest
+abbrev pub otherwise : Facts → KnownFacts → Facts
+otherwise facts known = record {
+  config = known.config;
+  asked = facts.asked;
+  taken = facts.taken;
+  amount = unwrap_or known.amount 0;
+  past = record {
+    enabled = known.past.enabled;
+    reset_owed = known.past.reset_owed;
+    last_kept = facts.past.last_kept;
+  };
+}
+
+-- how many messages 05 there are
+abbrev pub approvals : List ReaderMsg → ℕ
+approvals said = sum_by (λ message. one_if (is_approval message)) said
+
+-- A command is no sale, or a sale has the same value.
+abbrev pub IsSalePriced : Facts → Facts → ReaderCommand → Type 0
+IsSalePriced others facts its = (asks_sale (Some its) ≡ false)
+    ⊎ ((others.config ≡ facts.config) × (others.amount ≡ facts.amount))
+
+-- the config message that messages are valued by
+abbrev pub config_after : Reply → Option ReaderConfig → Option ReaderConfig
+config_after reply config = or_else (last_said config_in (messages_of reply)) config
+
+-- What an act values has the same value.
+abbrev pub IsPriced : ReaderUnit → Facts → Facts → Act → Type 0
+IsPriced unit others facts (acts.Ask command) =
+    (its : ReaderCommand) → own unit command ≡ Some its → IsSalePriced others facts its
+IsPriced unit others facts (acts.Ack command) =
+    (its : ReaderCommand) → own unit command ≡ Some its → IsSalePriced others facts its
+IsPriced unit others facts (acts.Reply command reply) =
+    (its : ReaderCommand) → own unit command ≡ Some its → IsSalePriced others facts its
+    × ((approvals (messages_of reply) ≡ 0)
+    ⊎ (config_after reply others.config ≡ config_after reply facts.config))
+IsPriced unit others facts (acts.VmcAck command reply) =
+    (its : ReaderCommand) → own unit command ≡ Some its
+    → (approvals (messages_of reply) ≡ 0) ⊎ (others.config ≡ facts.config)
+IsPriced unit others facts act = Unit {0}
+
+-- where all has the same value, each act does
+pub all_priced : (unit : ReaderUnit) (others facts : Facts) (act : Act)
+    → others.config ≡ facts.config → others.amount ≡ facts.amount
+    → IsPriced unit others facts act
+all_priced unit others facts (acts.Ask c) config amount = λ its is. inr (config, amount)
+all_priced unit others facts (acts.Ack c) config amount = λ its is. inr (config, amount)
+all_priced unit others facts (acts.Reply c r) config amount =
+    λ its is. (inr (config, amount), inr (ap (λ o. config_after r o) config))
+all_priced unit others facts (acts.VmcAck c r) config amount = λ its is. inr config
+all_priced unit others facts act config amount = tt
+
+-- amounts of the same config message have the same value
+same_value : (one other : Option ReaderConfig) (a b : ℕ) → one ≡ other → a ≡ b
+    → value one a ≡ value other b
+same_value one other a b config amount =
+    ap (λ c. value c a) config ∙ ap (λ n. value other n) amount
+
+-- what a command that is no sale adds
+no_sale_to : (facts : Facts) (its : ReaderCommand) (before : View)
+    → asks_sale (Some its) ≡ false → sold_to facts its before ≡ 0
+no_sale_to facts (reader.VendSuccess item) before none = absurd cc
+no_sale_to facts its before none = refl
+
+-- and it is none for the reader
+no_sale : (its : ReaderCommand) (before : DeviceState) → asks_sale (Some its) ≡ false
+    → reader_device.is_sale its before ≡ false
+no_sale (reader.VendSuccess item) before none = absurd cc
+no_sale its before none = refl
+
+-- a sale adds the same to the controller's sold, where its value is the same
+valued_to : (others facts : Facts) (its : ReaderCommand) (before : View)
+    → value others.config others.amount ≡ value facts.config facts.amount
+    → sold_to others its before ≡ sold_to facts its before
+valued_to others facts its before same = ap (λ n. elim (transaction_of its) [
+  | Some transaction ↦ if reader_view.is_sale transaction before then n else 0
+  | None ↦ 0
+]) same
+
+-- so with what has its price
+same_sold_to : (others facts : Facts) (its : ReaderCommand) (before : View)
+    → IsSalePriced others facts its → sold_to others its before ≡ sold_to facts its before
+same_sold_to others facts its before (inl none) =
+    no_sale_to others its before none ∙ sym (no_sale_to facts its before none)
+same_sold_to others facts its before (inr same) = valued_to others facts its before
+    (same_value others.config facts.config others.amount facts.amount same.0 same.1)
+
+-- a sale that isn't repeated adds the same, where its value is the same
+unless_repeated : (repeated sale : Bool) (n m : ℕ) → (sale ≡ false) ⊎ (n ≡ m)
+    → (if repeated then 0 else if sale then n else 0)
+    ≡ (if repeated then 0 else if sale then m else 0)
+unless_repeated true sale n m same = refl
+unless_repeated false false n m same = refl
+unless_repeated false true n m (inl none) = absurd cc
+unless_repeated false true n m (inr same) = same
+
+-- so with the reader's sold
+same_sold : (facts : Facts) (known : KnownFacts) (its : ReaderCommand) (before : ReaderState)
+    → IsSalePriced (otherwise facts known) facts its
+    → sold (otherwise facts known) its before ≡ sold facts its before
+same_sold facts known its before (inl none) =
+    unless_repeated (is_repeated facts its before.holds)
+    (reader_device.is_sale its before.device) (value known.config (unwrap_or known.amount 0))
+    (value facts.config facts.amount) (inl (no_sale its before.device none))
+same_sold facts known its before (inr same) =
+    unless_repeated (is_repeated facts its before.holds)
+    (reader_device.is_sale its before.device) (value known.config (unwrap_or known.amount 0))
+    (value facts.config facts.amount)
+    (inr (same_value known.config facts.config (unwrap_or known.amount 0) facts.amount same.0
+    same.1))
+
+-- and where a reply tells whether the command is taken
+same_sold_any : (facts : Facts) (known : KnownFacts) (its : ReaderCommand) (reply : Reply)
+    (before : ReaderState) → IsSalePriced (otherwise facts known) facts its
+    → sold_any (otherwise facts known) (taken its reply) before
+    ≡ sold_any facts (taken its reply) before
+same_sold_any facts known its reply before priced = either (tells_out_of_sequence reply)
+  where
+    either : (refused : Bool)
+        → sold_any (otherwise facts known) (if refused then None else Some its) before
+        ≡ sold_any facts (if refused then None else Some its) before
+    either true = refl
+    either false = same_sold facts known its before priced
+
+-- where there is a message 05, they are not none
+some_approved : (amount : ℕ) (said : List ReaderMsg)
+    → approvals (messages.VendApproved amount ∷ said) ≡ 0 → ⊥
+some_approved amount said none =
+    let sum : approvals (messages.VendApproved amount ∷ said) ≡ 1 + approvals said =
+    sum_by-cons (λ message. one_if (is_approval message)) (messages.VendApproved amount) said in
+    omega (arith, none, sum)
+
+-- where there is none, nothing is approved
+kept_none : (config : Option ReaderConfig) (said : List ReaderMsg) → approvals said ≡ 0
+    → all_approved config (kept_of (map part_of said)) ≡ 0
+kept_none config [] none = refl
+kept_none config (messages.VendApproved amount ∷ said) none =
+    absurd (some_approved amount said none)
+kept_none config (messages.JustReset ∷ said) none = kept_none config said (omega (arith, none))
+kept_none config (messages.BeginSession funds ∷ said) none =
+    let rest = kept_none config said (omega (arith, none)) in omega (arith, rest)
+kept_none config (messages.VendDenied ∷ said) none =
+    let rest = kept_none config said (omega (arith, none)) in omega (arith, rest)
+kept_none config (messages.EndSession ∷ said) none =
+    let rest = kept_none config said (omega (arith, none)) in omega (arith, rest)
+kept_none config (message ∷ said) none = kept_none config said (omega (arith, none))
+
+-- nor is it by the rest of a list
+rest_none : (config : Option ReaderConfig) (holding news : List ReaderActivity)
+    → all_approved config (holding ++ news) ≡ 0 → all_approved config news ≡ 0
+rest_none config [] news none = none
+rest_none config (message ∷ holding) news none =
+    let sum = sum_by-cons (approved config) message (holding ++ news) in
+    rest_none config holding news (omega (arith, none, sum))
+
+-- nor by what is new of it
+news_none : (config : Option ReaderConfig) (poll : Bool) (holding kept news : List ReaderActivity)
+    → IsNew poll holding kept news → all_approved config kept ≡ 0 → all_approved config news ≡ 0
+news_none config poll holding kept news (inl new) none =
+    rest_none config holding news (sym (ap (all_approved config) new) ∙ none)
+news_none config poll holding kept news (inr new) none = ap (all_approved config) new.2
+
+-- nor for the controller that hears it
+heard_none : (config : Option ReaderConfig) (before : View) (said : List ReaderMsg)
+    → approvals said ≡ 0 → all_approved_to config before said ≡ 0
+heard_none config before [] none = refl
+heard_none config before (messages.VendApproved amount ∷ said) none =
+    absurd (some_approved amount said none)
+heard_none config before (message ∷ said) none =
+    let rest = heard_none config (heard message before) said (omega (arith, none)) in
+    omega (arith, rest)
+
+-- News approve the same, where there is no message 05 or the config message is the same.
+same_approved : (one other : Option ReaderConfig) (poll : Bool) (holding : List ReaderActivity)
+    (reply : Reply) (news : List ReaderActivity)
+    → IsNew poll holding (kept_of (parts_of reply)) news
+    → (approvals (messages_of reply) ≡ 0) ⊎ (one ≡ other)
+    → all_approved one news ≡ all_approved other news
+same_approved one other poll holding reply news new (inl none) =
+    news_none one poll holding (kept_of (parts_of reply)) news new
+    (kept_none one (messages_of reply) none)
+    ∙ sym (news_none other poll holding (kept_of (parts_of reply)) news new
+    (kept_none other (messages_of reply) none))
+same_approved one other poll holding reply news new (inr same) =
+    ap (λ c. all_approved c news) same
+
+-- so does what the controller hears
+same_approved_to : (one other : Option ReaderConfig) (before : View) (said : List ReaderMsg)
+    → (approvals said ≡ 0) ⊎ (one ≡ other)
+    → all_approved_to one before said ≡ all_approved_to other before said
+same_approved_to one other before said (inl none) =
+    heard_none one before said none ∙ sym (heard_none other before said none)
+same_approved_to one other before said (inr same) =
+    ap (λ c. all_approved_to c before said) same
+
+-- a command is sent and taken as it was
+same_asked : (facts : Facts) (known : KnownFacts) (its : ReaderCommand) (before : View)
+    → asked (otherwise facts known) its before ≡ asked facts its before
+same_asked facts known reader.Reset before = refl
+same_asked facts known its before = refl
+
+-- a step, with what it gains, after other facts, where it gains the same if all has its price
+abbrev pub GoesWith : (Gains → Type 0) → Type 0 → Gains → Type 0
+GoesWith Step Priced gains = (other : Gains) × Step other × (Priced → other ≡ gains)
+
+-- an ask
+ask_otherwise : (facts : Facts) (known : KnownFacts) (its : ReaderCommand)
+    (before after : ReaderState) (gains : Gains) → AskStep facts its before after gains
+    → GoesWith (AskStep (otherwise facts known) its before after)
+    (IsSalePriced (otherwise facts known) facts its) gains
+ask_otherwise facts known its before after gains step =
+    let others = otherwise facts known in (
+      controller_gains 0 (sold_to others its before.view),
+      record {
+        view = same_asked facts known its before.view ∙ step.view;
+        device = step.device;
+        holds = step.holds;
+        gained = refl;
+      },
+      λ priced. ap (λ n. controller_gains 0 n)
+          (same_sold_to others facts its before.view priced) ∙ sym step.gained,
+    )
+
+-- an ACK
+ack_otherwise : (facts : Facts) (known : KnownFacts) (its : ReaderCommand) (choice : Choice)
+    (before after : ReaderState) (gains : Gains) → AckStep facts its choice before after gains
+    → GoesWith (AckStep (otherwise facts known) its choice before after)
+    (IsSalePriced (otherwise facts known) facts its) gains
+ack_otherwise facts known its choice before after gains step =
+    let others = otherwise facts known in (
+      device_gains 0 (sold others its before),
+      record { poll = step.poll; to = step.to; gained = refl },
+      λ priced. ap (λ n. device_gains 0 n) (same_sold facts known its before priced)
+          ∙ sym step.gained,
+    )
+
+-- a reset message that is owed after a command
+owed_less : (by_command here there : Bool) → (here ≡ true → there ≡ true)
+    → (by_command || here) ≡ true → (by_command || there) ≡ true
+owed_less true here there owed is = refl
+owed_less false here there owed is = owed is
+
+-- a reply
+reply_otherwise : (facts : Facts) (known : KnownFacts) (its : ReaderCommand) (reply : Reply)
+    (choice : Choice) (before after : ReaderState) (gains : Gains)
+    → (known.past.reset_owed ≡ true → facts.past.reset_owed ≡ true)
+    → ReplyStep facts its reply choice before after gains
+    → GoesWith (ReplyStep (otherwise facts known) its reply choice before after)
+    (IsSalePriced (otherwise facts known) facts its
+    × ((approvals (messages_of reply) ≡ 0)
+    ⊎ (config_after reply known.config ≡ config_after reply facts.config))) gains
+reply_otherwise facts known its reply choice before after gains owed step =
+    let others = otherwise facts known in (
+      device_gains (all_approved (config_after reply known.config) step.news)
+          (sold_any others (taken its reply) (read choice before)),
+      record {
+        news = step.news;
+        has_news = record {
+          read = step.has_news.read;
+          reset = λ owes. step.has_news.reset (owed_less
+              (resets (effect_of_own (taken its reply))) known.past.reset_owed
+              facts.past.reset_owed owed owes);
+          new = step.has_news.new;
+        };
+        told = step.told;
+        view = step.view;
+        holds = step.holds;
+        gained = refl;
+      },
+      λ priced. ap (λ n. device_gains n (sold_any others (taken its reply) (read choice before)))
+          (same_approved (config_after reply known.config) (config_after reply facts.config) _ _
+          reply step.news step.has_news.new priced.1)
+          ∙ ap (λ n. device_gains (all_approved (config_after reply facts.config) step.news) n)
+          (same_sold_any facts known its reply (read choice before) priced.0)
+          ∙ sym step.gained,
+    )
+
+-- the controller's ACK
+vmc_ack_otherwise : (facts : Facts) (known : KnownFacts) (its : ReaderCommand) (reply : Reply)
+    (choice : Choice) (before after : ReaderState) (gains : Gains)
+    → VmcAckStep facts its reply choice before after gains
+    → GoesWith (VmcAckStep (otherwise facts known) its reply choice before after)
+    ((approvals (messages_of reply) ≡ 0) ⊎ (known.config ≡ facts.config)) gains
+vmc_ack_otherwise facts known its reply choice before after gains step =
+    let view = view_answered (taken its reply) before.view in (
+      controller_gains (all_approved_to known.config view (messages_of reply)) 0,
+      record { to = step.to; gained = refl },
+      λ priced. ap (λ n. controller_gains n 0)
+          (same_approved_to known.config facts.config view (messages_of reply) priced)
+          ∙ sym step.gained,
+    )
+
+-- so by a command to this reader, and to another device
+by_own : (found : Option ReaderCommand)
+    (One Other : ReaderCommand → ReaderState → ReaderState → Gains → Type 0)
+    (Priced : ReaderCommand → Type 0) (before after : ReaderState) (gains : Gains)
+    → ((its : ReaderCommand) → One its before after gains
+    → GoesWith (Other its before after) (Priced its) gains)
+    → ForOwn found One before after gains
+    → GoesWith (ForOwn found Other before after)
+    ((its : ReaderCommand) → found ≡ Some its → Priced its) gains
+by_own None One Other Priced before after gains each step = (gains, step, λ priced. refl)
+by_own (Some its) One Other Priced before after gains each step =
+    let other = each its step in
+    (other.0, other.1, λ priced. other.2 (priced its refl))
+
+-- so by each act
+pub goes_otherwise : (unit : ReaderUnit) (facts : Facts) (known : KnownFacts) (act : Act)
+    (choice : Choice) (before after : ReaderState) (gains : Gains)
+    → (known.past.reset_owed ≡ true → facts.past.reset_owed ≡ true)
+    → ReaderStep unit facts act choice before after gains
+    → GoesWith (ReaderStep unit (otherwise facts known) act choice before after)
+    (IsPriced unit (otherwise facts known) facts act) gains
+goes_otherwise unit facts known (acts.Ask c) choice before after gains owed step =
+    by_own (own unit c) (AskStep facts) (AskStep (otherwise facts known))
+    (IsSalePriced (otherwise facts known) facts) before after gains
+    (λ its. ask_otherwise facts known its before after gains) step
+goes_otherwise unit facts known (acts.Ack c) choice before after gains owed step =
+    by_own (own unit c) (λ i. AckStep facts i choice)
+    (λ i. AckStep (otherwise facts known) i choice)
+    (IsSalePriced (otherwise facts known) facts) before after gains
+    (λ its. ack_otherwise facts known its choice before after gains) step
+goes_otherwise unit facts known (acts.Reply c r) choice before after gains owed step =
+    by_own (own unit c) (λ i. ReplyStep facts i r choice)
+    (λ i. ReplyStep (otherwise facts known) i r choice)
+    (λ i. IsSalePriced (otherwise facts known) facts i
+    × ((approvals (messages_of r) ≡ 0)
+    ⊎ (config_after r known.config ≡ config_after r facts.config))) before after gains
+    (λ its. reply_otherwise facts known its r choice before after gains owed) step
+goes_otherwise unit facts known (acts.VmcAck c r) choice before after gains owed step =
+    by_own (own unit c) (λ i. VmcAckStep facts i r choice)
+    (λ i. VmcAckStep (otherwise facts known) i r choice)
+    (λ i. (approvals (messages_of r) ≡ 0) ⊎ (known.config ≡ facts.config)) before after gains
+    (λ its. vmc_ack_otherwise facts known its r choice before after gains) step
+goes_otherwise unit facts known (acts.Break n) choice before after gains owed step =
+    (gains, step, λ priced. refl)
+goes_otherwise unit facts known (acts.Nak c) choice before after gains owed step =
+    (gains, step, λ priced. refl)
+goes_otherwise unit facts known (acts.VmcNak c r) choice before after gains owed step =
+    (gains, step, λ priced. refl)
+goes_otherwise unit facts known (acts.VmcRet c r) choice before after gains owed step =
+    (gains, step, λ priced. refl)
+goes_otherwise unit facts known (acts.Repeat c r) choice before after gains owed step =
+    (gains, step, λ priced. refl)
+goes_otherwise unit facts known acts.Foreign choice before after gains owed step =
+    (gains, step, λ priced. refl)

@@ -1,0 +1,4 @@
+pub mod Cuts
+pub mod Ends
+pub mod MidSession
+pub mod inner
