@@ -6,14 +6,15 @@ use Rattle.mdb_words.specs.declared.event.Event.{Event}
 use Rattle.mdb_words.specs.Event.{start_of}
 use Rattle.mdb_msgs.specs.declared.command.Device.{Device}
 use Rattle.mdb_msgs.specs.declared.command.Device.TheVariants as devices
+use Rattle.mdb_msgs.specs.declared.command.ReaderUnit.TheVariants.{First, Second}
+use Rattle.mdb_cashless.specs.declared.reader.known.ReaderKnown.{ReaderKnown}
 use Rattle.mdb_bus.specs.declared.act.Act.{Act}
 use Rattle.mdb_bus.specs.declared.act.Act.TheVariants as acts
 use Rattle.mdb_bus.specs.ActLists.{AskTail, IsTail, Piece, RepeatTail, ReplyTail, Whole, act_in}
 use Rattle.mdb_bus.specs.ActLists.{acts_of, last_of, piece_events}
 use Rattle.mdb_bus.specs.declared.scope.Beginning.{Beginning}
 use Rattle.mdb_bus.specs.Bus.{Grown}
-use Rattle.mdb_follow.specs.declared.sides.Sides.{Sides}
-use Rattle.mdb_follow.specs.Sides.{AreSides}
+use Rattle.mdb_follow.specs.Sides.{stands_for}
 use Rattle.mdb_follow.specs.Silences.{TimedAsk, asks_of, last_start, limit_of, reader_limit}
 use Rattle.mdb_follow.specs.inner.SilenceSteps.{asks_after, limit_in}
 
@@ -116,29 +117,32 @@ same-limit begins device (acts.Repeat command reply) acts at lists = refl
 same-limit begins device acts.Foreign acts at lists = refl
 same-limit begins device (acts.Break length) acts at lists = refl
 
--- sides have the limits of their acts
-limit-is : (begins : Beginning) (device : Device) (sides : Sides) (acts : List Act)
-    → AreSides begins sides acts
-    → limit_of begins device acts ≡ limit_in sides device
-limit-is begins devices.Changer sides acts on = refl
-limit-is begins devices.Bill sides acts on = refl
-limit-is begins (devices.Reader unit) sides acts on =
-    ap (λ facts. reader_limit (option_map (λ config. config.response) facts.config))
-    (sym (on (devices.Reader unit)).facts)
+-- what is known of the readers has the limits of its acts
+limit-is : (begins : Beginning) (device : Device) (first second : ReaderKnown) (acts : List Act)
+    → stands_for begins (devices.Reader First) first acts
+    → stands_for begins (devices.Reader Second) second acts
+    → limit_of begins device acts ≡ limit_in first second device
+limit-is begins devices.Changer first second acts one other = refl
+limit-is begins devices.Bill first second acts one other = refl
+limit-is begins (devices.Reader First) first second acts one other =
+    ap (λ facts. reader_limit (option_map (λ config. config.response) facts.config)) (sym one)
+limit-is begins (devices.Reader Second) first second acts one other =
+    ap (λ facts. reader_limit (option_map (λ config. config.response) facts.config)) (sym other)
 
 -- an act, and the lists go on by it
 pub asks-go-on : (begins : Beginning) (device : Device) (pieces : List Piece) (row : Event)
     (act : Act)
-    (longer : List Piece) (sides : Sides) → Grown pieces row (Some act) longer
-    → AreSides begins sides (act ∷ acts_of pieces)
-    → asks_after device act (record { at = start_of row; limit = limit_in sides device })
+    (longer : List Piece) (first second : ReaderKnown) → Grown pieces row (Some act) longer
+    → stands_for begins (devices.Reader First) first (act ∷ acts_of pieces)
+    → stands_for begins (devices.Reader Second) second (act ∷ acts_of pieces)
+    → asks_after device act (record { at = start_of row; limit = limit_in first second device })
     (asks_of begins device pieces) ≡ asks_of begins device longer
-asks-go-on begins device pieces row act longer sides grown on =
+asks-go-on begins device pieces row act longer first second grown one other =
     let at = start_of row in
     let later : ℕ → List (List TimedAsk) → List (List TimedAsk) = λ limit lists.
     asks_after device act (record { at = at; limit = limit }) lists in
     ap (λ limit. later limit (asks_of begins device pieces))
-    (sym (limit-is begins device sides (act ∷ acts_of pieces) on))
+    (sym (limit-is begins device first second (act ∷ acts_of pieces) one other))
     ∙ sym (same-limit begins device act (acts_of pieces) at (asks_of begins device pieces))
     ∙ ap (λ acts. later (limit_of begins device acts) (asks_of begins device pieces))
     (sym (earlier-acts pieces row (Some act) longer grown))

@@ -3,41 +3,12 @@
 use Rattle.std.proofs.Common.{◌≡◌, List, [], ◌∷◌}
 use Rattle.mdb_msgs.specs.declared.command.Device.{Device}
 use Rattle.mdb_bus.specs.declared.act.Act.{Act}
-use Rattle.mdb_cash.specs.declared.choice.Choice.{Choice}
-use Rattle.mdb_cash.specs.declared.gains.Gains.{Gains}
-use Rattle.mdb_cash.specs.Choices.{CanStand}
 use Rattle.mdb_cash.specs.Machine.{IsMachineOf, Machine}
 use Rattle.mdb_cash.specs.Pair.{IsActOf}
 use Rattle.mdb_follow.specs.Arrivals.{Arrives}
-use Rattle.mdb_follow.specs.Sums.{Sums, added, no_sums}
+use Rattle.mdb_follow.specs.Choosing.{Choices, Follows}
+use Rattle.mdb_follow.specs.Sums.{Sums}
 use Rattle.mdb_follow.proofs.Machines.{elsewhere_as, same_choice, whose}
-
--- for each act of a list a choice that can stand on it
-pub record ChoicesBy (act : Act) (Before : Type 0) : Type 0 where
-  pub choice : Choice
-  pub stands : CanStand act choice
-  pub before : Before
-
-abbrev pub Choices : List Act → Type 0
-Choices [] = Unit {0}
-Choices (act ∷ acts) = ChoicesBy act (Choices acts)
-
--- a way with these choices
-pub record FollowsBy {State : Type 0} (Before : State → Sums → Type 0)
-    (Step : State → State → Gains → Type 0) (state : State) (sums : Sums) : Type 0 where
-  pub before : State
-  pub sums_before : Sums
-  pub gains : Gains
-  pub way : Before before sums_before
-  pub step : Step before state gains
-  pub adds : sums ≡ added sums_before gains
-
-abbrev pub Follows : {State : Type 0} → Machine State → (acts : List Act) → Choices acts → State
-    → Sums → Type 0
-Follows machine [] choices state sums = machine.Starts state × (sums ≡ no_sums)
-Follows machine (act ∷ acts) choices state sums =
-    FollowsBy (Follows machine acts choices.before) (machine.Step acts act choices.choice) state
-    sums
 
 -- each way is one with its choices
 pub chosen : {State : Type 0} (machine : Machine State) (acts : List Act) (state : State)
@@ -56,6 +27,22 @@ chosen machine (act ∷ acts) state sums way =
         adds = way.adds;
       },
     )
+
+-- and each way with choices is a way
+pub arrives : {State : Type 0} (machine : Machine State) (acts : List Act) (choices : Choices acts)
+    (state : State) (sums : Sums) → Follows machine acts choices state sums
+    → Arrives machine acts state sums
+arrives machine [] choices state sums way = way
+arrives machine (act ∷ acts) choices state sums way = record {
+  choice = choices.choice;
+  stands = choices.stands;
+  before = way.before;
+  sums_before = way.sums_before;
+  gains = way.gains;
+  way = arrives machine acts choices.before way.before way.sums_before way.way;
+  step = way.step;
+  adds = way.adds;
+}
 
 -- two lists of choices are the same for a device, where they matter
 abbrev pub AgreeFor : Device → (acts : List Act) → Choices acts → Choices acts → Type 0

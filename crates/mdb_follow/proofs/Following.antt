@@ -10,6 +10,7 @@ use Rattle.mdb_words.specs.declared.event.Event.{Event}
 use Rattle.mdb_words.specs.Event.{start_of}
 use Rattle.mdb_msgs.specs.declared.command.Device.{Device}
 use Rattle.mdb_msgs.specs.declared.command.Device.TheVariants as devices
+use Rattle.mdb_msgs.specs.declared.command.ReaderUnit.TheVariants.{First, Second}
 use Rattle.mdb_bus.specs.declared.act.Act.{Act}
 use Rattle.mdb_bus.specs.declared.bus.Bus.{Bus}
 use Rattle.mdb_bus.specs.declared.fault.LinkFault.{LinkFault}
@@ -93,7 +94,7 @@ pub list-of : (follower : Follower) (events : List Event) (on : StandsFor follow
 list-of follower events on = record { in_order = on.on_bus.in_order; whole = on.whole }
 
 -- the act list of the events with one more
-list-on : (bus : Bus) (events : List Event) (row : Event) (pieces : List Piece)
+pub list-on : (bus : Bus) (events : List Event) (row : Event) (pieces : List Piece)
     (act : Option Act) → events_of pieces ≡ events → (goes : GoesOn bus pieces row act)
     → IsActList (link.scope_of bus) goes.longer (events ++ row ∷ [])
 list-on bus events row pieces act whole goes = record {
@@ -198,8 +199,11 @@ stands-on old mid new events row act on goes old_scope same_sides same_silences 
     λ device. (has.sides device).stands begins (acts_of on.pieces)
     (subst (λ sides. AreSides begins sides (acts_of on.pieces)) (sym same_sides) on.sides device)
     in
-    let follows : SilencesFollow mid.silences act (start_of row) new.sides new.silences =
-    subst (λ at. SilencesFollow mid.silences act at new.sides new.silences) start has.silences in
+    let first = new.sides.first_reader.facts in
+    let second = new.sides.second_reader.facts in
+    let follows : SilencesFollow mid.silences act (start_of row) first second new.silences =
+    subst (λ at. SilencesFollow mid.silences act at first second new.silences) start has.silences
+    in
     record {
       pieces = goes.longer;
       on_bus = subst (λ b. link.StandsFor b goes.longer) (sym has.on_bus) goes.stands;
@@ -212,7 +216,8 @@ stands-on old mid new events row act on goes old_scope same_sides same_silences 
       silences = λ device. asks-as (scope_of old) (scope_of new) device
           (silence_in new.silences device) goes.longer same_scope
           (subst (StandsForAsks (silence_in new.silences device))
-          (asks-go-on begins device on.pieces row act goes.longer new.sides goes.grown sides)
+          (asks-go-on begins device on.pieces row act goes.longer first second goes.grown
+          (sides (devices.Reader First)).facts (sides (devices.Reader Second)).facts)
           ((follows device).stands (asks_of begins device on.pieces)
           (subst (λ silences. StandsForAsks (silence_in silences device)
           (asks_of begins device on.pieces)) (sym same_silences) (on.silences device))));
@@ -243,7 +248,7 @@ link-offence joins old events row on fault offence is impossible number rule bla
 }
 
 -- a piece that is an act is a whole one
-whole-piece : (piece : Piece) (act : Act) (events : List Event) → act_in piece ≡ Some act
+pub whole-piece : (piece : Piece) (act : Act) (events : List Event) → act_in piece ≡ Some act
     → piece_events piece ≡ events → piece ≡ Whole act events
 whole-piece (Whole other rows) act events ends same =
     let is : other ≡ act = cc ends in ap (λ a. Whole a rows) is ∙ ap (Whole act) same
@@ -298,16 +303,18 @@ machine-offence one joins old mid new events row act offence on goes same_scope 
       });
     }
 
--- The sums of a device, where a run has them, and where its ways come to them: the same ones.
-record AreOf (scope : Scope) (rows : List Event) (Kind : Sums → Type 0) (of : AllSums → Sums) : Type 0 where
-  lift : (sums : Sums) → Kind sums → (all : AllSums) × (of all ≡ sums) × Run scope rows all
-  lower : (all : AllSums) → Run scope rows all → Kind (of all)
+-- The sums of a device, where a run of a kind has them, and where its ways come to them: the same
+-- ones.
+pub record AreOf (Runs : AllSums → Type 0) (Kind : Sums → Type 0) (of : AllSums → Sums)
+    : Type 0 where
+  pub lift : (sums : Sums) → Kind sums → (all : AllSums) × (of all ≡ sums) × Runs all
+  pub lower : (all : AllSums) → Runs all → Kind (of all)
 
 -- then their ranges are those of the runs
-range-of-runs : (scope : Scope) (rows : List Event) (Kind : Sums → Type 0) (of : AllSums → Sums)
-    → AreOf scope rows Kind of → (value : Sums → ℤ) (range : Range) → IsRange Kind value range
-    → IsRange (Run scope rows) (λ sums. value (of sums)) range
-range-of-runs scope rows Kind of are value range is =
+range-of-runs : (Runs : AllSums → Type 0) (Kind : Sums → Type 0) (of : AllSums → Sums)
+    → AreOf Runs Kind of → (value : Sums → ℤ) (range : Range) → IsRange Kind value range
+    → IsRange Runs (λ sums. value (of sums)) range
+range-of-runs Runs Kind of are value range is =
     let least = are.lift is.least.0 is.least.1 in
     let greatest = are.lift is.greatest.0 is.greatest.1 in
     record {
@@ -318,15 +325,15 @@ range-of-runs scope rows Kind of are value range is =
     }
 
 -- and so are the three ranges of an account
-account-of-runs : (scope : Scope) (rows : List Event) (Kind : Sums → Type 0) (of : AllSums → Sums)
-    → AreOf scope rows Kind of → (account : Sums → AccountSums) (ranges : Account)
-    → IsAccount Kind account ranges → IsAccount (Run scope rows) (λ sums. account (of sums)) ranges
-account-of-runs scope rows Kind of are account ranges is = record {
-  device = range-of-runs scope rows Kind of are (λ sums. pos (account sums).device) ranges.device
+account-of-runs : (Runs : AllSums → Type 0) (Kind : Sums → Type 0) (of : AllSums → Sums)
+    → AreOf Runs Kind of → (account : Sums → AccountSums) (ranges : Account)
+    → IsAccount Kind account ranges → IsAccount Runs (λ sums. account (of sums)) ranges
+account-of-runs Runs Kind of are account ranges is = record {
+  device = range-of-runs Runs Kind of are (λ sums. pos (account sums).device) ranges.device
       is.device;
-  controller = range-of-runs scope rows Kind of are (λ sums. pos (account sums).controller)
+  controller = range-of-runs Runs Kind of are (λ sums. pos (account sums).controller)
       ranges.controller is.controller;
-  difference = range-of-runs scope rows Kind of are
+  difference = range-of-runs Runs Kind of are
       (λ sums. pos (account sums).device -ℤ pos (account sums).controller) ranges.difference
       is.difference;
 }
@@ -334,7 +341,8 @@ account-of-runs scope rows Kind of are account ranges is = record {
 -- A way of one device is one of all, beside some way of each other device.
 device-is : (scope : Scope) → OneActList scope → Joins scope → (rows : List Event) (pieces : List Piece)
     → IsActList scope pieces rows → SomeArrive scope.begins (acts_of pieces) → (device : Device)
-    → AreOf scope rows (ArrivesAnywhere (Arrives (machine_of scope.begins device) (acts_of pieces)))
+    → AreOf (Run scope rows)
+    (ArrivesAnywhere (Arrives (machine_of scope.begins device) (acts_of pieces)))
     (λ sums. sums device)
 device-is scope one joins rows pieces list some device = record {
   lift = λ sums at.
@@ -364,27 +372,27 @@ accounts_in cells (Approved unit) = (cells (devices.Reader unit)).first
 accounts_in cells (Sold unit) = (cells (devices.Reader unit)).second
 
 -- a cell has the ranges of the sums that a device has in runs
-abbrev pub IsCellOf : (scope : Scope) → List Event → (AllSums → Sums) → Cell → Type 0
-IsCellOf scope rows of cell =
-    IsAccount (Run scope rows) (λ sums. (of sums).first) cell.first
-    × IsAccount (Run scope rows) (λ sums. (of sums).second) cell.second
+abbrev pub IsCellOf : (AllSums → Type 0) → (AllSums → Sums) → Cell → Type 0
+IsCellOf Runs of cell =
+    IsAccount Runs (λ sums. (of sums).first) cell.first
+    × IsAccount Runs (λ sums. (of sums).second) cell.second
 
-cell-of-runs : (scope : Scope) (rows : List Event) (Kind : Sums → Type 0) (of : AllSums → Sums)
-    → AreOf scope rows Kind of → (cell : Cell) → IsCell Kind cell → IsCellOf scope rows of cell
-cell-of-runs scope rows Kind of are cell is = (
-  account-of-runs scope rows Kind of are (λ sums. sums.first) cell.first is.first,
-  account-of-runs scope rows Kind of are (λ sums. sums.second) cell.second is.second,
+pub cell-of-runs : (Runs : AllSums → Type 0) (Kind : Sums → Type 0) (of : AllSums → Sums)
+    → AreOf Runs Kind of → (cell : Cell) → IsCell Kind cell → IsCellOf Runs of cell
+cell-of-runs Runs Kind of are cell is = (
+  account-of-runs Runs Kind of are (λ sums. sums.first) cell.first is.first,
+  account-of-runs Runs Kind of are (λ sums. sums.second) cell.second is.second,
 )
 
 -- so the accounts are those of the runs
-accounts-of-cells : (scope : Scope) (rows : List Event) (cells : Device → Cell)
-    → ((device : Device) → IsCellOf scope rows (λ sums. sums device) (cells device))
-    → AreAccounts (Run scope rows) (accounts_in cells)
-accounts-of-cells scope rows cells are CoinsIn = (are devices.Changer).0
-accounts-of-cells scope rows cells are BillsIn = (are devices.Bill).0
-accounts-of-cells scope rows cells are PaidOut = (are devices.Changer).1
-accounts-of-cells scope rows cells are (Approved unit) = (are (devices.Reader unit)).0
-accounts-of-cells scope rows cells are (Sold unit) = (are (devices.Reader unit)).1
+pub accounts-of-cells : (Runs : AllSums → Type 0) (cells : Device → Cell)
+    → ((device : Device) → IsCellOf Runs (λ sums. sums device) (cells device))
+    → AreAccounts Runs (accounts_in cells)
+accounts-of-cells Runs cells are CoinsIn = (are devices.Changer).0
+accounts-of-cells Runs cells are BillsIn = (are devices.Bill).0
+accounts-of-cells Runs cells are PaidOut = (are devices.Changer).1
+accounts-of-cells Runs cells are (Approved unit) = (are (devices.Reader unit)).0
+accounts-of-cells Runs cells are (Sold unit) = (are (devices.Reader unit)).1
 
 -- what a follower reports
 pub reported : ((scope : Scope) → OneActList scope) → ((scope : Scope) → Joins scope)
@@ -403,9 +411,9 @@ reported one joins follower events report cells on are telling =
       pieces = on.pieces;
       act_list = list;
       accounts = accounts_in cells;
-      of_runs = accounts-of-cells (scope_of follower) events cells (λ device.
-          cell-of-runs (scope_of follower) events _ _ (device-is (scope_of follower) (one (scope_of follower))
-          (joins (scope_of follower)) events on.pieces list some device)
+      of_runs = accounts-of-cells (Run (scope_of follower) events) cells (λ device.
+          cell-of-runs (Run (scope_of follower) events) _ _
+          (device-is (scope_of follower) (one (scope_of follower)) (joins (scope_of follower)) events on.pieces list some device)
           (cells device) (are device));
       telling = telling
           ∙ ap (λ rows. report_of (scope_of follower).begins rows on.pieces (accounts_in cells))

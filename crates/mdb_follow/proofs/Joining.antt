@@ -13,26 +13,22 @@ use Rattle.mdb_bus.specs.declared.scope.Beginning.{Beginning}
 use Rattle.mdb_cash.specs.declared.choice.Choice.{Choice}
 use Rattle.mdb_cash.specs.declared.choice.Choice.TheVariants.{Plain, Lost, Restart}
 use Rattle.mdb_cash.specs.declared.gains.Gains.{Gains}
-use Rattle.mdb_cash.specs.Choices.{CanStand}
 use Rattle.mdb_cash.specs.Machine.{IsMachineOf, Machine}
-use Rattle.mdb_follow.specs.Arrivals.{Arrives, EachArrives}
+use Rattle.mdb_follow.specs.Arrivals.{EachArrives}
 use Rattle.mdb_follow.specs.Sums.{Sums}
 use Rattle.mdb_follow.specs.Machines.{machine_of}
 use Rattle.mdb_follow.specs.Runs.{AllSums, Goes, HearSameAcks, IsWay, States}
-use Rattle.mdb_follow.proofs.Choosing.{Choices, Follows, FollowsBy, chosen, follows_as, merged}
-use Rattle.mdb_follow.proofs.Choosing.{merged_agrees}
+use Rattle.mdb_follow.specs.Choosing.{AllFollow, Choices, Follows, FollowsBy, choices_of}
+use Rattle.mdb_follow.proofs.Choosing.{arrives, chosen, follows_as, merged, merged_agrees}
 use Rattle.mdb_follow.proofs.Machines.{is_machine_of}
 use Rattle.mdb_bus.specs.declared.scope.Scope.{Scope}
 
--- a way of a device goes on by a step
-by_one : {State : Type 0} (machine : Machine State) (acts : List Act) (act : Act)
-    (choice : Choice) → CanStand act choice → (before state : State) (sums_before sums : Sums)
-    → Arrives machine acts before sums_before
-    → Goes (machine.Step acts act choice) before state sums_before sums
-    → Arrives machine (act ∷ acts) state sums
-by_one machine acts act choice stands before state sums_before sums way go = record {
-  choice = choice;
-  stands = stands;
+-- a step of a device goes on from a way with choices
+by_one : {State : Type 0} {Before : State → Sums → Type 0}
+    {Step : State → State → Gains → Type 0} {before state : State} {sums_before sums : Sums}
+    → Before before sums_before → Goes Step before state sums_before sums
+    → FollowsBy Before Step state sums
+by_one {before = before} {sums_before = sums_before} way go = record {
   before = before;
   sums_before = sums_before;
   gains = go.gains;
@@ -41,22 +37,29 @@ by_one machine acts act choice stands before state sums_before sums way go = rec
   adds = go.adds;
 }
 
--- each way of all is a way of each device
+-- each way of all is a way of each device, with what it chooses
+pub split_with_choices : (begins : Beginning) (loss : Loss) (pieces : List Piece) (states : States)
+    (sums : AllSums) (way : IsWay begins loss pieces states sums)
+    → AllFollow begins (acts_of pieces) (choices_of begins loss pieces states sums way) states sums
+split_with_choices begins loss [] states sums way = way
+split_with_choices begins loss (Whole act events ∷ pieces) states sums way =
+    let earlier = split_with_choices begins loss pieces way.before way.sums_before way.way in
+    λ device. by_one (earlier device) (way.go device)
+split_with_choices begins loss (AskTail bytes events ∷ pieces) states sums way =
+    split_with_choices begins loss pieces states sums way
+split_with_choices begins loss (ReplyTail command bytes events ∷ pieces) states sums way =
+    split_with_choices begins loss pieces states sums way
+split_with_choices begins loss (RepeatTail command reply words events ∷ pieces) states sums way =
+    split_with_choices begins loss pieces states sums way
+
+-- so it is a way of each device
 pub split : (begins : Beginning) (loss : Loss) (pieces : List Piece) (states : States)
     (sums : AllSums) → IsWay begins loss pieces states sums
     → EachArrives begins (acts_of pieces) states sums
-split begins loss [] states sums way = way
-split begins loss (Whole act events ∷ pieces) states sums way =
-    let earlier = split begins loss pieces way.before way.sums_before way.way in
-    λ device. by_one (machine_of begins device) (acts_of pieces) act way.choice way.stands
-    (way.before device) (states device) (way.sums_before device) (sums device)
-    (earlier device) (way.go device)
-split begins loss (AskTail bytes events ∷ pieces) states sums way =
-    split begins loss pieces states sums way
-split begins loss (ReplyTail command bytes events ∷ pieces) states sums way =
-    split begins loss pieces states sums way
-split begins loss (RepeatTail command reply words events ∷ pieces) states sums way =
-    split begins loss pieces states sums way
+split begins loss pieces states sums way = λ device.
+    arrives (machine_of begins device) (acts_of pieces)
+    (choices_of begins loss pieces states sums way) (states device) (sums device)
+    (split_with_choices begins loss pieces states sums way device)
 
 -- one of two, by whether two numbers are the same
 pick : ℕ → ℕ → Bool → Bool → Bool
@@ -142,12 +145,6 @@ agrees scope choice loss (RepeatTail command reply words events ∷ pieces) choi
     agrees scope choice loss pieces choices are.2
     (λ before less. same before (omega (arith, less, rows))) hears
 
--- each device has a way with the same choices
-abbrev AllFollow : Beginning → (acts : List Act) → Choices acts → States → AllSums → Type 0
-AllFollow begins acts choices states sums =
-    (device : Device)
-    → Follows (machine_of begins device) acts choices (states device) (sums device)
-
 -- the last step of a way
 gone : {State : Type 0} {Before : State → Sums → Type 0}
     {Step : State → State → Gains → Type 0} {state : State} {sums : Sums}
@@ -179,6 +176,50 @@ way_of begins loss (ReplyTail command bytes events ∷ pieces) choices states su
 way_of begins loss (RepeatTail command reply words events ∷ pieces) choices states sums agree ways =
     way_of begins loss pieces choices states sums agree ways
 
+-- and it chooses what was chosen
+way_of-choices : (begins : Beginning) (loss : Loss) (pieces : List Piece)
+    (choices : Choices (acts_of pieces)) (states : States) (sums : AllSums)
+    (agree : Agrees loss pieces choices)
+    (ways : AllFollow begins (acts_of pieces) choices states sums)
+    → choices_of begins loss pieces states sums
+    (way_of begins loss pieces choices states sums agree ways) ≡ choices
+unfolding way_of
+way_of-choices begins loss [] choices states sums agree ways = refl
+way_of-choices begins loss (Whole act events ∷ pieces) choices states sums agree ways =
+    ap (λ before. record { choice = choices.choice; stands = choices.stands; before = before })
+    (way_of-choices begins loss pieces choices.before (λ device. (ways device).before)
+    (λ device. (ways device).sums_before) agree.1 (λ device. (ways device).way))
+way_of-choices begins loss (AskTail bytes events ∷ pieces) choices states sums agree ways =
+    way_of-choices begins loss pieces choices states sums agree ways
+way_of-choices begins loss (ReplyTail command bytes events ∷ pieces) choices states sums agree
+    ways =
+    way_of-choices begins loss pieces choices states sums agree ways
+way_of-choices begins loss (RepeatTail command reply words events ∷ pieces) choices states sums
+    agree ways =
+    way_of-choices begins loss pieces choices states sums agree ways
+
+-- what mdb_bus says of losses: there is one by which the ACKs are heard that are wished to be
+abbrev pub AcksMayBeHeard : Scope → Type 0
+AcksMayBeHeard scope =
+    (pieces : List Piece) → ArePieces scope pieces → (choice : ℕ → Bool)
+    → (loss : Loss) × LossFits loss pieces × HearsAsWished loss choice pieces
+
+-- ways with the same choices are together a way of all with these, under one loss that fits
+pub joined_with_choices : (scope : Scope) → AcksMayBeHeard scope
+    → (pieces : List Piece) (choices : Choices (acts_of pieces)) (states : States) (sums : AllSums)
+    → ArePieces scope pieces → AllFollow scope.begins (acts_of pieces) choices states sums
+    → (loss : Loss) × LossFits loss pieces × (way : IsWay scope.begins loss pieces states sums)
+    × (choices_of scope.begins loss pieces states sums way ≡ choices)
+joined_with_choices scope law pieces choices states sums are ways =
+    let found = law pieces are (chosen_at pieces choices) in
+    let agree = agrees scope (chosen_at pieces choices) found.0 pieces choices are
+    (λ before less. refl) found.2 in (
+      found.0,
+      found.1,
+      way_of scope.begins found.0 pieces choices states sums agree ways,
+      way_of-choices scope.begins found.0 pieces choices states sums agree ways,
+    )
+
 -- a device's way is one with the choices of all
 as_merged : {State : Type 0} (device : Device) (machine : Machine State)
     → IsMachineOf device machine → (acts : List Act) (all : Device → Choices acts) (state : State)
@@ -189,8 +230,7 @@ as_merged device machine is acts all state sums way =
     (merged_agrees acts all device) state sums way
 
 -- and there is such a loss
-pub joined : (scope : Scope) → ((pieces : List Piece) → ArePieces scope pieces → (choice : ℕ → Bool)
-    → (loss : Loss) × LossFits loss pieces × HearsAsWished loss choice pieces)
+pub joined : (scope : Scope) → AcksMayBeHeard scope
     → (pieces : List Piece) (states : States) (sums : AllSums) → ArePieces scope pieces
     → EachArrives scope.begins (acts_of pieces) states sums
     → (loss : Loss) × LossFits loss pieces × IsWay scope.begins loss pieces states sums
@@ -201,17 +241,11 @@ joined scope law pieces states sums are ways =
     λ device. chosen (machine_of scope.begins device) (acts_of pieces) (states device) (sums device)
     (ways device) in
     let all : Device → Choices (acts_of pieces) = λ device. (own device).0 in
-    let choices = merged (acts_of pieces) all in
-    let found = law pieces are (chosen_at pieces choices) in
-    let agree = agrees scope (chosen_at pieces choices) found.0 pieces choices are
-    (λ before less. refl) found.2 in (
-      found.0,
-      found.1,
-      way_of scope.begins found.0 pieces choices states sums agree
-          (λ device. as_merged device (machine_of scope.begins device)
-          (is_machine_of scope.begins device) (acts_of pieces)
-          all (states device) (sums device) (own device).1),
-    )
+    let found = joined_with_choices scope law pieces (merged (acts_of pieces) all) states sums are
+    (λ device. as_merged device (machine_of scope.begins device)
+    (is_machine_of scope.begins device) (acts_of pieces)
+    all (states device) (sums device) (own device).1) in
+    (found.0, found.1, found.2)
 
 -- where the same ACKs were heard, a way under one loss is one under the other
 heard_alike : (begins : Beginning) (one other : Loss) (pieces : List Piece) (states : States)

@@ -73,7 +73,7 @@ whose (kinds.Repeat command reply) = device_of command
 whose kinds.Foreign = devices.Changer
 whose (kinds.Break length) = devices.Changer
 
-whose_is : (device : Device) (act : Act) → IsActOf device act
+pub whose_is : (device : Device) (act : Act) → IsActOf device act
     → ((length : ℕ) → act ≡ kinds.Break length → ⊥) → whose act ≡ device
 unfolding whose
 whose_is device (kinds.Ask command) own whole = own

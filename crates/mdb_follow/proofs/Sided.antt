@@ -172,7 +172,7 @@ decimals_in devices.Bill facts =
 decimals_in (devices.Reader unit) facts =
     option_map (λ config. config.decimals) (reader_values.known_in facts).config
 
-decimals-are : (begins : Beginning) (device : Device) (facts : FactsOf device) (acts : List Act)
+pub decimals-are : (begins : Beginning) (device : Device) (facts : FactsOf device) (acts : List Act)
     → stands_for begins device facts acts
     → decimals_in device facts ≡ decimals_of begins device acts
 decimals-are begins devices.Changer facts acts =

@@ -1,11 +1,15 @@
 pub mod AccountNames
 pub mod Arrivals
+pub mod Choosing
 pub mod Devices
 pub mod Follower
 pub mod LeavingOut
 pub mod Machines
+pub mod Marks
 pub mod Offences
 pub mod Ranges
+pub mod ReplayFaults
+pub mod Replays
 pub mod Report
 pub mod Runs
 pub mod Sales
@@ -16,4 +20,5 @@ pub mod SilencesKept
 pub mod Slices
 pub mod Sums
 pub mod Tables
+pub mod Tracks
 pub mod inner

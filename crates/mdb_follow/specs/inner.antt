@@ -4,5 +4,7 @@ pub mod Entries
 pub mod FollowerSteps
 pub mod Limits
 pub mod Owners
+pub mod ReplaySteps
 pub mod SideSteps
 pub mod SilenceSteps
+pub mod TrackSteps

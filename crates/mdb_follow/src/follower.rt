@@ -215,7 +215,9 @@ impl Follower {
     {
         match self.sides.lead(&self.act) {
             Ok(()) => {
-                self.silences.follow(&self.act, at, &self.sides);
+                let first = &self.sides.first_reader.facts;
+                let second = &self.sides.second_reader.facts;
+                self.silences.follow(&self.act, at, first, second);
                 self.rows += 1;
                 true
             }
@@ -293,7 +295,7 @@ fn stop(noted: &mut Option<Offence>, rows: u64, fault: LinkFault)
 }
 
 /// Who sends an act: the controller, or the device that it asked.
-fn sender_of(act: &Act) -> Blame
+pub(crate) fn sender_of(act: &Act) -> Blame
     ensures { result ≡ spec.sender_of act.now }
 {
     match act {

@@ -12,7 +12,6 @@ ghost use Rattle.mdb_follow.specs.inner.SilenceSteps.{ask_in, ended, limit_by};
 
 use crate::Report;
 use crate::devices::device_place;
-use crate::sides::Sides;
 use mdb_bus::Act;
 use mdb_cashless::ReaderKnown;
 use mdb_msgs::{Device, ReaderUnit};
@@ -100,13 +99,14 @@ impl Silences {
         of: [Silence::NONE; 4],
     };
 
-    /// Follows an act whose last word started at a time. The sides are those after it.
-    pub(crate) fn follow(&mut self, act: &Act, at: Time, sides: &Sides)
+    /// Follows an act whose last word started at a time, with what is known of the two readers
+    /// after it.
+    pub(crate) fn follow(&mut self, act: &Act, at: Time, first: &ReaderKnown, second: &ReaderKnown)
         requires { AreFew (2 ^ 62) self.old }
-        ensures { SilencesFollow self.old act.now at sides.now self.new }
+        ensures { SilencesFollow self.old act.now at first.now second.now self.new }
     {
         match act {
-            Act::Ask(command) => self.ask(command.device(), at, sides),
+            Act::Ask(command) => self.ask(command.device(), at, first, second),
             Act::Ack(command) | Act::Nak(command) | Act::Reply(command, _) => {
                 self.end(command.device())
             }
@@ -122,13 +122,13 @@ impl Silences {
         self.of[device_place(device)].count
     }
 
-    /// The controller asks a device. The sides are those after that.
-    fn ask(&mut self, device: Device, at: Time, sides: &Sides)
+    /// The controller asks a device, with what is known of the two readers after that.
+    fn ask(&mut self, device: Device, at: Time, first: &ReaderKnown, second: &ReaderKnown)
         requires { AreFew (2 ^ 62) self.old }
-        ensures { OneGoesOn (λ other. with_ask (ask_in sides.now at other)) device
+        ensures { OneGoesOn (λ other. with_ask (ask_in first.now second.now at other)) device
             self.old self.new }
     {
-        self.of[device_place(device)].ask(at.value(), limit_in(sides, device));
+        self.of[device_place(device)].ask(at.value(), limit_in(first, second, device));
     }
 
     /// A device answers, or a break comes.
@@ -148,17 +148,17 @@ impl Silences {
     }
 }
 
-/// How long a device may be silent, by what it has told.
-fn limit_in(sides: &Sides, device: Device) -> u64
-    ensures limit { result ≡ spec.limit_in sides.now device }
+/// How long a device may be silent, by what is known of the two readers.
+fn limit_in(first: &ReaderKnown, second: &ReaderKnown, device: Device) -> u64
+    ensures limit { result ≡ spec.limit_in first.now second.now device }
     ensures small { result < 2 ^ 62 }
 {
     match device {
         Device::Changer => CHANGER_SILENCE_MAX,
         Device::Bill => BILL_SILENCE_MAX,
         Device::Reader(unit) => match unit {
-            ReaderUnit::First => reader_limit(&sides.first_reader.facts),
-            ReaderUnit::Second => reader_limit(&sides.second_reader.facts),
+            ReaderUnit::First => reader_limit(first),
+            ReaderUnit::Second => reader_limit(second),
         },
     }
 }

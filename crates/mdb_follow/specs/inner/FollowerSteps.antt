@@ -13,7 +13,8 @@ pub record HasFollowed (old : Follower) (act : Act) (at : ℕ) (new : Follower) 
   pub rows : new.rows ≡ old.rows + 1
   pub going : new.offence ≡ old.offence
   pub sides : SidesFollow old.sides act new.sides
-  pub silences : SilencesFollow old.silences act at new.sides new.silences
+  pub silences : SilencesFollow old.silences act at new.sides.first_reader.facts
+      new.sides.second_reader.facts new.silences
 
 -- A follower has stopped at an act by which a machine has no step.
 pub record HasStopped (old : Follower) (act : Act) (new : Follower)

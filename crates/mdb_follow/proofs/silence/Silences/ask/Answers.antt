@@ -12,7 +12,8 @@ returns c =
     let one : ℕ → ℕ → TimedAsk = λ at limit. record { at = at; limit = limit } in
     let same = ap (λ at. one at c.limit_in.result) c.value.ensures.value
     ∙ ap (one c.args.at) c.limit_in.ensures.limit in
-    one-goes-on (λ other. with_ask (ask_in c.args.sides.now c.args.at other)) c.args.device
+    one-goes-on
+    (λ other. with_ask (ask_in c.args.first.now c.args.second.now c.args.at other)) c.args.device
     c.args.self.now c.device_place.result c.ask.new.self c.device_place.ensures.place (omega arith)
     (record {
       stands = subst (λ ask. (lists : List (List TimedAsk)) → StandsForAsks was lists

@@ -1,6 +1,7 @@
 use Rattle.std.proofs.Common.{inl, inr, subst, sym}
 use Rattle.std.specs.Prelude.{if◌then◌else◌}
 use Rattle.mdb_msgs.specs.Commands.{device_of}
+use Rattle.mdb_bus.specs.declared.act.Act.{Act}
 use Rattle.mdb_follow.specs.Devices.{same_device}
 use Rattle.mdb_follow.specs.inner.SilenceSteps.{AllGoOn, SilencesFollow, ended}
 use Rattle.mdb_follow.proofs.Kept.{all-go-on}
@@ -10,6 +11,8 @@ pub returns-in-Ack : goal.returns-in-Ack
 returns-in-Ack c =
     let old = c.args.self.now in
     let new = c.end.new.self in
+    let follows : Act → Type 0 = λ act.
+    SilencesFollow old act c.args.at c.args.first.now c.args.second.now new in
     let go : AllGoOn (λ device lists. if same_device device (device_of c.in-Ack.command)
     then ended lists else lists) old new =
     subst (λ which. AllGoOn
@@ -17,10 +20,9 @@ returns-in-Ack c =
     c.device-in-Ack.ensures
     (all-go-on (λ other. ended) c.device-in-Ack.result old new c.end.ensures) in
     elim c.in-Ack.is [
-      | inl is ↦ subst (λ act. SilencesFollow old act c.args.at c.args.sides.now new) (sym is) go
+      | inl is ↦ subst follows (sym is) go
       | inr more ↦ elim more [
-        | inl is ↦ subst (λ act. SilencesFollow old act c.args.at c.args.sides.now new) (sym is) go
-        | inr other ↦ subst (λ act. SilencesFollow old act c.args.at c.args.sides.now new)
-            (sym other.1) go
+        | inl is ↦ subst follows (sym is) go
+        | inr other ↦ subst follows (sym other.1) go
       ]
     ]
