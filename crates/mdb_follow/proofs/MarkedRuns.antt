@@ -183,7 +183,7 @@ marks_tell scope (RepeatTail command reply words events ∷ pieces) one other ar
     marks_tell scope pieces one other are.2 same
 
 -- an element of a list is its first, or one of the others
-in_cons : (first mark : ℕ × Mark) (others : List (ℕ × Mark)) → Contains (first ∷ others) mark
+pub in_cons : (first mark : ℕ × Mark) (others : List (ℕ × Mark)) → Contains (first ∷ others) mark
     → (first ≡ mark) ⊎ Contains others mark
 in_cons first mark others has = at has.0 has.1 has.2
   where
@@ -193,7 +193,7 @@ in_cons first mark others has = at has.0 has.1 has.2
     at (suc k) less is = inr (k, omega arith, is)
 
 -- an element of the others isn't the first, where marks rise
-later_in : (first mark : ℕ × Mark) (others : List (ℕ × Mark)) → Rise (first ∷ others)
+pub later_in : (first mark : ℕ × Mark) (others : List (ℕ × Mark)) → Rise (first ∷ others)
     → Contains others mark → first.0 < mark.0
 later_in first mark others rise has =
     All-contains (λ later. first.0 < later.0) others mark rise.0 has

@@ -3,6 +3,7 @@ pub mod Arrivals
 pub mod Choosing
 pub mod Devices
 pub mod Follower
+pub mod Goals
 pub mod LeavingOut
 pub mod Machines
 pub mod Marks

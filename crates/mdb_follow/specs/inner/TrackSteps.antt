@@ -11,7 +11,7 @@ use Rattle.mdb_cash.specs.Machine.{Machine}
 use Rattle.mdb_follow.specs.declared.track.Track.{Track}
 use Rattle.mdb_follow.specs.declared.tracks.Tracks.{Tracks}
 use Rattle.mdb_follow.specs.Choosing.{Choices}
-use Rattle.mdb_follow.specs.Machines.{StateOf, machine_of}
+use Rattle.mdb_follow.specs.Machines.{machine_of}
 use Rattle.mdb_follow.specs.Offences.{rule_of}
 use Rattle.mdb_follow.specs.Report.{unvalued_of}
 use Rattle.mdb_follow.specs.Sides.{stands_for}
