@@ -1,0 +1,25 @@
+# Completions of mdbimport for bash: formats, options and units. After `<` and `>` they are files.
+
+_mdbimport() {
+    local current=${COMP_WORDS[COMP_CWORD]} before=${COMP_WORDS[COMP_CWORD - 1]} word words=''
+    COMPREPLY=()
+    case $before in
+        '<' | '>' | '>>' | '2>' | '&>')
+            compopt -o filenames 2> /dev/null || true
+            while IFS= read -r word; do COMPREPLY+=("$word"); done < <(compgen -f -- "$current")
+            return
+            ;;
+        --unit) words='s ms us ns' ;;
+        --controller | --peripheral | --from | --until) ;;
+        *)
+            case ${COMP_WORDS[1]} in
+                sigrok) words='--swap' ;;
+                rows) words='--unit --controller --peripheral --from --until' ;;
+                *) words='sigrok rows' ;;
+            esac
+            ;;
+    esac
+    while IFS= read -r word; do COMPREPLY+=("$word"); done < <(compgen -W "$words" -- "$current")
+}
+
+complete -F _mdbimport mdbimport

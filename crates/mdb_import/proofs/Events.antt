@@ -1,0 +1,159 @@
+-- Records and the events that they stand for.
+use Rattle.std.proofs.Common.{arith, refl, cond, length, append_assoc, ap, sym, subst, inl, inr, ◌∙◌, ◌≡◌, ◌≤◌, ◌↔◌, ℕ, Bool, true, false, not, List, [], ◌∷◌, ◌++◌, Option, Some, None, map, IsTrue, IsSome, IfSome, IfErr, Result, Ok, Err}
+use Rattle.std.proofs.Math.ListN.{length-map}
+use Rattle.std.proofs.lemmas.List.{append-nil}
+use Rattle.mdb_words.specs.Event.{start_of}
+use Rattle.mdb_words.specs.declared.event.Event.{Event}
+use Rattle.mdb_words.specs.declared.event.Event.TheVariants.{Word, Break}
+use Rattle.mdb_words.specs.declared.word.Line.{Line}
+use Rattle.mdb_import.specs.Fields.{bare, line_fields, parts_of, separator_of}
+use Rattle.mdb_import.specs.Rows.{AreOf, IsHeaderOf, IsLine, IsRowOf}
+use Rattle.mdb_import.specs.Times.{IsLength, IsSeconds, IsTime, IsTimeForm}
+use Rattle.mdb_import.specs.Values.{IsWord}
+use Rattle.mdb_import.specs.declared.options.RowsOptions.{RowsOptions}
+use Rattle.mdb_import.specs.Refusals.{IsFieldsFault, IsNoRow, IsTimeFault}
+use Rattle.mdb_import.specs.declared.fault.RecordFault.{RecordFault}
+use Rattle.mdb_import.specs.declared.fault.RecordFault.TheVariants as fault
+use Rattle.mdb_import.specs.Exports.{last_start, row_line, rows_text, taken_of, is_taken}
+use Rattle.mdb_import.specs.Rows.{AreEvents, AreRows, IsAfter, IsExportedRow, IsHeader}
+use Rattle.mdb_import.specs.inner.Steps.{part_line}
+use Rattle.mdb_import.proofs.Readings.{time_same}
+
+-- the time of an event is its first field
+pub time_at : (options : RowsOptions) (time line value : List ℕ) (event : Event) → AreOf options time line value event → IsTime options.unit time (start_of event)
+time_at options time line value (Word at on word) are = are.0
+time_at options time line value (Break at length) are = are.0
+
+-- a line's row whose value is no word
+pub no_word : (options : RowsOptions) (time line value : List ℕ) (on : Line) → IsLine options line on → ((word : ℕ) → IsWord value word → ⊥) → (event : Event) → AreOf options time line value event → ⊥
+no_word options time line value on named none (Word at other word) are = none word are.2
+no_word options time line value on named none (Break at length) are = are.2 on named
+
+-- a row of no line whose value is no length
+pub no_length : (options : RowsOptions) (time line value : List ℕ) → ((on : Line) → IsLine options line on → ⊥) → ((micros : ℕ) → IsLength options.unit value micros → ⊥) → (event : Event) → AreOf options time line value event → ⊥
+no_length options time line value no_line none (Word at on word) are = no_line on are.1
+no_length options time line value no_line none (Break at length) are = none length are.3
+
+-- all events of some fields start at one time
+pub start_same : (options : RowsOptions) (fields : List (List ℕ)) (one two : Event) → IsRowOf options fields one → IsRowOf options fields two → start_of one ≡ start_of two
+start_same options fields one two first second =
+    let fields_same : first.time ∷ first.line ∷ first.value ∷ [] ≡ second.time ∷ second.line ∷ second.value ∷ [] = sym first.three ∙ second.three in
+    let same : first.time ≡ second.time = cc in
+    time_same options.unit second.time (start_of one) (start_of two)
+    (subst (λ t. IsTime options.unit t (start_of one)) same (time_at options first.time first.line first.value one first.are))
+    (time_at options second.time second.line second.value two second.are)
+
+-- the header's test
+pub header_is : (line first : List ℕ) (separator : ℕ) → separator ≡ separator_of line → ((others : List (List ℕ)) × (parts_of separator line ≡ first ∷ others)) → (field : List ℕ) → field ≡ bare first → (form : Bool)
+    → (IsTrue form ↔ IsTimeForm field) → IsTrue (not form) ↔ IsHeaderOf (line_fields line)
+header_is line first separator is parts field is_bare form tells =
+    let fields : line_fields line ≡ bare first ∷ map bare parts.0 = ap (map bare) (ap (λ s. parts_of s line) (sym is) ∙ parts.1) in (
+      λ no_form. record { first = bare first; others = map bare parts.0; some = fields; no_time = λ time. neither form no_form (tells.1 (subst IsTimeForm (sym is_bare) time)) },
+      λ header. no_longer form (λ holds. header.no_time (let both : bare first ∷ map bare parts.0 ≡ header.first ∷ header.others = sym fields ∙ header.some in let same : bare first ≡ header.first = cc in subst IsTimeForm (is_bare ∙ same) (tells.0 holds))),
+    )
+  where
+    neither : (b : Bool) → not b ≡ true → b ≡ true → ⊥
+    neither true denied holds = absurd (cc)
+    neither false denied holds = absurd (cc)
+
+    no_longer : (b : Bool) → (b ≡ true → ⊥) → not b ≡ true
+    no_longer true none = absurd (none refl)
+    no_longer false none = refl
+
+-- the row of a line
+pub row_of : (options : RowsOptions) (line a b c : List ℕ) (separator : ℕ) → separator ≡ separator_of line → parts_of separator line ≡ a ∷ b ∷ c ∷ [] → line_fields line ≡ bare a ∷ bare b ∷ bare c ∷ []
+row_of options line a b c separator is parts = ap (map bare) (ap (λ s. parts_of s line) (sym is) ∙ parts)
+
+-- a row's first field has the form of a time, so it is no header
+pub row_no_header : (options : RowsOptions) (fields : List (List ℕ)) (event : Event) → IsRowOf options fields event → IsHeaderOf fields → ⊥
+row_no_header options fields event row header =
+    let both : row.time ∷ row.line ∷ row.value ∷ [] ≡ header.first ∷ header.others = sym row.three ∙ header.some in
+    let same : row.time ≡ header.first = cc in
+    let time = time_at options row.time row.line row.value event row.are in
+    header.no_time (subst IsTimeForm same (form time.seconds))
+  where
+    form : {n d : ℕ} → IsSeconds options.unit row.time n d → IsTimeForm row.time
+    form {n} {d} (inl is) = (n, is.1, inl is.3)
+    form {n} {d} (inr is) = (n, is.0, inr is.1)
+
+-- a record more
+rows_more : (options : RowsOptions) (last : Option ℕ) (done : List (List (List ℕ))) (events : List Event) (row : List (List ℕ)) (event : Event) → AreRows options last done events → IsExportedRow options row event
+    → IsAfter (last_start last events) event → AreRows options last (done ++ row ∷ []) (events ++ event ∷ [])
+rows_more options last [] [] row event are is after = (event, [], refl, is, after, refl)
+rows_more options last [] (e ∷ events) row event are is after = absurd (cc)
+rows_more options last (r ∷ done) events row event are is after =
+    let P : List Event → Type 0 = λ l. IsAfter (last_start last l) event in
+    (are.0, are.1 ++ event ∷ [], ap (λ l. l ++ event ∷ []) are.2, are.3, are.4, rows_more options (Some (start_of are.0)) done are.1 row event are.5 is (subst P are.2 after))
+
+pub events_more : (options : RowsOptions) (done : List (List (List ℕ))) (events : List Event) (row : List (List ℕ)) (event : Event) → AreEvents options done events → IsExportedRow options row event
+    → IsAfter (last_start None events) event → AreEvents options (done ++ row ∷ []) (events ++ event ∷ [])
+events_more options done events row event (inl are) is after = inl (rows_more options None done events row event are is after)
+events_more options [] events row event (inr are) is after = absurd are
+events_more options (header ∷ done) events row event (inr are) is after = inr (are.0, rows_more options None done events row event are.1 is after)
+
+-- the first record is a header
+pub events_header : (options : RowsOptions) (done : List (List (List ℕ))) (events : List Event) (header : List (List ℕ)) → length done ≡ 0 → AreEvents options done events → IsHeader header → AreEvents options (done ++ header ∷ []) events
+events_header options [] events header none (inl are) is = inr (is, are)
+events_header options [] events header none (inr are) is = absurd are
+events_header options (r ∷ done) events header none are is = absurd (omega (arith, none))
+
+-- when the last of some events started, with one more
+pub last_more : (last : Option ℕ) (events : List Event) (event : Event) → last_start last (events ++ event ∷ []) ≡ Some (start_of event)
+last_more last [] event = refl
+last_more last (e ∷ events) event = last_more (Some (start_of e)) events event
+
+-- the rows with an event more
+pub text_more : (options : RowsOptions) (events : List Event) (event : Event) → rows_text (taken_of options (events ++ event ∷ [])) ≡ rows_text (taken_of options events) ++ part_line options event
+text_more options [] event = one (is_taken options event)
+  where
+    one : (b : Bool) → rows_text (cond b (event ∷ []) []) ≡ cond b (row_line event) []
+    one true = append-nil (row_line event)
+    one false = refl
+text_more options (e ∷ events) event = more (is_taken options e) (text_more options events event)
+  where
+    more : (b : Bool) → rows_text (taken_of options (events ++ event ∷ [])) ≡ rows_text (taken_of options events) ++ part_line options event
+        → rows_text (cond b (e ∷ taken_of options (events ++ event ∷ [])) (taken_of options (events ++ event ∷ []))) ≡ rows_text (cond b (e ∷ taken_of options events) (taken_of options events)) ++ part_line options event
+    more true rest = ap (λ l. row_line e ++ l) rest ∙ sym (append_assoc (row_line e) (rows_text (taken_of options events)) (part_line options event))
+    more false rest = rest
+
+-- an event at the same time as one that isn't after a time isn't either
+pub late : (last : Option ℕ) (found event : Event) → IsSome last → IfSome last (λ before. start_of found ≤ before) → start_of found ≡ start_of event → IsAfter last event → ⊥
+late None found event some before same after = absurd (cc)
+late (Some time) found event some before same after = absurd (omega (arith, before, same, after))
+
+-- a fault of the time is one of the fields
+pub time_why : (options : RowsOptions) (time line value : List ℕ) (f : RecordFault) → IsTimeFault options.unit time f → IsFieldsFault options time line value f
+time_why options time line value fault.FieldCount is = absurd is
+time_why options time line value fault.BadTime is = is
+time_why options time line value fault.NoUnit is = is
+time_why options time line value fault.LongTime is = is
+time_why options time line value fault.BadLine is = absurd is
+time_why options time line value fault.BadWord is = absurd is
+time_why options time line value fault.BadLength is = absurd is
+time_why options time line value fault.SameTime is = absurd is
+time_why options time line value fault.EarlierTime is = absurd is
+
+-- and one of the fields of a line
+pub fields_why : (options : RowsOptions) (fields : List (List ℕ)) (time line value : List ℕ) (f : RecordFault) → fields ≡ time ∷ line ∷ value ∷ [] → IsFieldsFault options time line value f → IsNoRow options fields f
+fields_why options fields time line value fault.FieldCount three is = absurd is
+fields_why options fields time line value fault.BadTime three is = (time, line, value, three, is)
+fields_why options fields time line value fault.NoUnit three is = (time, line, value, three, is)
+fields_why options fields time line value fault.LongTime three is = (time, line, value, three, is)
+fields_why options fields time line value fault.BadLine three is = (time, line, value, three, is)
+fields_why options fields time line value fault.BadWord three is = (time, line, value, three, is)
+fields_why options fields time line value fault.BadLength three is = (time, line, value, three, is)
+fields_why options fields time line value fault.SameTime three is = absurd is
+fields_why options fields time line value fault.EarlierTime three is = absurd is
+
+-- a line with more parts or fewer
+pub parts_why : (options : RowsOptions) (line : List ℕ) (separator : ℕ) → separator ≡ separator_of line → (length (parts_of separator line) ≡ 3 → ⊥) → length (line_fields line) ≡ 3 → ⊥
+parts_why options line separator is other three = other (ap (λ s. length (parts_of s line)) is ∙ (sym (length-map (parts_of (separator_of line) line) bare) ∙ three))
+
+pub no_row_why : {T : Type 0} (r : Result T RecordFault) (options : RowsOptions) (fields : List (List ℕ)) (time line value : List ℕ) → fields ≡ time ∷ line ∷ value ∷ [] → IfErr r (IsFieldsFault options time line value) → IfErr r (IsNoRow options fields)
+no_row_why (Ok x) options fields time line value three is = tt
+no_row_why (Err f) options fields time line value three is = fields_why options fields time line value f three is
+
+pub row_is : (line a b c x y z : List ℕ) (options : RowsOptions) (separator : ℕ) → separator ≡ separator_of line → parts_of separator line ≡ a ∷ b ∷ c ∷ [] → x ≡ bare a → y ≡ bare b → z ≡ bare c → line_fields line ≡ x ∷ y ∷ z ∷ []
+row_is line a b c x y z options separator is parts one two three =
+    let whole : line_fields line ≡ bare a ∷ bare b ∷ bare c ∷ [] = row_of options line a b c separator is parts in
+    cc

@@ -1,0 +1,217 @@
+-- The import, record by record.
+use Rattle.std.proofs.Common.{arith, cond, refl, ap, sym, subst, inl, inr, ◌∙◌, ◌≡◌, ◌+◌, ℕ, Bool, true, false, ◌||◌, false, List, [], ◌∷◌, ◌++◌, length, length-append, append_assoc, Option, Some, None, Result, Ok, Err, OnOk, IfErr}
+use Rattle.std.specs.Prelude.{◌==◌, is_err}
+use Rattle.std.proofs.lemmas.Bool.{eq-eqb}
+use Rattle.std.proofs.lemmas.List.{append-nil}
+use Rattle.mdb_records.specs.ToCome.{ToCome}
+use Rattle.mdb_records.specs.declared.ReadFault.{ReadFault}
+use Rattle.mdb_records.specs.declared.ReadFault.TheVariants as reading
+use Rattle.mdb_records.specs.declared.Records.{Records}
+use Rattle.mdb_words.specs.Event.{start_of}
+use Rattle.mdb_words.specs.Row.{joined_by_commas}
+use Rattle.mdb_words.specs.declared.event.Event.{Event}
+use Rattle.std.specs.Prelude.{count_by}
+use Rattle.std.specs.List.{list_any}
+use Rattle.std.proofs.lemmas.List.Folds.{list_any-append}
+use Rattle.std.proofs.lemmas.List.Sums.{sum_by-append}
+use Rattle.mdb_import.specs.Exports.{IsTold, is_before, is_behind, is_taken, told_count, is_controllers, is_marked, is_peripherals, IsExportedInPart, IsRefusedRecord, import_fault_of, rows_text, taken_of}
+use Rattle.mdb_import.specs.Fields.{export_fields, line_fields}
+use Rattle.mdb_import.specs.Refusals.{IsFault}
+use Rattle.mdb_import.specs.Rows.{AreEvents, IsAfter, IsHeaderOf, IsRowOf}
+use Rattle.mdb_import.specs.inner.Output.{Breaks, IsNotTaken, Output, Puts, begun}
+use Rattle.mdb_import.specs.inner.Steps.{HasImported, IsNext, IsNoted, counted_more, PutsExport, TakesOne, part_line}
+use Rattle.mdb_import.specs.declared.fault.ImportFault.{ImportFault}
+use Rattle.mdb_import.specs.declared.fault.ImportFault.TheVariants.{BadRecord, Read, Write, Memory}
+use Rattle.mdb_import.specs.declared.fault.Imported.{Imported}
+use Rattle.mdb_import.specs.declared.fault.RecordFault.{RecordFault}
+use Rattle.mdb_import.specs.declared.importing.Importing.{Importing}
+use Rattle.mdb_import.specs.declared.options.RowsOptions.{RowsOptions}
+use Rattle.mdb_import.proofs.Events.{events_header, events_more, last_more, text_more}
+use Rattle.mdb_import.proofs.Outputs.{break_both, put_both, put_none}
+
+-- before the first record
+pub none_imported : (options : RowsOptions) (importing : Importing) (contents : Option (List ℕ)) (waiting : List ℕ) → importing.last ≡ None → IsTold options [] importing.tally → waiting ≡ []
+    → HasImported options importing (begun contents) (record { held = contents; waiting = waiting }) [] []
+none_imported options importing contents waiting last told empty =
+    let P : List ℕ → Type 0 = λ w. Puts (begun contents) (record { held = contents; waiting = w }) [] in
+    record { are = inl refl; last = last; told = told; written = subst P (sym empty) (put_none (begun contents)) }
+
+-- what is told with an event more
+any_more : (p : Event → Bool) (events : List Event) (event : Event) → list_any p (events ++ event ∷ []) ≡ (list_any p events || p event)
+any_more p events event = list_any-append p events (event ∷ []) ∙ ap (λ b. list_any p events || b) (or_false (p event))
+  where
+    or_false : (b : Bool) → (b || false) ≡ b
+    or_false true = refl
+    or_false false = refl
+
+abbrev weight : Bool → ℕ
+weight b = cond b 1 0
+
+count_more : (p : Event → Bool) (events : List Event) (event : Event) (before after : ℕ) → before ≡ told_count p events → after ≡ counted_more before (p event) → after ≡ told_count p (events ++ event ∷ [])
+count_more p events event before after told noted = one (p event) refl noted
+  where
+    sum : count_by p (events ++ event ∷ []) ≡ count_by p events + weight (p event)
+    sum = omega (arith, sum_by-append (λ e. weight (p e)) events (event ∷ []))
+
+    one : (b : Bool) → p event ≡ b → after ≡ counted_more before b → after ≡ told_count p (events ++ event ∷ [])
+    one true is noted = let is_one : weight (p event) ≡ weight true = ap weight is in omega (arith, told, noted, sum, is_one)
+    one false is noted = let is_none : weight (p event) ≡ weight false = ap weight is in omega (arith, told, noted, sum, is_none)
+
+told_more : (options : RowsOptions) (events : List Event) (event : Event) (before after : Imported) → IsTold options events before → IsNoted options before after event → IsTold options (events ++ event ∷ []) after
+told_more options events event before after told noted = record {
+  rows = count_more (is_taken options) events event before.rows after.rows told.rows noted.rows;
+  before = count_more (is_before options) events event before.before after.before told.before noted.before;
+  after = count_more (is_behind options) events event before.after after.after told.after noted.after;
+  marked = noted.said.marked ∙ (ap (λ b. b || is_marked event) told.marked ∙ sym (any_more is_marked events event));
+  controller = noted.said.controller ∙ (ap (λ b. b || is_controllers event) told.controller ∙ sym (any_more is_controllers events event));
+  peripheral = noted.said.peripheral ∙ (ap (λ b. b || is_peripherals event) told.peripheral ∙ sym (any_more is_peripherals events event));
+}
+
+-- an event more
+pub added_one : (options : RowsOptions) (old new : Importing) (before now later : Output) (done : List (List (List ℕ))) (events : List Event) (row : List (List ℕ)) (event : Event) (r : Result Unit ImportFault)
+    → HasImported options old before now done events → IsRowOf options (export_fields row) event → IsAfter old.last event → OnOk r (new.last ≡ Some (start_of event)) → IsNoted options old.tally new.tally event → OnOk r (Puts now later (part_line options event))
+    → IfErr r (λ fault. IsNotTaken fault now later (part_line options event)) → TakesOne options new before later done events row r
+added_one options old new before now later done events row event (Ok taken) has is after last noted puts refused =
+    let P : Option ℕ → Type 0 = λ o. IsAfter o event in
+    let Q : List ℕ → Type 0 = λ text. Puts before later text in (
+      events ++ event ∷ [],
+      record {
+        are = events_more options done events row event has.are is (subst P has.last after);
+        last = last ∙ sym (last_more None events event);
+        told = told_more options events event old.tally new.tally has.told noted;
+        written = subst Q (sym (text_more options events event)) (put_both before now later (rows_text (taken_of options events)) (part_line options event) has.written puts);
+      },
+    )
+added_one options old new before now later done events row event (Err (BadRecord number fault)) has is after last noted puts refused = absurd refused
+added_one options old new before now later done events row event (Err Read) has is after last noted puts refused = absurd refused
+added_one options old new before now later done events row event (Err Write) has is after last noted puts refused =
+    let P : Option ℕ → Type 0 = λ o. IsAfter o event in
+    let Q : List ℕ → Type 0 = λ text. Breaks before later text in (
+      events ++ event ∷ [],
+      events_more options done events row event has.are is (subst P has.last after),
+      subst Q (sym (text_more options events event)) (break_both before now later (rows_text (taken_of options events)) (part_line options event) has.written refused),
+    )
+added_one options old new before now later done events row event (Err Memory) has is after last noted puts refused =
+    let P : Output → Type 0 = λ o. Puts before o (rows_text (taken_of options events)) in
+    subst P (sym refused) has.written
+
+-- the header
+pub passed_header : (options : RowsOptions) (old new : Importing) (before now : Output) (done : List (List (List ℕ))) (events : List Event) (row : List (List ℕ)) (count : ℕ) → length done ≡ count → HasImported options old before now done events
+    → new.last ≡ old.last → count ≡ 0 → IsTold options events new.tally → IsHeaderOf (export_fields row) → (more : List Event) × HasImported options new before now (done ++ row ∷ []) more
+passed_header options old new before now done events row count counted has same none told header =
+    (events, record { are = events_header options done events row (counted ∙ none) has.are header; last = same ∙ has.last; told = told; written = has.written })
+
+-- a refusal
+pub refused_one : (options : RowsOptions) (old : Importing) (before now : Output) (done : List (List (List ℕ))) (events : List Event) (row : List (List ℕ)) (count : ℕ) (fault : RecordFault) → length done ≡ count
+    → HasImported options old before now done events → IsNext options (count == 0) old.last (export_fields row) (Err fault)
+    → (count + 1 ≡ length done + 1) × IsRefusedRecord options done events row fault × Puts before now (rows_text (taken_of options events))
+refused_one options old before now done events row count fault counted has next =
+    let P : Option ℕ → Type 0 = λ o. (event : Event) → IsRowOf options (export_fields row) event → IsAfter o event → ⊥ in
+    let Q : Option ℕ → Type 0 = λ o. IsFault options o (export_fields row) fault in (
+      omega (arith, counted),
+      record {
+        no_row = subst P has.last next.0;
+        no_header = λ none header. next.1 (eq-eqb count 0 (sym counted ∙ ap length none)) header;
+        why = subst Q has.last next.2;
+      },
+      has.written,
+    )
+
+-- what follows of the fields of a record's line
+pub next_is : (options : RowsOptions) (first : Bool) (last : Option ℕ) (line : List ℕ) (row : List (List ℕ)) (r : Result (Option Event) RecordFault) → line ≡ joined_by_commas row → IsNext options first last (line_fields line) r
+    → IsNext options first last (export_fields row) r
+next_is options first last line row r is next = let P : List ℕ → Type 0 = λ l. IsNext options first last (line_fields l) r in subst P is next
+
+-- some of the records are imported, and the rest is to come
+pub record SoFar {R : Type 0} (remaining : R → Option (List ℕ)) (now : Records R) (options : RowsOptions) (importing : Importing) (before after : Output) (count : ℕ) (all : List (List (List ℕ))) : Type 0 where
+  pub done : List (List (List ℕ))
+  pub events : List Event
+  pub rest : List (List (List ℕ))
+  pub split : all ≡ done ++ rest
+  pub counted : length done ≡ count
+  pub to_come : ToCome remaining now rest
+  pub has : HasImported options importing before after done events
+
+-- a record is taken
+pub one_further : {R : Type 0} (remaining : R → Option (List ℕ)) (old now : Records R) (options : RowsOptions) (first next : Importing) (before middle after : Output) (count : ℕ) (all : List (List (List ℕ))) (row : List (List ℕ))
+    (so_far : SoFar remaining old options first before middle count all) → (rest : List (List (List ℕ))) → so_far.rest ≡ row ∷ rest → ToCome remaining now rest
+    → (more : List Event) × HasImported options next before after (so_far.done ++ row ∷ []) more → SoFar remaining now options next before after (count + 1) all
+one_further remaining old now options first next before middle after count all row so_far rest is to_come taken = record {
+  done = so_far.done ++ row ∷ [];
+  events = taken.0;
+  rest = rest;
+  split = so_far.split ∙ (ap (λ l. so_far.done ++ l) is ∙ sym (append_assoc so_far.done (row ∷ []) rest));
+  counted = length-append so_far.done (row ∷ []) ∙ ap (λ n. n + 1) so_far.counted;
+  to_come = to_come;
+  has = taken.1;
+}
+
+-- a record isn't taken
+pub not_taken : {R : Type 0} (remaining : R → Option (List ℕ)) (old now : Records R) (options : RowsOptions) (first next : Importing) (before middle after : Output) (count : ℕ) (all : List (List (List ℕ))) (row : List (List ℕ))
+    (so_far : SoFar remaining old options first before middle count all) → (rest : List (List (List ℕ))) → so_far.rest ≡ row ∷ rest → (fault : ImportFault)
+    → TakesOne options next before after so_far.done so_far.events row (Err fault) → PutsExport options all before after (Err fault)
+not_taken remaining old now options first next before middle after count all row so_far rest is (BadRecord number fault) taken = inl (
+  rows_text (taken_of options so_far.events),
+  record {
+    done = so_far.done;
+    events = so_far.events;
+    named = row;
+    rest = rest;
+    before = record { split = so_far.split ∙ ap (λ l. so_far.done ++ l) is; are = so_far.has.are; lines = refl };
+    counted = taken.0;
+    refused = taken.1;
+  },
+  taken.2,
+)
+not_taken remaining old now options first next before middle after count all row so_far rest is Read taken = absurd taken
+not_taken remaining old now options first next before middle after count all row so_far rest is Write taken = inr (
+  refl,
+  record {
+    answer = Err Read;
+    text = rows_text (taken_of options taken.0);
+    export = record {
+      done = so_far.done ++ row ∷ [];
+      events = taken.0;
+      rest = rest;
+      are = record { split = so_far.split ∙ (ap (λ l. so_far.done ++ l) is ∙ sym (append_assoc so_far.done (row ∷ []) rest)); are = taken.1; lines = refl };
+    };
+    broken = taken.2;
+  },
+)
+not_taken remaining old now options first next before middle after count all row so_far rest is Memory taken = inl (
+  rows_text (taken_of options so_far.events),
+  record {
+    done = so_far.done;
+    events = so_far.events;
+    rest = row ∷ rest;
+    are = record { split = so_far.split ∙ ap (λ l. so_far.done ++ l) is; are = so_far.has.are; lines = refl };
+  },
+  taken,
+)
+
+-- no record can be read any more
+in_part : {R : Type 0} (remaining : R → Option (List ℕ)) (now : Records R) (options : RowsOptions) (importing : Importing) (before after : Output) (count : ℕ) (all : List (List (List ℕ)))
+    (so_far : SoFar remaining now options importing before after count all) → IsExportedInPart options all (rows_text (taken_of options so_far.events))
+in_part remaining now options importing before after count all so_far = record {
+  done = so_far.done;
+  events = so_far.events;
+  rest = so_far.rest;
+  are = record { split = so_far.split; are = so_far.has.are; lines = refl };
+}
+
+pub not_read : {R : Type 0} (remaining : R → Option (List ℕ)) (now : Records R) (options : RowsOptions) (importing : Importing) (before after : Output) (count : ℕ) (all : List (List (List ℕ))) (fault : ReadFault)
+    (so_far : SoFar remaining now options importing before after count all) → PutsExport options all before after (Err (import_fault_of fault))
+not_read remaining now options importing before after count all reading.Read so_far = inl (rows_text (taken_of options so_far.events), in_part remaining now options importing before after count all so_far, so_far.has.written)
+not_read remaining now options importing before after count all reading.Memory so_far = inl (rows_text (taken_of options so_far.events), in_part remaining now options importing before after count all so_far, so_far.has.written)
+
+-- all records are taken
+pub all_taken : {R : Type 0} (remaining : R → Option (List ℕ)) (now : Records R) (options : RowsOptions) (importing : Importing) (before after : Output) (count : ℕ) (all : List (List (List ℕ)))
+    (so_far : SoFar remaining now options importing before after count all) → so_far.rest ≡ [] → PutsExport options all before after (Ok importing.tally)
+all_taken remaining now options importing before after count all so_far none =
+    let whole : so_far.done ≡ all = sym (so_far.split ∙ (ap (λ l. so_far.done ++ l) none ∙ append-nil so_far.done)) in
+    let P : List (List (List ℕ)) → Type 0 = λ l. AreEvents options l so_far.events in
+    inl (rows_text (taken_of options so_far.events), (so_far.events, subst P whole so_far.has.are, so_far.has.told, refl), so_far.has.written)
+
+pub ok_on : {T E : Type 0} (r : Result T E) (P : Type 0) → OnOk r P → is_err r ≡ false → P
+ok_on (Ok x) P on no_error = on
+ok_on (Err e) P on no_error = absurd (cc)

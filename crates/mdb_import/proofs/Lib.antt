@@ -1,0 +1,10 @@
+pub mod Texts
+pub mod Records
+pub mod Powers
+pub mod Parts
+pub mod Digits
+pub mod Readings
+pub mod Events
+pub mod Outputs
+pub mod Imports
+pub mod Decodings

@@ -1,0 +1,11 @@
+pub mod Encodings
+pub mod Exports
+pub mod Fields
+pub mod Numbers
+pub mod Program
+pub mod Refusals
+pub mod Rows
+pub mod Times
+pub mod Values
+pub mod Written
+pub mod inner

@@ -1,0 +1,86 @@
+-- Which records of an export stand for which events.
+use Rattle.std.specs.Prelude.{◌≡◌, ◌⊎◌, ◌<◌, ℕ, List, [], ◌∷◌, ⊤, Option, Some, None, option_map, string_bytes}
+use Rattle.mdb_words.specs.Event.{start_of}
+use Rattle.mdb_words.specs.declared.event.Event.{Event}
+use Rattle.mdb_words.specs.declared.event.Event.TheVariants.{Word, Break}
+use Rattle.mdb_words.specs.declared.word.Line.{Line}
+use Rattle.mdb_words.specs.declared.word.Line.TheVariants.{Controller, Peripheral}
+use Rattle.mdb_import.specs.Fields.{export_fields}
+use Rattle.mdb_import.specs.Times.{IsLength, IsTime, IsTimeForm}
+use Rattle.mdb_import.specs.Values.{IsWord}
+use Rattle.mdb_import.specs.declared.options.RowsOptions.{RowsOptions}
+
+-- a field that is one of two letters
+abbrev pub IsLetterOf : ℕ → ℕ → List ℕ → Type 0
+IsLetterOf capital small field = (field ≡ capital ∷ []) ⊎ (field ≡ small ∷ [])
+
+-- a field that is one of two letters or, where one was told, a name
+abbrev pub IsNamed : ℕ → ℕ → Option (List ℕ) → List ℕ → Type 0
+IsNamed capital small name field = IsLetterOf capital small field ⊎ (name ≡ Some field)
+
+-- a field that names a line: M or m, S or s, or the name that was told
+abbrev pub IsLine : RowsOptions → List ℕ → Line → Type 0
+IsLine options field Controller =
+    IsNamed 77 109 (option_map string_bytes options.controller) field
+IsLine options field Peripheral =
+    IsNamed 83 115 (option_map string_bytes options.peripheral) field
+
+-- a field that says that the row is of a break: B or b
+abbrev pub IsBreak : List ℕ → Type 0
+IsBreak field = IsLetterOf 66 98 field
+
+-- the three fields of an event. A name that was told goes before the letter of a break.
+abbrev pub AreOf : RowsOptions → List ℕ → List ℕ → List ℕ → Event → Type 0
+AreOf options time line value (Word at on word) =
+    IsTime options.unit time at × IsLine options line on × IsWord value word
+AreOf options time line value (Break at length) =
+    IsTime options.unit time at
+    × IsBreak line × ((on : Line) → IsLine options line on → ⊥)
+    × IsLength options.unit value length
+
+-- the fields of an event
+pub record IsRowOf (options : RowsOptions) (fields : List (List ℕ)) (event : Event) : Type 0 where
+  pub time : List ℕ
+  pub line : List ℕ
+  pub value : List ℕ
+  pub three : fields ≡ time ∷ line ∷ value ∷ []
+  pub are : AreOf options time line value event
+
+-- the fields of a header: the first has no form of a time
+pub record IsHeaderOf (fields : List (List ℕ)) : Type 0 where
+  pub first : List ℕ
+  pub others : List (List ℕ)
+  pub some : fields ≡ first ∷ others
+  pub no_time : IsTimeForm first → ⊥
+
+-- a record that stands for an event
+abbrev pub IsExportedRow : RowsOptions → List (List ℕ) → Event → Type 0
+IsExportedRow options row event = IsRowOf options (export_fields row) event
+
+-- a record that is a header
+abbrev pub IsHeader : List (List ℕ) → Type 0
+IsHeader header = IsHeaderOf (export_fields header)
+
+-- an event starts after the one before it, if there is one
+abbrev pub IsAfter : Option ℕ → Event → Type 0
+IsAfter None event = ⊤
+IsAfter (Some last) event = last < start_of event
+
+-- records that stand for events, each of which starts after the one before it
+abbrev pub AreRows : RowsOptions → Option ℕ → List (List (List ℕ)) → List Event → Type 0
+AreRows options last [] events = events ≡ []
+AreRows options last (row ∷ rows) events =
+    (event : Event) × (rest : List Event) × (events ≡ event ∷ rest)
+    × IsExportedRow options row event × IsAfter last event
+    × AreRows options (Some (start_of event)) rows rest
+
+-- the same after a header
+abbrev pub AreRowsAfterHeader : RowsOptions → List (List (List ℕ)) → List Event → Type 0
+AreRowsAfterHeader options [] events = ⊥
+AreRowsAfterHeader options (header ∷ rows) events =
+    IsHeader header × AreRows options None rows events
+
+-- the records of an export, with a header or without, and all events that they stand for
+abbrev pub AreEvents : RowsOptions → List (List (List ℕ)) → List Event → Type 0
+AreEvents options records events =
+    AreRows options None records events ⊎ AreRowsAfterHeader options records events

@@ -1,0 +1,4 @@
+pub mod Decoded
+pub mod Decoding
+pub mod Output
+pub mod Steps

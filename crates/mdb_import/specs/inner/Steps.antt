@@ -1,0 +1,85 @@
+-- How the rows of an export come about, record by record. This file serves private functions and
+-- proofs: no public clause cites it.
+use Rattle.std.specs.Prelude.{◌≡◌, ◌⊎◌, ◌+◌, ◌++◌, ◌∷◌, ◌||◌, ◌-◌, ◌^◌, min, false, ℕ, List, [], length, Bool, true, Option, Some, None, Result, Ok, Err, if◌then◌else◌}
+use Rattle.mdb_words.specs.declared.event.Event.{Event}
+use Rattle.mdb_import.specs.Exports.{IsExport, IsRefusedRecord, IsTold, is_before, is_behind, is_controllers, is_marked, is_peripherals, is_taken, last_start, row_line, rows_text, taken_of}
+use Rattle.mdb_import.specs.Refusals.{IsFault}
+use Rattle.mdb_import.specs.Rows.{AreEvents, IsAfter, IsHeaderOf, IsRowOf}
+use Rattle.mdb_import.specs.inner.Output.{Breaks, Output, Puts}
+use Rattle.mdb_import.specs.declared.fault.ImportFault.{ImportFault}
+use Rattle.mdb_import.specs.declared.fault.ImportFault.TheVariants.{BadRecord, Read, Write, Memory}
+use Rattle.mdb_import.specs.declared.fault.Imported.{Imported}
+use Rattle.mdb_import.specs.declared.fault.RecordFault.{RecordFault}
+use Rattle.mdb_import.specs.declared.importing.Importing.{Importing}
+use Rattle.mdb_import.specs.declared.options.RowsOptions.{RowsOptions}
+
+-- what the fields of a record are, where it is the first or not and comes after a time
+abbrev pub IsNext : RowsOptions → Bool → Option ℕ → List (List ℕ)
+    → Result (Option Event) RecordFault → Type 0
+IsNext options first last fields (Ok (Some event)) =
+    IsRowOf options fields event × IsAfter last event
+IsNext options first last fields (Ok None) = (first ≡ true) × IsHeaderOf fields
+IsNext options first last fields (Err fault) =
+    ((event : Event) → IsRowOf options fields event → IsAfter last event → ⊥)
+    × (first ≡ true → IsHeaderOf fields → ⊥)
+    × IsFault options last fields fault
+
+-- what is written of an event: its row, if it is in the part that was asked for
+abbrev pub part_line : RowsOptions → Event → List ℕ
+part_line options event = if is_taken options event then row_line event else []
+
+-- what is told of words with an event more
+pub record IsSaid (before after : Imported) (event : Event) : Type 0 where
+  pub marked : after.marked ≡ (before.marked || is_marked event)
+  pub controller : after.controller ≡ (before.controller || is_controllers event)
+  pub peripheral : after.peripheral ≡ (before.peripheral || is_peripherals event)
+
+-- a count with one more, if it counts
+abbrev pub counted_more : ℕ → Bool → ℕ
+counted_more count true = min (count + 1) (2 ^ 64 - 1)
+counted_more count false = count
+
+-- what is told with an event more
+pub record IsNoted (options : RowsOptions) (old new : Imported) (event : Event) : Type 0 where
+  pub rows : new.rows ≡ counted_more old.rows (is_taken options event)
+  pub before : new.before ≡ counted_more old.before (is_before options event)
+  pub after : new.after ≡ counted_more old.after (is_behind options event)
+  pub said : IsSaid old new event
+
+-- the records so far stand for these events, whose rows are on their way
+pub record HasImported (options : RowsOptions) (importing : Importing) (before after : Output)
+    (done : List (List (List ℕ))) (events : List Event) : Type 0 where
+  pub are : AreEvents options done events
+  pub last : importing.last ≡ last_start None events
+  pub told : IsTold options events importing.tally
+  pub written : Puts before after (rows_text (taken_of options events))
+
+-- what the taking of a record after others comes to
+abbrev pub TakesOne : RowsOptions → Importing → Output → Output → List (List (List ℕ)) → List Event
+    → List (List ℕ) → Result Unit ImportFault → Type 0
+TakesOne options importing before after done events row (Ok taken) =
+    (more : List Event) × HasImported options importing before after (done ++ row ∷ []) more
+TakesOne options importing before after done events row (Err (BadRecord number fault)) =
+    (number ≡ length done + 1) × IsRefusedRecord options done events row fault
+    × Puts before after (rows_text (taken_of options events))
+TakesOne options importing before after done events row (Err Read) = ⊥
+TakesOne options importing before after done events row (Err Write) =
+    (more : List Event) × AreEvents options (done ++ row ∷ []) more
+    × Breaks before after (rows_text (taken_of options more))
+TakesOne options importing before after done events row (Err Memory) =
+    Puts before after (rows_text (taken_of options events))
+
+-- The writer failed with a front of a text that is written of the records.
+pub record IsBroken (options : RowsOptions) (records : List (List (List ℕ))) (before after : Output)
+    : Type 0 where
+  pub answer : Result Imported ImportFault
+  pub text : List ℕ
+  pub export : IsExport options records answer text
+  pub broken : Breaks before after text
+
+-- what `Exports` says, where some of the text may still be on its way
+abbrev pub PutsExport : RowsOptions → List (List (List ℕ)) → Output → Output
+    → Result Imported ImportFault → Type 0
+PutsExport options records before after answer =
+    ((text : List ℕ) × IsExport options records answer text × Puts before after text)
+    ⊎ ((answer ≡ Err Write) × IsBroken options records before after)

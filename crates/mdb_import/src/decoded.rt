@@ -1,0 +1,225 @@
+//! A reader of text that may be in UTF-16.
+
+ghost use Rattle.std.specs.Prelude.{◌≡◌, ◌<◌, ◌≤◌, ◌∷◌, ◌+◌, [], List, ℕ, None, length};
+ghost use Rattle.std.specs.Io.{ReadsAtMost};
+ghost use Rattle.std.specs.Io.KnownBytes.{ReadConsumes};
+ghost use Rattle.arrayvec.specs.ArrayVec.{array_vec_len};
+ghost use Rattle.mdb_import.specs.Encodings.{decoded, unit_bytes, unit_of as unit_in};
+ghost use Rattle.mdb_import.specs.inner.Decoding.{ReadsOne, decoded_of, given_by, mode_text};
+
+use arrayvec::ArrayVec;
+use std::io::{Error, ErrorKind, Read, Result};
+
+/// What is known of the encoding of a text.
+#[derive(Clone, Copy, PartialEq, Eq, Debug)]
+pub(crate) enum Mode {
+    /// Nothing yet: its first two bytes tell it, of which one may be held.
+    Start {
+        /// The first byte of the text, once it was read.
+        held: Option<u8>,
+    },
+    /// Its bytes are the text.
+    Plain,
+    /// UTF-16.
+    Wide {
+        /// Whether the high byte of a unit comes first.
+        high_first: bool,
+        /// The first byte of a unit, once it was read.
+        held: Option<u8>,
+    },
+}
+
+/// How far a text is decoded.
+#[derive(Drop)]
+pub(crate) struct Decoding {
+    mode: Mode,
+    // Bytes that are decoded and not given yet.
+    ready: ArrayVec<u8, 4>,
+}
+
+impl Decoding {
+    /// Before the first byte.
+    fn new() -> Decoding
+        ensures { (text : List ℕ) → given_by result text ≡ decoded text }
+    {
+        Decoding {
+            mode: Mode::Start { held: None },
+            ready: ArrayVec::new(),
+        }
+    }
+
+    /// Takes the next byte.
+    fn take(&mut self, byte: u8)
+        requires empty { self.old.ready.items ≡ [] }
+        ensures { (text : List ℕ) → given_by self.new text ≡ given_by self.old (byte ∷ text) }
+    {
+        match self.mode {
+            Mode::Start { held: None } => self.mode = Mode::Start { held: Some(byte) },
+            Mode::Start { held: Some(first) } => self.start(first, byte),
+            Mode::Plain => self.ready.push(byte),
+            Mode::Wide {
+                high_first,
+                held: None,
+            } => {
+                self.mode = Mode::Wide {
+                    high_first,
+                    held: Some(byte),
+                };
+            }
+            Mode::Wide {
+                high_first,
+                held: Some(first),
+            } => {
+                self.ready = bytes_of_unit(unit_of(high_first, first, byte));
+                self.mode = Mode::Wide {
+                    high_first,
+                    held: None,
+                };
+            }
+        }
+    }
+
+    /// Takes the first two bytes of the text.
+    fn start(&mut self, first: u8, second: u8)
+        requires empty { self.old.ready.items ≡ [] }
+        ensures { (text : List ℕ) → given_by self.new text ≡ decoded (first ∷ second ∷ text) }
+    {
+        if first == 0xFF && second == 0xFE {
+            self.mode = Mode::Wide {
+                high_first: false,
+                held: None,
+            };
+        } else if first == 0xFE && second == 0xFF {
+            self.mode = Mode::Wide {
+                high_first: true,
+                held: None,
+            };
+        } else {
+            self.mode = Mode::Plain;
+            self.ready.push(first);
+            self.ready.push(second);
+        }
+    }
+
+    /// Takes the end of the text.
+    fn end(&mut self)
+        requires empty { self.old.ready.items ≡ [] }
+        ensures text { given_by self.new [] ≡ given_by self.old [] }
+        ensures none { mode_text self.new.mode [] ≡ [] }
+    {
+        match self.mode {
+            Mode::Start { held: Some(first) } => {
+                self.ready.push(first);
+                self.mode = Mode::Plain;
+            }
+            Mode::Wide {
+                high_first,
+                held: Some(_),
+            } => {
+                self.ready = bytes_of_unit(0xFFFD);
+                self.mode = Mode::Wide {
+                    high_first,
+                    held: None,
+                };
+            }
+            _ => {}
+        }
+    }
+}
+
+/// The code unit of two bytes.
+fn unit_of(high_first: bool, first: u8, second: u8) -> u16
+    ensures { result ≡ unit_in high_first first second }
+{
+    if high_first {
+        u16::from(first) * 256 + u16::from(second)
+    } else {
+        u16::from(second) * 256 + u16::from(first)
+    }
+}
+
+/// The bytes of a code unit in UTF-8.
+fn bytes_of_unit(unit: u16) -> ArrayVec<u8, 4>
+    ensures { result.items ≡ unit_bytes unit }
+{
+    let mut bytes = ArrayVec::new();
+    if unit < 0x80 {
+        bytes.push(unit as u8);
+    } else if unit < 0x800 {
+        bytes.push((0xC0 + unit / 64) as u8);
+        bytes.push((0x80 + unit % 64) as u8);
+    } else {
+        bytes.push((0xE0 + unit / 4096) as u8);
+        bytes.push((0x80 + unit / 64 % 64) as u8);
+        bytes.push((0x80 + unit % 64) as u8);
+    }
+    bytes
+}
+
+/// The text of a reader, from UTF-16 where it begins with such a byte order mark.
+#[derive(Drop)]
+pub(crate) struct Decoded<R> {
+    inner: R,
+    decoding: Decoding,
+}
+
+impl<R> Decoded<R> {
+    /// The text of `inner`, of which nothing was read before.
+    pub(crate) fn new(inner: R) -> Decoded<R>
+        ensures inner { result.inner ≡ inner }
+        ensures text { (text : List ℕ) → given_by result.decoding text ≡ decoded text }
+    {
+        Decoded {
+            inner,
+            decoding: Decoding::new(),
+        }
+    }
+}
+
+/// Reads one byte; `None` at the end.
+fn read_one<R: Read>(reader: &mut R) -> Result<Option<u8>>
+    ensures { ReadsOne (R.remaining reader.old) (R.remaining reader.new) result }
+{
+    let mut one = [0];
+    if reader.read(&mut one)? == 0 {
+        Ok(None)
+    } else {
+        Ok(Some(one[0]))
+    }
+}
+
+impl<R: Read> Read for Decoded<R> {
+    ghost use Rattle.mdb_import.specs.inner.Decoding.{decoded_of};
+
+    ghost remaining = { λ s. decoded_of s.decoding (R.remaining s.inner) };
+
+    fn read(&mut self, buf: &mut [u8]) -> Result<usize>
+        ensures bound { ReadsAtMost result buf.new }
+        ensures bytes { ReadConsumes
+            (decoded_of self.old.decoding (R.remaining self.old.inner))
+            (decoded_of self.new.decoding (R.remaining self.new.inner)) result buf.new }
+    {
+        if buf.is_empty() {
+            return Ok(0);
+        }
+        for _ in 0..u64::MAX {
+            if !self.decoding.ready.is_empty() {
+                buf[0] = self.decoding.ready.remove(0);
+                return Ok(1);
+            }
+            if self.decoding.mode == Mode::Plain {
+                return self.inner.read(buf);
+            }
+            match read_one(&mut self.inner)? {
+                Some(byte) => self.decoding.take(byte),
+                None => {
+                    self.decoding.end();
+                    if self.decoding.ready.is_empty() {
+                        return Ok(0);
+                    }
+                }
+            }
+        }
+        Err(Error::from(ErrorKind::Other))
+    }
+}

@@ -1,0 +1,251 @@
+//! The import of rows: record by record, as they are read.
+
+ghost use Rattle.std.specs.Prelude.{◌≡◌, ◌<◌, ◌-◌, ◌^◌, [], List, ℕ, IfErr, IfOk, IfSome, OnOk, None, Some, length};
+ghost use Rattle.csv.specs.Records.{fields_of};
+ghost use Rattle.mdb_records.specs.ToCome.{ToCome};
+ghost use Rattle.mdb_words.specs.Event.{start_of};
+ghost use Rattle.mdb_import.specs.Exports.{Exports, IsExported, IsTold, export_records};
+ghost use Rattle.mdb_import.specs.Fields.{line_fields};
+ghost use Rattle.mdb_import.specs.inner.Decoded.{decoded_remaining};
+ghost use Rattle.mdb_import.specs.inner.Output.{IsNotTaken, Puts, begun, output};
+ghost use Rattle.mdb_import.specs.inner.Steps.{HasImported, IsNext, IsNoted, IsSaid, PutsExport, TakesOne, part_line};
+
+use super::decoded::Decoded;
+use super::fault::{ImportFault, Imported, RecordFault};
+use super::fields::join;
+use super::options::RowsOptions;
+use super::order::expect_after;
+use super::page::Page;
+use super::rows::{event_in, is_header};
+use csv::ByteRecord;
+use mdb_records::Records;
+use mdb_words::{Event, Line};
+use std::alloc::Global;
+use std::io::{Read, Write};
+
+/// Imports the records that are still to come, and writes their rows as it reads.
+///
+/// # Errors
+///
+/// `BadRecord` for the first record that is neither a row after the one before it nor, as the first
+/// of all, a header: then the rows of all records before it were written. `Read` where the reader
+/// failed and `Memory` where memory was refused: then those of some first records were. `Write`
+/// where the writer failed: then it took a front of what is written where it doesn't fail.
+pub fn import_records<R: Read + Drop, W: Write>(
+    alloc: Global,
+    options: &RowsOptions,
+    records: &mut Records<R>,
+    writer: &mut W,
+) -> Result<Imported, ImportFault>
+    ensures { (all : List (List (List ℕ))) → ToCome R.remaining records.old all
+        → Exports options.now all (W.contents writer.old) (W.contents writer.new) result }
+{
+    let mut importing = Importing::new(alloc);
+    let answer = importing.take_all(options, records, writer);
+    if answer != Err(ImportFault::Write) {
+        importing.page.write_out(writer)?;
+    }
+    answer
+}
+
+/// Imports the text that a reader has left, and writes the rows as it reads.
+///
+/// # Errors
+///
+/// As [`import_records`].
+pub fn import_rows<R: Read + Drop, W: Write>(
+    alloc: Global,
+    options: &RowsOptions,
+    reader: R,
+    writer: &mut W,
+) -> Result<Imported, ImportFault>
+    ensures exported { IfSome (R.remaining reader) (λ text. IfOk result (λ imported.
+        IsExported options.now text (W.contents writer.old) (W.contents writer.new))) }
+    ensures exports { IfSome (R.remaining reader) (λ text. Exports options.now
+        (export_records text) (W.contents writer.old) (W.contents writer.new) result) }
+{
+    let mut records = records_of(alloc, reader);
+    import_records(alloc, options, &mut records, writer)
+}
+
+/// The records of the text that a reader has left.
+pub(crate) fn records_of<R: Read + Drop>(alloc: Global, reader: R) -> Records<Decoded<R>>
+    ensures { IfSome (R.remaining reader) (λ text.
+        ToCome (decoded_remaining R.remaining) result (export_records text)) }
+{
+    Records::new(alloc, Decoded::new(reader), u64::MAX)
+}
+
+/// How far an import has come.
+#[derive(Drop)]
+pub(crate) struct Importing {
+    // When the last row started.
+    last: Option<u64>,
+    tally: Imported,
+    // The line of a record, whose memory the next one uses again.
+    line: Vec<u8>,
+    page: Page,
+}
+
+impl Importing {
+    ghost use Rattle.std.specs.Prelude.{Option};
+    ghost use Rattle.mdb_words.specs.declared.event.Event.{Event};
+    ghost use Rattle.mdb_import.specs.inner.Output.{Output};
+    ghost use Rattle.mdb_import.specs.declared.options.RowsOptions.{RowsOptions};
+
+    /// Before the first record.
+    fn new(alloc: Global) -> Importing
+        ensures last { result.last ≡ None }
+        ensures told { (options : RowsOptions) → IsTold options [] result.tally }
+        ensures page { result.page.lines.items ≡ [] }
+    {
+        Importing {
+            last: None,
+            tally: Imported {
+                header: false,
+                rows: 0,
+                before: 0,
+                after: 0,
+                marked: false,
+                controller: false,
+                peripheral: false,
+            },
+            line: Vec::new(alloc),
+            page: Page::new(alloc),
+        }
+    }
+
+    /// Takes all records that are still to come, after none.
+    fn take_all<R: Read + Drop, W: Write>(
+        &mut self,
+        options: &RowsOptions,
+        records: &mut Records<R>,
+        writer: &mut W,
+    ) -> Result<Imported, ImportFault>
+        requires last { self.old.last ≡ None }
+        requires told { IsTold options.now [] self.old.tally }
+        requires page { self.old.page.lines.items ≡ [] }
+        ensures { (all : List (List (List ℕ))) → ToCome R.remaining records.old all
+            → PutsExport options.now all (begun (W.contents writer.old))
+            (output (W.contents writer.new) self.new.page) result }
+    {
+        for done in 0..u64::MAX {
+            let found = match records.advance() {
+                Ok(found) => found,
+                Err(fault) => return Err(ImportFault::from(fault)),
+            };
+            if !found {
+                return Ok(self.tally);
+            }
+            if let Err(fault) = self.take(options, done, records.row(), writer) {
+                return Err(fault);
+            }
+        }
+        Err(ImportFault::Read)
+    }
+
+    /// Takes a record after so many.
+    fn take<W: Write>(
+        &mut self,
+        options: &RowsOptions,
+        done: u64,
+        fields: &ByteRecord,
+        writer: &mut W,
+    ) -> Result<(), ImportFault>
+        requires { done < 2 ^ 64 - 1 }
+        ensures { (before : Output) (earlier : List (List (List ℕ))) (events : List Event)
+            → length earlier ≡ done
+            → HasImported options.now self.old before (output (W.contents writer.old) self.old.page)
+            earlier events
+            → TakesOne options.now self.new before (output (W.contents writer.new) self.new.page)
+            earlier events (fields_of fields.now) result }
+    {
+        if join(fields, &mut self.line).is_err() {
+            return Err(ImportFault::Memory);
+        }
+        match next_in(options, done == 0, self.last, self.line.as_slice()) {
+            Ok(Some(event)) => self.add(options, &event, writer),
+            Ok(None) => {
+                self.tally.header = true;
+                Ok(())
+            }
+            Err(fault) => Err(ImportFault::BadRecord {
+                number: done + 1,
+                fault,
+            }),
+        }
+    }
+
+    /// Adds the row of an event, if it is in the part that is asked for.
+    fn add<W: Write>(
+        &mut self,
+        options: &RowsOptions,
+        event: &Event,
+        writer: &mut W,
+    ) -> Result<(), ImportFault>
+        ensures last { OnOk result (self.new.last ≡ Some (start_of event.now)) }
+        ensures noted { IsNoted options.now self.old.tally self.new.tally event.now }
+        ensures added { OnOk result (Puts (output (W.contents writer.old) self.old.page)
+            (output (W.contents writer.new) self.new.page) (part_line options.now event.now)) }
+        ensures refused { IfErr result (λ fault. IsNotTaken fault
+            (output (W.contents writer.old) self.old.page)
+            (output (W.contents writer.new) self.new.page) (part_line options.now event.now)) }
+    {
+        let at = event.start().value();
+        self.last = Some(at);
+        self.note(event);
+        if options.from.is_some_and(|first| at < first) {
+            self.tally.before = self.tally.before.saturating_add(1);
+            return Ok(());
+        }
+        if options.until.is_some_and(|last| at > last) {
+            self.tally.after = self.tally.after.saturating_add(1);
+            return Ok(());
+        }
+        self.tally.rows = self.tally.rows.saturating_add(1);
+        self.page.add(writer, event)
+    }
+
+    /// Notes which line said something, and whether it was marked.
+    fn note(&mut self, event: &Event)
+        ensures said { IsSaid self.old.tally self.new.tally event.now }
+        ensures counts { (self.new.tally.rows ≡ self.old.tally.rows)
+            × (self.new.tally.before ≡ self.old.tally.before)
+            × (self.new.tally.after ≡ self.old.tally.after) }
+        ensures last { self.new.last ≡ self.old.last }
+        ensures page { self.new.page ≡ self.old.page }
+    {
+        if let Event::Word { line, word, .. } = *event {
+            self.tally.marked = self.tally.marked || word.marked();
+            match line {
+                Line::Controller => self.tally.controller = true,
+                Line::Peripheral => self.tally.peripheral = true,
+            }
+        }
+    }
+}
+
+/// The event of a line after a time, nothing where the first line is a header, or what is wrong
+/// with it.
+fn next_in(
+    options: &RowsOptions,
+    first: bool,
+    last: Option<u64>,
+    line: &[u8],
+) -> Result<Option<Event>, RecordFault>
+    ensures { IsNext options.now first last (line_fields line.now) result }
+{
+    match event_in(options, line) {
+        Ok(event) => match expect_after(last, &event) {
+            Ok(()) => Ok(Some(event)),
+            Err(fault) => Err(fault),
+        },
+        Err(fault) => {
+            if first && is_header(line) {
+                Ok(None)
+            } else {
+                Err(fault)
+            }
+        }
+    }
+}

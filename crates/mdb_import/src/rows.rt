@@ -1,0 +1,112 @@
+//! The format `rows`: our own rows, as people have them.
+
+ghost use Rattle.std.specs.Prelude.{◌≡◌, ◌↔◌, ℕ, IfErr, IfNone, IfOk, IfSome, IsTrue, option_map, string_bytes};
+ghost use Rattle.mdb_words.specs.declared.event.Event.{Event};
+ghost use Rattle.mdb_words.specs.declared.word.Line.{Line};
+ghost use Rattle.mdb_import.specs.Fields.{line_fields};
+ghost use Rattle.mdb_import.specs.Refusals.{IsFieldsFault, IsNoRow};
+ghost use Rattle.mdb_import.specs.Rows.{AreOf, IsBreak, IsHeaderOf, IsLetterOf, IsLine, IsNamed, IsRowOf};
+ghost use Rattle.mdb_import.specs.Times.{IsTime};
+
+use super::fault::RecordFault;
+use super::fields::{bare, first_part, separator_of, three_parts};
+use super::options::RowsOptions;
+use super::times::{is_time_form, read_length, read_time};
+use super::values::read_word;
+use mdb_words::{Event, Line, Time};
+
+/// The event of a line, or what is wrong with it.
+pub(crate) fn event_in(options: &RowsOptions, line: &[u8]) -> Result<Event, RecordFault>
+    ensures ok { IfOk result (IsRowOf options.now (line_fields line.now)) }
+    ensures err { IfErr result (λ fault. (event : Event)
+        → IsRowOf options.now (line_fields line.now) event → ⊥) }
+    ensures why { IfErr result (IsNoRow options.now (line_fields line.now)) }
+{
+    let Some((time, name, value)) = three_parts(line, separator_of(line)) else {
+        return Err(RecordFault::FieldCount);
+    };
+    event_of(options, bare(time), bare(name), bare(value))
+}
+
+/// Whether a line is that of a header.
+pub(crate) fn is_header(line: &[u8]) -> bool
+    ensures { IsTrue result ↔ IsHeaderOf (line_fields line.now) }
+{
+    !is_time_form(bare(first_part(line, separator_of(line))))
+}
+
+/// The event of three fields, or what is wrong with them.
+fn event_of(
+    options: &RowsOptions,
+    time: &[u8],
+    name: &[u8],
+    value: &[u8],
+) -> Result<Event, RecordFault>
+    ensures ok { IfOk result (AreOf options.now time.now name.now value.now) }
+    ensures err { IfErr result (λ fault. (event : Event)
+        → AreOf options.now time.now name.now value.now event → ⊥) }
+    ensures why { IfErr result (IsFieldsFault options.now time.now name.now value.now) }
+{
+    let at = match read_time(options.unit, time) {
+        Ok(at) => at,
+        Err(fault) => return Err(fault),
+    };
+    if let Some(line) = line_of(options, name) {
+        return match read_word(value) {
+            Some(word) => Ok(Event::Word { at, line, word }),
+            None => Err(RecordFault::BadWord),
+        };
+    }
+    if !is_break(name) {
+        return Err(RecordFault::BadLine);
+    }
+    match read_length(options.unit, value) {
+        Some(length) => Ok(Event::Break { at, length }),
+        None => Err(RecordFault::BadLength),
+    }
+}
+
+/// The line that a field names; `None` where it names none.
+fn line_of(options: &RowsOptions, field: &[u8]) -> Option<Line>
+    ensures some { IfSome result (IsLine options.now field.now) }
+    ensures none { IfNone result ((line : Line) → IsLine options.now field.now line → ⊥) }
+{
+    if is_named(field, b'M', b'm', &options.controller) {
+        Some(Line::Controller)
+    } else if is_named(field, b'S', b's', &options.peripheral) {
+        Some(Line::Peripheral)
+    } else {
+        None
+    }
+}
+
+/// Whether a field is one of two letters or, where there is one, a name.
+fn is_named(field: &[u8], capital: u8, small: u8, name: &Option<String>) -> bool
+    ensures { IsTrue result
+        ↔ IsNamed capital small (option_map string_bytes name.now) field.now }
+{
+    if is_letter(field, capital, small) {
+        return true;
+    }
+    match name {
+        Some(name) => name.as_bytes() == field,
+        None => false,
+    }
+}
+
+/// Whether a field is one of two letters.
+fn is_letter(field: &[u8], capital: u8, small: u8) -> bool
+    ensures { IsTrue result ↔ IsLetterOf capital small field.now }
+{
+    match field {
+        [letter] => *letter == capital || *letter == small,
+        _ => false,
+    }
+}
+
+/// Whether a field says that the row is of a break.
+fn is_break(field: &[u8]) -> bool
+    ensures { IsTrue result ↔ IsBreak field.now }
+{
+    is_letter(field, b'B', b'b')
+}

@@ -1,0 +1,11 @@
+pub mod Cuts
+pub mod Digits
+pub mod Records
+pub mod Lines
+pub mod Pairs
+pub mod Whats
+pub mod Moves
+pub mod Merges
+pub mod Traces
+pub mod Pages
+pub mod Orders

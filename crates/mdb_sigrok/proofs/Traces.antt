@@ -1,0 +1,40 @@
+-- The rows of a trace are those of both its lines.
+use Rattle.std.proofs.Common.{◌≡◌, Bool, List, ℕ, [], ◌∷◌, codes, sym, subst, ◌∙◌, Option, inl}
+use Rattle.mdb_sigrok.specs.Import.{IsRefused}
+use Rattle.mdb_sigrok.proofs.Pages.{kept}
+use Rattle.mdb_words.specs.declared.event.Event.{Event}
+use Rattle.mdb_sigrok.specs.declared.fault.SigrokFault.{SigrokFault}
+use Rattle.mdb_sigrok.specs.declared.fault.SigrokFault.TheVariants.{Form, Order, Read, Write, Memory}
+use Rattle.mdb_sigrok.specs.Rows.{Merges}
+use Rattle.mdb_sigrok.specs.Text.{lines_of}
+use Rattle.mdb_sigrok.specs.Trace.{AreRowsOfTrace, Refutes, TellPairs}
+use Rattle.mdb_sigrok.specs.inner.Pairs.{Tells}
+use Rattle.mdb_sigrok.proofs.Merges.{one_merge}
+use Rattle.mdb_sigrok.proofs.Pairs.{tails_same}
+
+tells_of : (swap : Bool) (text first rest : List ℕ) (rows : List Event) → lines_of text ≡ first ∷ lines_of rest → (told : AreRowsOfTrace swap text rows) → Tells swap (lines_of rest) told.controller told.devices
+tells_of swap text first rest rows is told = record {
+  pairs = told.pairs;
+  told = subst (λ l. TellPairs swap l told.pairs) (sym (tails_same first (codes "{\"traceEvents\": [") (lines_of rest) told.lines (sym is ∙ told.begins))) told.told;
+  controller_rows = told.controller_rows;
+  device_rows = told.device_rows;
+}
+
+pub only_rows : (swap : Bool) (text first rest : List ℕ) (sent answered rows : List Event) → lines_of text ≡ first ∷ lines_of rest → ((s a : List Event) → Tells swap (lines_of rest) s a → (s ≡ sent) × (a ≡ answered)) → Merges sent answered rows → (others : List Event) → AreRowsOfTrace swap text others → others ≡ rows
+only_rows swap text first rest sent answered rows is only merges = λ others told.
+    let same = only told.controller told.devices (tells_of swap text first rest others is told) in
+    one_merge (subst (λ s. Merges s answered others) same.0 (subst (λ a. Merges told.controller a others) same.1 told.both)) merges
+
+pub refused_rows : (fault : SigrokFault) (swap : Bool) (text first rest : List ℕ) → lines_of text ≡ first ∷ lines_of rest → ((s a : List Event) → Refutes fault (Tells swap (lines_of rest) s a)) → (rows : List Event) → Refutes fault (AreRowsOfTrace swap text rows)
+refused_rows (Form number wrong) swap text first rest is never = λ rows told. never told.controller told.devices (tells_of swap text first rest rows is told)
+refused_rows (Order number micros wrong) swap text first rest is never = λ rows told. never told.controller told.devices (tells_of swap text first rest rows is told)
+refused_rows Read swap text first rest is never = λ rows. never [] []
+refused_rows Write swap text first rest is never = λ rows. never [] []
+refused_rows Memory swap text first rest is never = λ rows. tt
+
+pub refused_of : (swap : Bool) (text : List ℕ) (fault : SigrokFault) (held : Option (List ℕ)) → ((rows : List Event) → Refutes fault (AreRowsOfTrace swap text rows)) → IsRefused swap text fault held held
+refused_of swap text (Form number wrong) held never = (never, kept held)
+refused_of swap text (Order number micros wrong) held never = (never, kept held)
+refused_of swap text Read held never = absurd (never [])
+refused_of swap text Write held never = absurd (never [])
+refused_of swap text Memory held never = inl (kept held)

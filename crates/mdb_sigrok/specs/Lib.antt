@@ -1,0 +1,7 @@
+pub mod Import
+pub mod Order
+pub mod Record
+pub mod Rows
+pub mod Text
+pub mod Trace
+pub mod inner

@@ -1,0 +1,57 @@
+-- A trace, and its rows.
+use Rattle.std.specs.Prelude.{◌≡◌, Bool, true, false, if◌then◌else◌, ℕ, List, [], ◌∷◌, codes}
+use Rattle.mdb_words.specs.declared.event.Event.{Event}
+use Rattle.mdb_words.specs.declared.word.Line.{Line}
+use Rattle.mdb_words.specs.declared.word.Line.TheVariants.{Controller, Peripheral}
+use Rattle.mdb_sigrok.specs.declared.pair.Pair.{Pair}
+use Rattle.mdb_sigrok.specs.declared.fault.SigrokFault.{SigrokFault}
+use Rattle.mdb_sigrok.specs.declared.fault.SigrokFault.TheVariants.{Form, Order, Read, Write, Memory}
+use Rattle.mdb_sigrok.specs.Text.{lines_of}
+use Rattle.mdb_sigrok.specs.Record.{IsPair}
+use Rattle.mdb_sigrok.specs.Rows.{LineRows, Merges}
+
+-- The lines after the first one tell these pairs of records, one or more. Each record but the last
+-- has a comma behind it, and below that stands `]}` as the last line.
+pub data TellPairs : Bool → List (List ℕ) → List Pair → Type 0 where
+  last : {swap : Bool} (first second : List ℕ) (pair : Pair) →
+      IsPair swap pair first second false →
+      TellPairs swap (first ∷ second ∷ codes "]}" ∷ []) (pair ∷ [])
+  more : {swap : Bool} (first second : List ℕ) (pair : Pair)
+      (lines : List (List ℕ)) (pairs : List Pair) →
+      IsPair swap pair first second true → TellPairs swap lines pairs →
+      TellPairs swap (first ∷ second ∷ lines) (pair ∷ pairs)
+
+-- whether two lines are the same
+abbrev pub is_line : Line → Line → Bool
+is_line Controller Controller = true
+is_line Controller Peripheral = false
+is_line Peripheral Controller = false
+is_line Peripheral Peripheral = true
+
+-- those of the pairs that are of a line, in their order
+abbrev pub on_line : Line → List Pair → List Pair
+on_line line [] = []
+on_line line (pair ∷ pairs) =
+    if is_line line pair.line then pair ∷ on_line line pairs else on_line line pairs
+
+-- The rows of a trace: its pairs of records, those of each line as rows, and the rows of both lines
+-- in the order of their times.
+pub record AreRowsOfTrace (swap : Bool) (text : List ℕ) (rows : List Event) : Type 0 where
+  pub lines : List (List ℕ)
+  pub pairs : List Pair
+  pub controller : List Event
+  pub devices : List Event
+  pub begins : lines_of text ≡ codes "{\"traceEvents\": [" ∷ lines
+  pub told : TellPairs swap lines pairs
+  pub controller_rows : LineRows Controller 0 (on_line Controller pairs) controller
+  pub device_rows : LineRows Peripheral 0 (on_line Peripheral pairs) devices
+  pub both : Merges controller devices rows
+
+-- A fault that is told of a trace refutes what is claimed of it. That memory was refused tells
+-- nothing of the trace. That reading or writing failed is never told.
+abbrev pub Refutes : SigrokFault → Type 0 → Type 0
+Refutes (Form number fault) claim = claim → ⊥
+Refutes (Order number micros fault) claim = claim → ⊥
+Refutes Read claim = ⊥
+Refutes Write claim = ⊥
+Refutes Memory claim = Unit {0}

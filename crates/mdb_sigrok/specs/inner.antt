@@ -1,0 +1,5 @@
+pub mod Heads
+pub mod Pages
+pub mod Pairs
+pub mod Stands
+pub mod Steps

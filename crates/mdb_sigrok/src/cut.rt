@@ -1,0 +1,68 @@
+//! Texts cut in two, and in lines.
+
+ghost use Rattle.std.specs.Prelude.{◌≡◌, ◌≢◌, ◌<◌, ◌↔◌, ◌++◌, ◌∷◌, [], List, ℕ, length, IfSome, IfNone, IsTrue};
+ghost use Rattle.mdb_sigrok.specs.Text.{IsCut, Lacks, lines_of, without_return};
+
+/// What stands behind the front of a text; `None` where it begins otherwise.
+pub(crate) fn after<'a>(text: &'a [u8], front: &[u8]) -> Option<&'a [u8]>
+    ensures some { IfSome result (λ rest. text.now ≡ front.now ++ rest.now) }
+    ensures none { IfNone result ((rest : List ℕ) → text.now ≢ front.now ++ rest) }
+{
+    if text.len() < front.len() {
+        return None;
+    }
+    let (begin, rest) = text.split_at(front.len());
+    if is_text(begin, front) {
+        Some(rest)
+    } else {
+        None
+    }
+}
+
+/// Whether two texts are the same.
+pub(crate) fn is_text(text: &[u8], other: &[u8]) -> bool
+    ensures { IsTrue result ↔ (text.now ≡ other.now) }
+{
+    text == other
+}
+
+/// A text up to the first byte of a value, and what stands behind that; `None` where the byte
+/// stands nowhere.
+pub(crate) fn cut_at(text: &[u8], byte: u8) -> Option<(&[u8], &[u8])>
+    ensures some { IfSome result (λ cut. IsCut byte text.now cut.0.now cut.1.now) }
+    ensures shorter { IfSome result (λ cut. length cut.1.now < length text.now) }
+    ensures none { IfNone result (Lacks byte text.now) }
+{
+    for (index, other) in text.iter().enumerate() {
+        if *other == byte {
+            return Some((&text[..index], &text[index + 1..]));
+        }
+    }
+    None
+}
+
+/// The first line of a text, and the text behind it; `None` at the end.
+pub(crate) fn next_line(text: &[u8]) -> Option<(&[u8], &[u8])>
+    ensures some { IfSome result
+        (λ next. lines_of text.now ≡ next.0.now ∷ lines_of next.1.now) }
+    ensures shorter { IfSome result (λ next. length next.1.now < length text.now) }
+    ensures none { IfNone result (lines_of text.now ≡ []) }
+{
+    if text.is_empty() {
+        return None;
+    }
+    match cut_at(text, b'\n') {
+        Some((line, rest)) => Some((trimmed(line), rest)),
+        None => Some((trimmed(text), &[])),
+    }
+}
+
+/// A line without the carriage return at its end.
+fn trimmed(line: &[u8]) -> &[u8]
+    ensures { result.now ≡ without_return line.now }
+{
+    if line.is_empty() || line[line.len() - 1] != b'\r' {
+        return line;
+    }
+    &line[..line.len() - 1]
+}

@@ -1,0 +1,24 @@
+//! What sigrok-cli writes of its decoder `uart`, as the rows of a transcript.
+//!
+//! sigrok-cli reads what a logic analyser recorded, and writes a trace: two records for each thing
+//! that its decoder saw on a line, where that begins and where it ends. This crate reads such a
+//! trace, and answers the rows that `mdbcheck` reads: those of both lines, and no others.
+#![tactic(auto)]
+
+mod cut;
+mod fault;
+mod import;
+pub mod laws;
+mod line;
+mod merging;
+mod moment;
+mod pair;
+mod reading;
+mod record;
+mod rows;
+mod trace;
+mod writing;
+
+pub use fault::{FormFault, OrderFault, SigrokFault};
+pub use import::{SigrokRows, import_sigrok};
+pub use rows::rows_of_trace;

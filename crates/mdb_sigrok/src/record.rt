@@ -1,0 +1,125 @@
+//! The line of a record.
+
+ghost use Rattle.std.specs.Prelude.{◌≡◌, ◌≢◌, ◌++◌, Bool, ℕ, List, IfSome, IfNone, IfOk, IfErr};
+ghost use Rattle.mdb_sigrok.specs.inner.Heads.{HasHead};
+ghost use Rattle.mdb_sigrok.specs.Record.{AreNames, IsField, IsHead, IsRecord, before_name, before_tid, end_of, front_of};
+
+use super::cut::{after, cut_at, is_text};
+use super::fault::FormFault;
+use super::moment::Moment;
+
+/// A record: where something begins, or where it ends.
+#[derive(Clone, Copy, Debug)]
+pub(crate) struct Record<'a> {
+    /// Whether it is the end.
+    pub(crate) ends: bool,
+    /// When that was.
+    pub(crate) time: Moment,
+    /// What tells the line, and some of what was seen.
+    pub(crate) tid: &'a [u8],
+    /// What was seen.
+    pub(crate) name: &'a [u8],
+    /// Whether a comma stands behind it.
+    pub(crate) more: bool,
+}
+
+/// The record of a line.
+pub(crate) fn record_of(line: &[u8]) -> Result<Record<'_>, FormFault>
+    ensures ok { IfOk result (λ r. IsRecord line.now r.ends r.time r.tid.now r.name.now r.more) }
+    ensures err { IfErr result (λ _. (ends : Bool) (time : ℕ) (tid name : List ℕ) (more : Bool) →
+        IsRecord line.now ends time tid name more → ⊥) }
+{
+    let Some((ends, digits, rest)) = head_of(line) else {
+        return Err(FormFault::NoRecord);
+    };
+    let Some((tid, name, more)) = names_of(rest) else {
+        return Err(FormFault::NoRecord);
+    };
+    match Moment::read(digits) {
+        Ok(time) => Ok(Record {
+            ends,
+            time,
+            tid,
+            name,
+            more,
+        }),
+        Err(fault) => Err(fault),
+    }
+}
+
+/// Whether a record is an end, the digits of its time, and what stands behind the comma after them.
+fn head_of(line: &[u8]) -> Option<(bool, &[u8], &[u8])>
+    ensures some { IfSome result (λ head. HasHead line.now head.0 head.1.now head.2.now) }
+    ensures none { IfNone result ((ends : Bool) (time : ℕ) (rest : List ℕ) →
+        IsHead line.now ends time rest → ⊥) }
+{
+    let Some((ends, begun)) = begun_of(line) else {
+        return None;
+    };
+    match cut_at(begun, b',') {
+        Some((digits, rest)) => Some((ends, digits, rest)),
+        None => None,
+    }
+}
+
+/// Whether a record is an end, and what stands behind its front.
+fn begun_of(line: &[u8]) -> Option<(bool, &[u8])>
+    ensures some { IfSome result (λ begun. line.now ≡ front_of begun.0 ++ begun.1.now) }
+    ensures none { IfNone result ((ends : Bool) (rest : List ℕ) →
+        line.now ≢ front_of ends ++ rest) }
+{
+    if let Some(rest) = after(line, b"{\"ph\": \"B\", \"ts\": ") {
+        return Some((false, rest));
+    }
+    match after(line, b"{\"ph\": \"E\", \"ts\": ") {
+        Some(rest) => Some((true, rest)),
+        None => None,
+    }
+}
+
+/// `tid` and `name`, and whether a comma stands at the end.
+fn names_of(text: &[u8]) -> Option<(&[u8], &[u8], bool)>
+    ensures some { IfSome result (λ names. AreNames text.now names.0.now names.1.now names.2) }
+    ensures none { IfNone result ((tid name : List ℕ) (more : Bool) →
+        AreNames text.now tid name more → ⊥) }
+{
+    let Some((tid, middle)) = field_of(text, b" \"pid\": \"uart-1\", \"tid\": \"") else {
+        return None;
+    };
+    let Some((name, end)) = field_of(middle, b", \"name\": \"") else {
+        return None;
+    };
+    match has_more(end) {
+        Some(more) => Some((tid, name, more)),
+        None => None,
+    }
+}
+
+/// The value behind a front, up to a quote, and what stands behind that.
+fn field_of<'a>(text: &'a [u8], front: &[u8]) -> Option<(&'a [u8], &'a [u8])>
+    ensures some { IfSome result (λ field. IsField front.now text.now field.0.now field.1.now) }
+    ensures none { IfNone result ((value rest : List ℕ) →
+        IsField front.now text.now value rest → ⊥) }
+{
+    let Some(begun) = after(text, front) else {
+        return None;
+    };
+    match cut_at(begun, b'"') {
+        Some((value, rest)) => Some((value, rest)),
+        None => None,
+    }
+}
+
+/// Whether the end of a record has a comma; `None` where it is no end.
+fn has_more(end: &[u8]) -> Option<bool>
+    ensures some { IfSome result (λ more. end.now ≡ end_of more) }
+    ensures none { IfNone result ((more : Bool) → end.now ≢ end_of more) }
+{
+    if is_text(end, b"}") {
+        Some(false)
+    } else if is_text(end, b"},") {
+        Some(true)
+    } else {
+        None
+    }
+}

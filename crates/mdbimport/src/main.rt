@@ -1,0 +1,44 @@
+//! `mdbimport`: reads an export of a recorder or a spreadsheet from its standard input, and writes
+//! its rows, as `mdbcheck` reads them, to its standard output.
+#![tactic(auto)]
+
+use std::io::BufReader;
+use std::process::ExitCode;
+use std::{env, io};
+
+/// How many bytes are asked of standard input at once. `csv` asks for fewer, and each asking takes
+/// time. A pipe gives what is there, so no row waits for that.
+const READ_SIZE: usize = 65_536;
+
+/// The status where the program can't begin.
+const NOT_BEGUN: u8 = 2;
+
+/// The words of the command line, the program's name first.
+fn words(rt: &HostRuntime) -> io::Result<Vec<String>> {
+    Ok(env::args(rt)?.collect(rt.alloc())?)
+}
+
+/// Hands the words and the standard streams to `mdb_import::run`, and answers its status. Where
+/// there is no memory for what is asked at once, a line says so, as of any other want of memory.
+fn run(rt: &HostRuntime, words: Vec<String>) -> u8 {
+    match BufReader::with_capacity(rt.alloc(), READ_SIZE, rt.stdin()) {
+        Ok(input) => mdb_import::run(rt.alloc(), words, input, &mut rt.stdout(), &mut rt.stderr()),
+        Err(error) => {
+            let _ = eprintln!(rt; "mdbimport: {error}");
+            NOT_BEGUN
+        }
+    }
+}
+
+/// Runs the program. Words that can't be had, for want of memory or since one isn't UTF-8, are
+/// refused like words that are no command of the program: status 2 and one line.
+fn main(rt: HostRuntime) -> ExitCode {
+    let status = match words(&rt) {
+        Ok(words) => run(&rt, words),
+        Err(error) => {
+            let _ = eprintln!(rt; "mdbimport: the command line can't be read: {error}");
+            NOT_BEGUN
+        }
+    };
+    ExitCode::from(status)
+}

@@ -1,0 +1,203 @@
+#!/usr/bin/env python3
+"""Reads what a recorder's program exports, and gives the rows of a recording: a second reader,
+written from the pages in words (docs/sigrok-trace.md) and not from a program's code, to compare
+with.
+
+    tests/second_import.py sigrok [--swap] < TRACE
+
+prints the rows, or one line that tells why there are none, with status 2. As a module:
+`read_sigrok(text, swap)` answers a list of rows, each (time, line, value) with the value as it
+stands in a row, or a Refusal.
+"""
+
+import re
+import sys
+from typing import NamedTuple
+
+
+class Refusal(NamedTuple):
+    """Why a trace gives no rows."""
+
+    record: int  # the record's number, counted from 1: it stands one line further down
+    time: "int | None"  # its time in whole microseconds, where it has one
+    why: str
+
+    def __str__(self):
+        at = "" if self.time is None else f" at {self.time}"
+        return f"record {self.record}{at}: {self.why}"
+
+
+class Refused(Exception):
+    def __init__(self, *refusal):
+        self.refusal = Refusal(*refusal)
+
+
+HEAD = b'{"traceEvents": ['
+TAIL = b"]}"
+RECORD = re.compile(
+    rb'\{"ph": "([BE])", "ts": ([0-9]+)\.([0-9]{6}), "pid": "uart-1", '
+    rb'"tid": "([^"]*)", "name": "([^"]*)"\}(,?)'
+)
+HEXADECIMAL = re.compile(rb"[0-9A-F]+")
+
+# What may stand in a trace: the kind of a record by its `tid` without TX or RX, and its `name`.
+START, DATA, FRAME, PARITY, BREAK = range(5)
+NAMES = {
+    (b"", b"Start bit"): START,
+    (b" warnings", b"Frame error"): FRAME,
+    (b"", b"Parity error"): PARITY,
+    (b" break", b"Break condition"): BREAK,
+}
+
+LAST_TIME = 10**15 - 1
+LONGEST_BREAK = 10**9 - 1
+
+
+def whole(millionths):
+    """Whole microseconds, the nearest; the half goes up."""
+    return (millionths + 500_000) // 1_000_000
+
+
+def records_of(text):
+    """The pairs of records: (number of the first, kind, TX or RX, name, start, end), times in
+    millionths of a microsecond."""
+    lines = text.split(b"\n")
+    if lines[-1] == b"":
+        lines.pop()
+    lines = [line[:-1] if line.endswith(b"\r") else line for line in lines]
+    if not lines or lines[0] != HEAD:
+        raise Refused(0, None, 'no trace: its first line isn\'t {"traceEvents": [')
+    opened = None  # the first record of a pair, until its second comes
+    number = 0
+    next_is = "record"  # or the "end" of the trace, or "nothing"
+    for line in lines[1:]:
+        if next_is == "nothing":
+            raise Refused(number + 1, None, "the trace goes on after its end")
+        if next_is == "end":
+            if line != TAIL or opened is not None:
+                raise Refused(number + 1, None, "no record, and not the end of a trace")
+            next_is = "nothing"
+            continue
+        number += 1
+        found = RECORD.fullmatch(line)
+        if not found:
+            raise Refused(number, None, "no record as sigrok-cli writes it for this decoder")
+        phase, units, parts, tid, name, comma = found.groups()
+        units = units.lstrip(b"0")
+        time = int(units + parts) if len(units) <= 15 else None
+        if time is None or whole(time) > LAST_TIME:
+            raise Refused(number, None, "a time of more than 15 digits")
+        next_is = "record" if comma else "end"
+        if opened is None:
+            if phase != b"B":
+                raise Refused(number, whole(time), "an end without a beginning")
+            opened = (number, time, tid, name)
+            continue
+        first, start, tid_before, name_before = opened
+        if phase != b"E" or (tid, name) != (tid_before, name_before):
+            raise Refused(first, whole(start), "a beginning without its end")
+        opened = None
+        yield (first, tid, name, start, time)
+    if next_is != "nothing":
+        raise Refused(number + 1, None, "the trace is cut: its end is missing")
+
+
+class Line:
+    """What was read of one line: its rows, and what its next record goes on from."""
+
+    def __init__(self, name):
+        self.name = name
+        self.rows = []
+        self.start = None  # the time of a start bit that waits for its word
+        self.opened = None  # the record of that start bit
+        self.zero = False  # the last record was a word 000
+        self.wrong = None  # a frame error behind 000 that may begin a break: its record and time
+
+    def no_break(self):
+        """There was a frame error, and what comes now is no break."""
+        if self.wrong is not None:
+            raise Refused(*self.wrong, f"a framing error on line {self.name} that is no break")
+
+    def take(self, number, kind, name, start, end):
+        time = whole(start)
+        if kind != BREAK:
+            self.no_break()
+        if kind == START:
+            if self.start is not None:
+                why = f"a start bit without a word on line {self.name}"
+                raise Refused(self.opened, self.start, why)
+            if self.rows and time == self.rows[-1][0]:
+                raise Refused(number, time, f"two words at one time on line {self.name}")
+            if self.rows and time < self.rows[-1][0]:
+                raise Refused(number, time, f"a time that goes back on line {self.name}")
+            self.start, self.opened, self.zero = time, number, False
+        elif kind == DATA:
+            if self.start is None:
+                raise Refused(number, time, f"a word without a start bit on line {self.name}")
+            if len(name) != 3:
+                why = "a word that isn't three hexadecimal digits: decode with nine data bits"
+                raise Refused(number, time, why)
+            if int(name, 16) > 0x1FF:
+                raise Refused(number, time, "a word above 1FF")
+            self.rows.append((self.start, self.name, name.decode()))
+            self.start, self.zero = None, name == b"000"
+        elif kind == FRAME:
+            if not self.zero:
+                raise Refused(number, time, f"a framing error on line {self.name} that is no break")
+            self.wrong, self.zero = (number, time), False
+        elif kind == PARITY:
+            raise Refused(number, time, f"a parity error on line {self.name}")
+        else:
+            if self.wrong is None:
+                why = f"a break without its framing error on line {self.name}"
+                raise Refused(number, time, why)
+            if self.name != "M":
+                raise Refused(number, time, f"a break on line {self.name}")
+            if end < start:
+                raise Refused(number, time, "a break that ends before it begins")
+            length = whole(end - start)
+            if length > LONGEST_BREAK:
+                raise Refused(number, time, "a break of more than 999999999 microseconds")
+            self.rows.pop()
+            if self.rows and time <= self.rows[-1][0]:
+                raise Refused(number, time, f"a time that goes back on line {self.name}")
+            self.rows.append((time, "B", str(length)))
+            self.wrong = None
+
+
+def read_sigrok(text: bytes, swap: bool = False):
+    """The rows of the JSON trace that sigrok-cli writes for its decoder `uart`, or a Refusal."""
+    controller, device = Line("M"), Line("S")
+    of = {b"TX": device, b"RX": controller} if swap else {b"TX": controller, b"RX": device}
+    try:
+        for number, tid, name, start, end in records_of(text):
+            line, rest = of.get(tid[:2]), tid[2:]
+            kind = NAMES.get((rest, name))
+            if kind is None and rest == b"" and HEXADECIMAL.fullmatch(name):
+                kind = DATA
+            if line is None or kind is None:
+                raise Refused(number, whole(start), "a record of another kind than those asked for")
+            line.take(number, kind, name, start, end)
+        controller.no_break()
+        device.no_break()
+    except Refused as refused:
+        return refused.refusal
+    # By their starts, and at one time the controller's first.
+    return sorted(controller.rows + device.rows, key=lambda row: (row[0], row[1] == "S"))
+
+
+def main(words):
+    if words not in (["sigrok"], ["sigrok", "--swap"]):
+        print(__doc__, file=sys.stderr)
+        return 2
+    rows = read_sigrok(sys.stdin.buffer.read(), "--swap" in words)
+    if isinstance(rows, Refusal):
+        print(f"second_import: {rows}", file=sys.stderr)
+        return 2
+    for time, line, value in rows:
+        print(f"{time},{line},{value}")
+    return 0
+
+
+if __name__ == "__main__":
+    sys.exit(main(sys.argv[1:]))
