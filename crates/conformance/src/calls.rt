@@ -1,11 +1,12 @@
-//! Calls of the libraries below: blocks, commands, replies, a check within limits, and calls for
-//! recordings that are taken with a device left out, or that begin in mid-session.
+//! Calls of the libraries below: blocks, commands, replies, a check within limits, calls for
+//! recordings that are taken with a device left out, or that begin in mid-session, and explanations.
 
 use arrayvec::ArrayVec;
 use mdb_blocks::{Answer, Block, BlockFault, seal, unseal};
 use mdb_check::{
-    BYTES_MAX, DeviceSet, Outcome, ROWS_MAX, RunFault, Scope, Setups, check_joined, check_scoped,
-    check_scoped_within, check_within, show_scoped, text_scoped,
+    AccountName, AccountSide, BYTES_MAX, Bound, DeviceSet, Goal, Outcome, ROWS_MAX, RunFault,
+    Scope, Setups, check_joined, check_scoped, check_scoped_within, check_within, explain,
+    explain_scoped, replay, replay_scoped, show_scoped, text_scoped,
 };
 use mdb_msgs::{
     BillCommand, BillMsg, ChangerCommand, ChangerMsg, ChangerSetup, Command, Device, MsgFault,
@@ -403,13 +404,13 @@ fn is_yes_of(answer: &Result<Outcome, RunFault>, rows: u64) -> bool {
     }
 }
 
-/// Whether the text of a yes, made anew, is the one that was written, and ends so.
+/// Whether the text of an answer, made anew, is the one that was written.
 fn is_text(alloc: Global, scope: &Scope, answer: &Result<Outcome, RunFault>, out: &[u8]) -> bool {
     let Ok(outcome) = answer else {
         return false;
     };
     match text_scoped(alloc, scope, outcome) {
-        Ok(text) => text.as_slice() == out && out.ends_with(WITHOUT_CHANGER),
+        Ok(text) => text.as_slice() == out,
         Err(_) => false,
     }
 }
@@ -423,7 +424,11 @@ fn without_changer(rt: &HostRuntime, calls: &mut Calls) -> io::Result<()> {
     let answer = check_scoped(alloc, &scope, RESET_AND_POLL, &mut out);
     calls.count(rt, "check_scoped", is_yes_of(&answer, 8))?;
     let is_written = is_text(alloc, &scope, &answer, out.as_slice());
-    calls.count(rt, "text_scoped", is_written)?;
+    calls.count(
+        rt,
+        "text_scoped",
+        is_written && out.as_slice().ends_with(WITHOUT_CHANGER),
+    )?;
     let mut within = Vec::new(alloc);
     let limited = check_scoped_within(alloc, &scope, RESET_AND_POLL, &mut within, 8, 93);
     let is_same = is_yes_of(&limited, 8) && within.as_slice() == out.as_slice();
@@ -486,6 +491,38 @@ fn joined(rt: &HostRuntime, calls: &mut Calls) -> io::Result<()> {
     calls.count(rt, "show_scoped", is_shown)
 }
 
+/// The end of a range that is explained.
+const LEAST_COINS: Goal = Goal {
+    account: AccountName::CoinsIn,
+    side: AccountSide::Device,
+    bound: Bound::Least,
+};
+
+/// Of rows that need no mark the explanation is these rows, and its replay is a yes of as many; so it
+/// is where the device is left out.
+fn explanations(rt: &HostRuntime, calls: &mut Calls) -> io::Result<()> {
+    let alloc = rt.alloc();
+    let without = DeviceSet::NONE.with(Device::Changer);
+    let mut out = Vec::new(alloc);
+    let answer = explain(alloc, RESET_AND_POLL, &mut out, &LEAST_COINS);
+    let is_explained = is_yes_of(&answer, 8) && out.as_slice() == RESET_AND_POLL;
+    calls.count(rt, "explain", is_explained)?;
+    let mut scoped = Vec::new(alloc);
+    let left_out = explain_scoped(alloc, without, RESET_AND_POLL, &mut scoped, &LEAST_COINS);
+    let is_scoped = is_yes_of(&left_out, 8) && scoped.as_slice() == RESET_AND_POLL;
+    calls.count(rt, "explain_scoped", is_scoped)?;
+    let mut report = Vec::new(alloc);
+    let replayed = replay(alloc, out.as_slice(), &mut report);
+    let is_replayed = is_yes_of(&replayed, 8)
+        && is_text(alloc, &Scope::POWER_ON, &replayed, report.as_slice());
+    calls.count(rt, "replay", is_replayed)?;
+    let mut scoped_report = Vec::new(alloc);
+    let scope = Scope::leaving_out(without);
+    let other = replay_scoped(alloc, without, scoped.as_slice(), &mut scoped_report);
+    let is_other = is_yes_of(&other, 8) && is_text(alloc, &scope, &other, scoped_report.as_slice());
+    calls.count(rt, "replay_scoped", is_other)
+}
+
 /// Makes the calls, prints each that answers otherwise than wanted, and at the end how many there
 /// are.
 pub fn run(rt: &HostRuntime) -> io::Result<()> {
@@ -504,6 +541,7 @@ pub fn run(rt: &HostRuntime) -> io::Result<()> {
     limits(rt, &mut calls)?;
     without_changer(rt, &mut calls)?;
     joined(rt, &mut calls)?;
+    explanations(rt, &mut calls)?;
     let tried = calls.tried;
     match calls.differing {
         0 => println!(rt; "{tried} calls, each answered as wanted"),

@@ -12,7 +12,7 @@ use std::io::Write;
 use std::{fs, io};
 
 /// The files of cases, one for each subject.
-static FILES: [&str; 18] = [
+static FILES: [&str; 20] = [
     "rows.cases",
     "times.cases",
     "commands.cases",
@@ -27,6 +27,8 @@ static FILES: [&str; 18] = [
     "silences.cases",
     "decimals.cases",
     "show.cases",
+    "replay.cases",
+    "explain.cases",
     "without.cases",
     "joined.cases",
     "worked.cases",

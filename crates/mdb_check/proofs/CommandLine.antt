@@ -3,11 +3,11 @@ use Rattle.std.proofs.Common.{ap, ap₂, fold, refl, subst, sym, true, false, tr
 use Rattle.std.specs.Prelude.{drop, is_some, if◌then◌else◌, slice_get}
 use Rattle.std.specs.Str.{bytes_eq}
 use Rattle.std.specs.Borrow.{Bor}
-use Rattle.clap.specs.Words.{App, HasKind, HasMatchesOf, IsAmong, Kinds, Row, Rule, Shape, Text, app_of, built, fault_of, found_of, is_simple, is_simple_and_free, kind_of, new_app, rows_of, subcommand_name_of, subcommand_of, subcommand_rows, subcommand_rows_of}
+use Rattle.clap.specs.Words.{App, HasKind, HasMatchesOf, IsAmong, Kinds, Row, Rule, Shape, Text, app_of, built, fault_of, found_of, is_simple, is_simple_and_free, kind_of, rows_of, subcommand_name_of, subcommand_of, subcommand_rows, subcommand_rows_of}
 use Rattle.clap.specs.Faults.{check_fault, defaults_fault, entered_fault, level_fault, long_fault, settle_fault, short_fault, turn_fault, walk_fault}
 use Rattle.clap.specs.Kinds.{or_else}
 use Rattle.clap.specs.Simple.{built_leaf, entered, filled, inherited, names_of, version_rule, with_index}
-use Rattle.clap.specs.Walk.{Held, Step, Walk, after_step, finished, has_long, has_short, idle, nothing_held, rows_after, has_row, settled, subcommand_or_other, walk, walk_from, walked}
+use Rattle.clap.specs.Walk.{Held, Step, Walk, after_step, finished, first_of, has_long, has_short, idle, nothing_held, rows_after, has_row, settled, subcommand_or_other, walk, walk_from, walked}
 use Rattle.clap.specs.declared.builder.command.Command.{Command}
 use Rattle.clap.specs.declared.error.Error.{Error}
 use Rattle.clap.specs.declared.error.kind.ErrorKind.{ErrorKind}
@@ -22,23 +22,29 @@ use Rattle.clap.proofs.FaultLemmas.{stopped_fault}
 use Rattle.clap.proofs.OnLiterals.{clap_on_literals}
 use Rattle.clap.proofs.WalkLemmas.{walk_stopped}
 use Rattle.mdb_msgs.specs.declared.device_set.DeviceSet.{DeviceSet}
-use Rattle.mdb_msgs.specs.declared.setups.Setups.{Setups}
 use Rattle.mdb_msgs.specs.Laws.{BlockHasOneReply}
 use Rattle.mdb_msgs.specs.Setups.{nothing_known}
 use Rattle.mdb_bus.specs.declared.scope.Scope.{Scope}
 use Rattle.mdb_bus.specs.Scopes.{leaving_out, joined as in_mid_session}
-use Rattle.mdb_check.specs.inner.CommandLine.{AreDevices, AreOptionsOf, AsksFor, AsksToCheck, AsksToShow, IsOwnRefusal, IsRefusalBy, check_app, mdbcheck, show_app, values_of}
-use Rattle.mdb_check.specs.Program.{AreOptions, Asked, IsFromPowerOn, IsJoined, NamesCheck, NamesShow, NamesTask}
+use Rattle.mdb_follow.specs.AccountNames.{account_word}
+use Rattle.mdb_follow.specs.declared.goal.Goal.{Goal}
+use Rattle.mdb_check.specs.Accounts.{side_word}
+use Rattle.mdb_check.specs.Explain.{bound_word, goal_words}
+use Rattle.mdb_check.specs.inner.CommandLine.{AreDevices, AreOptionsOf, AsksFor, AsksForGoal, AsksToCheck, AsksToShow, IsOwnRefusal, IsRefusalBy, check_app, explain_app, mdbcheck, replay_app, show_app, values_of}
+use Rattle.mdb_check.specs.Program.{AreGoalAndOptions, AreOptions, Asked, IsFromPowerOn, IsJoined, NamesCheck, NamesExplain, NamesReplay, NamesShow, NamesTask}
 use Rattle.mdb_check.specs.declared.command_line.Task.{Task}
-use Rattle.mdb_check.specs.declared.command_line.Task.TheVariants.{Check, Show}
+use Rattle.mdb_check.specs.declared.command_line.Task.TheVariants.{Check, Show, Explain, Replay}
 use Rattle.mdb_check.specs.declared.refusal.Refusal.{Refusal}
 use Rattle.mdb_check.specs.declared.refusal.Refusal.TheVariants.{Words, Setup}
 use Rattle.mdb_check.proofs.Devices.{one_set}
 use Rattle.mdb_check.proofs.Found.{chosen, is_used, row_found, values_found}
-use Rattle.mdb_check.proofs.OptionRules.{has_options, help}
-use Rattle.mdb_check.proofs.Options.{AreUses, HasOptions, Uses, finds_uses, found_after, takes_uses}
+use Rattle.mdb_check.proofs.GoalOptions.{AreGoalUses, HasWords, finds_goal, takes_goal}
+use Rattle.mdb_check.proofs.GoalRules.{AreThree, account_found, bound_found, goal_names, has_option, has_words, none_wanting, side_found, three_given, without_name}
+use Rattle.mdb_check.proofs.OptionRules.{has_options, help, takes_no_word}
+use Rattle.mdb_check.proofs.Options.{AreUses, HasOptions, TakesNoWord, Uses, finds_uses, found_after, takes_uses}
 use Rattle.mdb_check.proofs.Refusals.{IsOneOf, TakesNothing, after_dashes, both_pass, is_dashes, is_met, none_or_one, one_of_both, one_of_more}
 use Rattle.mdb_check.proofs.KnownSetups.{are_texts, one_setups}
+use Rattle.mdb_check.proofs.TaskGoals.{goal_back, goal_names_apart, goal_used, one_goal, plain_goal}
 use Rattle.mdb_check.proofs.TaskOptions.{AreSetupTexts, AskFor, check_back, check_flags, check_names, check_used, show_alone, show_names, show_used, show_wider}
 
 -- `clap` says what it does with the command
@@ -62,7 +68,7 @@ abbrev whole : App
 whole = built mdbcheck
 
 abbrev tasks : List Text
-tasks = codes "check" ∷ codes "show" ∷ []
+tasks = codes "check" ∷ codes "show" ∷ codes "explain" ∷ codes "replay" ∷ []
 
 -- a task with its options
 abbrev check_task : Shape
@@ -71,8 +77,14 @@ check_task = built_leaf (inherited whole.top check_app.top)
 abbrev show_task : Shape
 show_task = built_leaf (inherited whole.top show_app.top)
 
+abbrev explain_task : Shape
+explain_task = built_leaf (inherited whole.top explain_app.top)
+
+abbrev replay_task : Shape
+replay_task = built_leaf (inherited whole.top replay_app.top)
+
 abbrev task : Text → Shape
-task name = if bytes_eq name (codes "check") then check_task else show_task
+task name = if bytes_eq name (codes "check") then check_task else (if bytes_eq name (codes "show") then show_task else (if bytes_eq name (codes "explain") then explain_task else replay_task))
 
 -- `--joined` is no option with a value
 apart_names : (name : Text) → IsOneOf name check_flags → IsOneOf name check_names → ⊥
@@ -89,6 +101,25 @@ check_has = has_options check_task check_names check_flags apart_names
 
 show_has : HasOptions show_task show_names []
 show_has = has_options show_task show_names [] no_flag
+
+replay_has : HasOptions replay_task show_names []
+replay_has = has_options replay_task show_names [] no_flag
+
+check_bare : TakesNoWord check_task
+check_bare = takes_no_word check_task check_names check_flags
+
+show_bare : TakesNoWord show_task
+show_bare = takes_no_word show_task show_names []
+
+replay_bare : TakesNoWord replay_task
+replay_bare = takes_no_word replay_task show_names []
+
+-- `explain` has an option, and the words of a goal
+explain_has : HasOptions explain_task without_name []
+explain_has = has_option explain_task
+
+explain_words : HasWords explain_task without_name 1 goal_names
+explain_words = has_words explain_task
 
 abbrev version : Rule
 version = with_index 1 (filled version_rule)
@@ -213,10 +244,20 @@ show_in : (rest : List Text) → InTask (codes "show") rest
 unfolding clap_on_literals
 show_in rest = record { fault = refl; found = refl; whole_fault = λ program. stopped (codes "show") rest ∙ or_nothing (Level (codes "show") rest) }
 
+explain_in : (rest : List Text) → InTask (codes "explain") rest
+unfolding clap_on_literals
+explain_in rest = record { fault = refl; found = refl; whole_fault = λ program. stopped (codes "explain") rest ∙ or_nothing (Level (codes "explain") rest) }
+
+replay_in : (rest : List Text) → InTask (codes "replay") rest
+unfolding clap_on_literals
+replay_in rest = record { fault = refl; found = refl; whole_fault = λ program. stopped (codes "replay") rest ∙ or_nothing (Level (codes "replay") rest) }
+
 in_task : (name : Text) → IsOneOf name tasks → (rest : List Text) → InTask name rest
 in_task name (inl check) rest = subst (λ n. InTask n rest) check (check_in rest)
 in_task name (inr (inl show)) rest = subst (λ n. InTask n rest) show (show_in rest)
-in_task name (inr (inr none)) rest = absurd none
+in_task name (inr (inr (inl explain))) rest = subst (λ n. InTask n rest) explain (explain_in rest)
+in_task name (inr (inr (inr (inl replay)))) rest = subst (λ n. InTask n rest) replay (replay_in rest)
+in_task name (inr (inr (inr (inr none)))) rest = absurd none
 
 -- ---- from the matches to the task
 
@@ -280,7 +321,7 @@ record CheckUses (rest : List Text) (uses : Uses) : Type 0 where
 
 check_uses : (rest : List Text) (uses : Uses) → AreUses check_names check_flags rest uses → CheckUses rest uses
 check_uses rest uses are =
-    let finds = finds_uses check_task check_names check_flags check_has rest uses are in
+    let finds = finds_uses check_task check_names check_flags check_has check_bare rest uses are in
     record { no_fault = finds.0; found = finds.1 }
 
 record ShowUses (rest : List Text) (uses : Uses) : Type 0 where
@@ -289,8 +330,27 @@ record ShowUses (rest : List Text) (uses : Uses) : Type 0 where
 
 show_uses : (rest : List Text) (uses : Uses) → AreUses show_names [] rest uses → ShowUses rest uses
 show_uses rest uses are =
-    let finds = finds_uses show_task show_names [] show_has rest uses are in
+    let finds = finds_uses show_task show_names [] show_has show_bare rest uses are in
     record { no_fault = finds.0; found = finds.1 }
+
+record ReplayUses (rest : List Text) (uses : Uses) : Type 0 where
+  no_fault : Level (codes "replay") rest ≡ []
+  found : rows_after replay_task.rules [] rest ≡ found_after uses []
+
+replay_uses : (rest : List Text) (uses : Uses) → AreUses show_names [] rest uses → ReplayUses rest uses
+replay_uses rest uses are =
+    let finds = finds_uses replay_task show_names [] replay_has replay_bare rest uses are in
+    record { no_fault = finds.0; found = finds.1 }
+
+-- what the words of `explain` come to: the only fault is that one of a goal is wanting
+record ExplainUses (rest : List Text) (uses : Uses) : Type 0 where
+  fault : Level (codes "explain") rest ≡ check_fault explain_task (found_after uses []) false
+  found : rows_after explain_task.rules [] rest ≡ found_after uses []
+
+explain_uses : (rest goal : List Text) (uses : Uses) → AreGoalUses without_name goal_names rest goal uses → ExplainUses rest uses
+explain_uses rest goal uses are =
+    let finds = finds_goal explain_task without_name explain_has goal_names rest goal uses explain_words are in
+    record { fault = finds.0; found = finds.1 }
 
 -- what is found of uses
 module _ (found : List Row) (uses : Uses) (is : found ≡ found_after uses []) where
@@ -339,14 +399,14 @@ texts_of asked scope (inr joined) = are_texts asked.left_out nothing_known asked
 -- where the options ask for a recording that is taken so, the words name the task with it
 pub names_check : (words : List Text) (found : List Row) (scope : Scope) → Takes words (codes "check") found → AsksToCheck found scope → NamesCheck words scope
 names_check words found scope takes (asked, of, taken) =
-    let (uses, are) = takes_uses check_task check_names check_flags check_has takes.rest takes.no_fault in
+    let (uses, are) = takes_uses check_task check_names check_flags check_has check_bare takes.rest takes.no_fault in
     let finds = check_uses takes.rest uses are in
     let ask = found_ask found uses (takes.rows ∙ finds.found) asked of in
     (asked, (takes.program, takes.rest, takes.are, options_are takes.rest uses asked are ask (texts_of asked scope taken)), taken)
 
 pub names_show : (words : List Text) (found : List Row) (scope : Scope) → Takes words (codes "show") found → AsksToShow found scope → NamesShow words scope
 names_show words found scope takes (left_out, devices, is) =
-    let (uses, are) = takes_uses show_task show_names [] show_has takes.rest takes.no_fault in
+    let (uses, are) = takes_uses show_task show_names [] show_has show_bare takes.rest takes.no_fault in
     let finds = show_uses takes.rest uses are in
     let alone = show_alone takes.rest uses are in
     let Are : List Text → Type 0 = λ all. AreDevices all left_out in
@@ -360,6 +420,43 @@ names_show words found scope takes (left_out, devices, is) =
       (takes.program, takes.rest, takes.are, options_are takes.rest uses asked (show_wider takes.rest uses are) ask tt),
       record { not_joined = refl; no_setups = refl; is = is },
     )
+
+pub names_replay : (words : List Text) (found : List Row) (scope : Scope) → Takes words (codes "replay") found → AsksToShow found scope → NamesReplay words scope
+names_replay words found scope takes (left_out, devices, is) =
+    let (uses, are) = takes_uses replay_task show_names [] replay_has replay_bare takes.rest takes.no_fault in
+    let finds = replay_uses takes.rest uses are in
+    let alone = show_alone takes.rest uses are in
+    let Are : List Text → Type 0 = λ all. AreDevices all left_out in
+    let asked : Asked = record { joined = false; setups = []; left_out = left_out } in
+    let ask : AskFor uses asked = record {
+      joined = alone.joined;
+      setups = alone.setups;
+      devices = subst Are (chosen_found found uses (takes.rows ∙ finds.found) (codes "without")) devices;
+    } in (
+      asked,
+      (takes.program, takes.rest, takes.are, options_are takes.rest uses asked (show_wider takes.rest uses are) ask tt),
+      record { not_joined = refl; no_setups = refl; is = is },
+    )
+
+-- where the words that were found are a goal's, the words name `explain` with it
+same_words : (goal : Goal) (given : List Text) (three : AreThree given) → three.account ≡ account_word goal.account → three.side ≡ side_word goal.side → three.bound ≡ bound_word goal.bound
+    → given ≡ goal_words goal
+same_words goal given three account side bound = three.are ∙ (λ i. account i ∷ side i ∷ bound i ∷ [])
+
+pub names_explain : (words : List Text) (found : List Row) (goal : Goal) (scope : Scope) → Takes words (codes "explain") found → AsksForGoal found goal → AsksToShow found scope → NamesExplain words goal scope
+names_explain words found goal scope takes asks (left_out, devices, is) =
+    let of = takes_goal explain_task without_name explain_has goal_names takes.rest explain_words takes.no_fault in
+    let finds = explain_uses takes.rest of.goal of.uses of.are in
+    let three = three_given takes.rest of.goal of.uses of.are explain_task of.given in
+    let rows = takes.rows ∙ finds.found in
+    let same = same_words goal of.goal three
+    (cc (sym (account_found takes.rest of.goal of.uses of.are three) ∙ ap (first_of (codes "ACCOUNT")) (sym rows) ∙ asks.account))
+    (cc (sym (side_found takes.rest of.goal of.uses of.are three) ∙ ap (first_of (codes "SIDE")) (sym rows) ∙ asks.side))
+    (cc (sym (bound_found takes.rest of.goal of.uses of.are three) ∙ ap (first_of (codes "BOUND")) (sym rows) ∙ asks.bound)) in
+    let Are : List Text → Type 0 = λ all. AreDevices all left_out in
+    let left = subst Are (chosen_found found of.uses rows (codes "without")) devices in
+    let options = goal_back goal_names takes.rest of.goal of.uses of.are goal_names_apart left_out left in
+    (takes.program, takes.rest, left_out, takes.are, subst (λ all. AreGoalAndOptions takes.rest all left_out) same options, is)
 
 -- the options of a task have no fault, and what is found asks for the same
 record Finds (name : Text) (rest : List Text) (asked : Asked) : Type 0 where
@@ -378,6 +475,34 @@ show_finds rest asked options no_joined no_setups =
     let finds = show_uses rest of.uses of.are in
     record { no_fault = finds.no_fault; found = ask_found _ of.uses finds.found asked of.ask }
 
+replay_finds : (rest : List Text) (asked : Asked) → AreOptions rest asked → asked.joined ≡ false → asked.setups ≡ [] → Finds (codes "replay") rest asked
+replay_finds rest asked options no_joined no_setups =
+    let of = show_used rest asked options no_joined no_setups in
+    let finds = replay_uses rest of.uses of.are in
+    record { no_fault = finds.no_fault; found = ask_found _ of.uses finds.found asked of.ask }
+
+record FindsGoal (rest : List Text) (goal : Goal) (left_out : DeviceSet) : Type 0 where
+  no_fault : Level (codes "explain") rest ≡ []
+  words : AsksForGoal (rows_after explain_task.rules [] rest) goal
+  devices : AreDevices (values_of (codes "without") (rows_after explain_task.rules [] rest)) left_out
+
+explain_finds : (rest : List Text) (goal : Goal) (left_out : DeviceSet) → AreGoalAndOptions rest (goal_words goal) left_out → FindsGoal rest goal left_out
+explain_finds rest goal left_out options =
+    let given = goal_words goal in
+    let of = goal_used rest given left_out options goal_names tt (plain_goal goal) goal_names_apart in
+    let finds = explain_uses rest given of.uses of.are in
+    let three : AreThree given = record { account = account_word goal.account; side = side_word goal.side; bound = bound_word goal.bound; are = refl } in
+    let Are : List Text → Type 0 = λ all. AreDevices all left_out in
+    record {
+      no_fault = finds.fault ∙ none_wanting rest given of.uses of.are explain_task three;
+      words = record {
+        account = ap (first_of (codes "ACCOUNT")) finds.found ∙ account_found rest given of.uses of.are three;
+        side = ap (first_of (codes "SIDE")) finds.found ∙ side_found rest given of.uses of.are three;
+        bound = ap (first_of (codes "BOUND")) finds.found ∙ bound_found rest given of.uses of.are three;
+      };
+      devices = subst Are (sym (chosen_found (rows_after explain_task.rules [] rest) of.uses finds.found (codes "without"))) of.devices;
+    }
+
 -- words are the options of one asking at most
 pub one_asked : (words : List Text) (a b : Asked) → AreOptions words a → AreOptions words b → a ≡ b
 one_asked words a b is_a is_b =
@@ -393,6 +518,10 @@ no_fault words (Check scope) (asked, (program, rest, are, options), taken) =
     ap (fault_of mdbcheck) are ∙ (check_in rest).whole_fault program ∙ (check_finds rest asked options).no_fault
 no_fault words (Show scope) (asked, (program, rest, are, options), taken) =
     ap (fault_of mdbcheck) are ∙ (show_in rest).whole_fault program ∙ (show_finds rest asked options taken.not_joined taken.no_setups).no_fault
+no_fault words (Explain goal without) (program, rest, left_out, are, options, is) =
+    ap (fault_of mdbcheck) are ∙ (explain_in rest).whole_fault program ∙ (explain_finds rest goal left_out options).no_fault
+no_fault words (Replay without) (asked, (program, rest, are, options), taken) =
+    ap (fault_of mdbcheck) are ∙ (replay_in rest).whole_fault program ∙ (replay_finds rest asked options taken.not_joined taken.no_setups).no_fault
 
 -- so they are refused for want of memory, if at all
 pub wants_memory : (words : List Text) (error : Error) → HasKind (fault_of mdbcheck words) error → (task : Task) → AsksFor words task → kind_of error ≡ OutOfMemory
@@ -426,6 +555,21 @@ rest_same words a b program other rest more are too = ap (drop 2) (sym are ∙ t
 pub not_both : (words : List Text) (program other : Text) (rest more : List Text) → words ≡ program ∷ codes "check" ∷ rest → words ≡ other ∷ codes "show" ∷ more → ⊥
 not_both words program other rest more are too = let bad : codes "check" ≡ codes "show" = other_task words (codes "check") (codes "show") program other rest more are too in cc bad
 
+not_check_replay : (words : List Text) (program other : Text) (rest more : List Text) → words ≡ program ∷ codes "check" ∷ rest → words ≡ other ∷ codes "replay" ∷ more → ⊥
+not_check_replay words program other rest more are too = let bad : codes "check" ≡ codes "replay" = other_task words (codes "check") (codes "replay") program other rest more are too in cc bad
+
+not_show_replay : (words : List Text) (program other : Text) (rest more : List Text) → words ≡ program ∷ codes "show" ∷ rest → words ≡ other ∷ codes "replay" ∷ more → ⊥
+not_show_replay words program other rest more are too = let bad : codes "show" ≡ codes "replay" = other_task words (codes "show") (codes "replay") program other rest more are too in cc bad
+
+pub not_check_explain : (words : List Text) (program other : Text) (rest more : List Text) → words ≡ program ∷ codes "check" ∷ rest → words ≡ other ∷ codes "explain" ∷ more → ⊥
+not_check_explain words program other rest more are too = let bad : codes "check" ≡ codes "explain" = other_task words (codes "check") (codes "explain") program other rest more are too in cc bad
+
+pub not_show_explain : (words : List Text) (program other : Text) (rest more : List Text) → words ≡ program ∷ codes "show" ∷ rest → words ≡ other ∷ codes "explain" ∷ more → ⊥
+not_show_explain words program other rest more are too = let bad : codes "show" ≡ codes "explain" = other_task words (codes "show") (codes "explain") program other rest more are too in cc bad
+
+pub not_explain_replay : (words : List Text) (program other : Text) (rest more : List Text) → words ≡ program ∷ codes "explain" ∷ rest → words ≡ other ∷ codes "replay" ∷ more → ⊥
+not_explain_replay words program other rest more are too = let bad : codes "explain" ≡ codes "replay" = other_task words (codes "explain") (codes "replay") program other rest more are too in cc bad
+
 -- where they ask for a task, its options were found
 pub check_asked : (words : List Text) (found : List Row) → Takes words (codes "check") found → (task : Task) → AsksFor words task → (scope : Scope) × AsksToCheck found scope
 check_asked words found takes (Check scope) (asked, (program, rest, are, options), taken) =
@@ -435,6 +579,10 @@ check_asked words found takes (Check scope) (asked, (program, rest, are, options
     (scope, (asked, subst Of (sym (takes.rows ∙ ap (rows_after check_task.rules []) same)) finds.found, taken))
 check_asked words found takes (Show scope) (asked, (program, rest, are, options), taken) =
     absurd (not_both words takes.program program takes.rest rest takes.are are)
+check_asked words found takes (Explain goal without) (program, rest, left_out, are, options, is) =
+    absurd (not_check_explain words takes.program program takes.rest rest takes.are are)
+check_asked words found takes (Replay without) (asked, (program, rest, are, options), taken) =
+    absurd (not_check_replay words takes.program program takes.rest rest takes.are are)
 
 pub show_asked : (words : List Text) (found : List Row) → Takes words (codes "show") found → (task : Task) → AsksFor words task → (scope : Scope) × AsksToShow found scope
 show_asked words found takes (Check scope) (asked, (program, rest, are, options), taken) =
@@ -444,6 +592,38 @@ show_asked words found takes (Show scope) (asked, (program, rest, are, options),
     let Of : List Row → Type 0 = λ rows. AreDevices (values_of (codes "without") rows) asked.left_out in
     let finds = show_finds rest asked options taken.not_joined taken.no_setups in
     (scope, (asked.left_out, subst Of (sym (takes.rows ∙ ap (rows_after show_task.rules []) same)) finds.found.devices, taken.is))
+show_asked words found takes (Explain goal without) (program, rest, left_out, are, options, is) =
+    absurd (not_show_explain words takes.program program takes.rest rest takes.are are)
+show_asked words found takes (Replay without) (asked, (program, rest, are, options), taken) =
+    absurd (not_show_replay words takes.program program takes.rest rest takes.are are)
+
+pub explain_asked : (words : List Text) (found : List Row) → Takes words (codes "explain") found → (task : Task) → AsksFor words task → ((goal : Goal) × AsksForGoal found goal) × ((scope : Scope) × AsksToShow found scope)
+explain_asked words found takes (Check scope) (asked, (program, rest, are, options), taken) =
+    absurd (not_check_explain words program takes.program rest takes.rest are takes.are)
+explain_asked words found takes (Show scope) (asked, (program, rest, are, options), taken) =
+    absurd (not_show_explain words program takes.program rest takes.rest are takes.are)
+explain_asked words found takes (Explain goal without) (program, rest, left_out, are, options, is) =
+    let same = rest_same words (codes "explain") (codes "explain") takes.program program takes.rest rest takes.are are in
+    let rows = sym (takes.rows ∙ ap (rows_after explain_task.rules []) same) in
+    let finds = explain_finds rest goal left_out options in (
+      (goal, subst (λ all. AsksForGoal all goal) rows finds.words),
+      (leaving_out without, (left_out, subst (λ all. AreDevices (values_of (codes "without") all) left_out) rows finds.devices, is)),
+    )
+explain_asked words found takes (Replay without) (asked, (program, rest, are, options), taken) =
+    absurd (not_explain_replay words takes.program program takes.rest rest takes.are are)
+
+pub replay_asked : (words : List Text) (found : List Row) → Takes words (codes "replay") found → (task : Task) → AsksFor words task → (scope : Scope) × AsksToShow found scope
+replay_asked words found takes (Check scope) (asked, (program, rest, are, options), taken) =
+    absurd (not_check_replay words program takes.program rest takes.rest are takes.are)
+replay_asked words found takes (Show scope) (asked, (program, rest, are, options), taken) =
+    absurd (not_show_replay words program takes.program rest takes.rest are takes.are)
+replay_asked words found takes (Explain goal without) (program, rest, left_out, are, options, is) =
+    absurd (not_explain_replay words program takes.program rest takes.rest are takes.are)
+replay_asked words found takes (Replay without) (asked, (program, rest, are, options), taken) =
+    let same = rest_same words (codes "replay") (codes "replay") takes.program program takes.rest rest takes.are are in
+    let Of : List Row → Type 0 = λ rows. AreDevices (values_of (codes "without") rows) asked.left_out in
+    let finds = replay_finds rest asked options taken.not_joined taken.no_setups in
+    (leaving_out without, (asked.left_out, subst Of (sym (takes.rows ∙ ap (rows_after replay_task.rules []) same)) finds.found.devices, taken.is))
 
 -- ---- one task with one scope
 
@@ -473,3 +653,33 @@ one_show words a b (asked, names, taken) (also, names_too, taken_too) =
 pub not_check_and_show : (words : List Text) (a b : Scope) → NamesCheck words a → NamesShow words b → ⊥
 not_check_and_show words a b (asked, (program, rest, are, options), taken) (also, (other, more, too, options_too), taken_too) =
     not_both words program other rest more are too
+
+pub one_replay : (words : List Text) (a b : Scope) → NamesReplay words a → NamesReplay words b → a ≡ b
+one_replay words a b (asked, names, taken) (also, names_too, taken_too) =
+    let same = asked_same words (codes "replay") asked also names names_too in
+    taken.is ∙ ap (λ (k : Asked). leaving_out k.left_out) same ∙ sym taken_too.is
+
+pub not_check_and_replay : (words : List Text) (a b : Scope) → NamesCheck words a → NamesReplay words b → ⊥
+not_check_and_replay words a b (asked, (program, rest, are, options), taken) (also, (other, more, too, options_too), taken_too) =
+    not_check_replay words program other rest more are too
+
+pub not_show_and_replay : (words : List Text) (a b : Scope) → NamesShow words a → NamesReplay words b → ⊥
+not_show_and_replay words a b (asked, (program, rest, are, options), taken) (also, (other, more, too, options_too), taken_too) =
+    not_show_replay words program other rest more are too
+
+pub one_explain : (words : List Text) (a b : Goal) (s t : Scope) → NamesExplain words a s → NamesExplain words b t → (a ≡ b) × (s ≡ t)
+one_explain words a b s t (program, rest, left_out, are, options, is) (other, more, left_too, too, options_too, is_too) =
+    let same = rest_same words (codes "explain") (codes "explain") program other rest more are too in
+    let of_a = explain_finds rest a left_out options in
+    let of_b = explain_finds rest b left_too (subst (λ all. AreGoalAndOptions all (goal_words b) left_too) (sym same) options_too) in (
+      one_goal _ a b of_a.words of_b.words,
+      is ∙ ap leaving_out (one_set _ left_out left_too of_a.devices of_b.devices) ∙ sym is_too,
+    )
+
+pub explain_only : (words : List Text) (goal : Goal) (a b : Scope) → NamesExplain words goal a → NamesCheck words b ⊎ NamesShow words b ⊎ NamesReplay words b → ⊥
+explain_only words goal a b (program, rest, left_out, are, options, is) (inl (asked, (other, more, too, options_too), taken)) =
+    not_check_explain words other program more rest too are
+explain_only words goal a b (program, rest, left_out, are, options, is) (inr (inl (asked, (other, more, too, options_too), taken))) =
+    not_show_explain words other program more rest too are
+explain_only words goal a b (program, rest, left_out, are, options, is) (inr (inr (asked, (other, more, too, options_too), taken))) =
+    not_explain_replay words program other rest more are too

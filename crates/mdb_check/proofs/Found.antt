@@ -1,17 +1,21 @@
 -- What is found of an option: after uses of options, and in the matches.
 use Rattle.std.proofs.Common.{ap, ap₂, refl, sym, true, false, ◌∙◌, ◌≡◌, ◌||◌, Bool, List, [], ◌∷◌, ◌++◌, append_assoc, inl, inr, Option, Some, None, map, option_map, true≢false, unwrap_or}
 use Rattle.std.proofs.lemmas.List.{append-nil}
-use Rattle.std.specs.Prelude.{find, if◌then◌else◌, is_some}
+use Rattle.std.specs.Prelude.{find, if◌then◌else◌, is_some, option_and_then, slice_get}
+use Rattle.std.specs.Option.{option_map_or}
 use Rattle.std.specs.Str.{bytes_eq}
 use Rattle.std.proofs.lemmas.Bool.{cases_Bool}
 use Rattle.std.proofs.lemmas.Slice.Eq.{bytes_eq-Decides}
 use Rattle.std.specs.Borrow.{Bor}
 use Rattle.clap.proofs.WalkLemmas.{raw_values-rows}
 use Rattle.clap.specs.Matches.{matched_of, raw_values}
-use Rattle.clap.specs.Walk.{Row, Text, has_row, rows_of, stronger}
+use Rattle.clap.specs.Facts.{explicit_source}
+use Rattle.clap.specs.Takes.{is_given}
+use Rattle.clap.specs.Walk.{Row, Text, first_of, has_row, rows_of, stronger}
 use Rattle.clap.specs.declared.parser.matches.Found.{Found}
 use Rattle.clap.specs.declared.builder.value_parser.Reading.TheVariants.{AsWritten}
-use Rattle.clap.specs.declared.parser.matches.ValueSource.TheVariants.{CommandLine}
+use Rattle.clap.specs.declared.parser.matches.ValueSource.{ValueSource}
+use Rattle.clap.specs.declared.parser.matches.ValueSource.TheVariants.{CommandLine, DefaultValue}
 use Rattle.mdb_check.specs.inner.CommandLine.{values_of}
 use Rattle.mdb_check.proofs.Options.{Uses, found_after, found_with}
 
@@ -83,7 +87,7 @@ one_more name one (row ∷ rows) = elim (cases_Bool (bytes_eq row.id one.0)) [
       | inr not ↦ not
     ]
 
-chosen_first : (name : Text) (one : Text × List Text) (uses : Uses) → own name one ++ chosen name uses ≡ chosen name (one ∷ uses)
+pub chosen_first : (name : Text) (one : Text × List Text) (uses : Uses) → own name one ++ chosen name uses ≡ chosen name (one ∷ uses)
 chosen_first name one uses = by (bytes_eq one.0 name)
   where
     by : (b : Bool) → (if b then one.1 else []) ++ chosen name uses ≡ (if b then one.1 ++ chosen name uses else chosen name uses)
@@ -114,7 +118,7 @@ or_again true b = refl
 or_again false b = sym (or_none b)
 
 -- its row is there after a use, or before it
-row_more : (name : Text) (one : Text × List Text) (rows : List Row) → has_row name (found_with rows one) ≡ (has_row name rows || bytes_eq one.0 name)
+pub row_more : (name : Text) (one : Text × List Text) (rows : List Row) → has_row name (found_with rows one) ≡ (has_row name rows || bytes_eq one.0 name)
 row_more name one [] = or_none (bytes_eq one.0 name)
 row_more name one (row ∷ rows) = elim (cases_Bool (bytes_eq row.id one.0)) [
   | inl here ↦
@@ -149,6 +153,69 @@ pub row_read : (found : Found) (name : Text) → is_some (matched_of found name)
 row_read found name =
     sym (some_mapped raw_values (matched_of found name)) ∙ ap is_some (raw_values-rows found name)
     ∙ some_mapped (λ (r : Row). r.values) (find (λ r. bytes_eq r.id name) (rows_of found)) ∙ some_row name (rows_of found)
+
+-- ---- that an option was given
+
+or_true : (a : Bool) → true ≡ (a || true)
+or_true true = refl
+or_true false = refl
+
+-- its first row says so
+abbrev GivenIf : Text → Row → List Row → Bool → Bool
+GivenIf name row rows b = option_map_or (λ (r : Row). explicit_source r.source) (if b then Some row else find (λ r. bytes_eq r.id name) rows) false
+
+-- the words give what they use
+given_row : (source : Option ValueSource) → explicit_source (Some (stronger source CommandLine)) ≡ true
+given_row None = refl
+given_row (Some CommandLine) = refl
+given_row (Some DefaultValue) = refl
+
+given_more : (name : Text) (one : Text × List Text) (rows : List Row) → is_given name (found_with rows one) ≡ (is_given name rows || bytes_eq one.0 name)
+given_more name one [] = by (bytes_eq one.0 name)
+  where
+    by : (b : Bool) → option_map_or (λ (r : Row). explicit_source r.source) (if b then Some (record { id = one.0; values = one.1; count = None; source = Some CommandLine; reading = AsWritten }) else None) false ≡ b
+    by true = refl
+    by false = refl
+given_more name one (row ∷ rows) = elim (cases_Bool (bytes_eq row.id one.0)) [
+  | inl here ↦
+      let same_name : bytes_eq row.id name ≡ bytes_eq one.0 name = ap (λ id. bytes_eq id name) ((bytes_eq-Decides row.id one.0).0 here) in
+      ap (λ b. is_given name (After one row rows b)) here ∙ elim (cases_Bool (bytes_eq row.id name)) [
+        | inl same ↦
+            ap (GivenIf name (more one row) rows) same ∙ given_row row.source ∙ or_true (is_given name (row ∷ rows))
+            ∙ ap (λ b. is_given name (row ∷ rows) || b) (sym same ∙ same_name)
+        | inr other ↦
+            ap (GivenIf name (more one row) rows) other ∙ sym (ap (GivenIf name row rows) other) ∙ sym (or_none (is_given name (row ∷ rows)))
+            ∙ ap (λ b. is_given name (row ∷ rows) || b) (sym other ∙ same_name)
+      ]
+  | inr there ↦ ap (λ b. is_given name (After one row rows b)) there ∙ elim (cases_Bool (bytes_eq row.id name)) [
+    | inl same ↦
+        ap (GivenIf name row (found_with rows one)) same ∙ sym (or_none (explicit_source row.source))
+        ∙ ap₂ (λ a b. a || b) (sym (ap (GivenIf name row rows) same)) (sym (unlike ((bytes_eq-Decides row.id name).0 same) there))
+    | inr other ↦
+        ap (GivenIf name row (found_with rows one)) other ∙ given_more name one rows
+        ∙ ap (λ a. a || bytes_eq one.0 name) (sym (ap (GivenIf name row rows) other))
+  ]
+]
+  where
+    unlike : row.id ≡ name → bytes_eq row.id one.0 ≡ false → bytes_eq one.0 name ≡ false
+    unlike same there = elim (cases_Bool (bytes_eq one.0 name)) [
+      | inl also ↦ absurd (true≢false (sym ((bytes_eq-Decides row.id one.0).1 (same ∙ sym ((bytes_eq-Decides one.0 name).0 also))) ∙ there))
+      | inr not ↦ not
+    ]
+
+pub given_found : (name : Text) (uses : Uses) (rows : List Row) → is_given name (found_after uses rows) ≡ (is_given name rows || is_used name uses)
+given_found name [] rows = sym (or_none (is_given name rows))
+given_found name (one ∷ uses) rows =
+    given_found name uses (found_with rows one) ∙ ap (λ b. b || is_used name uses) (given_more name one rows)
+    ∙ sym (or_both (is_given name rows) (bytes_eq one.0 name) (is_used name uses))
+
+-- the first value of an option is the first of its values
+pub first_found : (name : Text) (rows : List Row) → first_of name rows ≡ slice_get (values_of name rows) 0
+first_found name rows = by (find (λ r. bytes_eq r.id name) rows)
+  where
+    by : (o : Option Row) → option_and_then (λ (r : Row). slice_get r.values 0) o ≡ slice_get (unwrap_or (option_map (λ (r : Row). r.values) o) []) 0
+    by None = refl
+    by (Some row) = refl
 
 -- the values that the matches tell
 pub values_read : (found : Found) (name : Text) (told : Option (Bor (List (Bor Text)))) → option_map (λ s. map (λ v. v.now) s.now) told ≡ option_map raw_values (matched_of found name)

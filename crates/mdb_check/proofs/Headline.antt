@@ -14,7 +14,9 @@ use Rattle.mdb_follow.specs.Sales.{SalesFollowApprovals}
 use Rattle.mdb_follow.specs.Sums.{AccountSums}
 use Rattle.mdb_check.specs.declared.outcome.Outcome.{Outcome}
 use Rattle.mdb_check.specs.declared.outcome.Outcome.TheVariants.{Yes, No}
-use Rattle.mdb_check.specs.Accounts.{AccountSide, OfController, OfDevice, OfDifference, range_of, value_of}
+use Rattle.mdb_follow.specs.declared.goal.AccountSide.{AccountSide}
+use Rattle.mdb_follow.specs.declared.goal.AccountSide.TheVariants as sides
+use Rattle.mdb_follow.specs.Goals.{side_range, side_value}
 use Rattle.mdb_check.specs.Headline.{AreFirstRows, HasApprovedSales, HasBounds, HaveRun, Headline, NamesFirstRow}
 use Rattle.mdb_check.specs.Verdict.{AreRows, IsAnswer, IsImpossible, IsPossible}
 use Rattle.mdb_check.proofs.OneAnswer.{row_one}
@@ -36,7 +38,7 @@ one_list [] rows (event ∷ events) told heard = absurd heard
 one_list (fields ∷ records) rows [] told heard = absurd heard
 
 -- as many rows as records
-as_many : (records : List (List (List ℕ))) (rows : List Event) → AreRows records rows → length rows ≡ length records
+pub as_many : (records : List (List (List ℕ))) (rows : List Event) → AreRows records rows → length rows ≡ length records
 as_many [] [] told = refl
 as_many (fields ∷ records) (row ∷ rows) told = ap suc (as_many records rows told.1)
 as_many [] (row ∷ rows) told = absurd told
@@ -82,10 +84,10 @@ yes_has_run scope limit records report is =
 
 -- the ranges of an account on its sides
 on_side : {Kind : AllSums → Type 0} (sums : AllSums → AccountSums) (account : Account) → IsAccount Kind sums account → (side : AccountSide)
-    → IsRange Kind (λ s. value_of side (sums s)) (range_of side account)
-on_side sums account is OfDevice = is.device
-on_side sums account is OfController = is.controller
-on_side sums account is OfDifference = is.difference
+    → IsRange Kind (λ s. side_value side (sums s)) (side_range side account)
+on_side sums account is sides.Device = is.device
+on_side sums account is sides.Controller = is.controller
+on_side sums account is sides.Difference = is.difference
 
 -- what the law of a report's accounts says
 abbrev pub AccountsAreOfRuns : (scope : Scope) → Type 0
@@ -96,7 +98,7 @@ AccountsAreOfRuns scope =
 -- the ranges of a report are exact
 has_bounds : (scope : Scope) → AccountsAreOfRuns scope → (limit : ℕ) (records : List (List (List ℕ))) (report : Report) → IsPossible scope limit records report → HasBounds scope records report
 has_bounds scope accounts limit records report is rows told account side =
-    let P : List Event → Type 0 = λ es. IsRange (Run scope es) (λ s. value_of side (sums_of account s)) (range_of side (account_of account report)) in
+    let P : List Event → Type 0 = λ es. IsRange (Run scope es) (λ s. side_value side (sums_of account s)) (side_range side (account_of account report)) in
     subst P (one_list records is.rows rows is.told told) (on_side (sums_of account) (account_of account report) (accounts is.rows report is.is account) side)
 
 -- the records up to the row that is named, and these rows

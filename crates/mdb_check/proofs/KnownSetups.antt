@@ -1,14 +1,12 @@
 -- What is known with the values of `--setup`.
-use Rattle.std.proofs.Common.{ap, refl, subst, sym, ◌∙◌, ◌≡◌, ◌<◌, ◌+◌, ℕ, List, [], ◌∷◌, ◌++◌, Option, Some, None, drop, get_or, length, map, take, unwrap_or}
+use Rattle.std.proofs.Common.{ap, refl, subst, sym, ◌∙◌, ◌≡◌, ◌<◌, ◌+◌, ℕ, List, [], ◌∷◌, ◌++◌, Some, drop, get_or, length, map, take, unwrap_or}
 use Rattle.std.specs.Borrow.{Bor}
 use Rattle.std.proofs.lemmas.List.{drop_more, map-append, take-append-drop, take_more}
 use Rattle.mdb_msgs.specs.declared.command.Device.{Device}
 use Rattle.mdb_msgs.specs.declared.device_set.DeviceSet.{DeviceSet}
-use Rattle.mdb_msgs.specs.declared.reply.Reply.{Reply}
 use Rattle.mdb_msgs.specs.declared.setups.Setups.{Setups}
 use Rattle.mdb_msgs.specs.Laws.{BlockHasOneReply}
-use Rattle.mdb_msgs.specs.Replies.{SpellsReply}
-use Rattle.mdb_check.specs.Program.{AddsSetup, AreSetups, setup_text}
+use Rattle.mdb_check.specs.Program.{AddsSetup, AreSetups}
 use Rattle.mdb_check.specs.SetupData.{IsSetupOf, known_with}
 use Rattle.mdb_check.specs.inner.SetupReading.{setup_of}
 use Rattle.mdb_check.proofs.SetupData.{spells_so}

@@ -10,7 +10,7 @@ use Rattle.mdb_bus.specs.ActLists.{Piece, ArePieces, HasActList, IsActList, even
 use Rattle.mdb_bus.specs.LinkFaults.{IsLinkFault, RowBreaks, situation_of}
 use Rattle.mdb_follow.specs.declared.follower.TheConstants.{ROWS_MAX}
 use Rattle.mdb_check.specs.declared.outcome.RunFault.{RunFault}
-use Rattle.mdb_check.specs.declared.outcome.RunFault.TheVariants.{BadRow, TooLong, Read, Write, Memory}
+use Rattle.mdb_check.specs.declared.outcome.RunFault.TheVariants.{BadRow, TooLong, Read, Write, Memory, Mark}
 use Rattle.mdb_check.specs.Show.{AreShown, IsOwnShowing, IsShowing}
 use Rattle.mdb_check.specs.ShowText.{closed_pieces, fault_line, show_text}
 use Rattle.mdb_check.proofs.OneAnswer.{GoesOn, compared, one_refusal, row_not_refused, row_one}
@@ -64,6 +64,7 @@ Ends scope pieces rest (Err TooLong) text =
 Ends scope pieces rest (Err Read) text = ⊥
 Ends scope pieces rest (Err Write) text = ⊥
 Ends scope pieces rest (Err Memory) text = ⊥
+Ends scope pieces rest (Err (Mark row)) text = ⊥
 
 record Ending (scope : Scope) (records : List (List (List ℕ))) (answer : Result (Option LinkFault) RunFault) (text : List ℕ) : Type 0 where
   pieces : List Piece
@@ -117,6 +118,7 @@ ending scope laws records (Err TooLong) text is own = record {
 ending scope laws records (Err Read) text is own = absurd own
 ending scope laws records (Err Write) text is own = absurd own
 ending scope laws records (Err Memory) text is own = absurd own
+ending scope laws records (Err (Mark row)) text is own = absurd is
 
 none_left : (rest : List (List (List ℕ))) (fields : List (List ℕ)) (more : List (List (List ℕ))) → rest ≡ [] → rest ≡ fields ∷ more → ⊥
 none_left rest fields more none some = let clash : [] ≡ fields ∷ more = sym none ∙ some in cc clash
@@ -173,9 +175,11 @@ one_end scope laws pieces rest (Err TooLong) (Err TooLong) s t p q = (refl, p.4 
 one_end scope laws pieces rest (Err Read) b s t p q = absurd p
 one_end scope laws pieces rest (Err Write) b s t p q = absurd p
 one_end scope laws pieces rest (Err Memory) b s t p q = absurd p
+one_end scope laws pieces rest (Err (Mark row)) b s t p q = absurd p
 one_end scope laws pieces rest a (Err Read) s t p q = absurd q
 one_end scope laws pieces rest a (Err Write) s t p q = absurd q
 one_end scope laws pieces rest a (Err Memory) s t p q = absurd q
+one_end scope laws pieces rest a (Err (Mark row)) s t p q = absurd q
 
 -- the showing of a text is one
 pub one_showing : (scope : Scope) → BusLaws scope → (records : List (List (List ℕ))) (a b : Result (Option LinkFault) RunFault) (s t : List ℕ) → IsShowing scope records a s → IsShowing scope records b t

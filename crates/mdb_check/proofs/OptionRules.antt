@@ -11,7 +11,7 @@ use Rattle.clap.specs.declared.error.kind.ErrorKind.TheVariants as kind
 use Rattle.clap.specs.Simple.{Shape, filled, help_rule, with_index}
 use Rattle.clap.specs.Takes.{is_given}
 use Rattle.clap.specs.Walk.{Held, Row, Rule, Text, arg_by_id, arg_by_index, arg_by_long, arg_by_short, has_long, has_row, has_short, with_default}
-use Rattle.mdb_check.proofs.Options.{HasOptions, built_flag, built_option}
+use Rattle.mdb_check.proofs.Options.{HasOptions, TakesNoWord, built_flag, built_option}
 use Rattle.mdb_check.proofs.Refusals.{IsOneOf, both_pass}
 
 -- the flag of each command that asks for help, as it is built
@@ -111,7 +111,7 @@ no_index [] (first ∷ rest) = no_index [] rest
 no_index (first ∷ rest) flags = no_index rest flags
 
 -- no option has a default, and none is required
-no_default : (rows : List Row) (a : Rule) → a.defaults ≡ [] → (default_fault rows a ≡ []) × (with_default rows a ≡ rows)
+pub no_default : (rows : List Row) (a : Rule) → a.defaults ≡ [] → (default_fault rows a ≡ []) × (with_default rows a ≡ rows)
 no_default rows a none = rw none (by_row (has_row a.id rows))
   where
     by_row : (b : Bool) → ((if b || true then [] else given_default_fault a []) ≡ []) × ((if b then rows else rows) ≡ rows)
@@ -147,7 +147,6 @@ with_built s names flags = record s { rules = option_rules names flags; arg_requ
 
 pub has_options : (s : Shape) (names flags : List Text) → AreApart names flags → HasOptions (with_built s names flags) names flags
 has_options s names flags apart = record {
-  no_positional = no_index names flags;
   by_id = id_known names flags;
   by_long = long_known names flags;
   by_flag = λ name known. past_options names flags name (apart name known) ∙ flag_known flags name known;
@@ -157,7 +156,6 @@ has_options s names flags apart = record {
   ];
   no_short = λ c rest h next e. short_fails (has_short help c) rest h next (sym (ap (λ a. short_fault (option_rules names flags) s.args_override_self a rest h next) (short_found names flags c)) ∙ e);
   no_defaults = λ rows. none_default rows names flags;
-  no_check = λ rows. ap (λ b. check_kinds false false b) (none_required rows names flags);
 }
   where
     asks : (k : Kinds) → ◌≢◌ {A = Kinds} (or_else k (kind.DisplayHelp ∷ [])) []
@@ -172,3 +170,9 @@ has_options s names flags apart = record {
     short_fails : (is : Bool) (rest : Text) (h : Held) (next : Held → Kinds) → short_fault (option_rules names flags) s.args_override_self (if is then Some help else None) rest h next ≢ []
     short_fails true rest h next e = asks (settle_fault (option_rules names flags) s.args_override_self h) (both_pass _ _ e).0
     short_fails false rest h next e = cc e
+
+pub takes_no_word : (s : Shape) (names flags : List Text) → TakesNoWord (with_built s names flags)
+takes_no_word s names flags = record {
+  no_positional = no_index names flags;
+  no_check = λ rows. ap (λ b. check_kinds false false b) (none_required rows names flags);
+}

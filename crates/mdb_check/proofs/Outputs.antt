@@ -12,7 +12,7 @@ use Rattle.mdb_check.specs.declared.outcome.RunFault.TheVariants.{Write}
 use Rattle.mdb_check.proofs.Texts.{appended}
 use Rattle.mdb_bus.specs.declared.scope.Scope.{Scope}
 
-grown_none : (a : Option (List ℕ)) → Appends a a []
+pub grown_none : (a : Option (List ℕ)) → Appends a a []
 grown_none None = tt
 grown_none (Some bytes) = sym (append-nil bytes)
 

@@ -46,14 +46,14 @@ all_append Is [] (e ∷ first) other second told more = absurd told
 all_append Is (r ∷ one) [] other second told more = absurd told
 
 -- the records of rows that have parts have parts too
-record Parts {Row : Type 0} (Is : List (List ℕ) → Row → Type 0) (records : List (List (List ℕ))) (rows more : List Row) : Type 0 where
-  done : List (List (List ℕ))
-  after : List (List (List ℕ))
-  is : records ≡ done ++ after
-  told : AreAll Is done rows
-  others : AreAll Is after more
+pub record Parts {Row : Type 0} (Is : List (List ℕ) → Row → Type 0) (records : List (List (List ℕ))) (rows more : List Row) : Type 0 where
+  pub done : List (List (List ℕ))
+  pub after : List (List (List ℕ))
+  pub is : records ≡ done ++ after
+  pub told : AreAll Is done rows
+  pub others : AreAll Is after more
 
-parts_of : {Row : Type 0} (Is : List (List ℕ) → Row → Type 0) (records : List (List (List ℕ))) (rows more : List Row) → AreAll Is records (rows ++ more) → Parts Is records rows more
+pub parts_of : {Row : Type 0} (Is : List (List ℕ) → Row → Type 0) (records : List (List (List ℕ))) (rows more : List Row) → AreAll Is records (rows ++ more) → Parts Is records rows more
 parts_of Is records [] more told = record { done = []; after = records; is = refl; told = tt; others = told }
 parts_of Is [] (row ∷ rows) more told = absurd told
 parts_of Is (fields ∷ records) (row ∷ rows) more told =

@@ -14,7 +14,7 @@ use Rattle.mdb_follow.specs.Runs.{IsReached}
 use Rattle.mdb_check.specs.declared.outcome.Outcome.{Outcome}
 use Rattle.mdb_check.specs.declared.outcome.Outcome.TheVariants.{Yes, No}
 use Rattle.mdb_check.specs.declared.outcome.RunFault.{RunFault}
-use Rattle.mdb_check.specs.declared.outcome.RunFault.TheVariants.{BadRow, TooLong, Read, Write, Memory}
+use Rattle.mdb_check.specs.declared.outcome.RunFault.TheVariants.{BadRow, TooLong, Read, Write, Memory, Mark}
 use Rattle.mdb_check.specs.Show.{IsShownToFault}
 use Rattle.mdb_check.specs.ShownFault.{IsMachineRule, IsNoUpTo}
 use Rattle.mdb_check.specs.Verdict.{IsAnswer, IsBadRow, IsImpossible, IsOwnAnswer, IsTooLong}
@@ -144,3 +144,4 @@ same_fault scope laws records fault text (Err TooLong) shown is own =
 same_fault scope laws records fault text (Err Read) shown is own = absurd own
 same_fault scope laws records fault text (Err Write) shown is own = absurd own
 same_fault scope laws records fault text (Err Memory) shown is own = absurd own
+same_fault scope laws records fault text (Err (Mark row)) shown is own = absurd is

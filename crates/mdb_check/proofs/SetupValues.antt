@@ -1,5 +1,5 @@
 -- The values of `--setup`, as they are read.
-use Rattle.std.proofs.Common.{ap, ap₂, arith, refl, subst, sym, true, false, ◌∙◌, ◌≡◌, ◌≢◌, ◌<◌, ◌≤◌, ◌+◌, ◌-◌, ◌*◌, ◌/◌, ◌%◌, ◌==◌, ◌⊎◌, ℕ, Bool, List, [], ◌∷◌, ◌++◌, append_assoc, inl, inr, drop, get_or, length, length-append, length-take-le, suc, take, take-append-drop, Option, Some, None, Result, Ok, Err, IsErrAnd}
+use Rattle.std.proofs.Common.{ap, ap₂, arith, refl, subst, sym, true, false, ◌∙◌, ◌≡◌, ◌<◌, ◌≤◌, ◌+◌, ◌-◌, ◌/◌, ◌%◌, ◌==◌, ℕ, Bool, List, [], ◌∷◌, ◌++◌, drop, get_or, length, length-append, length-take-le, suc, take, take-append-drop, Option, Some, None, Result, Ok, Err, IsErrAnd}
 use Rattle.std.specs.Prelude.{if◌then◌else◌, nat_lt, All, IsSome, MatchResult, sum}
 use Rattle.std.specs.List.{before_first, position_or_len}
 use Rattle.mdb_check.specs.Program.{setup_text}
@@ -7,7 +7,7 @@ use Rattle.std.specs.Fmt.{digit_glyph}
 use Rattle.std.proofs.Math.Seq.{drop-append_seam}
 use Rattle.std.proofs.lemmas.Bool.{eqb-true, ltb-false, ltb-true}
 use Rattle.std.proofs.lemmas.List.{append-nil, take_rest}
-use Rattle.mdb_blocks.specs.Block.{IsBlock, block_of}
+use Rattle.mdb_blocks.specs.Block.{IsBlock}
 use Rattle.mdb_msgs.specs.declared.command.Device.{Device}
 use Rattle.mdb_msgs.specs.declared.command.Device.TheVariants.{Changer, Bill, Reader}
 use Rattle.mdb_msgs.specs.declared.command.ReaderUnit.TheVariants.{First, Second}

@@ -12,7 +12,7 @@ use Rattle.mdb_bus.specs.ActLists.{Piece, Whole, ArePieces, events_of, piece_eve
 use Rattle.mdb_bus.specs.Bus.{GoesOn, StandsFor, scope_of}
 use Rattle.mdb_bus.specs.LinkFaults.{IsLinkFault}
 use Rattle.mdb_check.specs.declared.outcome.RunFault.{RunFault}
-use Rattle.mdb_check.specs.declared.outcome.RunFault.TheVariants.{BadRow, TooLong, Read, Write, Memory}
+use Rattle.mdb_check.specs.declared.outcome.RunFault.TheVariants.{BadRow, TooLong, Read, Write, Memory, Mark}
 use Rattle.mdb_check.specs.declared.showing.Lines.{Lines}
 use Rattle.mdb_check.specs.inner.ShowSteps.{HasAdded, HasPieces, HasShown, IsAdded, IsAddedToFault, IsNotTaken, LeadInto, Output, Puts, ended_text}
 use Rattle.mdb_check.specs.ShowText.{closed_pieces, fault_line, show_text}
@@ -203,6 +203,7 @@ line_untaken scope lines left before now later earlier events i text has added T
 line_untaken scope lines left before now later earlier events i text has added Read not_taken = absurd not_taken
 line_untaken scope lines left before now later earlier events i text has added Write not_taken =
     (show_text (closed_pieces has.pieces) ++ text, added, break_both before now later (show_text (closed_pieces has.pieces)) text has.written not_taken)
+line_untaken scope lines left before now later earlier events i text has added (Mark row) not_taken = absurd not_taken
 line_untaken scope lines left before now later earlier events i text has added Memory not_taken =
     let P : Output → Type 0 = λ bytes. Puts before bytes (show_text (closed_pieces has.pieces)) in
     (show_text (closed_pieces has.pieces), record { pieces = has.pieces; lead = lead_into scope lines before now earlier events i has; lines = refl }, subst P (sym not_taken) has.written)

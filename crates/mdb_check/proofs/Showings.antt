@@ -9,7 +9,7 @@ use Rattle.mdb_bus.specs.ActLists.{ArePieces, events_of}
 use Rattle.mdb_bus.specs.Bus.{StandsFor, scope_of}
 use Rattle.mdb_follow.specs.declared.follower.TheConstants.{ROWS_MAX}
 use Rattle.mdb_check.specs.declared.outcome.RunFault.{RunFault}
-use Rattle.mdb_check.specs.declared.outcome.RunFault.TheVariants.{BadRow, TooLong, Read, Write, Memory}
+use Rattle.mdb_check.specs.declared.outcome.RunFault.TheVariants.{BadRow, TooLong, Read, Write, Memory, Mark}
 use Rattle.mdb_check.specs.declared.page.Page.{Page}
 use Rattle.mdb_check.specs.declared.showing.Lines.{Lines}
 use Rattle.mdb_check.specs.inner.Ending.{AreRead, HasEnded, HasTaken, IsStopped, IsTakenWhole}
@@ -106,6 +106,7 @@ untaken scope all lines before now later ended Write not_taken =
         broken = break_both before now later text (cut_text lines.shown lines.rows) ended.has.written not_taken;
       },
     )
+untaken scope all lines before now later ended (Mark row) not_taken = absurd not_taken
 untaken scope all lines before now later ended Memory not_taken =
     let P : Output → Type 0 = λ bytes. PutsShowing scope all before bytes (Err Memory) in
     let shown : AreShown scope all ended.has.pieces [] = shown_of scope all ended.rows [] lines before now ended.has ended.read in
@@ -155,6 +156,7 @@ refused_by scope all lines before now TooLong ended =
 refused_by scope all lines before now Read ended =
     let shown : AreShown scope all ended.has.pieces ended.rest = shown_of scope all ended.rows ended.rest lines before now ended.has ended.read in
     inl (show_text (closed_pieces ended.has.pieces), record { pieces = ended.has.pieces; rest = ended.rest; shown = shown; lines = refl }, ended.has.written)
+refused_by scope all lines before now (Mark row) ended = absurd ended
 refused_by scope all lines before now Memory ended =
     let shown : AreShown scope all ended.has.pieces ended.rest = shown_of scope all ended.rows ended.rest lines before now ended.has ended.read in
     inl (show_text (closed_pieces ended.has.pieces), record { pieces = ended.has.pieces; rest = ended.rest; shown = shown; lines = refl }, ended.has.written)
@@ -230,6 +232,7 @@ untaken_by scope all lines before after Read ended = absurd ended.stops
 untaken_by scope all lines before after Write ended =
     let would : (answer : Result (Option LinkFault) RunFault) × IsShowing scope all answer ended.stops.0 = showing_of scope all ended.earlier ended.later ended.rest ended.read ended.few ended.stops.0 ended.stops.1 in
     inr (refl, record { answer = would.0; text = ended.stops.0; showing = would.1; broken = ended.stops.2 })
+untaken_by scope all lines before after (Mark row) ended = absurd ended.stops
 untaken_by scope all lines before after Memory ended =
     inl (ended.stops.0, part_showing scope all ended.earlier ended.later ended.rest ended.read ended.stops.0 ended.stops.1, ended.stops.2)
 

@@ -5,11 +5,14 @@ use Rattle.std.specs.Io.KnownBytes.{Appends}
 use Rattle.csv.specs.Reading.{default_config, records, strip_bom}
 use Rattle.mdb_bus.specs.declared.fault.LinkFault.{LinkFault}
 use Rattle.mdb_follow.specs.declared.follower.TheConstants.{ROWS_MAX}
+use Rattle.mdb_follow.specs.declared.goal.Goal.{Goal}
 use Rattle.mdb_check.specs.declared.outcome.Outcome.{Outcome}
 use Rattle.mdb_check.specs.declared.outcome.Outcome.TheVariants.{Yes, No}
 use Rattle.mdb_check.specs.declared.outcome.RunFault.{RunFault}
 use Rattle.mdb_check.specs.declared.outcome.RunFault.TheVariants.{Write}
-use Rattle.mdb_check.specs.Program.{Says, SaysChecked, SaysShown, refused, show_status_of, status_of}
+use Rattle.mdb_check.specs.Explain.{IsCutExplanation, IsExplainedIn}
+use Rattle.mdb_check.specs.Program.{Says, SaysChecked, SaysExplained, SaysReplayed, SaysShown, refused, show_status_of, status_of}
+use Rattle.mdb_check.specs.Replay.{IsCutReplay, IsReplayAnswer}
 use Rattle.mdb_check.specs.Show.{Shows}
 use Rattle.mdb_check.specs.Text.{IsCutReport, report_text}
 use Rattle.mdb_check.specs.Verdict.{IsAnswer, IsNoYes}
@@ -28,6 +31,37 @@ says_checked scope contents all old new (Ok (No offence)) is written kept cut =
 says_checked scope contents all old new (Err Write) is written kept cut =
     record { possible = λ e. absurd (omega (arith, e)); impossible = λ e. absurd (omega (arith, e)); unanswered = λ e. inr (cut refl) }
 says_checked scope contents all old new (Err fault) is written kept cut =
+    record { possible = λ e. absurd (omega (arith, e)); impossible = λ e. absurd (omega (arith, e)); unanswered = λ e. inl (ap contents (kept (λ same. absurd (cc)))) }
+
+-- the same of a replay
+says_replayed : (scope : Scope) {W : Type 0} (contents : W → Option (List ℕ)) (all : List (List (List ℕ))) (old new : W) (answer : Result Outcome RunFault)
+    → IsReplayAnswer scope ROWS_MAX all answer
+    → IfOk answer (λ outcome. Appends (contents old) (contents new) (report_text scope outcome))
+    → IfErr answer (λ fault. fault ≢ Write → new ≡ old) → (answer ≡ Err Write → IsCutReplay scope ROWS_MAX all (contents old) (contents new))
+    → SaysReplayed scope all (contents old) (contents new) (status_of answer)
+says_replayed scope contents all old new (Ok (Yes report)) is written kept cut =
+    record { possible = λ e. (report, is, written); impossible = λ e. absurd (omega (arith, e)); unanswered = λ e. absurd (omega (arith, e)) }
+says_replayed scope contents all old new (Ok (No offence)) is written kept cut =
+    record { possible = λ e. absurd (omega (arith, e)); impossible = λ e. (offence, is, written); unanswered = λ e. absurd (omega (arith, e)) }
+says_replayed scope contents all old new (Err Write) is written kept cut =
+    record { possible = λ e. absurd (omega (arith, e)); impossible = λ e. absurd (omega (arith, e)); unanswered = λ e. inr (cut refl) }
+says_replayed scope contents all old new (Err fault) is written kept cut =
+    record { possible = λ e. absurd (omega (arith, e)); impossible = λ e. absurd (omega (arith, e)); unanswered = λ e. inl (ap contents (kept (λ same. absurd (cc)))) }
+
+-- the same of an explanation
+says_explained : (scope : Scope) (goal : Goal) {W : Type 0} (contents : W → Option (List ℕ)) (all : List (List (List ℕ))) (old new : W) (answer : Result Outcome RunFault)
+    → IsAnswer scope ROWS_MAX all answer
+    → IfOk answer (IsExplainedIn scope goal all (contents old) (contents new))
+    → IfErr answer (λ fault. fault ≢ Write → new ≡ old) → (answer ≡ Err Write → IsCutExplanation scope ROWS_MAX goal all (contents old) (contents new))
+    → SaysExplained scope goal all (contents old) (contents new) (status_of answer)
+says_explained scope goal contents all old new (Ok (Yes report)) is written kept cut =
+    record { possible = λ e. (report, is, written); impossible = λ e. absurd (omega (arith, e)); unanswered = λ e. absurd (omega (arith, e)) }
+says_explained scope goal contents all old new (Ok (No offence)) is written kept cut =
+    let P : List ℕ → Type 0 = λ text. Appends (contents old) (contents new) text in
+    record { possible = λ e. absurd (omega (arith, e)); impossible = λ e. (offence, is, subst P written.1 written.2); unanswered = λ e. absurd (omega (arith, e)) }
+says_explained scope goal contents all old new (Err Write) is written kept cut =
+    record { possible = λ e. absurd (omega (arith, e)); impossible = λ e. absurd (omega (arith, e)); unanswered = λ e. inr (cut refl) }
+says_explained scope goal contents all old new (Err fault) is written kept cut =
     record { possible = λ e. absurd (omega (arith, e)); impossible = λ e. absurd (omega (arith, e)); unanswered = λ e. inl (ap contents (kept (λ same. absurd (cc)))) }
 
 -- a text that was written whole is a front of itself
@@ -79,6 +113,34 @@ checked_says scope contents (Some text) old new answer status is written kept cu
     let all : List (List (List ℕ)) = records default_config (strip_bom text) in
     let P : ℕ → Type 0 = λ n. SaysChecked scope all (contents old) (contents new) n in
     subst P (sym same) (says_checked scope contents all old new answer is written kept cut)
+
+-- what the status of a replayed input says
+pub replayed_says : (scope : Scope) {W : Type 0} (contents : W → Option (List ℕ)) (known : Option (List ℕ)) (old new : W) (answer : Result Outcome RunFault) (status : ℕ)
+    → IfSome known (λ text. IsReplayAnswer scope ROWS_MAX (records default_config (strip_bom text)) answer)
+    → IfOk answer (λ outcome. Appends (contents old) (contents new) (report_text scope outcome))
+    → IfErr answer (λ fault. fault ≢ Write → new ≡ old)
+    → IfSome known (λ text. answer ≡ Err Write → IsCutReplay scope ROWS_MAX (records default_config (strip_bom text)) (contents old) (contents new))
+    → status ≡ status_of answer
+    → IfSome known (λ text. SaysReplayed scope (records default_config (strip_bom text)) (contents old) (contents new) status)
+replayed_says scope contents None old new answer status is written kept cut same = tt
+replayed_says scope contents (Some text) old new answer status is written kept cut same =
+    let all : List (List (List ℕ)) = records default_config (strip_bom text) in
+    let P : ℕ → Type 0 = λ n. SaysReplayed scope all (contents old) (contents new) n in
+    subst P (sym same) (says_replayed scope contents all old new answer is written kept cut)
+
+-- what the status of an explained text says
+pub explained_says : (scope : Scope) (goal : Goal) {W : Type 0} (contents : W → Option (List ℕ)) (known : Option (List ℕ)) (old new : W) (answer : Result Outcome RunFault) (status : ℕ)
+    → IfSome known (λ text. IsAnswer scope ROWS_MAX (records default_config (strip_bom text)) answer)
+    → IfSome known (λ text. IfOk answer (IsExplainedIn scope goal (records default_config (strip_bom text)) (contents old) (contents new)))
+    → IfErr answer (λ fault. fault ≢ Write → new ≡ old)
+    → IfSome known (λ text. answer ≡ Err Write → IsCutExplanation scope ROWS_MAX goal (records default_config (strip_bom text)) (contents old) (contents new))
+    → status ≡ status_of answer
+    → IfSome known (λ text. SaysExplained scope goal (records default_config (strip_bom text)) (contents old) (contents new) status)
+explained_says scope goal contents None old new answer status is written kept cut same = tt
+explained_says scope goal contents (Some text) old new answer status is written kept cut same =
+    let all : List (List (List ℕ)) = records default_config (strip_bom text) in
+    let P : ℕ → Type 0 = λ n. SaysExplained scope goal all (contents old) (contents new) n in
+    subst P (sym same) (says_explained scope goal contents all old new answer is written kept cut)
 
 -- what the status of a text that was shown says
 pub shown_says : (scope : Scope) (known : Option (List ℕ)) (before after : Option (List ℕ)) (answer : Result (Option LinkFault) RunFault) (status : ℕ)

@@ -1,5 +1,5 @@
 -- How the recording is taken that the options of `check` ask for, as `clap` has found them.
-use Rattle.std.proofs.Common.{ap, refl, subst, sym, true, false, true≢false, ◌∙◌, ◌≡◌, ◌⊎◌, ℕ, Bool, List, [], ◌∷◌, codes, inl, inr, length, map, Option, Some, None, option_map, unwrap_or}
+use Rattle.std.proofs.Common.{ap, refl, subst, sym, true, false, true≢false, ◌∙◌, ◌≡◌, List, [], ◌∷◌, codes, inl, inr, map, Option, Some, None, option_map, unwrap_or}
 use Rattle.std.specs.Borrow.{Bor}
 use Rattle.clap.specs.Walk.{Row, Text, has_row}
 use Rattle.mdb_msgs.specs.declared.device_set.DeviceSet.{DeviceSet}

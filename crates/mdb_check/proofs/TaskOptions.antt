@@ -1,9 +1,5 @@
 -- The options of `check` and `show`, as words and as `clap` finds them.
-use Rattle.std.proofs.Common.{ap, ap₂, refl, subst, sym, true, false, ◌∙◌, ◌≡◌, ◌||◌, ℕ, Bool, List, [], ◌∷◌, ◌++◌, codes, inl, inr, Some, None}
-use Rattle.std.specs.Prelude.{if◌then◌else◌}
-use Rattle.std.specs.Str.{bytes_eq}
-use Rattle.std.proofs.lemmas.Bool.{cases_Bool}
-use Rattle.std.proofs.lemmas.Slice.Eq.{bytes_eq-Decides}
+use Rattle.std.proofs.Common.{ap, refl, subst, sym, false, ◌∙◌, ◌≡◌, ℕ, List, [], ◌∷◌, ◌++◌, codes, inl, inr, Some, None}
 use Rattle.clap.specs.Lexer.{long_of}
 use Rattle.clap.specs.Walk.{Text}
 use Rattle.mdb_msgs.specs.declared.command.Device.{Device}
@@ -18,7 +14,6 @@ use Rattle.mdb_check.specs.Program as named
 use Rattle.mdb_check.proofs.Found.{chosen, is_used}
 use Rattle.mdb_check.proofs.LongWords.{long_is}
 use Rattle.mdb_check.proofs.Options.{AreUses, IsPlain, Uses, alone, apart, dashes, in_one, nothing}
-use Rattle.mdb_check.proofs.Refusals.{IsOneOf}
 
 -- their names: those of `check`, with a value and without one, and that of `show`
 abbrev pub check_names : List Text
@@ -50,13 +45,13 @@ plain_word Bill more = record { no_dashes = refl; no_long = refl; no_flags = tt 
 plain_word (Reader First) more = record { no_dashes = refl; no_long = refl; no_flags = tt }
 plain_word (Reader Second) more = record { no_dashes = refl; no_long = refl; no_flags = tt }
 
-plain_device : (device : Device) → IsPlain (device_word device)
+pub plain_device : (device : Device) → IsPlain (device_word device)
 plain_device Changer = record { no_dashes = refl; no_long = refl; no_flags = tt }
 plain_device Bill = record { no_dashes = refl; no_long = refl; no_flags = tt }
 plain_device (Reader First) = record { no_dashes = refl; no_long = refl; no_flags = tt }
 plain_device (Reader Second) = record { no_dashes = refl; no_long = refl; no_flags = tt }
 
-long_without : (device : Device) → long_of (codes "--without=" ++ device_word device) ≡ Some (codes "without", Some (device_word device))
+pub long_without : (device : Device) → long_of (codes "--without=" ++ device_word device) ≡ Some (codes "without", Some (device_word device))
 long_without Changer = refl
 long_without Bill = refl
 long_without (Reader First) = refl

@@ -11,9 +11,11 @@
 use Rattle.std.specs.Prelude.{◌≡◌, ◌↔◌, ◌<◌, ◌≤◌, ℕ, List, [], ◌∷◌, ◌++◌, length, take, ⊤}
 use Rattle.mdb_words.specs.declared.event.Event.{Event}
 use Rattle.mdb_follow.specs.declared.account_name.AccountName.{AccountName}
+use Rattle.mdb_follow.specs.declared.goal.AccountSide.{AccountSide}
 use Rattle.mdb_follow.specs.declared.offence.Offence.{Offence}
 use Rattle.mdb_follow.specs.declared.report.Report.{Report}
 use Rattle.mdb_follow.specs.AccountNames.{sums_of}
+use Rattle.mdb_follow.specs.Goals.{side_range, side_value}
 use Rattle.mdb_follow.specs.Offences.{IsOffence}
 use Rattle.mdb_follow.specs.Ranges.{IsRange}
 use Rattle.mdb_follow.specs.Report.{account_of}
@@ -21,7 +23,6 @@ use Rattle.mdb_follow.specs.Runs.{AllSums, Run}
 use Rattle.mdb_follow.specs.Sales.{SalesFollowApprovals}
 use Rattle.mdb_check.specs.declared.outcome.Outcome.{Outcome}
 use Rattle.mdb_check.specs.declared.outcome.Outcome.TheVariants.{Yes, No}
-use Rattle.mdb_check.specs.Accounts.{AccountSide, range_of, value_of}
 use Rattle.mdb_check.specs.Verdict.{AreRows}
 use Rattle.mdb_bus.specs.declared.scope.Scope.{Scope}
 
@@ -64,8 +65,8 @@ HasApprovedSales scope records =
 abbrev pub HasBounds : Scope → List (List (List ℕ)) → Report → Type 0
 HasBounds scope records report =
     (rows : List Event) → AreRows records rows → (account : AccountName) (side : AccountSide)
-    → IsRange (Run scope rows) (λ sums. value_of side (sums_of account sums))
-    (range_of side (account_of account report))
+    → IsRange (Run scope rows) (λ sums. side_value side (sums_of account sums))
+    (side_range side (account_of account report))
 
 -- The runs end before the row that is named: a row with its number is there, the rows up to it have
 -- no run, any fewer have one, and rule and blame are those of this row.

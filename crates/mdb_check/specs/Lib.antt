@@ -1,7 +1,9 @@
 pub mod Accounts
 pub mod Complaint
+pub mod Explain
 pub mod Headline
 pub mod Program
+pub mod Replay
 pub mod SetupData
 pub mod Show
 pub mod ShowText

@@ -11,9 +11,12 @@ use Rattle.mdb_msgs.specs.declared.setups.Setups.{Setups}
 use Rattle.mdb_msgs.specs.Setups.{nothing_known}
 use Rattle.mdb_bus.specs.declared.fault.LinkFault.{LinkFault}
 use Rattle.mdb_follow.specs.declared.follower.TheConstants.{ROWS_MAX}
+use Rattle.mdb_follow.specs.declared.goal.Goal.{Goal}
 use Rattle.mdb_follow.specs.declared.offence.Offence.{Offence}
 use Rattle.mdb_follow.specs.declared.report.Report.{Report}
+use Rattle.mdb_check.specs.Explain.{IsCutExplanation, IsExplainedIn, goal_words}
 use Rattle.mdb_check.specs.SetupData.{IsSetupOf, known_devices}
+use Rattle.mdb_check.specs.Replay.{IsCutReplay, IsReplayed, StopsAt}
 use Rattle.mdb_check.specs.Show.{IsCutShort, IsShownToFault, IsShownWhole}
 use Rattle.mdb_check.specs.ShowText.{bytes_text}
 use Rattle.mdb_check.specs.Text.{IsCutReport, report_text}
@@ -119,9 +122,39 @@ abbrev pub NamesShow : List (List ℕ) → Scope → Type 0
 NamesShow words scope = (asked : Asked) × NamesTask words (codes "show") asked
     × IsFromPowerOn asked scope
 
+-- they name `replay`, which replays no recording from mid-session on
+abbrev pub NamesReplay : List (List ℕ) → Scope → Type 0
+NamesReplay words scope = (asked : Asked) × NamesTask words (codes "replay") asked
+    × IsFromPowerOn asked scope
+
+-- These words are those of a goal, in their order, and with them the option `--without`, which
+-- leaves out these devices: before, between and after them. After `--` no option stands.
+pub data AreGoalAndOptions : List (List ℕ) → List (List ℕ) → DeviceSet → Type 0 where
+  end : AreGoalAndOptions [] [] NONE
+  dashes : {goal : List (List ℕ)} → AreGoalAndOptions (codes "--" ∷ goal) goal NONE
+  word : {word : List ℕ} {more goal : List (List ℕ)} {left_out : DeviceSet}
+      → AreGoalAndOptions more goal left_out
+      → AreGoalAndOptions (word ∷ more) (word ∷ goal) left_out
+  without : (device : Device) {more goal : List (List ℕ)} {left_out : DeviceSet}
+      → AreGoalAndOptions more goal left_out
+      → AreGoalAndOptions (codes "--without" ∷ device_word device ∷ more) goal
+      (with_device left_out device)
+  without_in_one : (device : Device) {more goal : List (List ℕ)} {left_out : DeviceSet}
+      → AreGoalAndOptions more goal left_out
+      → AreGoalAndOptions ((codes "--without=" ++ device_word device) ∷ more) goal
+      (with_device left_out device)
+
+-- the words name `explain` with a goal, of a recording that is taken so
+abbrev pub NamesExplain : List (List ℕ) → Goal → Scope → Type 0
+NamesExplain words goal scope = (program : List ℕ) × (rest : List (List ℕ))
+    × (left_out : DeviceSet) × (words ≡ program ∷ codes "explain" ∷ rest)
+    × AreGoalAndOptions rest (goal_words goal) left_out × (scope ≡ leaving_out left_out)
+
 -- they name one of the tasks
 abbrev pub NameATask : List (List ℕ) → Type 0
-NameATask words = (scope : Scope) × (NamesCheck words scope ⊎ NamesShow words scope)
+NameATask words = (scope : Scope)
+    × (NamesCheck words scope ⊎ NamesShow words scope
+    ⊎ ((goal : Goal) × NamesExplain words goal scope) ⊎ NamesReplay words scope)
 
 -- What the statuses of `check` say of the records of a text, and of the bytes that the writer held
 -- before and after. At 2 nothing was written, or the writer failed, and took a front of the text of
@@ -143,6 +176,25 @@ pub record SaysShown (scope : Scope) (records : List (List (List ℕ))) (before 
       × IsShownToFault scope records fault text × Appends before after text
   pub unanswered : status ≡ 2 → IsCutShort scope records before after
 
+-- What the statuses of `explain` say, as those of `check` do: at 0 an explanation was written.
+pub record SaysExplained (scope : Scope) (goal : Goal) (records : List (List (List ℕ)))
+    (before after : Option (List ℕ)) (status : ℕ) : Type 0 where
+  pub possible : status ≡ 0 → (report : Report) × IsPossible scope ROWS_MAX records report
+      × IsExplainedIn scope goal records before after (Yes report)
+  pub impossible : status ≡ 1 → (offence : Offence) × IsImpossible scope ROWS_MAX records offence
+      × Appends before after (report_text scope (No offence))
+  pub unanswered : status ≡ 2
+      → (after ≡ before) ⊎ IsCutExplanation scope ROWS_MAX goal records before after
+
+-- What the statuses of `replay` say of the records of an input, as those of `check` do.
+pub record SaysReplayed (scope : Scope) (records : List (List (List ℕ)))
+    (before after : Option (List ℕ)) (status : ℕ) : Type 0 where
+  pub possible : status ≡ 0 → (report : Report) × IsReplayed scope ROWS_MAX records report
+      × Appends before after (report_text scope (Yes report))
+  pub impossible : status ≡ 1 → (offence : Offence) × StopsAt scope ROWS_MAX records (Ok offence)
+      × Appends before after (report_text scope (No offence))
+  pub unanswered : status ≡ 2 → (after ≡ before) ⊎ IsCutReplay scope ROWS_MAX records before after
+
 -- What the status of the program says: what it says of the task that the words name, of a recording
 -- that is taken as they ask, or that the words were refused, with nothing written. Words that name
 -- no task always are. (That others are for want of memory alone is a promise of a private function,
@@ -153,9 +205,15 @@ pub data Says (words : List (List ℕ)) (records : List (List (List ℕ)))
       → SaysChecked scope records before after status → Says words records before after status
   shown : (scope : Scope) → NamesShow words scope
       → SaysShown scope records before after status → Says words records before after status
+  explained : (scope : Scope) (goal : Goal) → NamesExplain words goal scope
+      → SaysExplained scope goal records before after status
+      → Says words records before after status
+  replayed : (scope : Scope) → NamesReplay words scope
+      → SaysReplayed scope records before after status → Says words records before after status
   refused : status ≡ 2 → after ≡ before → Says words records before after status
 
--- The rest serves private functions: the status for an answer of `check`, and of `show`.
+-- The rest serves private functions: the status for an answer of `check`, `explain` or `replay`, and
+-- of `show`.
 abbrev pub status_of : Result Outcome RunFault → ℕ
 status_of (Ok (Yes report)) = 0
 status_of (Ok (No offence)) = 1

@@ -9,7 +9,7 @@ use Rattle.mdb_bus.specs.ActLists.{Piece, ArePieces, events_of}
 use Rattle.mdb_bus.specs.LinkFaults.{IsLinkFault}
 use Rattle.mdb_follow.specs.declared.follower.TheConstants.{ROWS_MAX}
 use Rattle.mdb_check.specs.declared.outcome.RunFault.{RunFault}
-use Rattle.mdb_check.specs.declared.outcome.RunFault.TheVariants.{BadRow, TooLong, Read, Write, Memory}
+use Rattle.mdb_check.specs.declared.outcome.RunFault.TheVariants.{BadRow, TooLong, Read, Write, Memory, Mark}
 use Rattle.mdb_check.specs.ShowText.{closed_pieces, fault_line, show_text}
 use Rattle.mdb_check.specs.Verdict.{AreRows}
 use Rattle.mdb_check.specs.Written.{HasTaken}
@@ -86,6 +86,7 @@ IsShowing scope records (Err TooLong) text = IsShownTooLong scope records text
 IsShowing scope records (Err Read) text = IsShownInPart scope records text
 IsShowing scope records (Err Memory) text = IsShownInPart scope records text
 IsShowing scope records (Err Write) text = ⊥
+IsShowing scope records (Err (Mark row)) text = ⊥
 
 -- The writer took a front of a text that is written of the records, with whatever answer.
 pub record IsCutShort (scope : Scope) (records : List (List (List ℕ))) (before after : Option (List ℕ))
@@ -111,3 +112,4 @@ IsOwnShowing (Err TooLong) = ⊤
 IsOwnShowing (Err Read) = ⊥
 IsOwnShowing (Err Write) = ⊥
 IsOwnShowing (Err Memory) = ⊥
+IsOwnShowing (Err (Mark row)) = ⊤

@@ -10,15 +10,17 @@ use Rattle.mdb_bus.specs.FaultWords.{blame_word, rule_word}
 use Rattle.mdb_follow.specs.declared.account_name.AccountName.{AccountName}
 use Rattle.mdb_follow.specs.declared.account_name.TheConstants.AccountName.{ALL}
 use Rattle.mdb_follow.specs.declared.account.Account.{Account}
+use Rattle.mdb_follow.specs.declared.goal.AccountSide.TheVariants as sides
 use Rattle.mdb_follow.specs.declared.offence.Offence.{Offence}
 use Rattle.mdb_follow.specs.declared.range.Range.{Range}
 use Rattle.mdb_follow.specs.declared.report.Report.{Report}
 use Rattle.mdb_follow.specs.declared.report.TheConstants.Report.{DEVICES}
 use Rattle.mdb_follow.specs.AccountNames.{account_word}
+use Rattle.mdb_follow.specs.Goals.{side_range}
 use Rattle.mdb_follow.specs.Report.{account_of, device_decimals, device_silences, device_unvalued}
 use Rattle.mdb_check.specs.declared.outcome.Outcome.{Outcome}
 use Rattle.mdb_check.specs.declared.outcome.Outcome.TheVariants.{Yes, No}
-use Rattle.mdb_check.specs.Accounts.{OfController, OfDevice, OfDifference, range_of, side_word}
+use Rattle.mdb_check.specs.Accounts.{side_word}
 use Rattle.mdb_check.specs.Verdict.{IsAnswer}
 use Rattle.mdb_check.specs.Written.{HasTaken}
 use Rattle.mdb_bus.specs.declared.scope.Beginning.{Beginning}
@@ -67,9 +69,9 @@ side_text word range =
 -- what an account comes to on each side, after its word
 abbrev pub account_line : AccountName → Account → List ℕ
 account_line name account =
-    line (account_word name ++ side_text (side_word OfDevice) (range_of OfDevice account)
-    ++ side_text (side_word OfController) (range_of OfController account)
-    ++ side_text (side_word OfDifference) (range_of OfDifference account))
+    line (account_word name ++ side_text (side_word sides.Device) (side_range sides.Device account)
+    ++ side_text (side_word sides.Controller) (side_range sides.Controller account)
+    ++ side_text (side_word sides.Difference) (side_range sides.Difference account))
 
 -- a line for each account of a report
 abbrev pub accounts_text : Report → List ℕ

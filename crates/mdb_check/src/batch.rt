@@ -93,7 +93,7 @@ impl<T: FromRecord> Batch<T> {
     ///
     /// It ends after a row where less of the text was read ahead than a row may have. So no row
     /// waits to be followed while the next one is awaited, unless that is written in more bytes
-    /// than recorders take, or after many blank lines.
+    /// than recorders take, or after many blank lines. And it ends after what is taken alone.
     // Not inlined, so that its loop has the processor's registers to itself.
     #[inline(never)]
     pub(crate) fn refill<R: Read + Drop>(&mut self, records: &mut Records<R>, rows_max: u64) -> Next
@@ -116,11 +116,12 @@ impl<T: FromRecord> Batch<T> {
             if !found {
                 return Next::End;
             }
-            match T::of(records.row()) {
-                Ok(row) => self.push(row),
+            let row = match T::of(records.row()) {
+                Ok(row) => row,
                 Err(fault) => return Next::BadRow(fault),
-            }
-            if records.bytes_ahead() < ROW_BYTES {
+            };
+            self.push(row);
+            if row.is_alone() || records.bytes_ahead() < ROW_BYTES {
                 return Next::More;
             }
         }

@@ -7,23 +7,31 @@ ghost use Rattle.clap.specs.Words.{with_rule};
 ghost use Rattle.clap.specs.declared.builder.command.Command.TheViews.{out-Command as fields_of};
 ghost use Rattle.mdb_msgs.specs.declared.device_set.DeviceSet.{DeviceSet};
 ghost use Rattle.mdb_bus.specs.declared.scope.Scope.{Scope};
-ghost use Rattle.mdb_check.specs.inner.CommandLine.{AreDevices, AsksFor, AsksToCheck, AsksToShow};
-ghost use Rattle.mdb_check.specs.inner.CommandLine.{Fails, IsOwnRefusal, check_app, flag_rule};
-ghost use Rattle.mdb_check.specs.inner.CommandLine.{mdbcheck, option_rule, show_app, values_of};
+ghost use Rattle.mdb_check.specs.inner.CommandLine.{AreDevices, AsksFor, AsksForGoal};
+ghost use Rattle.mdb_check.specs.inner.CommandLine.{AsksToCheck, AsksToShow, Fails, IsOwnRefusal};
+ghost use Rattle.mdb_check.specs.inner.CommandLine.{check_app, explain_app, flag_rule, mdbcheck};
+ghost use Rattle.mdb_check.specs.inner.CommandLine.{option_rule, replay_app, show_app, values_of};
+ghost use Rattle.mdb_check.specs.inner.CommandLine.{with_two_tasks, word_rule};
+ghost use Rattle.mdb_follow.specs.declared.goal.Goal.{Goal};
+ghost use Rattle.mdb_bus.specs.Scopes.{leaving_out};
 ghost use Rattle.mdb_check.specs.inner.SetupReading.{no_memory};
 
+use super::goal_words::goal_of;
 use super::refusal::{Refusal, SetupFault};
 use super::setup_value::setups_of;
 use clap::error::{Error, ErrorKind};
 use clap::{Arg, ArgAction, ArgMatches, Command};
 use mdb_bus::Scope;
+use mdb_follow::Goal;
 use mdb_msgs::{Device, DeviceSet};
 use std::alloc::{AllocError, Global};
 
 /// The line that says how the program is called.
 pub(super) const USAGE: &str = "usage: mdbcheck check [--joined] [--setup 'DEVICE BYTES'].. \
-[--without DEVICE].. | show [--without DEVICE].. < TRANSCRIPT; \
-DEVICE is changer, bill, cashless or cashless-2";
+[--without DEVICE].. | show [--without DEVICE].. | explain ACCOUNT SIDE BOUND \
+[--without DEVICE].. | replay [--without DEVICE].. < TRANSCRIPT; DEVICE is changer, bill, \
+cashless or cashless-2; ACCOUNT is coins-in, bills-in, paid-out, approved, sold, approved-2 or \
+sold-2; SIDE is device, controller or difference; BOUND is least or greatest";
 
 /// The program's version.
 pub(super) const VERSION: &str = "0.1.0";
@@ -37,6 +45,15 @@ const SETUP: &str = "setup";
 /// The option that leaves out a device.
 const WITHOUT: &str = "without";
 
+/// The word that names the account of a goal.
+const ACCOUNT: &str = "ACCOUNT";
+
+/// The word that names its side.
+const SIDE: &str = "SIDE";
+
+/// The word that names the end of its range.
+const BOUND: &str = "BOUND";
+
 /// What the words of a command line ask for.
 #[derive(PartialEq, Eq, Debug, Drop)]
 pub(super) enum Task {
@@ -45,6 +62,11 @@ pub(super) enum Task {
     Check(Scope),
     /// `show`: its acts.
     Show(Scope),
+    /// `explain`: its rows, with the marks of a run that comes to this goal. These devices are left
+    /// out.
+    Explain(Goal, DeviceSet),
+    /// `replay`: what its run with the marks before it tells. These devices are left out.
+    Replay(DeviceSet),
 }
 
 /// What the words ask for, as `clap` reads them. Those that it refuses are no task's, unless memory
@@ -62,6 +84,8 @@ pub(super) fn task_of(alloc: Global, words: &[String]) -> Result<Task, Refusal>
     match matches.subcommand() {
         Some(("check", own)) => Ok(Task::Check(scope_of_check(alloc, own)?)),
         Some(("show", own)) => Ok(Task::Show(scope_of_show(own)?)),
+        Some(("explain", own)) => Ok(Task::Explain(goal_of_explain(own)?, left_out_of(own)?)),
+        Some(("replay", own)) => Ok(Task::Replay(left_out_of(own)?)),
         _ => unreachable!(),
     }
 }
@@ -77,6 +101,16 @@ fn matches_of<'a>(alloc: Global, words: &'a [String]) -> Result<ArgMatches<'a>, 
 /// The program's command, as `clap` has it.
 fn command<'a>(alloc: Global) -> Result<Command<'a>, AllocError>
     ensures { IfOk result (λ command. app_of command ≡ mdbcheck) }
+{
+    let with_two = command_of_two(alloc)?;
+    let explain = explain_command(alloc)?;
+    let replay = replay_command(alloc)?;
+    with_two.subcommand(explain)?.subcommand(replay)
+}
+
+/// The command with the tasks `check` and `show`.
+fn command_of_two<'a>(alloc: Global) -> Result<Command<'a>, AllocError>
+    ensures { IfOk result (λ command. app_of command ≡ with_two_tasks) }
 {
     let check = check_command(alloc)?;
     let show = show_command(alloc)?;
@@ -104,6 +138,27 @@ fn show_command<'a>(alloc: Global) -> Result<Command<'a>, AllocError>
     ensures local { IfOk result (λ command. (fields_of command).has_globals ≡ false) }
 {
     let bare = Command::new(alloc, "show");
+    add_option(alloc, bare, WITHOUT)
+}
+
+/// The task `explain` with its option and the words of a goal.
+fn explain_command<'a>(alloc: Global) -> Result<Command<'a>, AllocError>
+    ensures app { IfOk result (λ command. app_of command ≡ explain_app) }
+    ensures local { IfOk result (λ command. (fields_of command).has_globals ≡ false) }
+{
+    let bare = Command::new(alloc, "explain");
+    let with_option = add_option(alloc, bare, WITHOUT)?;
+    let with_account = add_word(alloc, with_option, ACCOUNT)?;
+    let with_side = add_word(alloc, with_account, SIDE)?;
+    add_word(alloc, with_side, BOUND)
+}
+
+/// The task `replay` with its option.
+fn replay_command<'a>(alloc: Global) -> Result<Command<'a>, AllocError>
+    ensures app { IfOk result (λ command. app_of command ≡ replay_app) }
+    ensures local { IfOk result (λ command. (fields_of command).has_globals ≡ false) }
+{
+    let bare = Command::new(alloc, "replay");
     add_option(alloc, bare, WITHOUT)
 }
 
@@ -136,6 +191,17 @@ fn add_flag<'a>(alloc: Global, task: Command<'a>, name: &'a str) -> Result<Comma
     task.arg(flag)
 }
 
+/// A task with a word more, which it needs.
+fn add_word<'a>(alloc: Global, task: Command<'a>, name: &'a str) -> Result<Command<'a>, AllocError>
+    ensures app { IfOk result (λ command.
+        app_of command ≡ with_rule (app_of task.entry) (word_rule name.entry.now)) }
+    ensures local { IfOk result (λ command.
+        (fields_of command).has_globals ≡ (fields_of task.entry).has_globals) }
+{
+    let word = Arg::new(alloc, name).required(true);
+    task.arg(word)
+}
+
 /// How the recording is taken that the options of `check` ask for, of which `clap` has found these
 /// values.
 fn scope_of_check(alloc: Global, found: &ArgMatches<'_>) -> Result<Scope, Refusal>
@@ -165,6 +231,39 @@ fn scope_of_show(found: &ArgMatches<'_>) -> Result<Scope, Refusal>
 {
     let without = left_out_by(found).ok_or(Refusal::Words(ErrorKind::InvalidValue))?;
     Ok(Scope::leaving_out(without))
+}
+
+/// The goal that the words of `explain` name.
+fn goal_of_explain(found: &ArgMatches<'_>) -> Result<Goal, Refusal>
+    ensures asked { IfOk result (AsksForGoal (rows_of (found_of found.now))) }
+    ensures refused { IfErr result (λ refusal. (goal : Goal)
+        → AsksForGoal (rows_of (found_of found.now)) goal → refusal ≡ no_memory) }
+    ensures own { IfErr result IsOwnRefusal }
+{
+    goal_named_by(found).ok_or(Refusal::Words(ErrorKind::InvalidValue))
+}
+
+/// The goal of the words that were found, if they are a goal's.
+fn goal_named_by(found: &ArgMatches<'_>) -> Option<Goal>
+    ensures found { IfSome result (AsksForGoal (rows_of (found_of found.now))) }
+    ensures none { result ≡ None → (goal : Goal)
+        → AsksForGoal (rows_of (found_of found.now)) goal → ⊥ }
+{
+    let account = found.get_str(ACCOUNT)?;
+    let side = found.get_str(SIDE)?;
+    let bound = found.get_str(BOUND)?;
+    goal_of(account, side, bound)
+}
+
+/// The devices that the options of `explain` or of `replay` leave out.
+fn left_out_of(found: &ArgMatches<'_>) -> Result<DeviceSet, Refusal>
+    ensures asked { IfOk result (λ devices.
+        AsksToShow (rows_of (found_of found.now)) (leaving_out devices)) }
+    ensures refused { IfErr result (λ refusal. (scope : Scope)
+        → AsksToShow (rows_of (found_of found.now)) scope → refusal ≡ no_memory) }
+    ensures own { IfErr result IsOwnRefusal }
+{
+    left_out_by(found).ok_or(Refusal::Words(ErrorKind::InvalidValue))
 }
 
 /// The devices that the option `--without` leaves out, if each of its values is a device's word.

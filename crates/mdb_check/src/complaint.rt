@@ -9,6 +9,7 @@ use super::outcome::RunFault;
 use super::show_text::digit;
 use csv::ByteRecord;
 use mdb_records::{ReadCause, Records};
+use mdb_words::RowFault;
 use std::alloc::{AllocError, Global};
 use std::io::{Read, Write};
 
@@ -16,20 +17,33 @@ use std::io::{Read, Write};
 /// and two digits.
 const EXCERPT: usize = 48;
 
-/// Writes one line on a fault: at a record that is no row the form that a row has and what stands
-/// there, where the reading failed its cause. The records are those that the fault was met with.
+/// What a record may be.
+#[derive(Clone, Copy, PartialEq, Eq, Debug)]
+pub(crate) enum Wanted {
+    /// A row of a transcript.
+    Row,
+    /// A mark row, or a row of a transcript.
+    MarkOrRow,
+}
+
+/// Writes one line on a fault: at a record that is none of what it may be the form that is wanted
+/// and what stands there, where the reading failed its cause. The records are those that the fault was met with.
 /// Where the line is refused, nothing more is tried.
 pub(crate) fn complain<R: Read + Drop, E: Write>(
     alloc: Global,
     fault: RunFault,
+    wanted: Wanted,
     records: &Records<R>,
     err: &mut E,
 ) {
     let _ = match fault {
-        RunFault::BadRow { .. } => complain_of_row(alloc, fault, records.row(), err),
+        RunFault::BadRow { .. } => complain_of_row(alloc, fault, wanted, records.row(), err),
         RunFault::TooLong => writeln!(err, "mdbcheck: {}", text_of_excess()),
         RunFault::Read => writeln!(err, "mdbcheck: {}", text_of_cause(records.cause())),
-        RunFault::Write | RunFault::Memory => writeln!(err, "mdbcheck: {fault}"),
+        RunFault::Write | RunFault::Memory | RunFault::Mark { .. } => writeln!(
+            err,
+            "mdbcheck: {fault}"
+        ),
     };
 }
 
@@ -37,16 +51,36 @@ pub(crate) fn complain<R: Read + Drop, E: Write>(
 fn complain_of_row<E: Write>(
     alloc: Global,
     fault: RunFault,
+    wanted: Wanted,
     row: &ByteRecord,
     err: &mut E,
 ) -> std::io::Result<()> {
-    write!(err, "mdbcheck: {fault}: wanted TIME,LINE,VALUE")?;
+    write!(err, "mdbcheck: {fault}: wanted ")?;
+    write!(err, "{}", form_of(fault, wanted, row))?;
     if let Ok(found) = excerpt(alloc, row) {
         err.write_all(b", found \"")?;
         err.write_all(found.as_slice())?;
         err.write_all(b"\"")?;
     }
     err.write_all(b"\n")
+}
+
+/// The form that is wanted where a record is refused: that of a row, or of a mark, where it was
+/// taken for one in front of the rows.
+fn form_of(fault: RunFault, wanted: Wanted, row: &ByteRecord) -> &'static str {
+    let is_misplaced = matches!(
+        fault,
+        RunFault::BadRow {
+            fault: RowFault::BadLine,
+            ..
+        }
+    );
+    let is_for_mark = row.len() == 3 && matches!(row.get(1), Some([b'L' | b'R']));
+    if wanted == Wanted::MarkOrRow && is_for_mark && !is_misplaced {
+        "ROW,L,- or ROW,R,-"
+    } else {
+        "TIME,LINE,VALUE"
+    }
 }
 
 /// That there are more rows than the program reads.

@@ -1,15 +1,22 @@
 //! Laws of verdicts. Each function's contract is the law, and its body calls the laws that it rests
 //! on.
 
-ghost use Rattle.std.specs.Prelude.{◌≡◌, ◌+◌, ℕ, List, None, Option, Result, Ok, Some, length};
+ghost use Rattle.std.specs.Prelude.{◌≡◌, ◌⊎◌, ◌+◌, ◌*◌, ℕ, List, None, Option, Result, Ok, Some, length};
+ghost use Rattle.std.specs.Prelude.{◌≤◌, All, map};
+ghost use Rattle.csv.specs.Reading.{default_config, records as read_records, strip_bom};
+ghost use Rattle.mdb_words.specs.declared.event.Event.{Event};
+ghost use Rattle.mdb_words.specs.Row.{row_fields};
 ghost use Rattle.mdb_msgs.specs.declared.command.Device.{Device};
 ghost use Rattle.mdb_bus.specs.ActLists.{events_of};
 ghost use Rattle.mdb_bus.specs.declared.fault.LinkFault.{LinkFault};
 ghost use Rattle.mdb_bus.specs.LeavingOut.{LeavesOutMore};
 ghost use Rattle.mdb_bus.specs.LinkFaults.{blame_on};
-ghost use Rattle.mdb_bus.specs.Scopes.{IsFollowed};
+ghost use Rattle.mdb_bus.specs.Scopes.{IsFollowed, leaving_out};
+ghost use Rattle.mdb_msgs.specs.declared.device_set.DeviceSet.{DeviceSet};
 ghost use Rattle.mdb_bus.specs.declared.scope.Scope.{Scope};
 ghost use Rattle.mdb_follow.specs.LeavingOut.{HasNothingLeftOut, HaveSameFollowed};
+ghost use Rattle.mdb_follow.specs.declared.goal.Goal.{Goal};
+ghost use Rattle.mdb_follow.specs.declared.mark.Mark.{Mark};
 ghost use Rattle.mdb_follow.specs.declared.offence.Offence.{Offence};
 ghost use Rattle.mdb_follow.specs.declared.report.Report.{Report};
 ghost use Rattle.mdb_follow.specs.declared.follower.TheConstants.{ROWS_MAX};
@@ -17,11 +24,13 @@ ghost use Rattle.mdb_check.specs.declared.verdict.TheConstants.{BYTES_MAX};
 ghost use Rattle.mdb_check.specs.declared.outcome.Outcome.{Outcome};
 ghost use Rattle.mdb_check.specs.declared.outcome.Outcome.TheVariants.{No, Yes};
 ghost use Rattle.mdb_check.specs.declared.outcome.RunFault.{RunFault};
-ghost use Rattle.mdb_check.specs.Headline.{Headline};
-ghost use Rattle.mdb_check.specs.Program.{NamesCheck, NamesShow};
+ghost use Rattle.mdb_check.specs.Explain.{ComesTo, IsExplanation, explanation_records, explanation_text, mark_fields};
+ghost use Rattle.mdb_check.specs.Headline.{HaveRun, Headline};
+ghost use Rattle.mdb_check.specs.Program.{NamesCheck, NamesExplain, NamesReplay, NamesShow};
+ghost use Rattle.mdb_check.specs.Replay.{AreMarkRows, IsReplayAnswer, IsReplayed};
 ghost use Rattle.mdb_check.specs.Show.{IsOwnShowing, IsShowing, IsShownToFault};
 ghost use Rattle.mdb_check.specs.ShownFault.{IsNoUpTo};
-ghost use Rattle.mdb_check.specs.Verdict.{IsAnswer, IsOwnAnswer};
+ghost use Rattle.mdb_check.specs.Verdict.{AreRows, IsAnswer, IsOwnAnswer};
 
 use mdb_bus::laws as links;
 use mdb_follow::laws;
@@ -125,7 +134,76 @@ pub fn answers_have_nothing_of_devices_left_out()
     laws::reports_have_nothing_of_devices_left_out();
 }
 
-/// The words of a command line name one task at most, of a recording that is taken in one way.
+/// The records of an input of `replay` have at most one answer of their own: a yes with its report, a
+/// no with its row, rule and blame, the first record that is refused and why, too many, or the mark
+/// that may not stand where it does.
+///
+/// So where one of these is the answer, no other one would be right.
+pub fn inputs_of_replay_have_one_answer()
+    ensures { (scope : Scope) (limit : ℕ) (records : List (List (List ℕ)))
+        (a b : Result Outcome RunFault)
+        → IsReplayAnswer scope limit records a → IsReplayAnswer scope limit records b
+        → IsOwnAnswer a → IsOwnAnswer b → a ≡ b }
+{
+    laws::fronts_of_marked_runs_have_the_marks_there();
+    laws::marks_rise();
+    laws::rows_have_one_replay_report();
+    laws::rows_have_one_fault_with_given_marks();
+}
+
+/// The transcript of an input that is replayed with a yes is one for which `check` says yes: its
+/// rows have a run, and with as many rows allowed no other answer of its own would be right.
+pub fn replayed_transcripts_are_yeses()
+    ensures runs { (scope : Scope) (limit : ℕ) (records : List (List (List ℕ))) (report : Report)
+        → (replayed : IsReplayed scope limit records report)
+        → HaveRun scope replayed.transcript (length replayed.transcript) }
+    ensures yes { (scope : Scope) (limit : ℕ) (records : List (List (List ℕ))) (report : Report)
+        (answer : Result Outcome RunFault) → (replayed : IsReplayed scope limit records report)
+        → IsAnswer scope limit replayed.transcript answer → IsOwnAnswer answer
+        → (checked : Report) × (answer ≡ Ok (Yes checked)) }
+{
+    laws::fronts_of_reached_rows_are_reached();
+}
+
+/// The text of an explanation, read as `csv` reads an input, has the records of its marks and then
+/// those of its rows, and no others. They are mark rows and rows of a transcript, and tell just
+/// these marks and rows. It is short: a mark takes 14 bytes at most, and a row 28.
+pub fn explanations_read_as_their_marks_and_rows()
+    ensures reads { (records : List (List (List ℕ))) (rows : List Event)
+        (marks : List (ℕ × Mark)) → AreRows records rows → All (λ mark. mark.0 ≤ ROWS_MAX) marks
+        → (read_records default_config (strip_bom (explanation_text marks rows))
+        ≡ explanation_records marks rows)
+        × AreMarkRows (map mark_fields marks) marks × AreRows (map row_fields rows) rows }
+    ensures short { (records : List (List (List ℕ))) (rows : List Event)
+        (marks : List (ℕ × Mark)) → AreRows records rows → All (λ mark. mark.0 ≤ ROWS_MAX) marks
+        → length (explanation_text marks rows) ≤ 14 * length marks + 28 * length rows }
+{}
+
+/// What `explain` writes of a recording with a yes is replayed with a yes, and comes to its goal:
+/// both ends of that range in the report of the replay are the end that the report of `check` has.
+/// And it has no more bytes than an input may have.
+pub fn explanations_replay_to_their_goals()
+    ensures comes { (without : DeviceSet) (goal : Goal) (records : List (List (List ℕ)))
+        (text : List ℕ) (checked : Report) (answer : Result Outcome RunFault)
+        → IsAnswer (leaving_out without) ROWS_MAX records (Ok (Yes checked))
+        → IsExplanation (leaving_out without) goal records text
+        → IsReplayAnswer (leaving_out without) ROWS_MAX
+        (read_records default_config (strip_bom text)) answer
+        → IsOwnAnswer answer → ComesTo goal checked answer }
+    ensures within { (without : DeviceSet) (goal : Goal) (records : List (List (List ℕ)))
+        (text : List ℕ) (checked : Report)
+        → IsAnswer (leaving_out without) ROWS_MAX records (Ok (Yes checked))
+        → IsExplanation (leaving_out without) goal records text → length text ≤ BYTES_MAX }
+{
+    laws::marks_rise();
+    laws::rows_with_a_marked_run_have_a_replay_report();
+    laws::explained_goals_are_ends_of_reports();
+    inputs_of_replay_have_one_answer();
+    explanations_read_as_their_marks_and_rows();
+}
+
+/// The words of a command line name one task at most, of a recording that is taken in one way, and
+/// `explain` with one goal.
 ///
 /// So where they name one, the status of the program says what it says of that task and of that
 /// recording, or it is 2, and nothing was written. (The program does that for want of memory alone:
@@ -135,8 +213,20 @@ pub fn command_lines_name_one_task()
         → NamesCheck words a → NamesCheck words b → a ≡ b }
     ensures show { (words : List (List ℕ)) (a b : Scope)
         → NamesShow words a → NamesShow words b → a ≡ b }
+    ensures explain { (words : List (List ℕ)) (goal other : Goal) (a b : Scope)
+        → NamesExplain words goal a → NamesExplain words other b
+        → (goal ≡ other) × (a ≡ b) }
+    ensures replay { (words : List (List ℕ)) (a b : Scope)
+        → NamesReplay words a → NamesReplay words b → a ≡ b }
     ensures not_both { (words : List (List ℕ)) (a b : Scope)
         → NamesCheck words a → NamesShow words b → ⊥ }
+    ensures no_check { (words : List (List ℕ)) (a b : Scope)
+        → NamesCheck words a → NamesReplay words b → ⊥ }
+    ensures no_show { (words : List (List ℕ)) (a b : Scope)
+        → NamesShow words a → NamesReplay words b → ⊥ }
+    ensures explain_only { (words : List (List ℕ)) (goal : Goal) (a b : Scope)
+        → NamesExplain words goal a
+        → NamesCheck words b ⊎ NamesShow words b ⊎ NamesReplay words b → ⊥ }
 {
     messages::block_has_one_reply();
 }

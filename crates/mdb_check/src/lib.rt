@@ -8,23 +8,34 @@
 mod batch;
 mod command_line;
 mod complaint;
+mod entry;
+mod explaining;
+mod goal_words;
+mod keeping;
 pub mod laws;
+mod marked;
 mod outcome;
 mod page;
 mod program;
 mod reading;
 mod refusal;
+mod replaying;
 mod row;
 mod setup_data;
 mod setup_value;
+mod sheet;
 mod show_text;
 mod showing;
 mod text;
 mod verdict;
 mod writing;
 
+pub use explaining::{explain, explain_scoped};
+pub use marked::{replay, replay_scoped};
 pub use mdb_bus::{Beginning, Blame, LinkFault, Rule, Scope};
-pub use mdb_follow::{Account, AccountName, Offence, ROWS_MAX, Range, Report};
+pub use mdb_follow::{
+    Account, AccountName, AccountSide, Bound, Goal, Offence, ROWS_MAX, Range, Report,
+};
 pub use mdb_msgs::{BillSetup, ChangerSetup, Device, DeviceSet, ReaderConfig, ReaderUnit, Setups};
 pub use outcome::{Outcome, RunFault};
 pub use program::run;

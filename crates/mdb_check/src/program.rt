@@ -1,20 +1,24 @@
 //! The program over its words.
 
 ghost use Rattle.std.specs.Prelude.{◌≡◌, ◌≢◌, ◌<◌, ◌⊎◌, IfSome, length, map, string_bytes};
-ghost use Rattle.mdb_check.specs.Program.{NameATask, Says, SaysChecked, SaysShown, show_status_of, status_of};
+ghost use Rattle.mdb_check.specs.Program.{NameATask, Says, SaysChecked, SaysExplained, SaysReplayed, SaysShown, show_status_of, status_of};
+ghost use Rattle.mdb_bus.specs.Scopes.{leaving_out};
 ghost use Rattle.mdb_check.specs.declared.verdict.TheConstants.{BYTES_MAX};
 ghost use Rattle.mdb_records.specs.ToCome.{IsOverLimit, ToCome, limit_of};
 ghost use Rattle.csv.specs.Reading.{default_config, records, strip_bom};
 
 use super::command_line::{Task, USAGE, VERSION, task_of};
-use super::complaint::complain;
+use super::complaint::{Wanted, complain};
+use super::explaining::explain_records;
+use super::marked::replay_records;
 use super::outcome::{Outcome, RunFault};
 use super::refusal::Refusal;
 use super::showing::show_records;
 use super::verdict::{BYTES_MAX, check_records, records_of};
 use clap::error::ErrorKind;
 use mdb_bus::{LinkFault, Scope};
-use mdb_follow::ROWS_MAX;
+use mdb_follow::{Goal, ROWS_MAX};
+use mdb_msgs::DeviceSet;
 use mdb_records::Records;
 use std::alloc::Global;
 use std::io::{Read, Write};
@@ -39,7 +43,16 @@ const NO_VERDICT: u8 = 2;
 /// - 1: a row breaks a rule of the link. The last line on `out` tells of it, those before it of the
 ///   acts.
 ///
-/// And 2: there is no such answer, for the fault that `check` or `show` met, or because the words
+/// `explain`:
+/// - 0: the transcript can have been, and an explanation of the goal is on `out`: marks, and then the
+///   rows.
+/// - 1: it cannot, and the report on `out` says why.
+///
+/// `replay`:
+/// - 0: the transcript has a run with the marks before it, and its report is on `out`.
+/// - 1: it has none, and the report on `out` says why.
+///
+/// And 2: there is no such answer, for the fault that the task met, or because the words
 /// aren't a command of the program, which goes for those that ask for help or for the version too.
 /// One line on `err` says so; where `err` refuses the line, the status is the same.
 pub fn run<R: Read + Drop, W: Write, E: Write>(
@@ -62,6 +75,8 @@ pub fn run<R: Read + Drop, W: Write, E: Write>(
     match task_of(alloc, words.as_slice()) {
         Ok(Task::Check(scope)) => run_check(alloc, &scope, reader, out, err),
         Ok(Task::Show(scope)) => run_show(alloc, &scope, reader, out, err),
+        Ok(Task::Explain(goal, without)) => { run_explain(alloc, without, &goal, reader, out, err) }
+        Ok(Task::Replay(without)) => run_replay(alloc, without, reader, out, err),
         Err(refusal) => refuse(refusal, err),
     }
 }
@@ -84,7 +99,7 @@ fn run_check<R: Read + Drop, W: Write, E: Write>(
 {
     let mut records = input_of(alloc, reader);
     let answer = check_records(alloc, scope, &mut records, out, ROWS_MAX);
-    finish_check(alloc, answer, &records, err)
+    finish_check(alloc, answer, Wanted::Row, &records, err)
 }
 
 /// Shows the acts of the text that the reader has left.
@@ -108,6 +123,49 @@ fn run_show<R: Read + Drop, W: Write, E: Write>(
     finish_show(alloc, answer, &records, err)
 }
 
+/// Replays the text that the reader has left: marks, and then a transcript.
+fn run_replay<R: Read + Drop, W: Write, E: Write>(
+    alloc: Global,
+    without: DeviceSet,
+    reader: R,
+    out: &mut W,
+    err: &mut E,
+) -> u8
+    ensures status { result < 3 }
+    ensures says { IfSome (R.remaining reader) (λ text. SaysReplayed (leaving_out without)
+        (records default_config (strip_bom text)) (W.contents out.old) (W.contents out.new)
+        result) }
+    ensures whole { IfSome (R.remaining reader) (λ text. BYTES_MAX < length text
+        → result ≢ POSSIBLE) }
+    ensures silent { result < 2 → err.new ≡ err.old }
+{
+    let mut records = input_of(alloc, reader);
+    let answer = replay_records(alloc, without, &mut records, out);
+    finish_check(alloc, answer, Wanted::MarkOrRow, &records, err)
+}
+
+/// Explains the text that the reader has left.
+fn run_explain<R: Read + Drop, W: Write, E: Write>(
+    alloc: Global,
+    without: DeviceSet,
+    goal: &Goal,
+    reader: R,
+    out: &mut W,
+    err: &mut E,
+) -> u8
+    ensures status { result < 3 }
+    ensures says { IfSome (R.remaining reader) (λ text. SaysExplained (leaving_out without) goal.now
+        (records default_config (strip_bom text)) (W.contents out.old) (W.contents out.new)
+        result) }
+    ensures whole { IfSome (R.remaining reader) (λ text. BYTES_MAX < length text
+        → result ≢ POSSIBLE) }
+    ensures silent { result < 2 → err.new ≡ err.old }
+{
+    let mut records = input_of(alloc, reader);
+    let answer = explain_records(alloc, without, &mut records, out, goal);
+    finish_check(alloc, answer, Wanted::Row, &records, err)
+}
+
 /// The records of the text that the reader has left, of which at most [`BYTES_MAX`] bytes are read.
 fn input_of<R: Read + Drop>(alloc: Global, reader: R) -> Records<R>
     ensures records { IfSome (R.remaining reader) (λ text.
@@ -119,10 +177,11 @@ fn input_of<R: Read + Drop>(alloc: Global, reader: R) -> Records<R>
     records_of(alloc, reader, BYTES_MAX)
 }
 
-/// The status of a verdict; a fault is told.
+/// The status of a verdict, of an explanation or of a replay; a fault is told.
 fn finish_check<R: Read + Drop, E: Write>(
     alloc: Global,
     answer: Result<Outcome, RunFault>,
+    wanted: Wanted,
     records: &Records<R>,
     err: &mut E,
 ) -> u8
@@ -133,7 +192,7 @@ fn finish_check<R: Read + Drop, E: Write>(
         Ok(Outcome::Yes(_)) => POSSIBLE,
         Ok(Outcome::No(_)) => IMPOSSIBLE,
         Err(fault) => {
-            complain(alloc, fault, records, err);
+            complain(alloc, fault, wanted, records, err);
             NO_VERDICT
         }
     }
@@ -153,7 +212,7 @@ fn finish_show<R: Read + Drop, E: Write>(
         Ok(None) => POSSIBLE,
         Ok(Some(_)) => IMPOSSIBLE,
         Err(fault) => {
-            complain(alloc, fault, records, err);
+            complain(alloc, fault, Wanted::Row, records, err);
             NO_VERDICT
         }
     }

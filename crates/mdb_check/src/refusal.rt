@@ -6,8 +6,8 @@ use thiserror::Error;
 /// Why a command line is refused.
 #[derive(Clone, Copy, PartialEq, Eq, Debug)]
 pub(super) enum Refusal {
-    /// For what `clap` says of its words, for a value of `--without` that is no device's word, or
-    /// for want of memory.
+    /// For what `clap` says of its words, for a value of `--without` that is no device's word, for
+    /// words of `explain` that are no goal's, or for want of memory.
     Words(ErrorKind),
     /// For the values of `--setup`.
     Setup(SetupFault),

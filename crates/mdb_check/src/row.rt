@@ -19,6 +19,10 @@ pub(crate) trait FromRecord: Copy {
     /// What stands where no row was read yet.
     fn blank() -> Self;
 
+    /// Whether it is taken before the next record is read, so that what stands in its record can be
+    /// told where it is refused.
+    fn is_alone(&self) -> bool;
+
     /// The row of a record.
     fn of(fields: &ByteRecord) -> Result<Self, RowFault>
         ensures row { IfOk result (is (fields_of fields.now)) }
@@ -43,6 +47,12 @@ impl FromRecord for Event {
         }
     }
 
+    /// An event is refused by itself alone.
+    #[inline(always)]
+    fn is_alone(&self) -> bool {
+        false
+    }
+
     #[inline(always)]
     fn of(fields: &ByteRecord) -> Result<Event, RowFault> {
         if fields.len() != 3 {
@@ -53,7 +63,7 @@ impl FromRecord for Event {
 }
 
 /// A field of a record.
-fn field(fields: &ByteRecord, i: usize) -> &[u8]
+pub(crate) fn field(fields: &ByteRecord, i: usize) -> &[u8]
     requires { i < length (fields_of fields.now) }
     ensures { field_at (fields_of fields.now) i ≡ Some result.now }
 {

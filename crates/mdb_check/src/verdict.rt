@@ -294,7 +294,7 @@ impl TakeRows<()> for Follower {
 }
 
 /// What the rows that a follower has taken come to.
-fn outcome_of(follower: &Follower) -> Outcome
+pub(crate) fn outcome_of(follower: &Follower) -> Outcome
     ensures { (rows : List Event) → StandsFor follower.now rows
         → IsYes (scope_of follower.now) rows result }
 {

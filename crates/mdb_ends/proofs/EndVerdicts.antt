@@ -11,7 +11,7 @@ use Rattle.mdb_follow.specs.Runs.{IsReached}
 use Rattle.mdb_check.specs.declared.outcome.Outcome.{Outcome}
 use Rattle.mdb_check.specs.declared.outcome.Outcome.TheVariants.{Yes, No}
 use Rattle.mdb_check.specs.declared.outcome.RunFault.{RunFault}
-use Rattle.mdb_check.specs.declared.outcome.RunFault.TheVariants.{BadRow, TooLong, Read, Write, Memory}
+use Rattle.mdb_check.specs.declared.outcome.RunFault.TheVariants.{BadRow, TooLong, Read, Write, Memory, Mark}
 use Rattle.mdb_check.specs.Verdict.{AreRows, IsAnswer, IsOwnAnswer, LeadUpTo}
 use Rattle.mdb_ends.specs.Cuts.{from_later}
 
@@ -131,3 +131,4 @@ end_says_yes laws scope setups limit front end report (Err TooLong) whole is own
 end_says_yes laws scope setups limit front end report (Err Read) whole is own = absurd own
 end_says_yes laws scope setups limit front end report (Err Write) whole is own = absurd own
 end_says_yes laws scope setups limit front end report (Err Memory) whole is own = absurd own
+end_says_yes laws scope setups limit front end report (Err (Mark row)) whole is own = absurd is

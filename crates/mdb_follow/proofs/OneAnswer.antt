@@ -35,7 +35,7 @@ use Rattle.mdb_follow.proofs.Reaching.{GoOnRowByRow, SomeArrive, before_last, so
 use Rattle.mdb_bus.specs.declared.scope.Scope.{Scope}
 
 -- two ends that lie within each other are one
-one-end : (a b : ℤ) → a ≤ℤ b → b ≤ℤ a → a ≡ b
+pub one-end : (a b : ℤ) → a ≤ℤ b → b ≤ℤ a → a ≡ b
 one-end a b low high = omega (arith, ints, low, high)
 
 -- sums of a kind have one range
@@ -71,13 +71,13 @@ map-alike f g alike (x ∷ xs) =
     ap (λ y. y ∷ map f xs) (alike x) ∙ ap (λ ys. g x ∷ ys) (map-alike f g alike xs)
 
 -- and so have all accounts
-one-list : (Kind : AllSums → Type 0) (a b : AccountName → Account) → AreAccounts Kind a
+pub one-list : (Kind : AllSums → Type 0) (a b : AccountName → Account) → AreAccounts Kind a
     → AreAccounts Kind b → map a ALL ≡ map b ALL
 one-list Kind a b p q = map-alike a b
     (λ name. one-account Kind (sums_of name) (a name) (b name) (p name) (q name)) ALL
 
 -- what a report has of an account
-named : (begins : Beginning) (rows : ℕ) (pieces : List Piece) (accounts : AccountName → Account)
+pub named : (begins : Beginning) (rows : ℕ) (pieces : List Piece) (accounts : AccountName → Account)
     (account : AccountName)
     → account_of account (report_of begins rows pieces accounts) ≡ accounts account
 named begins rows pieces accounts CoinsIn = refl
@@ -95,7 +95,7 @@ named-account scope rows report is account =
     (sym (ap (account_of account) is.telling
     ∙ named scope.begins (length rows) is.pieces is.accounts account)) (is.of_runs account)
 
-abbrev with_accounts : Report → List Account → Report
+abbrev pub with_accounts : Report → List Account → Report
 with_accounts report accounts = record report { accounts = accounts }
 
 pub one-report : (scope : Scope) → OneActList scope → (rows : List Event) (a b : Report) → IsReport scope rows a

@@ -312,7 +312,7 @@ record MarkedWay (scope : Scope) (marks : List (ℕ × Mark)) (states : States) 
   are : marks_of pieces (choices_of scope.begins loss pieces states sums way) ≡ marks
 
 -- each run with the marks of choices has ways with these choices
-followed : SplitWithChoices → MarksTell → (scope : Scope) → OneActList scope
+pub followed : SplitWithChoices → MarksTell → (scope : Scope) → OneActList scope
     → (rows : List Event) (marks : List (ℕ × Mark)) (pieces : List Piece)
     (chosen : Choices (acts_of pieces)) → IsActList scope pieces rows
     → marks_of pieces chosen ≡ marks → (sums : AllSums)

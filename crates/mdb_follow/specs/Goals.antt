@@ -4,12 +4,14 @@ use Rattle.mdb_words.specs.declared.event.Event.{Event}
 use Rattle.mdb_bus.specs.declared.scope.Scope.{Scope}
 use Rattle.mdb_follow.specs.declared.explain.ExplainFault.{ExplainFault}
 use Rattle.mdb_follow.specs.declared.explain.ExplainFault.TheVariants.{Offence, Memory}
+use Rattle.mdb_follow.specs.declared.account.Account.{Account}
 use Rattle.mdb_follow.specs.declared.goal.AccountSide.{AccountSide}
 use Rattle.mdb_follow.specs.declared.goal.AccountSide.TheVariants as sides
 use Rattle.mdb_follow.specs.declared.goal.Bound.{Bound}
 use Rattle.mdb_follow.specs.declared.goal.Bound.TheVariants.{Least, Greatest}
 use Rattle.mdb_follow.specs.declared.goal.Goal.{Goal}
 use Rattle.mdb_follow.specs.declared.mark.Mark.{Mark}
+use Rattle.mdb_follow.specs.declared.range.Range.{Range}
 use Rattle.mdb_follow.specs.AccountNames.{sums_of}
 use Rattle.mdb_follow.specs.Marks.{MarkedRun}
 use Rattle.mdb_follow.specs.Offences.{HasOffence}
@@ -25,6 +27,17 @@ side_value sides.Difference sums = pos sums.device -ℤ pos sums.controller
 -- the value of a goal in a run with these sums
 abbrev pub goal_value : Goal → AllSums → ℤ
 goal_value goal sums = side_value goal.side (sums_of goal.account sums)
+
+-- the range of an account on a side
+abbrev pub side_range : AccountSide → Account → Range
+side_range sides.Device account = account.device
+side_range sides.Controller account = account.controller
+side_range sides.Difference account = account.difference
+
+-- an end of a range
+abbrev pub end_of : Bound → Range → ℤ
+end_of Least range = range.least
+end_of Greatest range = range.greatest
 
 -- one value is at least as far towards an end as another
 abbrev pub IsAsFar : Bound → ℤ → ℤ → Type 0

@@ -1,7 +1,8 @@
 -- The faults of a replay: the first row that cannot be with given marks, and why; and the first
 -- mark that may not stand where it does (this profile). Lists of acts and of pieces stand newest
 -- first.
-use Rattle.std.specs.Prelude.{◌≡◌, ◌⊎◌, ◌+◌, ◌++◌, ℕ, List, [], ◌∷◌, length, Option, Some, None}
+use Rattle.std.specs.Prelude.{◌≡◌, ◌⊎◌, ◌+◌, ◌<◌, ◌≤◌, ◌++◌, ℕ, List, [], ◌∷◌, length, All}
+use Rattle.std.specs.Prelude.{Option, Some, None}
 use Rattle.mdb_words.specs.declared.event.Event.{Event}
 use Rattle.mdb_msgs.specs.declared.command.Device.{Device}
 use Rattle.mdb_bus.specs.declared.act.Act.{Act}
@@ -24,6 +25,16 @@ use Rattle.mdb_follow.specs.Tracks.{HasNoStepFrom}
 -- some run of rows has these marks
 abbrev pub HasMarkedRun : Scope → List Event → List (ℕ × Mark) → Type 0
 HasMarkedRun scope events marks = (sums : AllSums) × MarkedRun scope events marks sums
+
+-- Marks fall into those that stand at these rows, with which the rows have a run, and those that
+-- stand after them.
+pub record SplitAt (scope : Scope) (events : List Event) (marks : List (ℕ × Mark)) : Type 0 where
+  pub front : List (ℕ × Mark)
+  pub back : List (ℕ × Mark)
+  pub are : marks ≡ front ++ back
+  pub reached : HasMarkedRun scope events front
+  pub within : All (λ mark. mark.0 ≤ length events) front
+  pub after : All (λ mark. length events < mark.0) back
 
 -- a mark, if there is one, may stand on this act, if there is one
 abbrev pub MayStandAt : Option Mark → Option Act → Type 0

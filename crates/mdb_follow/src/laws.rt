@@ -7,6 +7,7 @@ ghost use Rattle.mdb_msgs.specs.declared.command.Device.TheVariants as devices;
 ghost use Rattle.mdb_msgs.specs.declared.command.ReaderUnit.TheVariants.{First, Second};
 ghost use Rattle.mdb_bus.specs.ActLists.{ArePieces, IsActList, Piece, acts_of, events_of};
 ghost use Rattle.mdb_bus.specs.declared.scope.Beginning.{Beginning};
+ghost use Rattle.mdb_bus.specs.declared.scope.Beginning.TheVariants.{PowerOn};
 ghost use Rattle.mdb_bus.specs.declared.scope.Scope.{Scope};
 ghost use Rattle.mdb_bus.specs.LeavingOut.{LeavesOutMore};
 ghost use Rattle.mdb_bus.specs.LinkFaults.{blame_on};
@@ -18,6 +19,7 @@ ghost use Rattle.mdb_follow.specs.Choosing.{AllFollow, Choices, choices_of};
 ghost use Rattle.mdb_follow.specs.Follower.{StandsFor, scope_of};
 ghost use Rattle.mdb_follow.specs.declared.account_name.AccountName.{AccountName};
 ghost use Rattle.mdb_follow.specs.declared.follower.Follower.{Follower};
+ghost use Rattle.mdb_follow.specs.declared.goal.Goal.{Goal};
 ghost use Rattle.mdb_follow.specs.declared.mark.Mark.{Mark};
 ghost use Rattle.mdb_follow.specs.declared.offence.Offence.{Offence};
 ghost use Rattle.mdb_follow.specs.declared.report.Report.{Report};
@@ -28,7 +30,9 @@ ghost use Rattle.mdb_follow.specs.declared.silence.TheConstants.{READER_SILENCE_
 ghost use Rattle.mdb_follow.specs.LeavingOut.{AreSumsWithout, HasNothingLeftOut};
 ghost use Rattle.mdb_follow.specs.LeavingOut.{HaveSameFollowed};
 ghost use Rattle.mdb_follow.specs.Marks.{MarkedRun, Rise, StandsWithin, marks_of, own_marks};
-ghost use Rattle.mdb_follow.specs.ReplayFaults.{IsReplayFault};
+ghost use Rattle.mdb_follow.specs.Goals.{Explains, end_of, side_range};
+ghost use Rattle.mdb_follow.specs.ReplayFaults.{HasMarkedRun, IsReplayFault, SplitAt};
+ghost use Rattle.mdb_follow.specs.Replays.{IsReplayReport};
 ghost use Rattle.mdb_follow.specs.Replays as replays;
 ghost use Rattle.mdb_follow.specs.declared.replay.Replay.{Replay};
 ghost use Rattle.mdb_follow.specs.declared.replay.ReplayFault.{ReplayFault};
@@ -387,3 +391,46 @@ pub fn rows_have_one_fault_with_given_marks()
     laws::rows_that_break_a_rule_end_the_act_list();
     laws::act_lists_go_on_row_by_row();
 }
+
+/// Where rows have a run with given marks, any first rows of them have one with the marks that
+/// stand there; all other marks stand after them.
+pub fn fronts_of_marked_runs_have_the_marks_there()
+    ensures { (scope : Scope) (rows more : List Event) (marks : List (ℕ × Mark))
+        → HasMarkedRun scope (rows ++ more) marks → SplitAt scope rows marks }
+{
+    laws::transcripts_have_one_act_list();
+    laws::act_lists_go_on_row_by_row();
+    ways_with_choices_join();
+}
+
+/// Rows have one report in a replay with given marks.
+pub fn rows_have_one_replay_report()
+    ensures { (scope : Scope) (rows : List Event) (marks : List (ℕ × Mark)) (a b : Report)
+        → IsReplayReport scope rows marks a → IsReplayReport scope rows marks b → a ≡ b }
+{
+    laws::transcripts_have_one_act_list();
+}
+
+/// Rows of a recording from power-on that have a run with given marks have a report in a replay
+/// with these.
+pub fn rows_with_a_marked_run_have_a_replay_report()
+    ensures { (scope : Scope) (rows : List Event) (marks : List (ℕ × Mark))
+        → scope.begins ≡ PowerOn → HasMarkedRun scope rows marks
+        → (report : Report) × IsReplayReport scope rows marks report }
+{
+    laws::transcripts_have_one_act_list();
+    ways_split_with_choices();
+    marks_tell_what_is_chosen();
+}
+
+/// Where marks explain a goal, the report of a replay with them comes to the end that the report on
+/// the rows has: in it both ends of the goal's range are that.
+pub fn explained_goals_are_ends_of_reports()
+    ensures { (scope : Scope) (rows : List Event) (goal : Goal) (marks : List (ℕ × Mark))
+        (checked replayed : Report) → Explains scope rows goal marks
+        → IsReport scope rows checked → IsReplayReport scope rows marks replayed
+        → ((side_range goal.side (account_of goal.account replayed)).least
+        ≡ end_of goal.bound (side_range goal.side (account_of goal.account checked)))
+        × ((side_range goal.side (account_of goal.account replayed)).greatest
+        ≡ end_of goal.bound (side_range goal.side (account_of goal.account checked))) }
+{}

@@ -187,7 +187,7 @@ fn answers_yes_and_no_by_a_report_in_one_write(rt: HostRuntime) {
 }
 
 /// The texts of faults.
-static FAULTS: [(RunFault, &str); 5] = [
+static FAULTS: [(RunFault, &str); 6] = [
     (
         RunFault::BadRow {
             row: 7,
@@ -202,6 +202,7 @@ static FAULTS: [(RunFault, &str); 5] = [
     ),
     (RunFault::Write, "the output can't be written"),
     (RunFault::Memory, "out of memory"),
+    (RunFault::Mark { row: 7 }, "no such mark may stand at row 7"),
 ];
 
 #[test]

@@ -24,6 +24,9 @@ const CHECK: &str = "mdbcheck check";
 /// The command line that asks for the acts.
 const SHOW: &str = "mdbcheck show";
 
+/// The command line that asks for a replay.
+const REPLAY: &str = "mdbcheck replay";
+
 /// The command line that asks for a verdict on a recording in mid-session.
 const JOINED: &str = "mdbcheck check --joined";
 
@@ -60,14 +63,16 @@ setup changer cashless\nwithout bill\n";
 
 /// What is told of a command line that asks for help.
 const USAGE: &[u8] = b"usage: mdbcheck check [--joined] [--setup 'DEVICE BYTES'].. \
-[--without DEVICE].. | show [--without DEVICE].. < TRANSCRIPT; \
-DEVICE is changer, bill, cashless or cashless-2\n";
+[--without DEVICE].. | show [--without DEVICE].. | explain ACCOUNT SIDE BOUND \
+[--without DEVICE].. | replay [--without DEVICE].. < TRANSCRIPT; DEVICE is changer, bill, \
+cashless or cashless-2; ACCOUNT is coins-in, bills-in, paid-out, approved, sold, approved-2 or \
+sold-2; SIDE is device, controller or difference; BOUND is least or greatest\n";
 
 /// What is told of one that asks for the version.
 const VERSION: &[u8] = b"mdbcheck 0.1.0\n";
 
 /// Runs of the program.
-static RUNS: [Run; 28] = [
+static RUNS: [Run; 34] = [
     // Recordings with a verdict.
     (CHECK, ROWS, (0, REPORT, b"")),
     (CHECK, WRONG_SUM, (1, WRONG_SUM_REPORT, b"")),
@@ -85,6 +90,14 @@ static RUNS: [Run; 28] = [
             b"1-1 break 100000\n",
             b"mdbcheck: row 2: BadValue: wanted TIME,LINE,VALUE, found \"12,M,200\"\n",
         ),
+    ),
+    // Recordings that are replayed, without a mark and with one.
+    (REPLAY, ROWS, (0, REPORT, b"")),
+    (REPLAY, WRONG_SUM, (1, WRONG_SUM_REPORT, b"")),
+    (
+        REPLAY,
+        b"1,L,-\n1000,M,108\n",
+        (2, b"", b"mdbcheck: no such mark may stand at row 1\n"),
     ),
     // Texts with a record that is no row, of which its number and each of the reasons is told.
     (
@@ -210,6 +223,9 @@ static RUNS: [Run; 28] = [
     ("mdbcheck --version", ROWS, (2, b"", VERSION)),
     ("mdbcheck check --help", ROWS, (2, b"", USAGE)),
     ("mdbcheck show --help", ROWS, (2, b"", USAGE)),
+    ("mdbcheck explain --help", ROWS, (2, b"", USAGE)),
+    ("mdbcheck explain coins-in -h", ROWS, (2, b"", USAGE)),
+    ("mdbcheck replay --help", ROWS, (2, b"", USAGE)),
     ("mdbcheck check --joined --help", ROWS, (2, b"", USAGE)),
     (
         "mdbcheck check --setup changer~02~00~01~05~02~00~07~01~02~05~19 --help",
@@ -260,11 +276,14 @@ const UNKNOWN: &str = "unrecognized subcommand";
 /// Why one with a word or a flag too many is.
 const UNEXPECTED: &str = "unexpected argument found";
 
-/// Why one with an option is that has no value, or none of its own.
+/// Why one is that lacks a word of a goal.
+const MISSING: &str = "one or more required arguments were not provided";
+
+/// Why one is with an option that has no value, or none of its own, or with words of no goal.
 const INVALID: &str = "one of the values isn't valid for an argument";
 
 /// Command lines that are refused, and why. `~` stands for a blank within a word.
-static REFUSED: [(&str, &str); 68] = [
+static REFUSED: [(&str, &str); 98] = [
     ("", NO_COMMAND),
     ("mdbcheck", NO_COMMAND),
     ("mdbcheck frobnicate", UNKNOWN),
@@ -298,6 +317,60 @@ static REFUSED: [(&str, &str); 68] = [
         INVALID,
     ),
     ("mdbcheck show --joined", UNEXPECTED),
+    ("mdbcheck Explain coins-in device least", UNKNOWN),
+    ("mdbcheck explain", MISSING),
+    ("mdbcheck explain --", MISSING),
+    ("mdbcheck explain coins-in", MISSING),
+    ("mdbcheck explain coins-in device", MISSING),
+    ("mdbcheck explain coins-in -- device", MISSING),
+    ("mdbcheck explain --without bill", MISSING),
+    ("mdbcheck explain coins-in --without device least", MISSING),
+    (
+        "mdbcheck explain coins-in device least greatest",
+        UNEXPECTED,
+    ),
+    (
+        "mdbcheck explain coins-in device least -- --without bill",
+        UNEXPECTED,
+    ),
+    ("mdbcheck explain -- coins-in device least --", UNEXPECTED),
+    (
+        "mdbcheck explain coins-in device least --joined",
+        UNEXPECTED,
+    ),
+    ("mdbcheck explain coins-in -x device least", UNEXPECTED),
+    (
+        "mdbcheck --without bill explain coins-in device least",
+        UNEXPECTED,
+    ),
+    ("mdbcheck explain coins device least", INVALID),
+    ("mdbcheck explain coins-in machine least", INVALID),
+    ("mdbcheck explain coins-in device most", INVALID),
+    ("mdbcheck explain Coins-in device least", INVALID),
+    ("mdbcheck explain device coins-in least", INVALID),
+    ("mdbcheck explain -- --without bill least", INVALID),
+    ("mdbcheck explain coins-in device least --without", INVALID),
+    (
+        "mdbcheck explain --without hopper coins-in device least",
+        INVALID,
+    ),
+    (
+        "mdbcheck explain coins-in --without=hopper device least",
+        INVALID,
+    ),
+    (
+        "mdbcheck explain coins-in --without bill device --without hopper least",
+        INVALID,
+    ),
+    ("mdbcheck Replay", UNKNOWN),
+    ("mdbcheck replay extra", UNEXPECTED),
+    ("mdbcheck replay --joined", UNEXPECTED),
+    (
+        "mdbcheck replay --setup changer~02~00~01~05~02~00~07~01~02~05~19",
+        UNEXPECTED,
+    ),
+    ("mdbcheck replay --without", INVALID),
+    ("mdbcheck replay --without hopper", INVALID),
     (
         "mdbcheck show --setup changer~02~00~01~05~02~00~07~01~02~05~19",
         UNEXPECTED,
@@ -439,8 +512,8 @@ fn command_lines_are_refused_for_a_reason(rt: HostRuntime) {
     }
 }
 
-/// Command lines with options that the program knows.
-static KNOWN: [&str; 17] = [
+/// Command lines with options and words that the program knows.
+static KNOWN: [&str; 22] = [
     "mdbcheck check --",
     "mdbcheck show --",
     "mdbcheck check --without changer",
@@ -457,6 +530,11 @@ static KNOWN: [&str; 17] = [
     "mdbcheck check --setup=bill~01~00~01~00~64~02~00~C8~00~00~FF~00~01~05~35 --joined --",
     "mdbcheck check --without bill --joined --setup cashless-2~01~01~00~01~01~02~05~00~0B --setup=changer~02~00~01~05~02~00~07~01~02~05~19 --setup cashless~01~01~00~01~01~02~05~00~0B",
     "mdbcheck check --joined --setup changer~02~00~01~05~02~00~07~11",
+    "mdbcheck explain coins-in device least",
+    "mdbcheck explain --without bill paid-out controller greatest",
+    "mdbcheck explain approved --without=changer difference --without bill least --",
+    "mdbcheck explain sold-2 -- device greatest",
+    "mdbcheck explain -- approved-2 controller least",
     "mdbcheck check --joined --setup cashless~00~01~01~00~01~01~02~05~00~0B~01~01~00~01~01~02~05~00~21",
 ];
 

@@ -4,10 +4,9 @@ use Rattle.std.specs.Prelude.{◌≡◌, ◌⊎◌, ℕ, List, [], ◌∷◌, Ma
 use Rattle.std.specs.Prelude.{unwrap_or}
 use Rattle.clap.specs.Kinds.{or_else}
 use Rattle.clap.specs.Words.{App, IsAmong, Kinds, Row, Rule, all_of, new_app, new_rule}
-use Rattle.clap.specs.Walk.{has_row}
+use Rattle.clap.specs.Walk.{first_of, has_row}
 use Rattle.clap.specs.Words.{with_rule, with_subcommand}
 use Rattle.clap.specs.declared.builder.action.ArgAction.TheVariants.{Append}
-use Rattle.clap.specs.declared.error.kind.ErrorKind.{ErrorKind}
 use Rattle.clap.specs.declared.error.kind.ErrorKind.TheVariants.{InvalidValue, OutOfMemory}
 use Rattle.mdb_msgs.specs.declared.device_set.DeviceSet.{DeviceSet}
 use Rattle.mdb_msgs.specs.declared.device_set.TheConstants.DeviceSet.{NONE}
@@ -16,11 +15,17 @@ use Rattle.mdb_msgs.specs.Devices.{device_word}
 use Rattle.mdb_msgs.specs.DeviceSets.{with_device}
 use Rattle.mdb_bus.specs.declared.scope.Scope.{Scope}
 use Rattle.mdb_bus.specs.Scopes.{leaving_out}
-use Rattle.mdb_check.specs.Program.{Asked, IsFromPowerOn, IsJoined, NamesCheck, NamesShow}
+use Rattle.mdb_follow.specs.declared.goal.Goal.{Goal}
+use Rattle.mdb_follow.specs.AccountNames.{account_word}
+use Rattle.mdb_check.specs.Accounts.{side_word}
+use Rattle.mdb_check.specs.Explain.{bound_word}
+use Rattle.mdb_check.specs.Program.{Asked, IsFromPowerOn, IsJoined, NamesCheck, NamesExplain}
+use Rattle.mdb_check.specs.Program.{NamesReplay, NamesShow}
 use Rattle.mdb_check.specs.declared.refusal.Refusal.{Refusal}
 use Rattle.mdb_check.specs.declared.refusal.Refusal.TheVariants.{Words, Setup}
 use Rattle.mdb_check.specs.declared.command_line.Task.{Task}
-use Rattle.mdb_check.specs.declared.command_line.Task.TheVariants.{Check, Show}
+use Rattle.mdb_check.specs.declared.command_line.Task.TheVariants.{Check, Show, Explain}
+use Rattle.mdb_check.specs.declared.command_line.Task.TheVariants.{Replay}
 
 -- ---- the command
 
@@ -36,7 +41,11 @@ flag_rule name = record (new_rule name) {
   range = Some (record { start_inclusive = 0; end_inclusive = 0 });
 }
 
--- a task with these options
+-- a word that stands alone, and must be there
+abbrev pub word_rule : List ℕ → Rule
+word_rule name = record (new_rule name) { required = true }
+
+-- a task with these options, and these words
 abbrev pub check_app : App
 check_app = with_rule (with_rule (with_rule (new_app (codes "check")) (option_rule (codes "setup")))
     (option_rule (codes "without"))) (flag_rule (codes "joined"))
@@ -44,15 +53,27 @@ check_app = with_rule (with_rule (with_rule (new_app (codes "check")) (option_ru
 abbrev pub show_app : App
 show_app = with_rule (new_app (codes "show")) (option_rule (codes "without"))
 
+abbrev pub explain_app : App
+explain_app = with_rule (with_rule (with_rule (with_rule (new_app (codes "explain"))
+    (option_rule (codes "without"))) (word_rule (codes "ACCOUNT"))) (word_rule (codes "SIDE")))
+    (word_rule (codes "BOUND"))
+
+abbrev pub replay_app : App
+replay_app = with_rule (new_app (codes "replay")) (option_rule (codes "without"))
+
 -- a command `mdbcheck` that has a version, and needs a subcommand
 abbrev pub bare_mdbcheck : App
 bare_mdbcheck =
     let new = new_app (codes "mdbcheck") in
     record new { top = record new.top { has_version = true; subcommand_required = true } }
 
--- the program: that command with the subcommands `check` and `show`
+-- the program: that command with the subcommands `check` and `show`, and then `explain` and
+-- `replay`
+abbrev pub with_two_tasks : App
+with_two_tasks = with_subcommand (with_subcommand bare_mdbcheck check_app.top) show_app.top
+
 abbrev pub mdbcheck : App
-mdbcheck = with_subcommand (with_subcommand bare_mdbcheck check_app.top) show_app.top
+mdbcheck = with_subcommand (with_subcommand with_two_tasks explain_app.top) replay_app.top
 
 -- ---- what it was asked for
 
@@ -77,15 +98,23 @@ abbrev pub AsksToCheck : List Row → Scope → Type 0
 AsksToCheck found scope = (asked : Asked) × AreOptionsOf found asked
     × (IsFromPowerOn asked scope ⊎ IsJoined asked scope)
 
--- they are options of `show`, which has but one
+-- they are options of `show`, `explain` or `replay`, which have but one
 abbrev pub AsksToShow : List Row → Scope → Type 0
 AsksToShow found scope = (left_out : DeviceSet)
     × AreDevices (values_of (codes "without") found) left_out × (scope ≡ leaving_out left_out)
+
+-- What was found of the words of `explain` is this goal's.
+pub record AsksForGoal (found : List Row) (goal : Goal) : Type 0 where
+  pub account : first_of (codes "ACCOUNT") found ≡ Some (account_word goal.account)
+  pub side : first_of (codes "SIDE") found ≡ Some (side_word goal.side)
+  pub bound : first_of (codes "BOUND") found ≡ Some (bound_word goal.bound)
 
 -- the words ask for the task
 abbrev pub AsksFor : List (List ℕ) → Task → Type 0
 AsksFor words (Check scope) = NamesCheck words scope
 AsksFor words (Show scope) = NamesShow words scope
+AsksFor words (Explain goal without) = NamesExplain words goal (leaving_out without)
+AsksFor words (Replay without) = NamesReplay words (leaving_out without)
 
 -- a refusal for a value that isn't one of its option, or for want of memory
 abbrev pub IsOwnRefusal : Refusal → Type 0

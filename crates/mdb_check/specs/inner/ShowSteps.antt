@@ -13,7 +13,7 @@ use Rattle.mdb_bus.specs.LinkFaults.{IsLinkFault}
 use Rattle.mdb_records.specs.declared.ReadFault.{ReadFault}
 use Rattle.mdb_records.specs.declared.ReadFault.TheVariants as reading
 use Rattle.mdb_check.specs.declared.outcome.RunFault.{RunFault}
-use Rattle.mdb_check.specs.declared.outcome.RunFault.TheVariants.{BadRow, TooLong, Read, Write, Memory}
+use Rattle.mdb_check.specs.declared.outcome.RunFault.TheVariants.{BadRow, TooLong, Read, Write, Memory, Mark}
 use Rattle.mdb_check.specs.declared.page.Page.{Page}
 use Rattle.mdb_check.specs.declared.showing.Lines.{Lines}
 use Rattle.mdb_check.specs.Show.{IsShowing}
@@ -63,6 +63,7 @@ IsNotTaken TooLong before after text = ⊥
 IsNotTaken Read before after text = ⊥
 IsNotTaken Write before after text = Breaks before after text
 IsNotTaken Memory before after text = after ≡ before
+IsNotTaken (Mark row) before after text = ⊥
 
 -- A bus stands for some pieces.
 abbrev pub HasPieces : Bus → Type 0
@@ -126,6 +127,7 @@ HasAdded scope lines before after earlier rows (Err Write) =
     (text : List ℕ) × IsAdded scope earlier rows text × Breaks before after text
 HasAdded scope lines before after earlier rows (Err Memory) =
     (text : List ℕ) × IsAddedInPart scope earlier rows text × Puts before after text
+HasAdded scope lines before after earlier rows (Err (Mark row)) = ⊥
 
 -- the same where one of the rows was stopped at
 abbrev pub HasStopped : Scope → Lines → Output → Output → List Event → List Event
@@ -158,3 +160,4 @@ IsShownAs met (Err TooLong) = ⊥
 IsShownAs met (Err Read) = met ≡ reading.Read
 IsShownAs met (Err Write) = ⊤
 IsShownAs met (Err Memory) = ⊤
+IsShownAs met (Err (Mark row)) = ⊥

@@ -1,4 +1,4 @@
-use Rattle.mdb_check.proofs.CommandLine.{not_check_and_show, one_check, one_show}
+use Rattle.mdb_check.proofs.CommandLine.{explain_only, not_check_and_replay, not_check_and_show, not_show_and_replay, one_check, one_explain, one_replay, one_show}
 use Rattle.mdb_check.proofs.laws.command_lines_name_one_task.Goals as goal
 
 pub returns-clause-check : goal.returns-clause-check
@@ -7,5 +7,20 @@ returns-clause-check c = one_check c.block_has_one_reply.ensures
 pub returns-clause-show : goal.returns-clause-show
 returns-clause-show c = one_show
 
+pub returns-clause-explain : goal.returns-clause-explain
+returns-clause-explain c = one_explain
+
+pub returns-clause-replay : goal.returns-clause-replay
+returns-clause-replay c = one_replay
+
 pub returns-clause-not_both : goal.returns-clause-not_both
 returns-clause-not_both c = not_check_and_show
+
+pub returns-clause-no_check : goal.returns-clause-no_check
+returns-clause-no_check c = not_check_and_replay
+
+pub returns-clause-no_show : goal.returns-clause-no_show
+returns-clause-no_show c = not_show_and_replay
+
+pub returns-clause-explain_only : goal.returns-clause-explain_only
+returns-clause-explain_only c = explain_only

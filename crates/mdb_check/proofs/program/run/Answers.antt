@@ -1,10 +1,11 @@
 use Rattle.std.proofs.Common.{Global, List, refl, subst, inl, inr, ◌≡◌, ℕ}
 use Rattle.std.proofs.lemmas.Option.{IfSome_then}
 use Rattle.std.specs.Prelude.{String, map, string_bytes}
+use Rattle.mdb_bus.specs.Scopes.{leaving_out}
 use Rattle.mdb_check.specs.inner.CommandLine.{AsksFor}
-use Rattle.mdb_check.specs.Program.{NameATask, checked, shown}
+use Rattle.mdb_check.specs.Program.{NameATask, checked, explained, replayed, shown}
 use Rattle.mdb_check.specs.declared.command_line.Task.{Task}
-use Rattle.mdb_check.specs.declared.command_line.Task.TheVariants.{Check, Show}
+use Rattle.mdb_check.specs.declared.command_line.Task.TheVariants.{Check, Show, Explain, Replay}
 use Rattle.mdb_check.proofs.Status.{refused_says}
 use Rattle.mdb_check.proofs.program.run.Goals as goal
 
@@ -16,7 +17,9 @@ asked read given found task same is asks =
 
 name_a_task : (words : List (List ℕ)) (task : Task) → AsksFor words task → NameATask words
 name_a_task words (Check scope) asks = (scope, inl asks)
-name_a_task words (Show scope) asks = (scope, inr asks)
+name_a_task words (Show scope) asks = (scope, inr (inl asks))
+name_a_task words (Explain goal without) asks = (leaving_out without, inr (inr (inl (goal, asks))))
+name_a_task words (Replay without) asks = (leaving_out without, inr (inr (inr asks)))
 
 pub returns-in-Ok-Check-clause-says : goal.returns-in-Ok-Check-clause-says
 returns-in-Ok-Check-clause-says g c =
@@ -34,5 +37,24 @@ returns-in-Ok-Show-clause-says g c =
 pub returns-in-Ok-Show-clause-named : goal.returns-in-Ok-Show-clause-named
 returns-in-Ok-Show-clause-named g c = inl (name_a_task _ (Show c.in-Ok-Show.scope) (asked _ _ _ (Show c.in-Ok-Show.scope) c.as_slice.ensures.value c.in-Ok-Show.field-0-is c.in-Ok-Show.ensures.asked))
 
+pub returns-in-Ok-Replay-clause-says : goal.returns-in-Ok-Replay-clause-says
+returns-in-Ok-Replay-clause-says g c =
+    let asks = asked _ _ _ (Replay c.in-Ok-Replay.without) c.as_slice.ensures.value c.in-Ok-Replay.field-0-is c.in-Ok-Replay.ensures.asked in
+    IfSome_then _ c.run_replay.ensures.says (λ text says. replayed (leaving_out c.in-Ok-Replay.without) asks says)
+
+pub returns-in-Ok-Replay-clause-named : goal.returns-in-Ok-Replay-clause-named
+returns-in-Ok-Replay-clause-named g c = inl (name_a_task _ (Replay c.in-Ok-Replay.without) (asked _ _ _ (Replay c.in-Ok-Replay.without) c.as_slice.ensures.value c.in-Ok-Replay.field-0-is c.in-Ok-Replay.ensures.asked))
+
 pub returns-clause-says : goal.returns-clause-says
 returns-clause-says g c = refused_says _ _ _ _ _ c.refuse.ensures refl
+
+pub returns-in-Ok-Explain-clause-says : goal.returns-in-Ok-Explain-clause-says
+returns-in-Ok-Explain-clause-says g c =
+    let task = Explain c.in-Ok-Explain.goal c.in-Ok-Explain.without in
+    let asks = asked _ _ _ task c.as_slice.ensures.value c.in-Ok-Explain.field-0-is c.in-Ok-Explain.ensures.asked in
+    IfSome_then _ c.run_explain.ensures.says (λ text says. explained (leaving_out c.in-Ok-Explain.without) c.in-Ok-Explain.goal asks says)
+
+pub returns-in-Ok-Explain-clause-named : goal.returns-in-Ok-Explain-clause-named
+returns-in-Ok-Explain-clause-named g c =
+    let task = Explain c.in-Ok-Explain.goal c.in-Ok-Explain.without in
+    inl (name_a_task _ task (asked _ _ _ task c.as_slice.ensures.value c.in-Ok-Explain.field-0-is c.in-Ok-Explain.ensures.asked))

@@ -18,9 +18,9 @@ returns-in-Err-of-clause-read g c all to_come =
     batches.refused g.T.FromRecord.is g.T.FromRecord.refuses g.R.Read.remaining all c.loop.records c.advance.new.self c.loop.self c.in-Err-of.fault (c.loop.invariant.taken all to_come)
     c.in-Ok.found c.if-not-found.false c.in-Ok.ensures.next (subst Refused c.row.ensures c.in-Err-of.ensures.refused)
 
-pub returns-then-bytes_ahead-lt-ROW_BYTES-clause-read :
-    goal.returns-then-bytes_ahead-lt-ROW_BYTES-clause-read
-returns-then-bytes_ahead-lt-ROW_BYTES-clause-read g c all to_come =
+pub returns-then-is_alone-clause-read :
+    goal.returns-then-is_alone-clause-read
+returns-then-is_alone-clause-read g c all to_come =
     let Row : List (List ℕ) → Type 0 = λ fields. g.T.FromRecord.is fields c.in-Ok-of.row in
     batches.more g.T.FromRecord.is g.T.FromRecord.refuses g.R.Read.remaining all c.advance.new.self c.push.new.self
     (batches.goes_on g.T.FromRecord.is g.R.Read.remaining all c.loop.records c.advance.new.self c.loop.self c.push.new.self c.in-Ok-of.row

@@ -1,0 +1,404 @@
+-- From power-on a machine has one step at most by an act under a choice, from a state: so it has one
+-- way through acts with given choices.
+use Rattle.std.proofs.Common.{sym, ap, subst, ◌∙◌, ◌≡◌, inl, inr, Bool, true, false}
+use Rattle.std.proofs.Common.{List, [], ◌∷◌, ◌++◌, Option, Some, None}
+use Rattle.std.proofs.lemmas.List.{append_cancel_left}
+use Rattle.std.specs.Prelude.{sum_by}
+use Rattle.mdb_msgs.specs.declared.command.ChangerCommand.{ChangerCommand}
+use Rattle.mdb_msgs.specs.declared.command.ChangerCommand.TheVariants as changer_commands
+use Rattle.mdb_msgs.specs.declared.command.BillCommand.{BillCommand}
+use Rattle.mdb_msgs.specs.declared.command.BillCommand.TheVariants as bill_commands
+use Rattle.mdb_msgs.specs.declared.command.Device.{Device}
+use Rattle.mdb_msgs.specs.declared.command.Device.TheVariants as devices
+use Rattle.mdb_msgs.specs.declared.command.ReaderCommand.{ReaderCommand}
+use Rattle.mdb_msgs.specs.declared.command.ReaderUnit.{ReaderUnit}
+use Rattle.mdb_msgs.specs.declared.reply.Reply.{Reply}
+use Rattle.mdb_bus.specs.declared.act.Act.{Act}
+use Rattle.mdb_bus.specs.declared.act.Act.TheVariants as acts
+use Rattle.mdb_bus.specs.declared.scope.Beginning.TheVariants.{PowerOn}
+use Rattle.mdb_cash.specs.declared.bill.activity.BillActivity.{BillActivity}
+use Rattle.mdb_cash.specs.declared.bill.activity.BillActivity.TheVariants as activity
+use Rattle.mdb_cash.specs.declared.bill.state.BillState.{BillState}
+use Rattle.mdb_cash.specs.declared.bill.state.Escrow.{Escrow}
+use Rattle.mdb_cash.specs.declared.bill.state.Escrow.TheVariants.{Waiting}
+use Rattle.mdb_cash.specs.declared.changer.state.ChangerState.{ChangerState}
+use Rattle.mdb_cash.specs.declared.choice.Choice.{Choice}
+use Rattle.mdb_cash.specs.declared.gains.Gains.{Gains}
+use Rattle.mdb_cash.specs.declared.kept.Part.{Part}
+use Rattle.mdb_cash.specs.Bill as bill
+use Rattle.mdb_cash.specs.BillFacts as bill_facts
+use Rattle.mdb_cash.specs.Changer as changer
+use Rattle.mdb_cash.specs.ChangerFacts as changer_facts
+use Rattle.mdb_cash.specs.Gains.{device_gains}
+use Rattle.mdb_cash.specs.Keeper.{AllowsFacts, Facts, Tables, known_of}
+use Rattle.mdb_cash.specs.KeeperSteps.{AckStep, Conduct, KeeperStep, ReplyStep, StepKnowing}
+use Rattle.mdb_cash.specs.Kept.{IsNew}
+use Rattle.mdb_cash.specs.Known.{Allows, AllowsKept, known_by}
+use Rattle.mdb_cash.specs.Machine.{Machine}
+use Rattle.mdb_cash.specs.Pair.{Stays}
+use Rattle.mdb_cash.specs.Past.{PastFacts, or_else}
+use Rattle.mdb_cash.specs.Steps.{ForOwn}
+use Rattle.mdb_cash.specs.inner.BillCodes.{same_type}
+use Rattle.mdb_cashless.specs.declared.reader.device.DeviceState.{DeviceState}
+use Rattle.mdb_cashless.specs.declared.reader.messages.ReaderActivity.{ReaderActivity}
+use Rattle.mdb_cashless.specs.declared.reader.state.ReaderState.{ReaderState}
+use Rattle.mdb_cashless.specs.Reader as reader
+use Rattle.mdb_cashless.specs.ReaderDevice.{all_told}
+use Rattle.mdb_cashless.specs.ReaderFacts as reader_facts
+use Rattle.mdb_cashless.specs.ReaderMessages.{config_in, last_said, messages_of}
+use Rattle.mdb_cashless.specs.Units.{own}
+use Rattle.mdb_follow.specs.Choosing.{Choices, Follows}
+use Rattle.mdb_follow.specs.Machines.{machine_of}
+use Rattle.mdb_follow.specs.Sums.{Sums, added}
+
+-- two steps of a kind from one state are the same
+abbrev pub IsOneStep : {State : Type 0} → (State → Gains → Type 0) → Type 0
+IsOneStep {State} Step =
+    (one other : State) (gains more : Gains) → Step one gains → Step other more
+    → (one ≡ other) × (gains ≡ more)
+
+-- where nothing changes
+stays_one : {State : Type 0} (before : State) → IsOneStep (Stays before)
+stays_one before one other gains more p q = (p.0 ∙ sym q.0, p.1 ∙ sym q.1)
+
+-- by a command of the device, or of another one
+own_one : {Own State : Type 0} (own : Option Own) (Step : Own → State → State → Gains → Type 0)
+    (before : State) → ((command : Own) → IsOneStep (Step command before))
+    → IsOneStep (ForOwn own Step before)
+own_one None Step before each = stays_one before
+own_one (Some command) Step before each = each command
+
+-- Messages that are new.
+
+-- where nothing is there, nothing is new
+none_after : {X : Type 0} (xs ys : List X) → [] ≡ xs ++ ys → ys ≡ []
+none_after [] ys is = sym is
+none_after (x ∷ xs) ys is = absurd (cc is)
+
+-- what is new in a kept list is one
+one_new : {M : Type 0} (poll : Bool) (held kept one other : List M) → IsNew poll held kept one
+    → IsNew poll held kept other → one ≡ other
+one_new poll held kept one other (inl p) (inl q) = append_cancel_left held one other (sym p ∙ q)
+one_new poll held kept one other (inl p) (inr q) =
+    none_after held one (sym q.1 ∙ p) ∙ sym q.2
+one_new poll held kept one other (inr p) (inl q) =
+    p.2 ∙ sym (none_after held other (sym p.1 ∙ q))
+one_new poll held kept one other (inr p) (inr q) = p.2 ∙ sym q.2
+
+-- Facts that are known.
+
+-- from power-on what counts is known
+allowed_one : {X : Type 0} (none : X) (told : Option X) (one other : X)
+    → Allows (known_by PowerOn none told) one → Allows (known_by PowerOn none told) other
+    → one ≡ other
+allowed_one none None one other p q = p ∙ sym q
+allowed_one none (Some x) one other p q = p ∙ sym q
+
+-- and so is the last kept list
+kept_one : {M : Type 0} (told : Option (List M)) (holds : Bool) (one other : List M)
+    → AllowsKept (known_by PowerOn [] told) holds one
+    → AllowsKept (known_by PowerOn [] told) holds other → one ≡ other
+kept_one None holds one other p q = p ∙ sym q
+kept_one (Some xs) holds one other p q = p ∙ sym q
+
+-- what counts of the acts, where the last kept list is one
+past_alike : {M : Type 0} (one other : PastFacts M) → one.enabled ≡ other.enabled
+    → one.reset_owed ≡ other.reset_owed → one.last_kept ≡ other.last_kept → one ≡ other
+past_alike one other enabled owed kept i =
+    record { enabled = enabled i; reset_owed = owed i; last_kept = kept i }
+
+-- a device's facts
+facts_one : {Own Setup Asked M : Type 0} (tables : Tables Own Setup Asked M) (so_far : List Act)
+    (holds : Bool) (one other : Facts Setup Asked M)
+    → AllowsFacts (known_of tables PowerOn so_far) holds one
+    → AllowsFacts (known_of tables PowerOn so_far) holds other → one ≡ other
+facts_one tables so_far holds one other p q =
+    let setup : one.setup ≡ other.setup = p.setup ∙ sym q.setup in
+    let asked : one.last_asked ≡ other.last_asked =
+    allowed_one None _ one.last_asked other.last_asked p.last_asked q.last_asked in
+    let past : one.past ≡ other.past =
+    past_alike one.past other.past (p.past.enabled ∙ sym q.past.enabled)
+    (p.past.reset_owed ∙ sym q.past.reset_owed)
+    (kept_one _ holds one.past.last_kept other.past.last_kept p.past.last_kept q.past.last_kept) in
+    λ i. record { setup = setup i; last_asked = asked i; past = past i }
+
+-- Devices that keep messages: what such a device does of its own is one thing.
+record IsOneConduct {Own Setup Asked M State : Type 0} (conduct : Conduct Own Setup Asked M State)
+    : Type 0 where
+  asks : (facts : Facts Setup Asked M) (command : Own) (before : State)
+      → IsOneStep (conduct.Asks facts command before)
+  acks : (facts : Facts Setup Asked M) (command : Own) (choice : Choice) (before : State)
+      → IsOneStep (conduct.Acks facts command choice before)
+  tells : (facts : Facts Setup Asked M) (choice : Choice) (news : List M)
+      (before one other : State) → conduct.TellsNews facts choice news before one
+      → conduct.TellsNews facts choice news before other → one ≡ other
+
+acks_one : {Own Setup Asked M State : Type 0} (conduct : Conduct Own Setup Asked M State)
+    → IsOneConduct conduct → (facts : Facts Setup Asked M) (poll : Bool) (command : Own)
+    (choice : Choice) (before : State) → IsOneStep (AckStep conduct facts poll command choice before)
+acks_one conduct is facts true command choice before one other gains more p q =
+    stays_one before one other gains more p.1 q.1
+acks_one conduct is facts false command choice before one other gains more p q =
+    is.acks facts command choice before one other gains more p q
+
+replies_one : {Own Setup Asked M State : Type 0} (conduct : Conduct Own Setup Asked M State)
+    → IsOneConduct conduct → (facts : Facts Setup Asked M) (poll : Bool) (parts : List (Part M))
+    (choice : Choice) (before : State)
+    → IsOneStep (ReplyStep conduct facts poll parts choice before)
+replies_one conduct is facts poll parts choice before one other gains more p q =
+    let news : p.news ≡ q.news =
+    one_new poll _ _ p.news q.news p.has_news.new q.has_news.new in (
+      is.tells facts choice q.news _ one other
+          (subst (λ ms. conduct.TellsNews facts choice ms _ one) news p.tells_news) q.tells_news,
+      p.gained ∙ (ap (λ ms. device_gains (sum_by (conduct.first_gain facts) ms)
+          (sum_by (conduct.second_gain facts) ms)) news ∙ sym q.gained),
+    )
+
+keeper_one : {Own Setup Asked M State : Type 0} (tables : Tables Own Setup Asked M)
+    (conduct : Conduct Own Setup Asked M State) → IsOneConduct conduct
+    → (facts : Facts Setup Asked M) (act : Act) (choice : Choice) (before : State)
+    → IsOneStep (KeeperStep tables conduct facts act choice before)
+keeper_one tables conduct is facts (acts.Ask command) choice before =
+    own_one (tables.own command) _ before (λ c. is.asks facts c before)
+keeper_one tables conduct is facts (acts.Ack command) choice before =
+    own_one (tables.own command) _ before
+    (λ c. acks_one conduct is facts (tables.is_poll c) c choice before)
+keeper_one tables conduct is facts (acts.Reply command reply) choice before =
+    own_one (tables.own command) _ before
+    (λ c. replies_one conduct is facts (tables.is_poll c) (tables.parts_of reply) choice before)
+keeper_one tables conduct is facts (acts.VmcAck command reply) choice before =
+    own_one (tables.own command) _ before
+    (λ c one other gains more p q. (p.to ∙ sym q.to, p.gained ∙ sym q.gained))
+keeper_one tables conduct is facts (acts.Break length) choice before =
+    λ one other gains more p q. (p.0 ∙ sym q.0, p.1 ∙ sym q.1)
+keeper_one tables conduct is facts (acts.Nak command) choice before = stays_one before
+keeper_one tables conduct is facts (acts.VmcNak command reply) choice before = stays_one before
+keeper_one tables conduct is facts (acts.VmcRet command reply) choice before = stays_one before
+keeper_one tables conduct is facts (acts.Repeat command reply) choice before = stays_one before
+keeper_one tables conduct is facts acts.Foreign choice before = stays_one before
+
+-- so is its step where all is known
+knowing_one : {Own Setup Asked M State : Type 0} (tables : Tables Own Setup Asked M)
+    (conduct : Conduct Own Setup Asked M State) → IsOneConduct conduct → (so_far : List Act)
+    (act : Act) (choice : Choice) (before : State)
+    → IsOneStep (StepKnowing tables conduct (known_of tables PowerOn so_far) act choice before)
+knowing_one tables conduct is so_far act choice before one other gains more p q =
+    let same : p.facts ≡ q.facts =
+    facts_one tables so_far (conduct.holds before) p.facts q.facts p.allowed q.allowed in
+    keeper_one tables conduct is q.facts act choice before one other gains more
+    (subst (λ facts. KeeperStep tables conduct facts act choice before one gains) same p.step)
+    q.step
+
+-- The changer.
+
+changer_asks : (facts : changer_facts.Facts) (command : ChangerCommand) (before : ChangerState)
+    → IsOneStep (changer.AskStep facts command before)
+changer_asks facts (changer_commands.Dispense coins) before one other gains more p q =
+    (p.0 ∙ sym q.0, p.1 ∙ sym q.1)
+changer_asks facts changer_commands.Reset before one other gains more p q =
+    (p.0 ∙ sym q.0, p.1 ∙ sym q.1)
+changer_asks facts _ before one other gains more p q = (p.0 ∙ sym q.0, p.1 ∙ sym q.1)
+
+changer_acks : (facts : changer_facts.Facts) (command : ChangerCommand) (choice : Choice)
+    (before : ChangerState) → IsOneStep (changer.TakeStep facts command choice before)
+changer_acks facts changer_commands.Reset choice before one other gains more p q =
+    (p.0 ∙ sym q.0, p.1 ∙ sym q.1)
+changer_acks facts (changer_commands.Dispense coins) choice before one other gains more p q =
+    (p.0 ∙ sym q.0, p.1 ∙ sym q.1)
+changer_acks facts _ choice before one other gains more p q = (p.0 ∙ sym q.0, p.1 ∙ sym q.1)
+
+changer_is_one : IsOneConduct changer.conduct
+changer_is_one = record {
+  asks = changer_asks;
+  acks = changer_acks;
+  tells = λ facts choice news before one other p q. p.1 ∙ sym q.1;
+}
+
+-- The validator.
+
+bill_acks : (command : BillCommand) (before : BillState)
+    → IsOneStep (bill.TakeStep command before)
+bill_acks bill_commands.Reset before one other gains more p q = (p.0 ∙ sym q.0, p.1 ∙ sym q.1)
+bill_acks (bill_commands.Escrow order) before one other gains more p q =
+    (p.0 ∙ sym q.0, p.1 ∙ sym q.1)
+bill_acks _ before one other gains more p q = (p.0 ∙ sym q.0, p.1 ∙ sym q.1)
+
+-- what a message leaves in escrow is one
+moves_bill : (facts : bill_facts.Facts) (message : BillActivity) (before one other : Escrow)
+    → bill.MovesBill facts message before one → bill.MovesBill facts message before other
+    → one ≡ other
+moves_bill facts (activity.Stacked number) before one other p q = p.4 ∙ sym q.4
+moves_bill facts (activity.Escrow number) before one other p q =
+    p.4 ∙ (ap Waiting (same_type p.0 q.0 (p.1 ∙ sym q.1)) ∙ sym q.4)
+moves_bill facts (activity.Returned number) before one other p q = p.3 ∙ sym q.3
+
+moves_bills : (facts : bill_facts.Facts) (messages : List BillActivity) (before one other : Escrow)
+    → bill.MovesBills facts messages before one → bill.MovesBills facts messages before other
+    → one ≡ other
+moves_bills facts [] before one other p q = p ∙ sym q
+moves_bills facts (message ∷ messages) before one other p q =
+    let between : p.0 ≡ q.0 = moves_bill facts message before p.0 q.0 p.1 q.1 in
+    moves_bills facts messages q.0 one other
+    (subst (λ escrow. bill.MovesBills facts messages escrow one) between p.2) q.2
+
+bill_alike : (one other : BillState) → one.escrow ≡ other.escrow → one.holds ≡ other.holds
+    → one ≡ other
+bill_alike one other escrow holds i = record { escrow = escrow i; holds = holds i }
+
+bill_is_one : IsOneConduct bill.conduct
+bill_is_one = record {
+  asks = λ facts command before. stays_one before;
+  acks = λ facts command choice before. bill_acks command before;
+  tells = λ facts choice news before one other p q.
+      bill_alike one other (moves_bills facts news _ one.escrow other.escrow p.0 q.0)
+      (p.1 ∙ sym q.1);
+}
+
+-- A reader.
+
+reader_alike : (one other : ReaderState) → one.device ≡ other.device → one.view ≡ other.view
+    → one.holds ≡ other.holds → one ≡ other
+reader_alike one other device view holds i =
+    record { device = device i; view = view i; holds = holds i }
+
+-- what is there is one
+some_one : {X : Type 0} (told : Option X) (one other : X) → told ≡ Some one → told ≡ Some other
+    → one ≡ other
+some_one told one other p q = cc (p, q)
+
+reader_own : (own : Option ReaderCommand)
+    (Step : ReaderCommand → ReaderState → ReaderState → Gains → Type 0) (before : ReaderState)
+    → ((command : ReaderCommand) → IsOneStep (Step command before))
+    → IsOneStep (reader.ForOwn own Step before)
+reader_own None Step before each = stays_one before
+reader_own (Some command) Step before each = each command
+
+reader_asks : (facts : reader_facts.Facts) (command : ReaderCommand) (before : ReaderState)
+    → IsOneStep (reader.AskStep facts command before)
+reader_asks facts command before one other gains more p q = (
+  reader_alike one other (p.device ∙ sym q.device)
+      (some_one (reader.asked facts command before.view) one.view other.view p.view q.view)
+      (p.holds ∙ sym q.holds),
+  p.gained ∙ sym q.gained,
+)
+
+-- what messages make of the reader, and what they add
+abbrev reader_told : reader_facts.Facts → ReaderCommand → Reply → Choice → ReaderState
+    → List ReaderActivity → Option DeviceState
+reader_told facts command reply choice before news =
+    all_told (reader.last_transaction facts (reader.taken command reply)) news
+    (reader.before_messages facts command reply choice before).device
+
+abbrev reader_gains : reader_facts.Facts → ReaderCommand → Reply → Choice → ReaderState
+    → List ReaderActivity → Gains
+reader_gains facts command reply choice before news =
+    device_gains
+    (reader.all_approved (or_else (last_said config_in (messages_of reply)) facts.config) news)
+    (reader.sold_any facts (reader.taken command reply) (reader.read choice before))
+
+reader_replies : (facts : reader_facts.Facts) (command : ReaderCommand) (reply : Reply)
+    (choice : Choice) (before : ReaderState)
+    → IsOneStep (reader.ReplyStep facts command reply choice before)
+reader_replies facts command reply choice before one other gains more p q =
+    let news : p.news ≡ q.news =
+    one_new _ _ _ p.news q.news p.has_news.new q.has_news.new in (
+      reader_alike one other
+          (some_one _ one.device other.device
+          (sym (ap (λ ms. reader_told facts command reply choice before ms) news) ∙ p.told) q.told)
+          (p.view ∙ sym q.view) (p.holds ∙ sym q.holds),
+      p.gained ∙ (ap (λ ms. reader_gains facts command reply choice before ms) news
+          ∙ sym q.gained),
+    )
+
+reader_one : (unit : ReaderUnit) (facts : reader_facts.Facts) (act : Act) (choice : Choice)
+    (before : ReaderState) → IsOneStep (reader.ReaderStep unit facts act choice before)
+reader_one unit facts (acts.Ask command) choice before =
+    reader_own (own unit command) _ before (λ c. reader_asks facts c before)
+reader_one unit facts (acts.Ack command) choice before =
+    reader_own (own unit command) _ before
+    (λ c one other gains more p q. (p.to ∙ sym q.to, p.gained ∙ sym q.gained))
+reader_one unit facts (acts.Reply command reply) choice before =
+    reader_own (own unit command) _ before (λ c. reader_replies facts c reply choice before)
+reader_one unit facts (acts.VmcAck command reply) choice before =
+    reader_own (own unit command) _ before
+    (λ c one other gains more p q. (p.to ∙ sym q.to, p.gained ∙ sym q.gained))
+reader_one unit facts (acts.Break length) choice before =
+    λ one other gains more p q. (p.0 ∙ sym q.0, p.1 ∙ sym q.1)
+reader_one unit facts (acts.Nak command) choice before = stays_one before
+reader_one unit facts (acts.VmcNak command reply) choice before = stays_one before
+reader_one unit facts (acts.VmcRet command reply) choice before = stays_one before
+reader_one unit facts (acts.Repeat command reply) choice before = stays_one before
+reader_one unit facts acts.Foreign choice before = stays_one before
+
+reader_facts_one : (unit : ReaderUnit) (so_far : List Act) (holds : Bool)
+    (one other : reader_facts.Facts)
+    → reader_facts.AllowsFacts (reader_facts.known_of PowerOn unit so_far) holds one
+    → reader_facts.AllowsFacts (reader_facts.known_of PowerOn unit so_far) holds other
+    → one ≡ other
+reader_facts_one unit so_far holds one other p q =
+    let config : one.config ≡ other.config = p.config ∙ sym q.config in
+    let asked : one.asked ≡ other.asked =
+    allowed_one None _ one.asked other.asked p.asked q.asked in
+    let taken : one.taken ≡ other.taken =
+    allowed_one None _ one.taken other.taken p.taken q.taken in
+    let amount : one.amount ≡ other.amount = p.amount ∙ sym q.amount in
+    let past : one.past ≡ other.past =
+    past_alike one.past other.past (p.past.enabled ∙ sym q.past.enabled)
+    (p.past.reset_owed ∙ sym q.past.reset_owed)
+    (kept_one _ holds one.past.last_kept other.past.last_kept p.past.last_kept q.past.last_kept) in
+    λ i. record {
+      config = config i;
+      asked = asked i;
+      taken = taken i;
+      amount = amount i;
+      past = past i;
+    }
+
+reader_knowing_one : (unit : ReaderUnit) (so_far : List Act) (act : Act) (choice : Choice)
+    (before : ReaderState)
+    → IsOneStep (reader.StepKnowing unit (reader_facts.known_of PowerOn unit so_far) act choice
+    before)
+reader_knowing_one unit so_far act choice before one other gains more p q =
+    let same : p.facts ≡ q.facts =
+    reader_facts_one unit so_far before.holds p.facts q.facts p.allowed q.allowed in
+    reader_one unit q.facts act choice before one other gains more
+    (subst (λ facts. reader.ReaderStep unit facts act choice before one gains) same p.step) q.step
+
+-- Each machine.
+
+-- a machine that starts in one state, and has one step at most
+pub record IsOneMachine {State : Type 0} (machine : Machine State) : Type 0 where
+  pub starts : (one other : State) → machine.Starts one → machine.Starts other → one ≡ other
+  pub steps : (so_far : List Act) (act : Act) (choice : Choice) (before : State)
+      → IsOneStep (machine.Step so_far act choice before)
+
+pub machine_is_one : (device : Device) → IsOneMachine (machine_of PowerOn device)
+machine_is_one devices.Changer = record {
+  starts = λ one other p q. p ∙ sym q;
+  steps = knowing_one changer_facts.tables changer.conduct changer_is_one;
+}
+machine_is_one devices.Bill = record {
+  starts = λ one other p q. p ∙ sym q;
+  steps = knowing_one bill_facts.tables bill.conduct bill_is_one;
+}
+machine_is_one (devices.Reader unit) = record {
+  starts = λ one other p q. p ∙ sym q;
+  steps = reader_knowing_one unit;
+}
+
+-- so it has one way with given choices
+pub one_way : {State : Type 0} (machine : Machine State) → IsOneMachine machine
+    → (so_far : List Act) (chosen : Choices so_far) (one other : State) (sums more : Sums)
+    → Follows machine so_far chosen one sums → Follows machine so_far chosen other more
+    → (one ≡ other) × (sums ≡ more)
+one_way machine is [] chosen one other sums more p q = (is.starts one other p.0 q.0, p.1 ∙ sym q.1)
+one_way machine is (act ∷ so_far) chosen one other sums more p q =
+    let was = one_way machine is so_far chosen.before p.before q.before p.sums_before q.sums_before
+    p.way q.way in
+    let step = is.steps so_far act chosen.choice q.before one other p.gains q.gains
+    (subst (λ state. machine.Step so_far act chosen.choice state one p.gains) was.0 p.step) q.step
+    in (
+      step.0,
+      p.adds ∙ (ap (λ before. added before p.gains) was.1
+          ∙ (ap (added q.sums_before) step.1 ∙ sym q.adds)),
+    )
