@@ -176,6 +176,8 @@ def read_sigrok(text: bytes, swap: bool = False):
             if kind is None and rest == b"" and HEXADECIMAL.fullmatch(name):
                 kind = DATA
             if line is None or kind is None:
+                if line is not None:
+                    line.no_break()
                 raise Refused(number, whole(start), "a record of another kind than those asked for")
             line.take(number, kind, name, start, end)
         controller.no_break()

@@ -1,0 +1,203 @@
+#!/usr/bin/env python3
+"""Reads an export that is nearly rows, and gives the rows of a recording: a second reader, written
+from the pages in words (docs/importing.md, and docs/rows-and-command-line.md for what a csv reader
+takes) and not from a program's code, to compare with.
+
+    tests/second_rows.py [--unit s|ms|us|ns] [--controller NAME] [--peripheral NAME]
+                         [--from MICROSECONDS] [--until MICROSECONDS] < EXPORT
+
+prints the rows, and those before a record that is refused, with one line that has its number, and
+status 2. As a module: `read_rows(text, unit, controller, peripheral, first, last)` answers the rows
+and no number, or no rows and the number of the record that is refused; `read(..)` answers more.
+"""
+
+import re
+import sys
+from typing import NamedTuple
+
+
+class Answer(NamedTuple):
+    """What an export gives."""
+
+    rows: "list[str]"  # those of the part, up to the record that is refused
+    refused: "int | None"  # the number of that record, from 1
+    why: "str | None"  # what was wanted there
+    header: bool  # the first record is one
+    before: int  # how many rows are before the part
+    after: int  # and after it
+    lines: "set[str]"  # M, S, B: those that the rows of the whole export have
+    marked: bool  # one of its words has its mode bit set
+
+
+# Nanoseconds are the smallest unit, with 15 decimals: all times are whole numbers of these.
+MICROSECOND = 10**18
+UNITS = {"s": 10**24, "ms": 10**21, "us": 10**18, "ns": 10**15}
+
+NUMBER = re.compile(rb"([0-9]{1,15})(?:[.,]([0-9]{1,15}))?")
+TIME_OF_DAY = re.compile(rb"([0-9]{1,2}):([0-9]{1,2}):([0-9]{1,15}(?:[.,][0-9]{1,15})?)")
+WORD = re.compile(rb"0[xX]([0-9A-Fa-f]{1,4})|([0-9A-Fa-f]{1,4})[hH]?")
+
+LAST_TIME = 10**15 - 1
+LONGEST_BREAK = 10**9 - 1
+
+
+def plain(text):
+    """The bytes without their byte order mark, those of UTF-16 as UTF-8."""
+    for mark, encoding in ((b"\xff\xfe", "utf-16-le"), (b"\xfe\xff", "utf-16-be")):
+        if text.startswith(mark):
+            return text[2:].decode(encoding, "replace").encode()
+    return text[3:] if text.startswith(b"\xef\xbb\xbf") else text
+
+
+def records_of(text):
+    """The records that a csv reader finds, each as its bytes, with commas between its fields and
+    without the quotes that it takes."""
+    record, at = bytearray(), 0
+    begun = False  # the record has a byte, or a quote that was opened
+    fresh = True  # the next byte is the first of a field
+    quoted = False
+    while at < len(text):
+        byte = text[at : at + 1]
+        at += 1
+        if quoted:
+            if byte == b'"' and text[at : at + 1] == b'"':
+                record += byte
+                at += 1
+            elif byte == b'"':
+                quoted = False
+            else:
+                record += byte
+        elif byte in b"\r\n":
+            if begun:
+                yield bytes(record)
+            record, begun, fresh = bytearray(), False, True
+        elif byte == b'"' and fresh:
+            quoted, begun, fresh = True, True, False
+        else:
+            record += byte
+            begun, fresh = True, byte == b","
+    if begun:
+        yield bytes(record)
+
+
+def fields_of(record):
+    separator = next((one for one in (b"\t", b";") if one in record), b",")
+    return [field.strip(b' "') for field in record.split(separator)]
+
+
+def number_of(field):
+    """The number in a field in 10**-15, or None."""
+    found = NUMBER.fullmatch(field)
+    if not found:
+        return None
+    whole, decimals = found.groups()
+    return int(whole) * 10**15 + int((decimals or b"").ljust(15, b"0"))
+
+
+def microseconds(units, unit):
+    """The nearest whole number of microseconds, the later of two."""
+    return (units * (UNITS[unit] // 10**15) * 2 + MICROSECOND) // (2 * MICROSECOND)
+
+
+def time_of_day(field):
+    """The seconds of a time of day in 10**-15, or None. The minutes and the seconds are below 60,
+    the hours are any that have one or two digits."""
+    found = TIME_OF_DAY.fullmatch(field)
+    if not found:
+        return None
+    hours, minutes, seconds = int(found[1]), int(found[2]), number_of(found[3])
+    if minutes > 59 or seconds >= 60 * 10**15:
+        return None
+    return (hours * 60 + minutes) * 60 * 10**15 + seconds
+
+
+def row_of(record, unit, names, before):
+    """The row of a record: (time, line, value), or a text that says what was wanted."""
+    fields = fields_of(record)
+    if len(fields) != 3:
+        return "three fields"
+    time, line, value = fields
+    if time_of_day(time) is not None:
+        time = microseconds(time_of_day(time), "s")
+        unit = unit or "s"
+    elif number_of(time) is None:
+        return "a time"
+    elif unit is None:
+        return "the unit of the times"
+    else:
+        time = microseconds(number_of(time), unit)
+    if time > LAST_TIME:
+        return "a time of at most 15 digits of microseconds"
+    line = names.get(line)
+    if line is None:
+        return "M, S or B"
+    if line == "B":
+        length = number_of(value)
+        if length is None or microseconds(length, unit) > LONGEST_BREAK:
+            return "the length of the break"
+        value = str(microseconds(length, unit))
+    else:
+        found = WORD.fullmatch(value)
+        word = int(found[1] or found[2], 16) if found else 0x200
+        if word > 0x1FF:
+            return "a word in hexadecimal digits, at most 1FF"
+        value = f"{word:03X}"
+    if before is not None and time <= before:
+        return "a time after that of the row before it"
+    return (time, line, value)
+
+
+def read(text, unit=None, controller=None, peripheral=None, first=None, last=None):
+    """All that the pages say of an export."""
+    names = {one.encode(): one.upper() for one in "MmSsBb"}
+    if controller is not None:
+        names[controller.encode()] = "M"
+    if peripheral is not None:
+        names[peripheral.encode()] = "S"
+    rows, header, before_part, after_part = [], False, 0, 0
+    before, lines, marked = None, set(), False
+    for number, record in enumerate(records_of(plain(text)), 1):
+        time = fields_of(record)[0]
+        if number == 1 and number_of(time) is None and time_of_day(time) is None:
+            header = True
+            continue
+        row = row_of(record, unit, names, before)
+        if isinstance(row, str):
+            return Answer(rows, number, row, header, before_part, after_part, lines, marked)
+        before = row[0]
+        lines.add(row[1])
+        marked = marked or (row[1] != "B" and row[2] >= "100")
+        if first is not None and before < first:
+            before_part += 1
+        elif last is not None and before > last:
+            after_part += 1
+        else:
+            rows.append("%d,%s,%s" % row)
+    return Answer(rows, None, None, header, before_part, after_part, lines, marked)
+
+
+def read_rows(text: bytes, unit=None, controller=None, peripheral=None, first=None, last=None):
+    """The rows of an export, and None; or None, and the number of the record that is refused."""
+    answer = read(text, unit, controller, peripheral, first, last)
+    return (answer.rows, None) if answer.refused is None else (None, answer.refused)
+
+
+def main(words):
+    options = dict(zip(words[::2], words[1::2]))
+    known = ("--unit", "--controller", "--peripheral", "--from", "--until")
+    if len(words) != 2 * len(options) or any(option not in known for option in options):
+        print(__doc__, file=sys.stderr)
+        return 2
+    unit, controller, peripheral, first, last = (options.get(option) for option in known)
+    part = (None if time is None else int(time) for time in (first, last))
+    answer = read(sys.stdin.buffer.read(), unit, controller, peripheral, *part)
+    for row in answer.rows:
+        print(row)
+    if answer.refused is not None:
+        print(f"second_rows: record {answer.refused}: wanted {answer.why}", file=sys.stderr)
+        return 2
+    return 0
+
+
+if __name__ == "__main__":
+    sys.exit(main(sys.argv[1:]))
