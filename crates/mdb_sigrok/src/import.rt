@@ -21,6 +21,11 @@ pub struct SigrokRows {
 ///
 /// Nothing is written before all is read, so where the trace is refused nothing is. It takes the
 /// memory of the trace, and that of its rows twice: a trace of 170 MB and 500,000 words takes 190.
+///
+/// # Errors
+///
+/// The first record of what is no trace, with its number, and in a record that was read its time in
+/// microseconds; or that reading or writing failed, or that memory was refused.
 pub fn import_sigrok<R: Read + Drop, W: Write>(
     alloc: Global,
     swap: bool,

@@ -19,6 +19,10 @@ use std::alloc::Global;
 /// the controller's line.
 ///
 /// It takes the memory of the rows twice: those of each line, and then both in one.
+///
+/// # Errors
+///
+/// The first record of what is no trace, or that memory was refused.
 pub fn rows_of_trace(alloc: Global, swap: bool, text: &[u8]) -> Result<Vec<Event>, SigrokFault>
     // What is answered are the rows of the trace.
     ensures rows { IfOk result (λ rows. AreRowsOfTrace swap text.now rows.items) }
