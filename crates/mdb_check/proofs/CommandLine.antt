@@ -28,8 +28,8 @@ use Rattle.mdb_bus.specs.declared.scope.Scope.{Scope}
 use Rattle.mdb_bus.specs.Scopes.{leaving_out, joined as in_mid_session}
 use Rattle.mdb_follow.specs.AccountNames.{account_word}
 use Rattle.mdb_follow.specs.declared.goal.Goal.{Goal}
-use Rattle.mdb_check.specs.Accounts.{side_word}
-use Rattle.mdb_check.specs.Explain.{bound_word, goal_words}
+use Rattle.mdb_text.specs.Accounts.{side_word}
+use Rattle.mdb_explain.specs.Explain.{bound_word, goal_words}
 use Rattle.mdb_check.specs.inner.CommandLine.{AreDevices, AreOptionsOf, AsksFor, AsksForGoal, AsksToCheck, AsksToShow, IsOwnRefusal, IsRefusalBy, check_app, explain_app, mdbcheck, replay_app, show_app, values_of}
 use Rattle.mdb_check.specs.Program.{AreGoalAndOptions, AreOptions, Asked, IsFromPowerOn, IsJoined, NamesCheck, NamesExplain, NamesReplay, NamesShow, NamesTask}
 use Rattle.mdb_check.specs.declared.command_line.Task.{Task}

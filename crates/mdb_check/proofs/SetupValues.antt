@@ -12,7 +12,7 @@ use Rattle.mdb_msgs.specs.declared.command.Device.{Device}
 use Rattle.mdb_msgs.specs.declared.command.Device.TheVariants.{Changer, Bill, Reader}
 use Rattle.mdb_msgs.specs.declared.command.ReaderUnit.TheVariants.{First, Second}
 use Rattle.mdb_msgs.specs.Devices.{device_word}
-use Rattle.mdb_check.specs.ShowText.{bytes_text}
+use Rattle.mdb_show.specs.ShowText.{bytes_text}
 use Rattle.mdb_check.proofs.Devices.{one_device}
 
 -- ---- digits

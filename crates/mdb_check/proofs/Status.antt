@@ -6,17 +6,18 @@ use Rattle.csv.specs.Reading.{default_config, records, strip_bom}
 use Rattle.mdb_bus.specs.declared.fault.LinkFault.{LinkFault}
 use Rattle.mdb_follow.specs.declared.follower.TheConstants.{ROWS_MAX}
 use Rattle.mdb_follow.specs.declared.goal.Goal.{Goal}
-use Rattle.mdb_check.specs.declared.outcome.Outcome.{Outcome}
-use Rattle.mdb_check.specs.declared.outcome.Outcome.TheVariants.{Yes, No}
-use Rattle.mdb_check.specs.declared.outcome.RunFault.{RunFault}
-use Rattle.mdb_check.specs.declared.outcome.RunFault.TheVariants.{Write}
-use Rattle.mdb_check.specs.Explain.{IsCutExplanation, IsExplainedIn}
+use Rattle.mdb_text.specs.declared.outcome.Outcome.{Outcome}
+use Rattle.mdb_text.specs.declared.outcome.Outcome.TheVariants.{Yes, No}
+use Rattle.mdb_verdict.specs.declared.fault.RunFault.{RunFault}
+use Rattle.mdb_verdict.specs.declared.fault.RunFault.TheVariants.{Write}
+use Rattle.mdb_explain.specs.Explain.{IsCutExplanation, IsExplainedIn}
 use Rattle.mdb_check.specs.Program.{Says, SaysChecked, SaysExplained, SaysReplayed, SaysShown, refused, show_status_of, status_of}
-use Rattle.mdb_check.specs.Replay.{IsCutReplay, IsReplayAnswer}
-use Rattle.mdb_check.specs.Show.{Shows}
-use Rattle.mdb_check.specs.Text.{IsCutReport, report_text}
-use Rattle.mdb_check.specs.Verdict.{IsAnswer, IsNoYes}
-use Rattle.mdb_check.specs.Written.{HasTaken}
+use Rattle.mdb_explain.specs.Replay.{IsCutReplay, IsReplayAnswer}
+use Rattle.mdb_show.specs.Show.{Shows}
+use Rattle.mdb_text.specs.Text.{report_text}
+use Rattle.mdb_verdict.specs.CutReport.{IsCutReport}
+use Rattle.mdb_verdict.specs.Verdict.{IsAnswer, IsNoYes}
+use Rattle.mdb_verdict.specs.Written.{HasTaken}
 use Rattle.mdb_bus.specs.declared.scope.Scope.{Scope}
 
 says_checked : (scope : Scope) {W : Type 0} (contents : W → Option (List ℕ)) (all : List (List (List ℕ))) (old new : W) (answer : Result Outcome RunFault)

@@ -19,8 +19,8 @@ use Rattle.mdb_follow.specs.declared.goal.AccountSide.TheVariants as side
 use Rattle.mdb_follow.specs.declared.goal.Bound.{Bound}
 use Rattle.mdb_follow.specs.declared.goal.Bound.TheVariants.{Least, Greatest}
 use Rattle.mdb_follow.specs.declared.goal.Goal.{Goal}
-use Rattle.mdb_check.specs.Accounts.{side_word}
-use Rattle.mdb_check.specs.Explain.{bound_word, goal_words}
+use Rattle.mdb_text.specs.Accounts.{side_word}
+use Rattle.mdb_explain.specs.Explain.{bound_word, goal_words}
 use Rattle.mdb_check.specs.Program.{AreGoalAndOptions}
 use Rattle.mdb_check.specs.Program as named
 use Rattle.mdb_check.specs.inner.CommandLine.{AreDevices, AsksForGoal}

@@ -7,7 +7,7 @@ use Rattle.mdb_msgs.specs.declared.command.Device.TheVariants.{Changer, Bill, Re
 use Rattle.mdb_msgs.specs.declared.command.ReaderUnit.TheVariants.{First, Second}
 use Rattle.mdb_msgs.specs.declared.device_set.DeviceSet.{DeviceSet}
 use Rattle.mdb_msgs.specs.Devices.{device_word}
-use Rattle.mdb_check.specs.ShowText.{bytes_text}
+use Rattle.mdb_show.specs.ShowText.{bytes_text}
 use Rattle.mdb_check.specs.inner.CommandLine.{AreDevices}
 use Rattle.mdb_check.specs.Program.{AreOptions, Asked, asked_joined, asked_setup, asked_without, setup_text}
 use Rattle.mdb_check.specs.Program as named

@@ -3,7 +3,7 @@ use Rattle.std.specs.Prelude.{ℕ, List, ◌++◌, codes}
 use Rattle.std.specs.Fmt.{decimal}
 use Rattle.mdb_records.specs.declared.ReadCause.{ReadCause}
 use Rattle.mdb_records.specs.declared.ReadCause.TheVariants.{Failed, WouldBlock, OverLimit}
-use Rattle.mdb_check.specs.declared.verdict.TheConstants.{BYTES_MAX}
+use Rattle.mdb_verdict.specs.declared.verdict.TheConstants.{BYTES_MAX}
 
 -- why the input can't be read
 abbrev pub cause_text : ReadCause → List ℕ

@@ -1,14 +1,4 @@
-pub mod Accounts
 pub mod Complaint
-pub mod Explain
-pub mod Headline
 pub mod Program
-pub mod Replay
 pub mod SetupData
-pub mod Show
-pub mod ShowText
-pub mod ShownFault
-pub mod Text
-pub mod Verdict
-pub mod Written
 pub mod inner

@@ -14,16 +14,18 @@ use Rattle.mdb_follow.specs.declared.follower.TheConstants.{ROWS_MAX}
 use Rattle.mdb_follow.specs.declared.goal.Goal.{Goal}
 use Rattle.mdb_follow.specs.declared.offence.Offence.{Offence}
 use Rattle.mdb_follow.specs.declared.report.Report.{Report}
-use Rattle.mdb_check.specs.Explain.{IsCutExplanation, IsExplainedIn, goal_words}
-use Rattle.mdb_check.specs.SetupData.{IsSetupOf, known_devices}
-use Rattle.mdb_check.specs.Replay.{IsCutReplay, IsReplayed, StopsAt}
-use Rattle.mdb_check.specs.Show.{IsCutShort, IsShownToFault, IsShownWhole}
-use Rattle.mdb_check.specs.ShowText.{bytes_text}
-use Rattle.mdb_check.specs.Text.{IsCutReport, report_text}
-use Rattle.mdb_check.specs.Verdict.{IsImpossible, IsPossible}
-use Rattle.mdb_check.specs.declared.outcome.Outcome.{Outcome}
-use Rattle.mdb_check.specs.declared.outcome.Outcome.TheVariants.{Yes, No}
-use Rattle.mdb_check.specs.declared.outcome.RunFault.{RunFault}
+use Rattle.mdb_explain.specs.Explain.{IsCutExplanation, IsExplainedIn, goal_words}
+use Rattle.mdb_text.specs.Known.{known_devices}
+use Rattle.mdb_check.specs.SetupData.{IsSetupOf}
+use Rattle.mdb_explain.specs.Replay.{IsCutReplay, IsReplayed, StopsAt}
+use Rattle.mdb_show.specs.Show.{IsCutShort, IsShownToFault, IsShownWhole}
+use Rattle.mdb_show.specs.ShowText.{bytes_text}
+use Rattle.mdb_text.specs.Text.{report_text}
+use Rattle.mdb_verdict.specs.CutReport.{IsCutReport}
+use Rattle.mdb_verdict.specs.Verdict.{IsImpossible, IsPossible}
+use Rattle.mdb_text.specs.declared.outcome.Outcome.{Outcome}
+use Rattle.mdb_text.specs.declared.outcome.Outcome.TheVariants.{Yes, No}
+use Rattle.mdb_verdict.specs.declared.fault.RunFault.{RunFault}
 use Rattle.mdb_bus.specs.declared.scope.Scope.{Scope}
 use Rattle.mdb_bus.specs.Scopes.{leaving_out, joined as in_mid_session}
 

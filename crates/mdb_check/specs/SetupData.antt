@@ -20,15 +20,6 @@ use Rattle.mdb_msgs.specs.declared.setups.ReaderConfig.{ReaderConfig}
 use Rattle.mdb_msgs.specs.declared.setups.Setups.{Setups}
 use Rattle.mdb_msgs.specs.Replies.{SpellsReply}
 
--- the devices of which something is known
-abbrev pub known_devices : Setups → DeviceSet
-known_devices setups = record {
-  changer = is_some setups.changer;
-  bill = is_some setups.bill;
-  first_reader = is_some setups.first_reader;
-  second_reader = is_some setups.second_reader;
-}
-
 -- the command asks the device how it is set up: SETUP, of a reader SETUP config
 abbrev pub IsSetup : Device → Command → Type 0
 IsSetup Changer asked = asked ≡ command.Changer changer.Setup

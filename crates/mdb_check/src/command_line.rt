@@ -27,14 +27,14 @@ use mdb_msgs::{Device, DeviceSet};
 use std::alloc::{AllocError, Global};
 
 /// The line that says how the program is called.
-pub(super) const USAGE: &str = "usage: mdbcheck check [--joined] [--setup 'DEVICE BYTES'].. \
+pub(crate) const USAGE: &str = "usage: mdbcheck check [--joined] [--setup 'DEVICE BYTES'].. \
 [--without DEVICE].. | show [--without DEVICE].. | explain ACCOUNT SIDE BOUND \
 [--without DEVICE].. | replay [--without DEVICE].. < TRANSCRIPT; DEVICE is changer, bill, \
 cashless or cashless-2; ACCOUNT is coins-in, bills-in, paid-out, approved, sold, approved-2 or \
 sold-2; SIDE is device, controller or difference; BOUND is least or greatest";
 
 /// The program's version.
-pub(super) const VERSION: &str = "0.1.0";
+pub(crate) const VERSION: &str = "0.1.0";
 
 /// The option that says that the recording begins in mid-session.
 const JOINED: &str = "joined";
@@ -56,7 +56,7 @@ const BOUND: &str = "BOUND";
 
 /// What the words of a command line ask for.
 #[derive(PartialEq, Eq, Debug, Drop)]
-pub(super) enum Task {
+pub(crate) enum Task {
     /// `check`: the verdict on the transcript that the reader gives, of a recording that is taken
     /// so.
     Check(Scope),
@@ -71,7 +71,7 @@ pub(super) enum Task {
 
 /// What the words ask for, as `clap` reads them. Those that it refuses are no task's, unless memory
 /// was refused, nor are those that it takes where a value isn't one of its option.
-pub(super) fn task_of(alloc: Global, words: &[String]) -> Result<Task, Refusal>
+pub(crate) fn task_of(alloc: Global, words: &[String]) -> Result<Task, Refusal>
     ensures asked { IfOk result (AsksFor (map string_bytes words.now)) }
     ensures refused { IfErr result (λ refusal. (task : Task)
         → AsksFor (map string_bytes words.now) task → refusal ≡ no_memory) }

@@ -5,10 +5,10 @@ ghost use Rattle.std.specs.Fmt.{decimal};
 ghost use Rattle.mdb_follow.specs.declared.follower.TheConstants.{ROWS_MAX};
 ghost use Rattle.mdb_check.specs.Complaint.{cause_text};
 
-use super::outcome::RunFault;
-use super::show_text::digit;
 use csv::ByteRecord;
 use mdb_records::{ReadCause, Records};
+use mdb_text::hex_digit;
+use mdb_verdict::RunFault;
 use mdb_words::RowFault;
 use std::alloc::{AllocError, Global};
 use std::io::{Read, Write};
@@ -131,6 +131,6 @@ fn push_escaped(text: &mut Vec<u8>, byte: u8) -> Result<(), AllocError> {
     match byte {
         b'"' | b'\\' => text.extend_from_slice(&[b'\\', byte]),
         b' '..=b'~' => text.extend_from_slice(&[byte]),
-        _ => text.extend_from_slice(&[b'\\', b'x', digit(byte / 16), digit(byte % 16)]),
+        _ => text.extend_from_slice(&[b'\\', b'x', hex_digit(byte / 16), hex_digit(byte % 16)]),
     }
 }

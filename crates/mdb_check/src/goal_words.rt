@@ -6,13 +6,13 @@ ghost use Rattle.mdb_follow.specs.declared.account_name.AccountName.{AccountName
 ghost use Rattle.mdb_follow.specs.declared.goal.AccountSide.{AccountSide};
 ghost use Rattle.mdb_follow.specs.declared.goal.Bound.{Bound};
 ghost use Rattle.mdb_follow.specs.declared.goal.Goal.{Goal};
-ghost use Rattle.mdb_check.specs.Accounts.{side_word};
-ghost use Rattle.mdb_check.specs.Explain.{bound_word, goal_words};
+ghost use Rattle.mdb_text.specs.Accounts.{side_word};
+ghost use Rattle.mdb_explain.specs.Explain.{bound_word, goal_words};
 
 use mdb_follow::{AccountName, AccountSide, Bound, Goal};
 
 /// The goal of these words, if they are a goal's.
-pub(super) fn goal_of(account: &str, side: &str, bound: &str) -> Option<Goal>
+pub(crate) fn goal_of(account: &str, side: &str, bound: &str) -> Option<Goal>
     ensures found { IfSome result (λ goal.
         goal_words goal ≡ account.now ∷ side.now ∷ bound.now ∷ []) }
     ensures none { result ≡ None → (goal : Goal)

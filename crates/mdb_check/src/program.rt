@@ -3,23 +3,22 @@
 ghost use Rattle.std.specs.Prelude.{◌≡◌, ◌≢◌, ◌<◌, ◌⊎◌, IfSome, length, map, string_bytes};
 ghost use Rattle.mdb_check.specs.Program.{NameATask, Says, SaysChecked, SaysExplained, SaysReplayed, SaysShown, show_status_of, status_of};
 ghost use Rattle.mdb_bus.specs.Scopes.{leaving_out};
-ghost use Rattle.mdb_check.specs.declared.verdict.TheConstants.{BYTES_MAX};
+ghost use Rattle.mdb_verdict.specs.declared.verdict.TheConstants.{BYTES_MAX};
 ghost use Rattle.mdb_records.specs.ToCome.{IsOverLimit, ToCome, limit_of};
 ghost use Rattle.csv.specs.Reading.{default_config, records, strip_bom};
 
 use super::command_line::{Task, USAGE, VERSION, task_of};
 use super::complaint::{Wanted, complain};
-use super::explaining::explain_records;
-use super::marked::replay_records;
-use super::outcome::{Outcome, RunFault};
 use super::refusal::Refusal;
-use super::showing::show_records;
-use super::verdict::{BYTES_MAX, check_records, records_of};
 use clap::error::ErrorKind;
 use mdb_bus::{LinkFault, Scope};
+use mdb_explain::{explain_records, replay_records};
 use mdb_follow::{Goal, ROWS_MAX};
 use mdb_msgs::DeviceSet;
 use mdb_records::Records;
+use mdb_show::show_records;
+use mdb_text::Outcome;
+use mdb_verdict::{BYTES_MAX, RunFault, check_records, records_of};
 use std::alloc::Global;
 use std::io::{Read, Write};
 

@@ -5,7 +5,7 @@ use thiserror::Error;
 
 /// Why a command line is refused.
 #[derive(Clone, Copy, PartialEq, Eq, Debug)]
-pub(super) enum Refusal {
+pub(crate) enum Refusal {
     /// For what `clap` says of its words, for a value of `--without` that is no device's word, for
     /// words of `explain` that are no goal's, or for want of memory.
     Words(ErrorKind),
@@ -15,7 +15,7 @@ pub(super) enum Refusal {
 
 /// Why the values of `--setup` are refused.
 #[derive(Clone, Copy, PartialEq, Eq, Debug, Error)]
-pub(super) enum SetupFault {
+pub(crate) enum SetupFault {
     /// They stand without `--joined`.
     #[error("--setup goes with --joined alone")]
     NotJoined,

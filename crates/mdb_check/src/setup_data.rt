@@ -1,8 +1,7 @@
 //! What is known of how the devices are set up, by their answers to SETUP in an earlier recording.
 
-ghost use Rattle.std.specs.Prelude.{◌≡◌, IfOk, Ok, None, Some, true, false, if◌then◌else◌};
+ghost use Rattle.std.specs.Prelude.{◌≡◌, IfOk, Ok, None, Some, true, false};
 ghost use Rattle.mdb_blocks.specs.Block.{IsBlock};
-ghost use Rattle.mdb_msgs.specs.DeviceSets.{with_device};
 ghost use Rattle.mdb_msgs.specs.Replies.{SpellsReply};
 ghost use Rattle.mdb_msgs.specs.declared.reply.Reply.{Reply};
 ghost use Rattle.mdb_check.specs.SetupData as spec;
@@ -11,28 +10,9 @@ ghost use Rattle.mdb_check.specs.inner.SetupReading.{setup_of};
 use super::refusal::SetupFault;
 use mdb_blocks::{BlockFault, unseal};
 use mdb_msgs::{
-    BillCommand, ChangerCommand, Command, Device, DeviceSet, ReaderCommand, ReaderConfig,
-    ReaderList, ReaderMsg, ReaderUnit, Reply, Setups, read_reply,
+    BillCommand, ChangerCommand, Command, Device, ReaderCommand, ReaderConfig, ReaderList,
+    ReaderMsg, ReaderUnit, Reply, Setups, read_reply,
 };
-
-/// The devices of which something is known.
-pub(super) fn known_devices(setups: &Setups) -> DeviceSet
-    ensures { result ≡ spec.known_devices setups.now }
-{
-    let first = with_if(DeviceSet::NONE, Device::Changer, setups.changer.is_some());
-    let second = with_if(first, Device::Bill, setups.bill.is_some());
-    let first_reader = Device::Reader(ReaderUnit::First);
-    let third = with_if(second, first_reader, setups.first_reader.is_some());
-    let second_reader = Device::Reader(ReaderUnit::Second);
-    with_if(third, second_reader, setups.second_reader.is_some())
-}
-
-/// A set, with a device more where it is known.
-fn with_if(set: DeviceSet, device: Device, is_known: bool) -> DeviceSet
-    ensures { result ≡ (if is_known then with_device set device else set) }
-{
-    if is_known { set.with(device) } else { set }
-}
 
 /// The command that asks a device how it is set up. What a reader is told with it is of no matter.
 fn setup_of(device: Device) -> Command
@@ -54,7 +34,7 @@ fn setup_of(device: Device) -> Command
 }
 
 /// What a block of these bytes answers to a device's SETUP.
-pub(super) fn answer_in(device: Device, bytes: &[u8]) -> Result<Reply, SetupFault>
+pub(crate) fn answer_in(device: Device, bytes: &[u8]) -> Result<Reply, SetupFault>
     ensures block { IfOk result (λ _. IsBlock bytes.now) }
     ensures found { IfOk result (λ answer. SpellsReply (setup_of device) answer bytes.now) }
     ensures only { IsBlock bytes.now → (answer : Reply)
@@ -72,7 +52,7 @@ pub(super) fn answer_in(device: Device, bytes: &[u8]) -> Result<Reply, SetupFaul
 }
 
 /// Adds what is known with a device's answer to its SETUP, and answers whether it says that.
-pub(super) fn learn(setups: &mut Setups, device: Device, answer: Reply) -> bool
+pub(crate) fn learn(setups: &mut Setups, device: Device, answer: Reply) -> bool
     ensures told { result ≡ true → spec.known_with setups.old device answer ≡ Some setups.new }
     ensures untold { result ≡ false → spec.known_with setups.old device answer ≡ None }
 {

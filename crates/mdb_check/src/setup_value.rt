@@ -8,18 +8,19 @@ ghost use Rattle.mdb_msgs.specs.declared.command.Device.{Device};
 ghost use Rattle.mdb_msgs.specs.declared.setups.Setups.{Setups};
 ghost use Rattle.mdb_msgs.specs.Setups.{nothing_known};
 ghost use Rattle.mdb_check.specs.Program.{AddsSetup, AreSetups, setup_text};
-ghost use Rattle.mdb_check.specs.ShowText.{bytes_text};
+ghost use Rattle.mdb_show.specs.ShowText.{bytes_text};
 ghost use Rattle.mdb_check.specs.inner.CommandLine.{IsOwnRefusal};
 ghost use Rattle.mdb_check.specs.inner.SetupReading.{no_memory};
 
 use super::refusal::{Refusal, SetupFault};
-use super::setup_data::{answer_in, known_devices, learn};
+use super::setup_data::{answer_in, learn};
 use clap::error::ErrorKind;
 use mdb_msgs::{Device, DeviceSet, Setups, laws};
+use mdb_text::known_devices;
 use std::alloc::Global;
 
 /// What is known with these values, where these devices are left out.
-pub(super) fn setups_of(
+pub(crate) fn setups_of(
     alloc: Global,
     left_out: DeviceSet,
     texts: &[&str],

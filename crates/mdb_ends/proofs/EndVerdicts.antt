@@ -8,11 +8,11 @@ use Rattle.mdb_msgs.specs.declared.setups.Setups.{Setups}
 use Rattle.mdb_bus.specs.declared.scope.Scope.{Scope}
 use Rattle.mdb_follow.specs.declared.report.Report.{Report}
 use Rattle.mdb_follow.specs.Runs.{IsReached}
-use Rattle.mdb_check.specs.declared.outcome.Outcome.{Outcome}
-use Rattle.mdb_check.specs.declared.outcome.Outcome.TheVariants.{Yes, No}
-use Rattle.mdb_check.specs.declared.outcome.RunFault.{RunFault}
-use Rattle.mdb_check.specs.declared.outcome.RunFault.TheVariants.{BadRow, TooLong, Read, Write, Memory, Mark}
-use Rattle.mdb_check.specs.Verdict.{AreRows, IsAnswer, IsOwnAnswer, LeadUpTo}
+use Rattle.mdb_text.specs.declared.outcome.Outcome.{Outcome}
+use Rattle.mdb_text.specs.declared.outcome.Outcome.TheVariants.{Yes, No}
+use Rattle.mdb_verdict.specs.declared.fault.RunFault.{RunFault}
+use Rattle.mdb_verdict.specs.declared.fault.RunFault.TheVariants.{BadRow, TooLong, Read, Write, Memory, Mark}
+use Rattle.mdb_verdict.specs.Verdict.{AreRows, IsAnswer, IsOwnAnswer, LeadUpTo}
 use Rattle.mdb_ends.specs.Cuts.{from_later}
 
 -- what the crates below say of rows

@@ -19,10 +19,10 @@ ghost use Rattle.mdb_follow.specs.Report.{IsReport, account_of, device_unvalued,
 ghost use Rattle.mdb_follow.specs.Runs.{AllSums, IsReached, IsWay, Run};
 ghost use Rattle.mdb_follow.specs.declared.account_name.AccountName.{AccountName};
 ghost use Rattle.mdb_follow.specs.declared.report.Report.{Report};
-ghost use Rattle.mdb_check.specs.declared.outcome.Outcome.{Outcome};
-ghost use Rattle.mdb_check.specs.declared.outcome.Outcome.TheVariants.{Yes};
-ghost use Rattle.mdb_check.specs.declared.outcome.RunFault.{RunFault};
-ghost use Rattle.mdb_check.specs.Verdict.{IsAnswer, IsOwnAnswer};
+ghost use Rattle.mdb_text.specs.declared.outcome.Outcome.{Outcome};
+ghost use Rattle.mdb_text.specs.declared.outcome.Outcome.TheVariants.{Yes};
+ghost use Rattle.mdb_verdict.specs.declared.fault.RunFault.{RunFault};
+ghost use Rattle.mdb_verdict.specs.Verdict.{IsAnswer, IsOwnAnswer};
 ghost use Rattle.mdb_ends.specs.Cuts.{BeginAnew, IsCut, from_later};
 ghost use Rattle.mdb_ends.specs.Ends.{AreAlike, CameToWithin, Passes, both_sums};
 ghost use Rattle.mdb_ends.specs.MidSession.{AreOf, StaysInMidSession};

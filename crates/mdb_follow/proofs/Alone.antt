@@ -14,7 +14,7 @@ use Rattle.mdb_cash.proofs.Ways.{small_moves}
 use Rattle.mdb_cash.specs.Machine.{Machine}
 use Rattle.mdb_follow.specs.declared.cell.Cell.{Cell}
 use Rattle.mdb_follow.specs.Arrivals.{Arrives}
-use Rattle.mdb_follow.specs.inner.Limits.{IsCellWithin, IsTableWithin}
+use Rattle.mdb_follow.specs.Limits.{IsCellWithin, IsTableWithin}
 use Rattle.mdb_follow.specs.Tables.{ArrivesAt, Bounds, IsTable}
 use Rattle.mdb_follow.specs.inner.Entries.{AreBelow, AreMoves, IsKeyed, LeadTo, with_moves}
 use Rattle.mdb_follow.proofs.Led.{Led, keyed-with_moves, led-more, led-none, moves-below}

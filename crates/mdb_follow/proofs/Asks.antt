@@ -16,7 +16,7 @@ use Rattle.mdb_bus.specs.declared.scope.Beginning.{Beginning}
 use Rattle.mdb_bus.specs.Bus.{Grown}
 use Rattle.mdb_follow.specs.Sides.{stands_for}
 use Rattle.mdb_follow.specs.Silences.{TimedAsk, asks_of, last_start, limit_of, reader_limit}
-use Rattle.mdb_follow.specs.inner.SilenceSteps.{asks_after, limit_in}
+use Rattle.mdb_follow.specs.SilenceSteps.{asks_after, limit_in}
 
 -- tails ask nothing
 tail-asks : (begins : Beginning) (device : Device) (tail : Piece) (pieces : List Piece)

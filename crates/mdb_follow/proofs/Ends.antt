@@ -10,9 +10,9 @@ use Rattle.mdb_cash.specs.Gains.{IsSmall}
 use Rattle.mdb_follow.specs.declared.range.Range.{Range}
 use Rattle.mdb_follow.specs.declared.account.Account.{Account}
 use Rattle.mdb_follow.specs.declared.cell.Cell.{Cell}
-use Rattle.mdb_follow.specs.inner.Cells.{joined_account, joined_cell, joined_range, moved_account}
-use Rattle.mdb_follow.specs.inner.Cells.{moved_cell, moved_range}
-use Rattle.mdb_follow.specs.inner.Limits.{IsAccountWithin, IsCellWithin, IsRangeWithin}
+use Rattle.mdb_follow.specs.Cells.{joined_account, joined_cell, joined_range, moved_account}
+use Rattle.mdb_follow.specs.Cells.{moved_cell, moved_range}
+use Rattle.mdb_follow.specs.Limits.{IsAccountWithin, IsCellWithin, IsRangeWithin}
 use Rattle.mdb_follow.specs.Ranges.{IsAccount, IsCell, IsRange}
 use Rattle.mdb_follow.specs.Sums.{AccountSums, Sums, added}
 

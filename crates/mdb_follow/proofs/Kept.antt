@@ -12,7 +12,7 @@ use Rattle.mdb_follow.specs.declared.silence.Unanswered.TheVariants.{Nothing}
 use Rattle.mdb_follow.specs.Devices.{device_place, same_device}
 use Rattle.mdb_follow.specs.Silences.{TimedAsk}
 use Rattle.mdb_follow.specs.SilencesKept.{silence_in}
-use Rattle.mdb_follow.specs.inner.SilenceSteps.{AllGoOn, GoesOn, OneGoesOn}
+use Rattle.mdb_follow.specs.SilenceSteps.{AllGoOn, GoesOn, OneGoesOn}
 use Rattle.mdb_follow.proofs.ByDevice.{below, one_place, same_or_not}
 
 -- what stands for that of a device that a list lacks; silences lack none

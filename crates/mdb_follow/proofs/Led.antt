@@ -8,8 +8,8 @@ use Rattle.std.proofs.lemmas.List.{take_more}
 use Rattle.mdb_cash.specs.declared.gains.Gains.{Gains}
 use Rattle.mdb_cash.specs.Gains.{IsSmall}
 use Rattle.mdb_follow.specs.declared.cell.Cell.{Cell}
-use Rattle.mdb_follow.specs.inner.Cells.{moved_cell}
-use Rattle.mdb_follow.specs.inner.Limits.{IsCellWithin, IsTableWithin}
+use Rattle.mdb_follow.specs.Cells.{moved_cell}
+use Rattle.mdb_follow.specs.Limits.{IsCellWithin, IsTableWithin}
 use Rattle.mdb_follow.specs.Ranges.{IsCell}
 use Rattle.mdb_follow.specs.Sums.{Sums}
 use Rattle.mdb_follow.specs.Tables.{Bounds}

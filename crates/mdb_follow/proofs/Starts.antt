@@ -15,8 +15,8 @@ use Rattle.mdb_follow.specs.Report.{no_account}
 use Rattle.mdb_follow.specs.Sums.{Sums, no_sums}
 use Rattle.mdb_follow.specs.Tables.{ArrivesAt, IsTable}
 use Rattle.mdb_follow.specs.inner.Entries.{AreBelow}
-use Rattle.mdb_follow.specs.inner.Limits.{IsAccountWithin, IsCellWithin, IsRangeWithin}
-use Rattle.mdb_follow.specs.inner.Limits.{IsTableWithin}
+use Rattle.mdb_follow.specs.Limits.{IsAccountWithin, IsCellWithin, IsRangeWithin}
+use Rattle.mdb_follow.specs.Limits.{IsTableWithin}
 use Rattle.mdb_follow.proofs.Listed.{contains-none}
 use Rattle.mdb_follow.proofs.Ways.{account-start}
 

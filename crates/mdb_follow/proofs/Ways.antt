@@ -13,7 +13,7 @@ use Rattle.mdb_follow.specs.declared.account.Account.{Account}
 use Rattle.mdb_follow.specs.declared.cell.Cell.{Cell}
 use Rattle.mdb_follow.specs.declared.range.Range.{Range}
 use Rattle.mdb_follow.specs.Arrivals.{Arrives}
-use Rattle.mdb_follow.specs.inner.Cells.{joined_cell}
+use Rattle.mdb_follow.specs.Cells.{joined_cell}
 use Rattle.mdb_follow.specs.Ranges.{IsAccount, IsCell, IsRange}
 use Rattle.mdb_follow.specs.Report.{no_account}
 use Rattle.mdb_follow.specs.Sums.{AccountSums, Sums, added, no_sums}

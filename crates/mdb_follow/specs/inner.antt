@@ -1,16 +1,4 @@
-pub mod AllPaths
-pub mod ByDevice
-pub mod Cells
-pub mod Chains
 pub mod Entries
 pub mod FollowerSteps
-pub mod Limits
-pub mod Merges
 pub mod Owners
-pub mod Paths
-pub mod ReplaySteps
-pub mod Seekers
 pub mod SideSteps
-pub mod SilenceSteps
-pub mod TrackSteps
-pub mod Weights

@@ -1,8 +1,8 @@
 //! The ranges of an account's sums.
 
 ghost use Rattle.std.specs.Prelude.{◌≡◌, ◌<◌, ◌^◌};
-ghost use Rattle.mdb_follow.specs.inner.Cells.{joined_account, moved_account};
-ghost use Rattle.mdb_follow.specs.inner.Limits.{IsAccountWithin};
+ghost use Rattle.mdb_follow.specs.Cells.{joined_account, moved_account};
+ghost use Rattle.mdb_follow.specs.Limits.{IsAccountWithin};
 
 use crate::Range;
 
@@ -19,7 +19,7 @@ pub struct Account {
 
 impl Account {
     /// Nothing came and nothing went.
-    pub(crate) const NOTHING: Account = Account {
+    pub const NOTHING: Account = Account {
         device: Range::NOTHING,
         controller: Range::NOTHING,
         difference: Range::NOTHING,

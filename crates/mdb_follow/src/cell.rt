@@ -2,8 +2,8 @@
 
 ghost use Rattle.std.specs.Prelude.{◌≡◌, ◌^◌};
 ghost use Rattle.mdb_cash.specs.Gains.{IsSmall};
-ghost use Rattle.mdb_follow.specs.inner.Cells.{joined_cell, moved_cell};
-ghost use Rattle.mdb_follow.specs.inner.Limits.{IsCellWithin};
+ghost use Rattle.mdb_follow.specs.Cells.{joined_cell, moved_cell};
+ghost use Rattle.mdb_follow.specs.Limits.{IsCellWithin};
 
 use crate::Account;
 use mdb_cash::Gains;
@@ -19,8 +19,8 @@ pub struct Cell {
 
 impl Cell {
     /// The cell with the gains of a step added.
-    #[tactic(auto, unfolding(crate::specs::inner::Cells::moved_cell))]
-    pub(crate) fn moved(&self, gains: &Gains) -> Cell
+    #[tactic(auto, unfolding(crate::specs::Cells::moved_cell))]
+    pub fn moved(&self, gains: &Gains) -> Cell
         requires within { IsCellWithin (2 ^ 62) self.now }
         requires small { IsSmall gains.now }
         ensures { result ≡ moved_cell self.now gains.now }
@@ -32,7 +32,7 @@ impl Cell {
     }
 
     /// The cell of sums that are in one of two.
-    #[tactic(auto, unfolding(crate::specs::inner::Cells::joined_cell))]
+    #[tactic(auto, unfolding(crate::specs::Cells::joined_cell))]
     pub(crate) fn joined(&self, other: &Cell) -> Cell
         ensures { result ≡ joined_cell self.now other.now }
     {

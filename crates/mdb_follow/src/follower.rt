@@ -9,7 +9,7 @@ ghost use Rattle.mdb_words.specs.declared.event.Event.{Event};
 ghost use Rattle.mdb_bus.specs.declared.act.Act.{Act};
 ghost use Rattle.mdb_follow.specs.Senders as spec;
 ghost use Rattle.mdb_follow.specs.inner.SideSteps.{AreWithin};
-ghost use Rattle.mdb_follow.specs.inner.SilenceSteps.{AreFew};
+ghost use Rattle.mdb_follow.specs.SilenceSteps.{AreFew};
 
 use crate::sides::Sides;
 use crate::silence::Silences;
@@ -295,7 +295,7 @@ fn stop(noted: &mut Option<Offence>, rows: u64, fault: LinkFault)
 }
 
 /// Who sends an act: the controller, or the device that it asked.
-pub(crate) fn sender_of(act: &Act) -> Blame
+pub fn sender_of(act: &Act) -> Blame
     ensures { result ≡ spec.sender_of act.now }
 {
     match act {

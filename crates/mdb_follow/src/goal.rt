@@ -1,4 +1,4 @@
-//! Goals: an end of a range of a report, which is to be explained.
+//! The ends of the ranges of a report: a goal is one of them.
 
 use crate::AccountName;
 

@@ -7,33 +7,27 @@ mod account_name;
 mod cell;
 mod devices;
 mod entries;
-mod explain;
 mod follower;
 mod goal;
 pub mod laws;
-mod mark;
 mod offence;
 mod owner;
 mod range;
-mod replay;
 mod report;
 mod side;
 mod sides;
 mod silence;
 mod table;
-mod track;
-mod tracks;
 
 pub use account::Account;
 pub use account_name::AccountName;
 pub use cell::Cell;
-pub use explain::{ExplainFault, explain_run};
-pub use follower::{Follower, ROWS_MAX};
+pub use follower::{Follower, ROWS_MAX, sender_of};
 pub use goal::{AccountSide, Bound, Goal};
-pub use mark::Mark;
 pub use offence::Offence;
 pub use range::Range;
-pub use replay::{Replay, ReplayFault};
 pub use report::Report;
-pub use silence::{BILL_SILENCE_MAX, CHANGER_SILENCE_MAX, MICROS_PER_SECOND, READER_SILENCE_MAX};
+pub use silence::{
+    BILL_SILENCE_MAX, CHANGER_SILENCE_MAX, MICROS_PER_SECOND, READER_SILENCE_MAX, Silences,
+};
 pub use table::Table;

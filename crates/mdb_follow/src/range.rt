@@ -1,8 +1,8 @@
 //! The least and the greatest of a sum.
 
 ghost use Rattle.std.specs.Prelude.{◌≡◌, ◌^◌, ℤ, pos, neg_ℤ, ◌≤ℤ◌};
-ghost use Rattle.mdb_follow.specs.inner.Cells.{joined_range, moved_range};
-ghost use Rattle.mdb_follow.specs.inner.Limits.{IsRangeWithin};
+ghost use Rattle.mdb_follow.specs.Cells.{joined_range, moved_range};
+ghost use Rattle.mdb_follow.specs.Limits.{IsRangeWithin};
 
 /// The least and the greatest that a sum may be, in smallest units of money.
 #[derive(Clone, Copy, PartialEq, Eq, Debug, Default)]
@@ -15,7 +15,7 @@ pub struct Range {
 
 impl Range {
     /// Of nothing.
-    pub(crate) const NOTHING: Range = Range {
+    pub const NOTHING: Range = Range {
         least: 0,
         greatest: 0,
     };

@@ -3,7 +3,6 @@
 use crate::devices::device_place;
 use crate::sides::Sides;
 use crate::silence::Silences;
-use crate::tracks::Tracks;
 use crate::{Account, AccountName};
 use mdb_msgs::{Device, ReaderUnit};
 
@@ -29,9 +28,6 @@ impl Report {
     ghost use Rattle.std.specs.Prelude.{◌≡◌, ◌<◌, List, map};
     ghost use Rattle.mdb_bus.specs.ActLists.{Piece, acts_of};
     ghost use Rattle.mdb_bus.specs.declared.scope.Beginning.{Beginning};
-    ghost use Rattle.mdb_bus.specs.declared.scope.Beginning.TheVariants.{PowerOn};
-    ghost use Rattle.mdb_follow.specs.Choosing.{Choices};
-    ghost use Rattle.mdb_follow.specs.Tracks.{AreTracks};
     ghost use Rattle.mdb_follow.specs.declared.account_name.AccountName.{AccountName};
     ghost use Rattle.mdb_follow.specs.declared.account_name.TheConstants.AccountName.{ALL};
     ghost use Rattle.mdb_follow.specs.declared.account.Account.{Account};
@@ -89,44 +85,6 @@ impl Report {
         }
     }
 
-    /// The report of so many rows of a replay, with what the accounts come to, in the order of
-    /// `AccountName::ALL`.
-    pub(crate) fn of_tracks(
-        rows: u64,
-        accounts: [Account; 7],
-        tracks: &Tracks,
-        silences: &Silences,
-    ) -> Report
-        ensures { (pieces : List Piece) (chosen : Choices (acts_of pieces))
-            (named : AccountName → Account) → AreTracks tracks.now (acts_of pieces) chosen
-            → AllStandForAsks silences.now (λ device. asks_of PowerOn device pieces)
-            → accounts ≡ map named ALL
-            → result ≡ report_of PowerOn rows pieces named }
-    {
-        Report {
-            rows,
-            decimals: [
-                tracks.changer.facts.decimals(),
-                tracks.bill.facts.decimals(),
-                tracks.first_reader.facts.decimals(),
-                tracks.second_reader.facts.decimals(),
-            ],
-            accounts,
-            silences: [
-                silences.count(Device::Changer),
-                silences.count(Device::Bill),
-                silences.count(Device::Reader(ReaderUnit::First)),
-                silences.count(Device::Reader(ReaderUnit::Second)),
-            ],
-            unvalued: [
-                tracks.changer.unvalued,
-                tracks.bill.unvalued,
-                tracks.first_reader.unvalued,
-                tracks.second_reader.unvalued,
-            ],
-        }
-    }
-
     /// What an account comes to.
     pub fn account(&self, name: AccountName) -> Account
         ensures { result ≡ account_of name self.now }
@@ -147,6 +105,7 @@ impl Report {
     {
         self.silences[device_place(device)]
     }
+
     /// How many amounts a device told, or was asked for, that have no value.
     pub fn device_unvalued(&self, device: Device) -> u64
         ensures { result ≡ device_unvalued device self.now }

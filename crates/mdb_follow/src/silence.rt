@@ -6,9 +6,9 @@
 ghost use Rattle.std.specs.Prelude.{◌≡◌, ◌<◌, ◌≤◌, ◌+◌, ◌^◌, List};
 ghost use Rattle.mdb_follow.specs.Silences.{TimedAsk, with_ask};
 ghost use Rattle.mdb_follow.specs.SilencesKept.{StandsForAsks, silence_in};
-ghost use Rattle.mdb_follow.specs.inner.SilenceSteps as spec;
-ghost use Rattle.mdb_follow.specs.inner.SilenceSteps.{AllGoOn, AreFew, OneGoesOn, SilencesFollow};
-ghost use Rattle.mdb_follow.specs.inner.SilenceSteps.{ask_in, ended, limit_by};
+ghost use Rattle.mdb_follow.specs.SilenceSteps as spec;
+ghost use Rattle.mdb_follow.specs.SilenceSteps.{AllGoOn, AreFew, OneGoesOn, SilencesFollow};
+ghost use Rattle.mdb_follow.specs.SilenceSteps.{ask_in, ended, limit_by};
 
 use crate::Report;
 use crate::devices::device_place;
@@ -88,20 +88,20 @@ impl Silence {
 
 /// The silences of all devices.
 #[derive(Clone, Copy, PartialEq, Eq, Debug)]
-pub(crate) struct Silences {
+pub struct Silences {
     /// Those of each of `Report::DEVICES`.
     of: [Silence; 4],
 }
 
 impl Silences {
     /// The silences after no act.
-    pub(crate) const NONE: Silences = Silences {
+    pub const NONE: Silences = Silences {
         of: [Silence::NONE; 4],
     };
 
     /// Follows an act whose last word started at a time, with what is known of the two readers
     /// after it.
-    pub(crate) fn follow(&mut self, act: &Act, at: Time, first: &ReaderKnown, second: &ReaderKnown)
+    pub fn follow(&mut self, act: &Act, at: Time, first: &ReaderKnown, second: &ReaderKnown)
         requires { AreFew (2 ^ 62) self.old }
         ensures { SilencesFollow self.old act.now at first.now second.now self.new }
     {
@@ -116,7 +116,7 @@ impl Silences {
     }
 
     /// How many silences of a device there were.
-    pub(crate) fn count(&self, device: Device) -> u64
+    pub fn count(&self, device: Device) -> u64
         ensures { result ≡ (silence_in self.now device).count }
     {
         self.of[device_place(device)].count

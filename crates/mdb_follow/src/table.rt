@@ -10,7 +10,7 @@ ghost use Rattle.mdb_cash.specs.declared.gains.Gains.{Gains};
 ghost use Rattle.mdb_cash.specs.Gains.{IsSmall};
 ghost use Rattle.mdb_cash.specs.Pair.{IsMove, IsStep};
 ghost use Rattle.mdb_follow.specs.Arrivals.{Arrives};
-ghost use Rattle.mdb_follow.specs.inner.Limits.{IsCellWithin, IsTableWithin};
+ghost use Rattle.mdb_follow.specs.Limits.{IsCellWithin, IsTableWithin};
 ghost use Rattle.mdb_follow.specs.Ranges.{IsCell};
 ghost use Rattle.mdb_follow.specs.Sums.{Sums};
 ghost use Rattle.mdb_follow.specs.Tables.{ArrivesAnywhere, ArrivesAt, Bounds, IsTable};

@@ -2,7 +2,6 @@ pub mod Encodings
 pub mod Exports
 pub mod Fields
 pub mod Numbers
-pub mod Program
 pub mod Refusals
 pub mod Rows
 pub mod Times

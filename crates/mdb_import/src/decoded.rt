@@ -158,7 +158,7 @@ fn bytes_of_unit(unit: u16) -> ArrayVec<u8, 4>
 
 /// The text of a reader, from UTF-16 where it begins with such a byte order mark.
 #[derive(Drop)]
-pub(crate) struct Decoded<R> {
+pub struct Decoded<R> {
     inner: R,
     decoding: Decoding,
 }

@@ -69,7 +69,7 @@ pub fn import_rows<R: Read + Drop, W: Write>(
 }
 
 /// The records of the text that a reader has left.
-pub(crate) fn records_of<R: Read + Drop>(alloc: Global, reader: R) -> Records<Decoded<R>>
+pub fn records_of<R: Read + Drop>(alloc: Global, reader: R) -> Records<Decoded<R>>
     ensures { IfSome (R.remaining reader) (λ text.
         ToCome (decoded_remaining R.remaining) result (export_records text)) }
 {

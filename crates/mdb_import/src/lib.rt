@@ -4,8 +4,6 @@
 //! left out in silence.
 #![tactic(auto)]
 
-mod command_line;
-mod complaint;
 mod decoded;
 mod fault;
 mod fields;
@@ -14,13 +12,12 @@ mod numbers;
 mod options;
 mod order;
 mod page;
-mod program;
 mod rows;
 mod times;
 mod values;
 mod writing;
 
 pub use fault::{ImportFault, Imported, RecordFault};
-pub use importing::{import_records, import_rows};
+pub use decoded::Decoded;
+pub use importing::{import_records, import_rows, records_of};
 pub use options::{RowsOptions, Unit};
-pub use program::run;

@@ -18,11 +18,11 @@ fn words(rt: &HostRuntime) -> io::Result<Vec<String>> {
     Ok(env::args(rt)?.collect(rt.alloc())?)
 }
 
-/// Hands the words and the standard streams to `mdb_import::run`, and answers its status. Where
+/// Hands the words and the standard streams to `mdb_importer::run`, and answers its status. Where
 /// there is no memory for what is asked at once, a line says so, as of any other want of memory.
 fn run(rt: &HostRuntime, words: Vec<String>) -> u8 {
     match BufReader::with_capacity(rt.alloc(), READ_SIZE, rt.stdin()) {
-        Ok(input) => mdb_import::run(rt.alloc(), words, input, &mut rt.stdout(), &mut rt.stderr()),
+        Ok(input) => mdb_importer::run(rt.alloc(), words, input, &mut rt.stdout(), &mut rt.stderr()),
         Err(error) => {
             let _ = eprintln!(rt; "mdbimport: {error}");
             NOT_BEGUN

@@ -17,8 +17,8 @@ use Rattle.mdb_bus.specs.declared.scope.Scope.{Scope}
 use Rattle.mdb_bus.specs.Scopes.{leaving_out}
 use Rattle.mdb_follow.specs.declared.goal.Goal.{Goal}
 use Rattle.mdb_follow.specs.AccountNames.{account_word}
-use Rattle.mdb_check.specs.Accounts.{side_word}
-use Rattle.mdb_check.specs.Explain.{bound_word}
+use Rattle.mdb_text.specs.Accounts.{side_word}
+use Rattle.mdb_explain.specs.Explain.{bound_word}
 use Rattle.mdb_check.specs.Program.{Asked, IsFromPowerOn, IsJoined, NamesCheck, NamesExplain}
 use Rattle.mdb_check.specs.Program.{NamesReplay, NamesShow}
 use Rattle.mdb_check.specs.declared.refusal.Refusal.{Refusal}

@@ -9,7 +9,7 @@ use Rattle.mdb_cash.specs.declared.gains.Gains.{Gains}
 use Rattle.mdb_cash.specs.Gains.{IsSmall, no_gains}
 use Rattle.mdb_cash.specs.Machine.{Machine}
 use Rattle.mdb_follow.specs.declared.cell.Cell.{Cell}
-use Rattle.mdb_follow.specs.inner.Cells.{joined_cell, moved_cell}
+use Rattle.mdb_follow.specs.Cells.{joined_cell, moved_cell}
 
 -- no entry has this code
 abbrev pub Lacks : List (ℕ × Cell) → ℕ → Type 0

@@ -5,7 +5,7 @@ use Rattle.mdb_follow.specs.declared.follower.Follower.{Follower}
 use Rattle.mdb_follow.specs.declared.offence.Offence.{Offence}
 use Rattle.mdb_follow.specs.Senders.{sender_of}
 use Rattle.mdb_follow.specs.inner.SideSteps.{SidesFollow, SidesStop}
-use Rattle.mdb_follow.specs.inner.SilenceSteps.{SilencesFollow}
+use Rattle.mdb_follow.specs.SilenceSteps.{SilencesFollow}
 
 -- A follower has followed an act whose last word started at a time.
 pub record HasFollowed (old : Follower) (act : Act) (at : ℕ) (new : Follower) : Type 0 where

@@ -12,8 +12,8 @@ use Rattle.mdb_follow.specs.Machines.{machine_of}
 use Rattle.mdb_follow.specs.Offences.{HasNoStep, rule_of}
 use Rattle.mdb_follow.specs.Report.{unvalued_of}
 use Rattle.mdb_follow.specs.Sides.{IsSide, IsSideOf, SideOf, code_of, side_in, stands_for}
-use Rattle.mdb_follow.specs.inner.ByDevice.{OneGoes}
-use Rattle.mdb_follow.specs.inner.Limits.{IsTableWithin}
+use Rattle.mdb_follow.specs.ByDevice.{OneGoes}
+use Rattle.mdb_follow.specs.Limits.{IsTableWithin}
 
 -- all ends of a side's table are at most so far from 0, and so is its count
 pub record IsSideWithin {Facts : Type 0} {N : ℕ} (limit : ℕ) (side : Side Facts N) : Type 0 where

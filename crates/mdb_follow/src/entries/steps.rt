@@ -6,10 +6,10 @@ ghost use Rattle.std.specs.Bool.{OnFalse, OnTrue};
 ghost use Rattle.mdb_cash.specs.Gains.{IsSmall};
 ghost use Rattle.mdb_cash.specs.declared.gains.Gains.{Gains};
 ghost use Rattle.mdb_follow.specs.declared.cell.Cell.{Cell};
-ghost use Rattle.mdb_follow.specs.inner.Cells.{moved_cell};
+ghost use Rattle.mdb_follow.specs.Cells.{moved_cell};
 ghost use Rattle.mdb_follow.specs.inner.Entries.{AreMoves, HasAt, IsKeyed, IsPlaced, LeadTo};
 ghost use Rattle.mdb_follow.specs.inner.Entries.{moves_of, with_cell, with_moves};
-ghost use Rattle.mdb_follow.specs.inner.Limits.{IsCellWithin, IsTableWithin};
+ghost use Rattle.mdb_follow.specs.Limits.{IsCellWithin, IsTableWithin};
 
 use super::Entries;
 use crate::Cell;

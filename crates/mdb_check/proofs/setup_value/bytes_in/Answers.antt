@@ -1,5 +1,5 @@
 use Rattle.std.proofs.Common.{rules, [], ◌∷◌, ◌++◌, ◌≡◌, ◌∙◌, subst, sym}
-use Rattle.mdb_check.specs.ShowText.{bytes_text}
+use Rattle.mdb_show.specs.ShowText.{bytes_text}
 use Rattle.mdb_check.proofs.SetupValues.{AreBytes, block_bytes, goes_on, none_left, none_more, not_some, one_more, read_on, small_on, some_left}
 use Rattle.mdb_check.proofs.setup_value.bytes_in.Goals as goal
 

@@ -1,5 +1,5 @@
 use Rattle.std.proofs.Common.{◌≡◌, ◌++◌, length}
-use Rattle.mdb_check.specs.ShowText.{bytes_text}
+use Rattle.mdb_show.specs.ShowText.{bytes_text}
 use Rattle.mdb_check.proofs.SetupValues.{AreBytes}
 use Rattle.mdb_check.proofs.setup_value.bytes_in.Given as goal
 

@@ -4,7 +4,7 @@ use Rattle.std.specs.List.{before_first}
 use Rattle.clap.proofs.TakesLemmas.{passed_up}
 use Rattle.mdb_check.specs.inner.CommandLine.{IsOwnRefusal}
 use Rattle.mdb_msgs.specs.declared.command.Device.{Device}
-use Rattle.mdb_check.specs.ShowText.{bytes_text}
+use Rattle.mdb_show.specs.ShowText.{bytes_text}
 use Rattle.mdb_msgs.specs.Devices.{device_word}
 use Rattle.mdb_check.proofs.Devices.{one_device}
 use Rattle.mdb_check.proofs.SetupValues.{is_blank, passed_match, rest_taken, word_is}

@@ -3,7 +3,7 @@ use Rattle.mdb_bus.specs.declared.act.Act.{Act}
 use Rattle.mdb_bus.specs.declared.scope.Beginning.{Beginning}
 use Rattle.mdb_cash.specs.Pair.{IsMove}
 use Rattle.mdb_follow.specs.Arrivals.{Arrives}
-use Rattle.mdb_follow.specs.inner.Limits.{IsTableWithin}
+use Rattle.mdb_follow.specs.Limits.{IsTableWithin}
 use Rattle.mdb_follow.specs.Tables.{ArrivesAt, Bounds, IsTable}
 use Rattle.mdb_follow.specs.inner.Entries.{IsKeyed, IsPlaced}
 use Rattle.mdb_follow.proofs.Led.{Led}

@@ -8,7 +8,7 @@ use Rattle.mdb_bus.specs.declared.scope.Beginning.{Beginning}
 use Rattle.mdb_follow.specs.declared.cell.Cell.{Cell}
 use Rattle.mdb_follow.specs.Arrivals.{Arrives}
 use Rattle.mdb_follow.specs.inner.Entries.{AreBelow, LeadTo}
-use Rattle.mdb_follow.specs.inner.Limits.{IsCellWithin, IsTableWithin}
+use Rattle.mdb_follow.specs.Limits.{IsCellWithin, IsTableWithin}
 use Rattle.mdb_follow.specs.Tables.{ArrivesAt, Bounds, IsTable}
 use Rattle.mdb_follow.proofs.Alone.{alone-below, alone-either, alone-led, alone-within, lead-none}
 use Rattle.mdb_follow.proofs.Alone.{only-is, some-entry}

@@ -2,7 +2,7 @@ use Rattle.std.proofs.Common.{ap, arith, subst, ◌∙◌, ℕ, List}
 use Rattle.std.proofs.Common.{get_or}
 use Rattle.mdb_follow.specs.Silences.{TimedAsk, with_ask}
 use Rattle.mdb_follow.specs.SilencesKept.{StandsForAsks}
-use Rattle.mdb_follow.specs.inner.SilenceSteps.{ask_in}
+use Rattle.mdb_follow.specs.SilenceSteps.{ask_in}
 use Rattle.mdb_follow.proofs.Kept.{no_silence, one-goes-on}
 use Rattle.mdb_follow.proofs.silence.Silences.ask.Goals as goal
 

@@ -1,5 +1,5 @@
 use Rattle.std.proofs.Common.{arith}
-use Rattle.mdb_follow.specs.inner.SilenceSteps.{ended}
+use Rattle.mdb_follow.specs.SilenceSteps.{ended}
 use Rattle.mdb_follow.proofs.Kept.{one-goes-on}
 use Rattle.mdb_follow.proofs.silence.Silences.end.Goals as goal
 

@@ -1,6 +1,6 @@
 use Rattle.mdb_follow.specs.declared.silence.Silence.{Silence}
 use Rattle.mdb_follow.specs.SilencesKept.{silence_in}
-use Rattle.mdb_follow.specs.inner.SilenceSteps.{GoesOn, ended}
+use Rattle.mdb_follow.specs.SilenceSteps.{GoesOn, ended}
 use Rattle.mdb_follow.proofs.ByDevice.{Front}
 use Rattle.mdb_follow.proofs.silence.Silences.end_all.Given as goal
 

@@ -5,7 +5,7 @@ use Rattle.mdb_bus.specs.declared.scope.Beginning.{Beginning}
 use Rattle.mdb_follow.specs.Arrivals.{Arrives}
 use Rattle.mdb_follow.specs.Sums.{Sums}
 use Rattle.mdb_follow.specs.declared.cell.Cell.{Cell}
-use Rattle.mdb_follow.specs.inner.Limits.{IsTableWithin}
+use Rattle.mdb_follow.specs.Limits.{IsTableWithin}
 use Rattle.mdb_follow.specs.Tables.{IsTable}
 use Rattle.mdb_follow.proofs.Limits.{table-within-weaker}
 use Rattle.mdb_follow.proofs.Listed.{nil-told, seen-again, seen-one, seen-other, seen-still}

@@ -1,9 +1,0 @@
-use Rattle.std.proofs.Common.{take}
-use Rattle.mdb_check.specs.inner.Explaining.{marks_text, sheet_output}
-use Rattle.mdb_check.specs.inner.ShowSteps.{Puts}
-use Rattle.mdb_check.proofs.explaining.add_marks.Given as goal
-
--- the lines of the marks so far are added
-abbrev pub invariant-loop-mark : goal.invariant-loop-mark
-invariant-loop-mark g l =
-    Puts (sheet_output (g.W.Write.contents l.fn.writer) l.fn.sheet) (sheet_output (g.W.Write.contents l.writer) l.sheet) (marks_text (take l.mark-index l.marks))

@@ -1,9 +1,0 @@
-use Rattle.mdb_check.proofs.ExplanationLengths.{explanation_short}
-use Rattle.mdb_check.proofs.Explanations.{read_as_written}
-use Rattle.mdb_check.proofs.laws.explanations_read_as_their_marks_and_rows.Goals as goal
-
-pub returns-clause-reads : goal.returns-clause-reads
-returns-clause-reads c = read_as_written
-
-pub returns-clause-short : goal.returns-clause-short
-returns-clause-short c = explanation_short

@@ -1,9 +1,0 @@
-use Rattle.mdb_check.proofs.ReplayedTranscripts.{have_runs, replayed_says_yes}
-use Rattle.mdb_check.proofs.laws.replayed_transcripts_are_yeses.Goals as goal
-
-pub returns-clause-runs : goal.returns-clause-runs
-returns-clause-runs c = have_runs
-
-pub returns-clause-yes : goal.returns-clause-yes
-returns-clause-yes c scope =
-    replayed_says_yes scope (c.fronts_of_reached_rows_are_reached.ensures scope)

@@ -1,6 +1,0 @@
-use Rattle.std.proofs.Common.{sym}
-use Rattle.mdb_check.proofs.Fields.{field_some}
-use Rattle.mdb_check.proofs.row.field.Goals as goal
-
-pub unreachable-requires : goal.unreachable-requires
-unreachable-requires c = field_some _ c.args.i c.requires (sym c.in-None.ensures.value)

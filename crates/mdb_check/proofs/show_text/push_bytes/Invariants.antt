@@ -1,8 +1,0 @@
-use Rattle.std.proofs.Common.{◌≡◌, ◌++◌}
-use Rattle.std.specs.Prelude.{take}
-use Rattle.mdb_check.specs.ShowText.{bytes_text}
-use Rattle.mdb_check.proofs.show_text.push_bytes.Given as goal
-
--- the bytes so far are there
-abbrev pub invariant-loop-byte : goal.invariant-loop-byte
-invariant-loop-byte l = l.text.items ≡ l.fn.text.items ++ bytes_text (take l.byte-index l.bytes)

@@ -1,6 +1,0 @@
-use Rattle.mdb_check.proofs.Showings.{begins}
-use Rattle.mdb_check.proofs.showing.Showing.new.Goals as goal
-
-pub returns-clause-shown : goal.returns-clause-shown
-returns-clause-shown c =
-    begins c.args.scope.now c.new.result c.new-2.result c.new.ensures.scope c.new.ensures.stands c.new.ensures.rows c.new.ensures.shown c.new-2.ensures

@@ -1,0 +1,324 @@
+-- What is answered and written of rows that are kept, and the lines that are written.
+use Rattle.std.proofs.Common.{arith, refl, ap, sym, subst, ◌∙◌, ◌≡◌, ◌+◌, ◌<◌, ◌≤◌, ◌/◌, ◌%◌, ◌^◌, ℕ, List, [], ◌∷◌, ◌++◌, Option, Result, Ok, Err, IfErr, IfOk, length, length-append, map, append_assoc, drop, get_or, take, take-append-drop}
+use Rattle.std.proofs.lemmas.List.{append-nil, flat_map_more, take_all, take_more}
+use Rattle.std.proofs.lemmas.List.Concat.{flat_map-append}
+use Rattle.std.proofs.lemmas.Fmt.{length-decimal-le}
+use Rattle.std.specs.Fmt.{decimal}
+use Rattle.std.specs.List.{flat_map}
+use Rattle.std.specs.Prelude.{IsErrAnd}
+use Rattle.std.specs.Io.KnownBytes.{Appends}
+use Rattle.mdb_words.specs.declared.event.Event.{Event}
+use Rattle.mdb_words.specs.Row.{IsRefusal, IsRow, row_fields}
+use Rattle.mdb_bus.specs.declared.scope.Scope.{Scope}
+use Rattle.mdb_follow.specs.declared.follower.TheConstants.{ROWS_MAX}
+use Rattle.mdb_follow.specs.declared.goal.Goal.{Goal}
+use Rattle.mdb_marks.specs.declared.mark.Mark.{Mark}
+use Rattle.mdb_follow.specs.declared.offence.Offence.{Offence}
+use Rattle.mdb_follow.specs.declared.report.Report.{Report}
+use Rattle.mdb_explain.specs.declared.keeping.Keeping.{Keeping}
+use Rattle.mdb_text.specs.declared.outcome.Outcome.{Outcome}
+use Rattle.mdb_text.specs.declared.outcome.Outcome.TheVariants.{Yes, No}
+use Rattle.mdb_verdict.specs.declared.fault.RunFault.{RunFault}
+use Rattle.mdb_verdict.specs.declared.fault.RunFault.TheVariants.{BadRow, TooLong, Read, Write, Memory, Mark as MarkFault}
+use Rattle.mdb_explain.specs.declared.sheet.Sheet.{Sheet}
+use Rattle.mdb_explain.specs.Explain.{IsCutExplanation, IsExplainText, IsExplainedIn, explanation_text, record_line}
+use Rattle.mdb_verdict.specs.Headline.{IfNo, IfYes}
+use Rattle.mdb_text.specs.Text.{report_text}
+use Rattle.mdb_verdict.specs.Verdict.{AreRows, IsAnswer, IsImpossible}
+use Rattle.mdb_verdict.specs.Written.{HasTaken}
+use Rattle.mdb_verdict.specs.Batch.{AreAll}
+use Rattle.mdb_verdict.specs.Ending.{HasEnded, HasFollowed, IsTakenWhole}
+use Rattle.mdb_explain.specs.inner.Explaining.{HasKept, IsNoText, IsRowsText, IsTold, StopsKeeping, mark_line, marks_text, row_line, rows_text, sheet_output}
+use Rattle.mdb_verdict.specs.Output.{Breaks, Output, Puts, begun}
+use Rattle.mdb_verdict.proofs.Outputs.{break_both, put_both, put_none}
+use Rattle.mdb_verdict.proofs.Rows.{are_rows}
+use Rattle.mdb_verdict.proofs.Decimals.{more_digits, one_digit, two_digits}
+use Rattle.mdb_text.proofs.Texts.{appended}
+use Rattle.mdb_verdict.proofs.Verdicts as verdicts
+use Rattle.mdb_verdict.proofs.Verdicts.{Reaches}
+
+-- The reading of rows that are kept.
+
+-- rows that were kept were followed
+pub followed_whole : (scope : Scope) (limit : ℕ) (all : List (List (List ℕ))) (keeping : Keeping) → IsTakenWhole IsRow (HasKept scope keeping) limit all → IsTakenWhole IsRow (HasFollowed scope keeping.follower) limit all
+followed_whole scope limit all keeping ended = record { rows = ended.rows; read = ended.read; few = ended.few; has = ended.has.followed }
+
+-- the records are the rows that were kept
+pub rows_kept : (scope : Scope) (limit : ℕ) (all : List (List (List ℕ))) (keeping : Keeping) → IsTakenWhole IsRow (HasKept scope keeping) limit all → AreRows all keeping.rows.items
+rows_kept scope limit all keeping ended =
+    let Told : List (List (List ℕ)) → Type 0 = λ l. AreRows l ended.rows in
+    subst (AreRows all) (sym ended.has.kept) (subst Told (sym (append-nil ended.read.done) ∙ sym ended.read.split) (are_rows ended.read.done ended.rows ended.read.told))
+
+followed_to : (scope : Scope) (limit : ℕ) (all : List (List (List ℕ))) (keeping : Keeping) (fault : RunFault) → HasEnded IsRow IsRefusal (HasKept scope keeping) (StopsKeeping scope) limit all (Err fault)
+    → HasEnded IsRow IsRefusal (HasFollowed scope keeping.follower) (StopsKeeping scope) limit all (Err fault)
+followed_to scope limit all keeping (BadRow row fault) ended =
+    record { rows = ended.rows; fields = ended.fields; rest = ended.rest; read = ended.read; few = ended.few; number = ended.number; refused = ended.refused; has = ended.has.followed }
+followed_to scope limit all keeping TooLong ended = record { rows = ended.rows; fields = ended.fields; rest = ended.rest; read = ended.read; full = ended.full; has = ended.has.followed }
+followed_to scope limit all keeping Read ended = record { rows = ended.rows; rest = ended.rest; read = ended.read; has = ended.has.followed }
+followed_to scope limit all keeping Write ended = absurd ended
+followed_to scope limit all keeping Memory ended = record { rows = ended.rows; rest = ended.rest; read = ended.read; has = ended.has.followed }
+followed_to scope limit all keeping (MarkFault row) ended = absurd ended
+
+-- a record isn't taken, or can't be read
+pub refused : (scope : Scope) → Reaches → (limit : ℕ) (all : List (List (List ℕ))) (keeping : Keeping) (fault : RunFault) → HasEnded IsRow IsRefusal (HasKept scope keeping) (StopsKeeping scope) limit all (Err fault)
+    → (answer : Result Outcome RunFault) → IsErrAnd answer (λ other. other ≡ fault) → IsAnswer scope limit all answer
+refused scope reaches limit all keeping fault ended answer handed = verdicts.refused scope reaches limit all keeping.follower (StopsKeeping scope) fault (followed_to scope limit all keeping fault ended) answer handed
+
+-- What is told of an outcome.
+
+-- it is the answer
+pub answer_told : {W : Type 0} (contents : W → Option (List ℕ)) (before after : W) (IsText : Outcome → List ℕ → Type 0) (scope : Scope) (limit : ℕ) (all : List (List (List ℕ))) → ((outcome : Outcome) (text : List ℕ) → IsText outcome text → IsAnswer scope limit all (Ok outcome))
+    → (answer : Result Outcome RunFault) → IsTold contents before after IsText answer → IsAnswer scope limit all answer
+answer_told contents before after IsText scope limit all are (Ok outcome) told = are outcome told.0 told.1
+answer_told contents before after IsText scope limit all are (Err (BadRow row fault)) told = absurd told
+answer_told contents before after IsText scope limit all are (Err TooLong) told = absurd told
+answer_told contents before after IsText scope limit all are (Err Read) told = tt
+answer_told contents before after IsText scope limit all are (Err Write) told = tt
+answer_told contents before after IsText scope limit all are (Err Memory) told = tt
+answer_told contents before after IsText scope limit all are (Err (MarkFault row)) told = absurd told
+
+-- its text was written
+pub written_told : {W : Type 0} (contents : W → Option (List ℕ)) (before after : W) (IsText : Outcome → List ℕ → Type 0) (scope : Scope) (goal : Goal) (all : List (List (List ℕ))) → ((outcome : Outcome) (text : List ℕ) → IsText outcome text → IsExplainText scope goal all outcome text)
+    → (answer : Result Outcome RunFault) → IsTold contents before after IsText answer → IfOk answer (IsExplainedIn scope goal all (contents before) (contents after))
+written_told contents before after IsText scope goal all are (Ok outcome) told = (told.0, are outcome told.0 told.1, told.2)
+written_told contents before after IsText scope goal all are (Err fault) told = tt
+
+-- of a no, the report of `check` was written
+pub no_told : {W : Type 0} (contents : W → Option (List ℕ)) (before after : W) (IsText : Outcome → List ℕ → Type 0) (scope : Scope) → ((offence : Offence) (text : List ℕ) → IsText (No offence) text → text ≡ report_text scope (No offence))
+    → (answer : Result Outcome RunFault) → IsTold contents before after IsText answer → IfOk answer (λ outcome. IfNo outcome (λ offence. Appends (contents before) (contents after) (report_text scope (No offence))))
+no_told contents before after IsText scope are (Ok (Yes report)) told = tt
+no_told contents before after IsText scope are (Ok (No offence)) told =
+    subst (λ (t : List ℕ). Appends (contents before) (contents after) t) (are offence told.0 told.1) told.2
+no_told contents before after IsText scope are (Err fault) told = tt
+
+-- the writer failed with a front of its text
+pub cut_told : {W : Type 0} (contents : W → Option (List ℕ)) (before after : W) (IsText : Outcome → List ℕ → Type 0) (scope : Scope) (limit : ℕ) (goal : Goal) (all : List (List (List ℕ)))
+    → ((outcome : Outcome) (text : List ℕ) → IsText outcome text → IsAnswer scope limit all (Ok outcome)) → ((outcome : Outcome) (text : List ℕ) → IsText outcome text → IsExplainText scope goal all outcome text)
+    → (answer : Result Outcome RunFault) → IsTold contents before after IsText answer → answer ≡ Err Write → IsCutExplanation scope limit goal all (contents before) (contents after)
+cut_told contents before after IsText scope limit goal all answers texts answer told is =
+    let P : Result Outcome RunFault → Type 0 = λ a. IsTold contents before after IsText a in
+    let told_so : P (Err Write) = subst P is told in
+    record {
+      outcome = told_so.0;
+      is = answers told_so.0 told_so.1 told_so.2;
+      text = told_so.1;
+      explains = texts told_so.0 told_so.1 told_so.2;
+      taken = told_so.3;
+    }
+
+-- A no.
+
+pub no_answers : (scope : Scope) (limit : ℕ) (all : List (List (List ℕ))) (offence : Offence) → IsImpossible scope limit all offence → (outcome : Outcome) (text : List ℕ) → IsNoText scope offence outcome text → IsAnswer scope limit all (Ok outcome)
+no_answers scope limit all offence impossible outcome text is =
+    let P : Outcome → Type 0 = λ o. IsAnswer scope limit all (Ok o) in
+    subst P (sym is.0) impossible
+
+pub no_written : (scope : Scope) (offence other : Offence) (text : List ℕ) → IsNoText scope offence (No other) text → text ≡ report_text scope (No other)
+no_written scope offence other text is = is.1 ∙ ap (report_text scope) (sym is.0)
+
+pub no_texts : (scope : Scope) (goal : Goal) (all : List (List (List ℕ))) (offence : Offence) (outcome : Outcome) (text : List ℕ) → IsNoText scope offence outcome text → IsExplainText scope goal all outcome text
+no_texts scope goal all offence outcome text is =
+    let P : Outcome → Type 0 = λ o. IsExplainText scope goal all o text in
+    subst P (sym is.0) is.1
+
+-- a no that is told of rows that were to be explained
+pub no_rows_told : {W : Type 0} (contents : W → Option (List ℕ)) (before after : W) (scope : Scope) (rows : List Event) (goal : Goal) (report : Report) (offence : Offence) → IsRowsText scope rows goal report (No offence) (report_text scope (No offence))
+    → (answer : Result Outcome RunFault) → IsTold contents before after (IsNoText scope offence) answer → IsTold contents before after (IsRowsText scope rows goal report) answer
+no_rows_told contents before after scope rows goal report offence is (Ok outcome) told =
+    let P : Outcome → Type 0 = λ o. IsRowsText scope rows goal report o told.0 in
+    (told.0, subst P (sym told.1.0) (is.0, told.1.1), told.2)
+no_rows_told contents before after scope rows goal report offence is (Err Write) told =
+    let P : Outcome → Type 0 = λ o. IsRowsText scope rows goal report o told.1 in
+    (told.0, told.1, subst P (sym told.2.0) (is.0, told.2.1), told.3)
+no_rows_told contents before after scope rows goal report offence is (Err Memory) told = told
+no_rows_told contents before after scope rows goal report offence is (Err (BadRow row fault)) told = absurd told
+no_rows_told contents before after scope rows goal report offence is (Err TooLong) told = absurd told
+no_rows_told contents before after scope rows goal report offence is (Err Read) told = absurd told
+no_rows_told contents before after scope rows goal report offence is (Err (MarkFault row)) told = absurd told
+
+-- Rows that were to be explained.
+
+all_are : (records : List (List (List ℕ))) (rows : List Event) → AreRows records rows → AreAll IsRow records rows
+all_are [] [] told = tt
+all_are (r ∷ records) (e ∷ rows) told = (told.0, all_are records rows told.1)
+all_are [] (e ∷ rows) told = absurd told
+all_are (r ∷ records) [] told = absurd told
+
+pub rows_answers : (scope : Scope) (limit : ℕ) (all : List (List (List ℕ))) (rows : List Event) (goal : Goal) (report : Report) → AreRows all rows → length rows ≤ limit → IsAnswer scope limit all (Ok (Yes report))
+    → (outcome : Outcome) (text : List ℕ) → IsRowsText scope rows goal report outcome text → IsAnswer scope limit all (Ok outcome)
+rows_answers scope limit all rows goal report told few possible (Yes other) text is =
+    let P : Report → Type 0 = λ r. IsAnswer scope limit all (Ok (Yes r)) in
+    subst P (sym is.0) possible
+rows_answers scope limit all rows goal report told few possible (No offence) text is =
+    verdicts.impossible scope limit all offence (record { earlier = []; later = rows; rest = []; read = record { done = all; split = sym (append-nil all); told = all_are all rows told }; few = few; stops = is.0 })
+
+pub rows_texts : (scope : Scope) (all : List (List (List ℕ))) (rows : List Event) (goal : Goal) (report : Report) → AreRows all rows → (outcome : Outcome) (text : List ℕ) → IsRowsText scope rows goal report outcome text → IsExplainText scope goal all outcome text
+rows_texts scope all rows goal report told (Yes other) text is = record { rows = rows; told = told; marks = is.1; explains = is.2; is = is.3 }
+rows_texts scope all rows goal report told (No offence) text is = is.1
+
+-- what is known of rows that were kept, where the verdict is yes
+pub record AreKnown (scope : Scope) (all : List (List (List ℕ))) (rows : List Event) (report : Report) : Type 0 where
+  pub told : AreRows all rows
+  pub few : length rows ≤ ROWS_MAX
+  pub possible : IsAnswer scope ROWS_MAX all (Ok (Yes report))
+
+pub known : (first scope : Scope) (all : List (List (List ℕ))) (kept rows : List Event) (outcome : Outcome) (report : Report) → first ≡ scope → outcome ≡ Yes report → rows ≡ kept → IsAnswer first ROWS_MAX all (Ok outcome) → IfYes outcome (λ report. AreRows all kept)
+    → IfYes outcome (λ report. length kept ≤ ROWS_MAX) → AreKnown scope all rows report
+known first scope all kept rows outcome report same is are answers told few =
+    let Answers : Outcome → Type 0 = λ o. IsAnswer first ROWS_MAX all (Ok o) in
+    let Told : Outcome → Type 0 = λ o. IfYes o (λ report. AreRows all kept) in
+    let Few : Outcome → Type 0 = λ o. IfYes o (λ report. length kept ≤ ROWS_MAX) in
+    let short : length kept ≤ ROWS_MAX = subst Few is few in
+    record {
+      told = subst (AreRows all) (sym are) (subst Told is told);
+      few = omega (arith, ap length are, short);
+      possible = subst (λ s. IsAnswer s ROWS_MAX all (Ok (Yes report))) same (subst Answers is answers);
+    }
+
+-- the verdict is a no
+pub known_no : (first scope : Scope) (all : List (List (List ℕ))) (outcome : Outcome) (offence : Offence) → first ≡ scope → outcome ≡ No offence → IsAnswer first ROWS_MAX all (Ok outcome) → IsImpossible scope ROWS_MAX all offence
+known_no first scope all outcome offence same is answers =
+    let Answers : Outcome → Type 0 = λ o. IsAnswer first ROWS_MAX all (Ok o) in
+    subst (λ s. IsImpossible s ROWS_MAX all offence) same (subst Answers is answers)
+
+-- the writer fails at an explanation
+pub explanation_broken : {W : Type 0} (contents : W → Option (List ℕ)) (before after : W) (scope : Scope) (rows : List Event) (goal : Goal) (report : Report) (text : List ℕ) (fault : RunFault) → IsRowsText scope rows goal report (Yes report) text
+    → HasTaken (contents before) (contents after) text → fault ≡ Write → (answer : Result Outcome RunFault) → IsErrAnd answer (λ other. other ≡ fault) → IsTold contents before after (IsRowsText scope rows goal report) answer
+explanation_broken contents before after scope rows goal report text fault is taken write (Ok outcome) handed = absurd handed
+explanation_broken contents before after scope rows goal report text fault is taken write (Err other) handed =
+    let P : RunFault → Type 0 = λ f. IsTold contents before after (IsRowsText scope rows goal report) (Err f) in
+    subst P (sym (handed ∙ write)) (Yes report, text, is, taken)
+
+-- Lines.
+
+rows_part : (rows : List Event) → flat_map record_line (map row_fields rows) ≡ rows_text rows
+rows_part [] = refl
+rows_part (row ∷ rows) = ap (λ l. row_line row ++ l) (rows_part rows)
+
+-- the text of an explanation is that of its marks, and then that of its rows
+pub explanation_parts : (marks : List (ℕ × Mark)) (rows : List Event) → explanation_text marks rows ≡ marks_text marks ++ rows_text rows
+explanation_parts [] rows = rows_part rows
+explanation_parts (mark ∷ marks) rows = ap (λ l. mark_line mark ++ l) (explanation_parts marks rows) ∙ sym (append_assoc (mark_line mark) (marks_text marks) (rows_text rows))
+
+-- a front of a text is one of a longer text
+pub taken_longer : (before after : Option (List ℕ)) (text more : List ℕ) → HasTaken before after text → HasTaken before after (text ++ more)
+taken_longer before after text more taken = record {
+  front = taken.front;
+  rest = taken.rest ++ more;
+  parts = ap (λ l. l ++ more) taken.parts ∙ append_assoc taken.front taken.rest more;
+  grown = taken.grown;
+}
+
+pub broken_longer : (before later : Output) (text more : List ℕ) → Breaks before later text → Breaks before later (text ++ more)
+broken_longer before later text more broken =
+    subst (HasTaken before.held later.held) (append_assoc before.waiting text more) (taken_longer before.held later.held (before.waiting ++ text) more broken)
+
+-- a text was written, and then a front of another
+pub taken_after : (before now later : Option (List ℕ)) (first second : List ℕ) → Appends before now first → HasTaken now later second → HasTaken before later (first ++ second)
+taken_after before now later first second written taken = record {
+  front = first ++ taken.front;
+  rest = taken.rest;
+  parts = ap (λ l. first ++ l) taken.parts ∙ sym (append_assoc first taken.front taken.rest);
+  grown = appended before now later first taken.front written taken.grown;
+}
+
+-- an empty sheet
+pub sheet_begins : (contents : Option (List ℕ)) (sheet : Sheet) → sheet.lines.items ≡ [] → Puts (begun contents) (sheet_output contents sheet) []
+sheet_begins contents sheet none =
+    let P : List ℕ → Type 0 = λ l. Puts (begun contents) (record { held = contents; waiting = l }) [] in
+    subst P (sym none) (put_none (begun contents))
+
+-- one line more is on its way
+pub line_more : {X : Type 0} (part : X → List ℕ) (before now later : Output) (xs : List X) (i : ℕ) (d : X) (text : List ℕ) → i < length xs → Puts before now (flat_map part (take i xs)) → text ≡ part (get_or xs i d) → Puts now later text
+    → Puts before later (flat_map part (take (i + 1) xs))
+line_more part before now later xs i d text below so_far is more =
+    subst (Puts before later)
+    (flat_map_more part [] (take i xs) (get_or xs i d) ∙ ap (flat_map part) (sym (take_more xs i d below)))
+    (put_both before now later (flat_map part (take i xs)) (part (get_or xs i d)) so_far (subst (Puts now later) is more))
+
+-- the writer fails at a line
+pub line_broken : {X : Type 0} (part : X → List ℕ) (before now later : Output) (xs : List X) (i : ℕ) (d : X) (text : List ℕ) → i < length xs → Puts before now (flat_map part (take i xs)) → text ≡ part (get_or xs i d) → Breaks now later text
+    → Breaks before later (flat_map part xs)
+line_broken part before now later xs i d text below so_far is broken =
+    let first : Breaks before later (flat_map part (take i xs) ++ part (get_or xs i d)) =
+    break_both before now later (flat_map part (take i xs)) (part (get_or xs i d)) so_far (subst (Breaks now later) is broken) in
+    let more : List ℕ = flat_map part (drop (i + 1) xs) in
+    let whole : flat_map part xs ≡ (flat_map part (take i xs) ++ part (get_or xs i d)) ++ more =
+    ap (flat_map part) (sym (take-append-drop (i + 1) xs)) ∙ (flat_map-append part (take (i + 1) xs) (drop (i + 1) xs)
+    ∙ ap (λ l. l ++ more) (sym (flat_map_more part [] (take i xs) (get_or xs i d) ∙ ap (flat_map part) (sym (take_more xs i d below))))) in
+    subst (Breaks before later) (sym whole) (broken_longer before later _ more first)
+
+-- all lines are on their way
+pub lines_all : {X : Type 0} (part : X → List ℕ) (before now : Output) (xs : List X) (i : ℕ) → length xs ≤ i → Puts before now (flat_map part (take i xs)) → Puts before now (flat_map part xs)
+lines_all part before now xs i past so_far = subst (λ ys. Puts before now (flat_map part ys)) (take_all i xs past) so_far
+
+-- what waits is written, or a front of it
+pub lines_written : (before later : Option (List ℕ)) (now : Output) (text : List ℕ) → Puts (begun before) now text → Appends now.held later now.waiting → Appends before later text
+lines_written before later now text puts written =
+    subst (Appends before later) (sym puts.parts) (appended before now.held later puts.taken now.waiting puts.grown written)
+
+pub lines_broken : (before later : Option (List ℕ)) (now : Output) (text : List ℕ) → Puts (begun before) now text → HasTaken now.held later now.waiting → HasTaken before later text
+lines_broken before later now text puts taken = subst (HasTaken before later) (sym puts.parts) (taken_after before now.held later puts.taken now.waiting puts.grown taken)
+
+-- Digits.
+
+-- a number is short
+pub short_decimal : (n : ℕ) → n < 2 ^ 64 → length (decimal n) ≤ 20
+short_decimal n fits = length-decimal-le 20 n (omega arith) (omega (arith, fits)) fits
+
+-- two digits more
+pub digits_after : (old between new : List ℕ) (n tens ones : ℕ) → new ≡ between ++ tens ∷ ones ∷ [] → between ≡ old ++ decimal (n / 100) → decimal n ≡ decimal (n / 100) ++ tens ∷ ones ∷ [] → new ≡ old ++ decimal n
+digits_after old between new n tens ones last first is =
+    last ∙ (ap (λ l. l ++ tens ∷ ones ∷ []) first ∙ (append_assoc old (decimal (n / 100)) (tens ∷ ones ∷ []) ∙ ap (λ l. old ++ l) (sym is)))
+
+-- how many digits a number has
+pub one_long : (n : ℕ) → n < 10 → length (decimal n) ≡ 1
+one_long n small = ap length (one_digit n (48 + n % 10) small refl)
+
+pub two_long : (n : ℕ) → 10 ≤ n → n < 100 → n < 2 ^ 64 → length (decimal n) ≡ 2
+two_long n ten small fits = ap length (two_digits n (48 + n / 10 % 10) (48 + n % 10) ten small fits refl refl)
+
+pub two_longer : (n : ℕ) → 100 ≤ n → n < 2 ^ 64 → length (decimal n) ≡ length (decimal (n / 100)) + 2
+two_longer n hundred fits = ap length (more_digits n (48 + n / 10 % 10) (48 + n % 10) hundred fits refl refl) ∙ length-append (decimal (n / 100)) _
+
+-- An explanation on its way.
+
+-- its marks and its rows are on their way
+pub explanation_put : (before : Option (List ℕ)) (empty between later : Output) (marks : List (ℕ × Mark)) (rows : List Event) → Puts (begun before) empty [] → Puts empty between (marks_text marks) → Puts between later (rows_text rows) → Puts (begun before) later (explanation_text marks rows)
+explanation_put before empty between later marks rows none first second =
+    subst (Puts (begun before) later) (sym (explanation_parts marks rows))
+    (put_both (begun before) between later (marks_text marks) (rows_text rows) (put_both (begun before) empty between [] (marks_text marks) none first) second)
+
+-- the writer fails at a mark, or at a row
+pub broken_at_marks : (before : Option (List ℕ)) (empty later : Output) (marks : List (ℕ × Mark)) (rows : List Event) → Puts (begun before) empty [] → Breaks empty later (marks_text marks) → HasTaken before later.held (explanation_text marks rows)
+broken_at_marks before empty later marks rows none broken =
+    subst (HasTaken before later.held) (sym (explanation_parts marks rows))
+    (taken_longer before later.held (marks_text marks) (rows_text rows) (break_both (begun before) empty later [] (marks_text marks) none broken))
+
+pub broken_at_rows : (before : Option (List ℕ)) (empty between later : Output) (marks : List (ℕ × Mark)) (rows : List Event) → Puts (begun before) empty [] → Puts empty between (marks_text marks) → Breaks between later (rows_text rows)
+    → HasTaken before later.held (explanation_text marks rows)
+broken_at_rows before empty between later marks rows none first broken =
+    subst (HasTaken before later.held) (sym (explanation_parts marks rows))
+    (break_both (begun before) between later (marks_text marks) (rows_text rows) (put_both (begun before) empty between [] (marks_text marks) none first) broken)
+
+-- what holds at each fault, and at an answer
+pub at_fault : {T E : Type 0} (answer : Result T E) (P : Type 0) → P → IfErr answer (λ fault. P)
+at_fault (Ok x) P holds = tt
+at_fault (Err fault) P holds = holds
+
+pub fault_then : {T E : Type 0} (answer : Result T E) (P Q : Type 0) → (P → Q) → IfErr answer (λ fault. P) → IfErr answer (λ fault. Q)
+fault_then (Ok x) P Q weaker holds = tt
+fault_then (Err fault) P Q weaker holds = weaker holds
+
+-- a fault of the verdict is handed on
+pub handed_on : (scope : Scope) (limit : ℕ) (all : List (List (List ℕ))) (verdict : Result Outcome RunFault) (fault : RunFault) (answer : Result Outcome RunFault) → verdict ≡ Err fault → IsErrAnd answer (λ other. other ≡ fault) → IsAnswer scope limit all verdict
+    → IsAnswer scope limit all answer
+handed_on scope limit all verdict fault (Ok outcome) is handed answers = absurd handed
+handed_on scope limit all verdict fault (Err other) is handed answers =
+    let P : Result Outcome RunFault → Type 0 = λ a. IsAnswer scope limit all a in
+    subst P (is ∙ ap Err (sym handed)) answers
+
+-- what holds where the verdict is yes
+pub if_yes : (outcome : Outcome) (P : Type 0) → P → IfYes outcome (λ report. P)
+if_yes (Yes report) P holds = holds
+if_yes (No offence) P holds = tt

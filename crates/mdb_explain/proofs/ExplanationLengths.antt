@@ -1,0 +1,76 @@
+-- How many bytes the text of an explanation has at most.
+use Rattle.std.proofs.Common.{arith, ◌≡◌, ◌+◌, ◌*◌, ◌<◌, ◌≤◌, ◌^◌, ℕ, List, [], ◌∷◌, ◌++◌}
+use Rattle.std.proofs.Common.{length, length-append, map, All, flat_map}
+use Rattle.std.proofs.lemmas.Fmt.{length-decimal-le}
+use Rattle.std.proofs.lemmas.List.Elements.{All-head, All-tail}
+use Rattle.std.specs.Fmt.{decimal}
+use Rattle.mdb_words.specs.declared.event.Event.{Event}
+use Rattle.mdb_words.specs.declared.event.Event.TheVariants.{Word, Break}
+use Rattle.mdb_words.specs.Digits.{hex_word}
+use Rattle.mdb_words.specs.Row.{IsRow, break_letter, letter_of, row_fields}
+use Rattle.mdb_follow.specs.declared.follower.TheConstants.{ROWS_MAX}
+use Rattle.mdb_marks.specs.declared.mark.Mark.{Mark}
+use Rattle.mdb_explain.specs.Explain.{explanation_text, mark_fields, record_line}
+use Rattle.mdb_explain.specs.Replay.{dash, mark_letter}
+use Rattle.mdb_verdict.specs.Verdict.{AreRows}
+use Rattle.mdb_explain.proofs.PlainRows.{below}
+
+-- the line of three fields, of which the second is a letter: with it two commas and a line feed
+line_length : (number value : List ℕ) (letter : ℕ)
+    → length (record_line (number ∷ (letter ∷ []) ∷ value ∷ []))
+    ≡ length number + length value + 4
+line_length number value letter =
+    let whole = length-append (number ++ 44 ∷ letter ∷ 44 ∷ value) (10 ∷ []) in
+    let fields = length-append number (44 ∷ letter ∷ 44 ∷ value) in
+    omega (arith, whole, fields)
+
+-- the lines of a mark and of a row
+mark_short : (mark : ℕ × Mark) → mark.0 ≤ ROWS_MAX → length (record_line (mark_fields mark)) ≤ 14
+mark_short mark within =
+    let number : length (decimal mark.0) ≤ 9 =
+    length-decimal-le 9 mark.0 (omega arith) (omega (arith, within)) (omega (arith, within)) in
+    let whole = line_length (decimal mark.0) dash (mark_letter mark.1) in
+    omega (arith, number, whole)
+
+start_short : (at : ℕ) → at < 10 ^ 15 → length (decimal at) ≤ 15
+start_short at early = length-decimal-le 15 at (omega arith) early (omega (arith, early))
+
+row_short : (fields : List (List ℕ)) (row : Event) → IsRow fields row
+    → length (record_line (row_fields row)) ≤ 28
+row_short fields (Word at line word) is =
+    let start = start_short at (below 15 is.0 at is.3) in
+    let whole = line_length (decimal at) (hex_word word) (letter_of line) in
+    omega (arith, start, whole)
+row_short fields (Break at span) is =
+    let start = start_short at (below 15 is.0 at is.3) in
+    let short : span < 10 ^ 9 = below 9 is.1 span is.4 in
+    let long : length (decimal span) ≤ 9 =
+    length-decimal-le 9 span (omega arith) short (omega (arith, short)) in
+    let whole = line_length (decimal at) (decimal span) break_letter in
+    omega (arith, start, long, whole)
+
+rows_short : (records : List (List (List ℕ))) (rows : List Event) → AreRows records rows
+    → length (flat_map record_line (map row_fields rows)) ≤ 28 * length rows
+rows_short [] [] told = omega arith
+rows_short (fields ∷ records) (row ∷ rows) told =
+    let first = row_short fields row told.0 in
+    let others = rows_short records rows told.1 in
+    let both = length-append (record_line (row_fields row))
+    (flat_map record_line (map row_fields rows)) in
+    omega (arith, first, others, both)
+rows_short [] (row ∷ rows) told = absurd told
+rows_short (fields ∷ records) [] told = absurd told
+
+-- a mark takes 14 bytes at most, and a row 28
+pub explanation_short : (records : List (List (List ℕ))) (rows : List Event)
+    (marks : List (ℕ × Mark)) → AreRows records rows → All (λ mark. mark.0 ≤ ROWS_MAX) marks
+    → length (explanation_text marks rows) ≤ 14 * length marks + 28 * length rows
+explanation_short records rows [] told within =
+    let all = rows_short records rows told in
+    omega (arith, all)
+explanation_short records rows (mark ∷ marks) told within =
+    let IsWithin : ℕ × Mark → Type 0 = λ m. m.0 ≤ ROWS_MAX in
+    let first = mark_short mark (All-head IsWithin mark marks within) in
+    let others = explanation_short records rows marks told (All-tail IsWithin mark marks within) in
+    let both = length-append (record_line (mark_fields mark)) (explanation_text marks rows) in
+    omega (arith, first, others, both)

@@ -1,0 +1,10 @@
+pub mod ExplainedTexts
+pub mod ExplanationLengths
+pub mod Explanations
+pub mod MarkAnswers
+pub mod MarkSteps
+pub mod OneReplayAnswer
+pub mod PlainRecords
+pub mod PlainRows
+pub mod ReplayedExplanations
+pub mod ReplayedTranscripts

@@ -1,0 +1,13 @@
+use Rattle.std.proofs.Common.{◌≡◌, ◌++◌, List, take}
+use Rattle.mdb_bus.specs.declared.scope.Scope.{Scope}
+use Rattle.mdb_marks.specs.Replays.{scope_of}
+use Rattle.mdb_explain.specs.declared.entry.Entry.{Entry}
+use Rattle.mdb_explain.specs.inner.Replaying.{HasReplayed}
+use Rattle.mdb_explain.proofs.replaying.Replaying.take_each.Given as goal
+
+-- the entries so far are taken
+abbrev pub invariant-loop-entry : goal.invariant-loop-entry
+invariant-loop-entry l = record {
+  taken : (scope : Scope) (earlier : List Entry) → HasReplayed scope l.fn.self earlier → HasReplayed scope l.self (earlier ++ take l.entry-index l.entries);
+  scope : scope_of l.self.replay ≡ scope_of l.fn.self.replay;
+}

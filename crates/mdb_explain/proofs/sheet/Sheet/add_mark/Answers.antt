@@ -1,0 +1,10 @@
+use Rattle.std.proofs.Common.{[]}
+use Rattle.mdb_explain.specs.inner.Explaining.{mark_line, sheet_output}
+use Rattle.mdb_explain.proofs.ExplainedTexts as explanations
+use Rattle.mdb_explain.proofs.sheet.Sheet.add_mark.Goals as goal
+
+pub returns-in_err-make_room-clause-broken : goal.returns-in_err-make_room-clause-broken
+returns-in_err-make_room-clause-broken g c =
+    let held = g.W.Write.contents in
+    explanations.at_fault c.from_residual.result _
+    (explanations.broken_longer (sheet_output (held c.args.writer.now) c.args.self.now) (sheet_output (held c.make_room.new.writer) c.make_room.new.self) [] (mark_line c.args.mark.now) c.in_err-make_room.ensures.broken)

@@ -1,0 +1,3 @@
+pub mod Explain
+pub mod Replay
+pub mod inner

@@ -1,0 +1,83 @@
+-- How an explanation comes about: rows that are kept, and the lines of marks and rows. This file
+-- serves private functions.
+use Rattle.std.specs.Prelude.{◌≡◌, ℕ, List, [], ⊤, Option, Result, Ok, Err}
+use Rattle.std.specs.Io.KnownBytes.{Appends}
+use Rattle.std.specs.List.{flat_map}
+use Rattle.mdb_words.specs.declared.event.Event.{Event}
+use Rattle.mdb_words.specs.Row.{row_fields}
+use Rattle.mdb_bus.specs.declared.scope.Scope.{Scope}
+use Rattle.mdb_follow.specs.declared.goal.Goal.{Goal}
+use Rattle.mdb_marks.specs.declared.mark.Mark.{Mark}
+use Rattle.mdb_follow.specs.declared.offence.Offence.{Offence}
+use Rattle.mdb_follow.specs.declared.report.Report.{Report}
+use Rattle.mdb_marks.specs.Goals.{Explains}
+use Rattle.mdb_follow.specs.Offences.{HasOffence}
+use Rattle.mdb_explain.specs.declared.keeping.Keeping.{Keeping}
+use Rattle.mdb_text.specs.declared.outcome.Outcome.{Outcome}
+use Rattle.mdb_text.specs.declared.outcome.Outcome.TheVariants.{Yes, No}
+use Rattle.mdb_verdict.specs.declared.fault.RunFault.{RunFault}
+use Rattle.mdb_verdict.specs.declared.fault.RunFault.TheVariants.{BadRow, TooLong, Read, Write, Memory, Mark as MarkFault}
+use Rattle.mdb_explain.specs.declared.sheet.Sheet.{Sheet}
+use Rattle.mdb_explain.specs.Explain.{explanation_text, mark_fields, record_line}
+use Rattle.mdb_text.specs.Text.{report_text}
+use Rattle.mdb_verdict.specs.Written.{HasTaken}
+use Rattle.mdb_verdict.specs.Ending.{HasFollowed}
+use Rattle.mdb_verdict.specs.Output.{Output}
+
+-- These rows were taken, and no others, and they are kept.
+pub record HasKept (scope : Scope) (keeping : Keeping) (rows : List Event) : Type 0 where
+  pub followed : HasFollowed scope keeping.follower rows
+  pub kept : keeping.rows.items ≡ rows
+
+-- one of the later rows was stopped at: it cannot be, or the rows can't be kept
+abbrev pub StopsKeeping : Scope → List Event → List Event → Result Offence RunFault → Type 0
+StopsKeeping scope earlier later (Ok offence) = HasOffence scope earlier later offence
+StopsKeeping scope earlier later (Err (BadRow row fault)) = ⊥
+StopsKeeping scope earlier later (Err TooLong) = ⊥
+StopsKeeping scope earlier later (Err Read) = ⊥
+StopsKeeping scope earlier later (Err Write) = ⊥
+StopsKeeping scope earlier later (Err Memory) = ⊤
+StopsKeeping scope earlier later (Err (MarkFault row)) = ⊥
+
+-- the lines of a mark and of a row, and those of all
+abbrev pub mark_line : ℕ × Mark → List ℕ
+mark_line mark = record_line (mark_fields mark)
+
+abbrev pub row_line : Event → List ℕ
+row_line row = record_line (row_fields row)
+
+abbrev pub marks_text : List (ℕ × Mark) → List ℕ
+marks_text marks = flat_map mark_line marks
+
+abbrev pub rows_text : List Event → List ℕ
+rows_text rows = flat_map row_line rows
+
+-- what is on its way to a writer: the bytes that it holds, and the lines of a sheet
+abbrev pub sheet_output : Option (List ℕ) → Sheet → Output
+sheet_output contents sheet = record { held = contents; waiting = sheet.lines.items }
+
+-- A text of an outcome was written, which is answered, or it was not.
+abbrev pub IsTold : {W : Type 0} → (W → Option (List ℕ)) → W → W
+    → (Outcome → List ℕ → Type 0) → Result Outcome RunFault → Type 0
+IsTold contents before after IsText (Ok outcome) = (text : List ℕ) × IsText outcome text
+    × Appends (contents before) (contents after) text
+IsTold contents before after IsText (Err (BadRow row fault)) = ⊥
+IsTold contents before after IsText (Err TooLong) = ⊥
+IsTold contents before after IsText (Err Read) = ⊥
+IsTold contents before after IsText (Err Write) = (outcome : Outcome) × (text : List ℕ)
+    × IsText outcome text × HasTaken (contents before) (contents after) text
+IsTold contents before after IsText (Err Memory) = after ≡ before
+IsTold contents before after IsText (Err (MarkFault row)) = ⊥
+
+-- the text of a no
+abbrev pub IsNoText : Scope → Offence → Outcome → List ℕ → Type 0
+IsNoText scope offence outcome text =
+    (outcome ≡ No offence) × (text ≡ report_text scope (No offence))
+
+-- The text of rows that were kept, which have a report: that of marks that explain a goal, and of
+-- the rows. Where one of them cannot be, it is that of a no.
+abbrev pub IsRowsText : Scope → List Event → Goal → Report → Outcome → List ℕ → Type 0
+IsRowsText scope rows goal report (Yes told) text = (told ≡ report) × (marks : List (ℕ × Mark))
+    × Explains scope rows goal marks × (text ≡ explanation_text marks rows)
+IsRowsText scope rows goal report (No offence) text =
+    HasOffence scope [] rows offence × (text ≡ report_text scope (No offence))

@@ -1,0 +1,281 @@
+//! The explanation of an end of a range: marks of a run that comes to it, and the rows.
+
+ghost use Rattle.std.specs.Prelude.{◌≡◌, ◌≢◌, ◌<◌, ◌≤◌, List, [], ℕ, OnOk, IfOk, IfErr, IfSome, Err, length};
+ghost use Rattle.std.specs.Io.KnownBytes.{Appends};
+ghost use Rattle.csv.specs.Reading.{default_config, records, strip_bom};
+ghost use Rattle.mdb_records.specs.ToCome.{IsOverLimit, ToCome};
+ghost use Rattle.mdb_bus.specs.Scopes.{leaving_out, power_on};
+ghost use Rattle.mdb_explain.specs.Explain.{IsCutExplanation, IsExplainedIn, explanation_text};
+ghost use Rattle.mdb_verdict.specs.Headline.{IfNo, IfYes};
+ghost use Rattle.mdb_text.specs.Text.{report_text};
+ghost use Rattle.mdb_verdict.specs.Verdict.{AreRows, IsAnswer, IsNoYes};
+ghost use Rattle.mdb_verdict.specs.Written.{HasTaken};
+ghost use Rattle.mdb_verdict.specs.declared.verdict.TheConstants.{BYTES_MAX};
+ghost use Rattle.mdb_explain.specs.inner.Explaining.{HasKept, IsNoText, IsRowsText, IsTold, marks_text, rows_text, sheet_output};
+ghost use Rattle.mdb_verdict.specs.Output.{Breaks, Puts};
+ghost use Rattle.mdb_follow.specs.Follower.{scope_of};
+ghost use Rattle.mdb_marks.specs.Goals.{IsExplainFault};
+ghost use Rattle.mdb_follow.specs.declared.goal.Goal.{Goal};
+ghost use Rattle.mdb_follow.specs.declared.report.Report.{Report};
+ghost use Rattle.mdb_words.specs.declared.event.Event.{Event};
+ghost use Rattle.mdb_follow.specs.declared.follower.TheConstants.{ROWS_MAX};
+
+use super::keeping::Keeping;
+use super::sheet::Sheet;
+use mdb_bus::Scope;
+use mdb_follow::{Goal, Offence, ROWS_MAX, Report, laws};
+use mdb_marks::{ExplainFault, Mark, explain_run};
+use mdb_msgs::DeviceSet;
+use mdb_records::Records;
+use mdb_text::Outcome;
+use mdb_verdict::{
+    BYTES_MAX, Batch, RunFault, outcome_of, read_rows, records_of, text_scoped, write_text,
+};
+use mdb_words::Event;
+use std::alloc::Global;
+use std::io::{Read, Write};
+
+/// Reads a transcript, as [`check`](super::check) does, and where its verdict is yes, writes what
+/// explains an end of a range of its report: the marks of a run that comes to it, and then the rows
+/// of the transcript. No run goes further, and none that comes there has fewer marks. Of a no it
+/// writes what `check` writes. Recording began at power-on or at a break, and all devices are
+/// followed: this is [`explain_scoped`] of [`DeviceSet::NONE`].
+///
+/// What is written of a yes is an input of [`replay`](super::replay). Each mark has a line with the
+/// number of its row, `L` where an ACK was lost or `R` where a reply tells of a restart, and `-`;
+/// their numbers rise. Each row has one as it was read, with numbers as short as they can be and a
+/// word in three hexadecimal digits. The answer is that of `check`.
+///
+/// # Errors
+///
+/// Those of `check`; `Memory` also where the rows or the marks can't be kept. Nothing has been
+/// written then, but at `Write`: there the writer took a front of the text that there is, and
+/// nothing else.
+pub fn explain<R: Read + Drop, W: Write>(
+    alloc: Global,
+    reader: R,
+    writer: &mut W,
+    goal: &Goal,
+) -> Result<Outcome, RunFault>
+    ensures answer { IfSome (R.remaining reader)
+        (λ text. IsAnswer power_on ROWS_MAX (records default_config (strip_bom text)) result) }
+    ensures whole { IfSome (R.remaining reader) (λ text. BYTES_MAX < length text → IsNoYes result) }
+    ensures written { IfSome (R.remaining reader) (λ text. IfOk result
+        (IsExplainedIn power_on goal.now (records default_config (strip_bom text))
+        (W.contents writer.old) (W.contents writer.new))) }
+    ensures written_no { IfOk result (λ outcome. IfNo outcome (λ offence.
+        Appends (W.contents writer.old) (W.contents writer.new)
+        (report_text power_on (Outcome.No offence)))) }
+    ensures nothing_written { IfErr result (λ fault. fault ≢ RunFault.Write
+        → writer.new ≡ writer.old) }
+    ensures cut { IfSome (R.remaining reader) (λ text. result ≡ Err RunFault.Write
+        → IsCutExplanation power_on ROWS_MAX goal.now (records default_config (strip_bom text))
+        (W.contents writer.old) (W.contents writer.new)) }
+{
+    explain_scoped(alloc, DeviceSet::NONE, reader, writer, goal)
+}
+
+/// Does as [`explain`] does, where these devices are left out, as for
+/// [`check_scoped`](super::check_scoped) of [`Scope::leaving_out`].
+///
+/// # Errors
+///
+/// Those of `explain`.
+pub fn explain_scoped<R: Read + Drop, W: Write>(
+    alloc: Global,
+    without: DeviceSet,
+    reader: R,
+    writer: &mut W,
+    goal: &Goal,
+) -> Result<Outcome, RunFault>
+    ensures answer { IfSome (R.remaining reader) (λ text. IsAnswer (leaving_out without) ROWS_MAX
+        (records default_config (strip_bom text)) result) }
+    ensures whole { IfSome (R.remaining reader) (λ text. BYTES_MAX < length text → IsNoYes result) }
+    ensures written { IfSome (R.remaining reader) (λ text. IfOk result
+        (IsExplainedIn (leaving_out without) goal.now (records default_config (strip_bom text))
+        (W.contents writer.old) (W.contents writer.new))) }
+    ensures written_no { IfOk result (λ outcome. IfNo outcome (λ offence.
+        Appends (W.contents writer.old) (W.contents writer.new)
+        (report_text (leaving_out without) (Outcome.No offence)))) }
+    ensures nothing_written { IfErr result (λ fault. fault ≢ RunFault.Write
+        → writer.new ≡ writer.old) }
+    ensures cut { IfSome (R.remaining reader) (λ text. result ≡ Err RunFault.Write
+        → IsCutExplanation (leaving_out without) ROWS_MAX goal.now
+        (records default_config (strip_bom text)) (W.contents writer.old)
+        (W.contents writer.new)) }
+{
+    let mut records = records_of(alloc, reader, BYTES_MAX);
+    explain_records(alloc, without, &mut records, writer, goal)
+}
+
+/// Explains the records that are still to come, and writes the text of that. What the records tell
+/// of where the reading ended is still to be asked then.
+pub fn explain_records<R: Read + Drop, W: Write>(
+    alloc: Global,
+    without: DeviceSet,
+    records: &mut Records<R>,
+    writer: &mut W,
+    goal: &Goal,
+) -> Result<Outcome, RunFault>
+    ensures answer { (all : List (List (List ℕ))) → ToCome R.remaining records.old all
+        → IsAnswer (leaving_out without) ROWS_MAX all result }
+    ensures whole { IsOverLimit R.remaining records.old → IsNoYes result }
+    ensures written { (all : List (List (List ℕ))) → ToCome R.remaining records.old all
+        → IfOk result (IsExplainedIn (leaving_out without) goal.now all (W.contents writer.old)
+        (W.contents writer.new)) }
+    ensures written_no { IfOk result (λ outcome. IfNo outcome (λ offence.
+        Appends (W.contents writer.old) (W.contents writer.new)
+        (report_text (leaving_out without) (Outcome.No offence)))) }
+    ensures nothing_written { IfErr result (λ fault. fault ≢ RunFault.Write
+        → writer.new ≡ writer.old) }
+    ensures cut { (all : List (List (List ℕ))) → ToCome R.remaining records.old all
+        → result ≡ Err RunFault.Write → IsCutExplanation (leaving_out without) ROWS_MAX goal.now
+        all (W.contents writer.old) (W.contents writer.new) }
+{
+    let mut keeping = Keeping::new(alloc, without);
+    match kept_outcome(records, &mut keeping)? {
+        Outcome::Yes(report) => {
+            explain_rows(
+                alloc,
+                without,
+                keeping.rows.as_slice(),
+                goal,
+                report,
+                writer,
+            )
+        }
+        Outcome::No(offence) => tell_no(alloc, without, offence, writer),
+    }
+}
+
+/// The verdict on the records that are still to come, of which the rows are kept.
+fn kept_outcome<R: Read + Drop>(
+    records: &mut Records<R>,
+    keeping: &mut Keeping,
+) -> Result<Outcome, RunFault>
+    requires { HasKept (scope_of keeping.old.follower) keeping.old [] }
+    ensures answer { (all : List (List (List ℕ))) → ToCome R.remaining records.old all
+        → IsAnswer (scope_of keeping.old.follower) ROWS_MAX all result }
+    ensures rows { (all : List (List (List ℕ))) → ToCome R.remaining records.old all
+        → IfOk result (λ outcome. IfYes outcome (λ report. AreRows all keeping.new.rows.items)) }
+    ensures few { IfOk result (λ outcome. IfYes outcome (λ report.
+        length keeping.new.rows.items ≤ ROWS_MAX)) }
+    ensures whole { IsOverLimit R.remaining records.old → IsNoYes result }
+    ensures not_write { IfErr result (λ fault. fault ≢ RunFault.Write) }
+{
+    laws::followers_stand_for_reached_rows();
+    laws::sales_follow_their_approvals();
+    match read_rows(records, &mut Batch::new(), keeping, &mut (), ROWS_MAX)? {
+        None => Ok(outcome_of(&keeping.follower)),
+        Some(stop) => Ok(Outcome::No(stop?)),
+    }
+}
+
+/// Writes what explains a goal of rows that have this report.
+fn explain_rows<W: Write>(
+    alloc: Global,
+    without: DeviceSet,
+    rows: &[Event],
+    goal: &Goal,
+    report: Report,
+    writer: &mut W,
+) -> Result<Outcome, RunFault>
+    requires { length rows.now ≤ ROWS_MAX }
+    ensures { IsTold W.contents writer.old writer.new
+        (IsRowsText (leaving_out without) rows.now goal.now report) result }
+{
+    match explain_run(alloc, without, rows, goal) {
+        Ok(marks) => {
+            write_explanation(writer, marks.as_slice(), rows)?;
+            Ok(Outcome::Yes(report))
+        }
+        Err(fault) => tell_fault(alloc, without, fault, writer),
+    }
+}
+
+/// Tells why rows aren't explained.
+fn tell_fault<W: Write>(
+    alloc: Global,
+    without: DeviceSet,
+    fault: ExplainFault,
+    writer: &mut W,
+) -> Result<Outcome, RunFault>
+    ensures { (rows : List Event) (goal : Goal) (report : Report)
+        → IsExplainFault (leaving_out without) rows fault → IsTold W.contents writer.old writer.new
+        (IsRowsText (leaving_out without) rows goal report) result }
+{
+    match fault {
+        ExplainFault::Offence(offence) => tell_no(alloc, without, offence, writer),
+        ExplainFault::Memory => Err(RunFault::Memory),
+    }
+}
+
+/// Writes the text of a no.
+fn tell_no<W: Write>(
+    alloc: Global,
+    without: DeviceSet,
+    offence: Offence,
+    writer: &mut W,
+) -> Result<Outcome, RunFault>
+    ensures { IsTold W.contents writer.old writer.new (IsNoText (leaving_out without) offence)
+        result }
+{
+    let outcome = Outcome::No(offence);
+    let Ok(text) = text_scoped(alloc, &Scope::leaving_out(without), &outcome) else {
+        return Err(RunFault::Memory);
+    };
+    write_text(writer, text.as_slice())?;
+    Ok(outcome)
+}
+
+/// Writes marks, and then rows, a sheet at a time.
+fn write_explanation<W: Write>(
+    writer: &mut W,
+    marks: &[(u64, Mark)],
+    rows: &[Event],
+) -> Result<(), RunFault>
+    ensures written { OnOk result (Appends (W.contents writer.old) (W.contents writer.new)
+        (explanation_text marks.now rows.now)) }
+    ensures front { IfErr result (λ fault. HasTaken (W.contents writer.old)
+        (W.contents writer.new) (explanation_text marks.now rows.now)) }
+    ensures refused { IfErr result (λ fault. fault ≡ RunFault.Write) }
+{
+    let mut sheet = Sheet::new();
+    add_marks(&mut sheet, writer, marks)?;
+    add_rows(&mut sheet, writer, rows)?;
+    sheet.write_out(writer)
+}
+
+/// Adds the lines of marks.
+fn add_marks<W: Write>(
+    sheet: &mut Sheet,
+    writer: &mut W,
+    marks: &[(u64, Mark)],
+) -> Result<(), RunFault>
+    ensures added { OnOk result (Puts (sheet_output (W.contents writer.old) sheet.old)
+        (sheet_output (W.contents writer.new) sheet.new) (marks_text marks.now)) }
+    ensures refused { IfErr result (λ fault. fault ≡ RunFault.Write) }
+    ensures broken { IfErr result (λ fault. Breaks
+        (sheet_output (W.contents writer.old) sheet.old)
+        (sheet_output (W.contents writer.new) sheet.new) (marks_text marks.now)) }
+{
+    for mark in marks {
+        sheet.add_mark(writer, mark)?;
+    }
+    Ok(())
+}
+
+/// Adds the lines of rows.
+fn add_rows<W: Write>(sheet: &mut Sheet, writer: &mut W, rows: &[Event]) -> Result<(), RunFault>
+    ensures added { OnOk result (Puts (sheet_output (W.contents writer.old) sheet.old)
+        (sheet_output (W.contents writer.new) sheet.new) (rows_text rows.now)) }
+    ensures refused { IfErr result (λ fault. fault ≡ RunFault.Write) }
+    ensures broken { IfErr result (λ fault. Breaks
+        (sheet_output (W.contents writer.old) sheet.old)
+        (sheet_output (W.contents writer.new) sheet.new) (rows_text rows.now)) }
+{
+    for row in rows {
+        sheet.add_row(writer, row)?;
+    }
+    Ok(())
+}

@@ -1,0 +1,73 @@
+//! Rows that are followed, and kept.
+
+ghost use Rattle.std.specs.Prelude.{◌≡◌, length};
+ghost use Rattle.mdb_bus.specs.Scopes.{leaving_out as leaving_out_of};
+
+use mdb_bus::Scope;
+use mdb_follow::{Follower, Offence};
+use mdb_msgs::DeviceSet;
+use mdb_verdict::{RunFault, TakeRows};
+use mdb_words::Event;
+use std::alloc::Global;
+
+/// A follower, and the rows that it has taken.
+#[derive(Drop)]
+pub(crate) struct Keeping {
+    pub(crate) follower: Follower,
+    pub(crate) rows: Vec<Event>,
+}
+
+impl Keeping {
+    ghost use Rattle.std.specs.Prelude.{[]};
+    ghost use Rattle.mdb_follow.specs.Follower.{scope_of};
+    ghost use Rattle.mdb_explain.specs.inner.Explaining.{HasKept};
+
+    /// Before the first row: these devices are left out.
+    pub(crate) fn new(alloc: Global, without: DeviceSet) -> Keeping
+        ensures none { HasKept (leaving_out_of without) result [] }
+        ensures scope { scope_of result.follower ≡ leaving_out_of without }
+    {
+        Keeping {
+            follower: Follower::scoped(&Scope::leaving_out(without)),
+            rows: Vec::new(alloc),
+        }
+    }
+}
+
+/// It stops at the first row that cannot be, or where rows can't be kept, which may all be then.
+impl TakeRows<()> for Keeping {
+    ghost use Rattle.std.proofs.Common.{ap};
+    ghost use Rattle.mdb_follow.specs.declared.follower.TheConstants.{ROWS_MAX};
+    ghost use Rattle.mdb_follow.specs.Follower.{scope_of};
+    ghost use Rattle.mdb_explain.specs.inner.Explaining.{HasKept, StopsKeeping};
+
+    type Row = Event;
+
+    type Stop = Result<Offence, RunFault>;
+
+    ghost most = { ROWS_MAX };
+
+    ghost count = { λ keeping. length keeping.rows.items };
+
+    ghost scope = { λ keeping. scope_of keeping.follower };
+
+    ghost has = { λ keeping before after. HasKept (scope_of keeping.follower) keeping };
+
+    ghost stops = { λ keeping before after. StopsKeeping (scope_of keeping.follower) };
+
+    fn rows_taken(&self) -> u64 {
+        self.rows.len() as u64
+    }
+
+    fn take_all(&mut self, _out: &mut (), rows: &[Event]) -> Option<Result<Offence, RunFault>> {
+        if let Err(offence) = self.follower.feed_all(rows) {
+            return Some(Ok(offence));
+        }
+        if self.rows.extend_from_slice(rows).is_err() {
+            return Some(Err(RunFault::Memory));
+        }
+        None
+    }
+
+    ghost counts = { λ keeping before after rows has. ap length has.kept };
+}

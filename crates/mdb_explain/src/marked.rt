@@ -1,0 +1,130 @@
+//! The replay of a transcript with given marks.
+
+ghost use Rattle.std.specs.Prelude.{◌≡◌, ◌≢◌, ◌<◌, List, ℕ, IfOk, IfErr, IfSome, Err, Ok, length};
+ghost use Rattle.std.specs.Io.KnownBytes.{Appends};
+ghost use Rattle.csv.specs.Reading.{default_config, records, strip_bom};
+ghost use Rattle.mdb_records.specs.ToCome.{IsOverLimit, ToCome};
+ghost use Rattle.mdb_bus.specs.Scopes.{leaving_out, power_on};
+ghost use Rattle.mdb_explain.specs.Replay.{IsCutReplay, IsReplayAnswer};
+ghost use Rattle.mdb_text.specs.Text.{report_text};
+ghost use Rattle.mdb_verdict.specs.Verdict.{IsNoYes};
+ghost use Rattle.mdb_verdict.specs.declared.verdict.TheConstants.{BYTES_MAX};
+ghost use Rattle.mdb_follow.specs.declared.follower.TheConstants.{ROWS_MAX};
+
+use super::replaying::{ENTRIES_MAX, Replaying};
+use mdb_bus::Scope;
+use mdb_msgs::DeviceSet;
+use mdb_records::Records;
+use mdb_text::Outcome;
+use mdb_verdict::{BYTES_MAX, Batch, RunFault, read_rows, records_of, text_scoped, write_text};
+use std::alloc::Global;
+use std::io::{Read, Write};
+
+/// Reads marks and then a transcript, and writes what the run of the transcript with these marks
+/// tells, or why there is none: the text of `check`, where each range has one value. Recording
+/// began at power-on or at a break, and all devices are followed: this is [`replay_scoped`] of
+/// [`DeviceSet::NONE`].
+///
+/// A mark row has three fields: the number of a row of the transcript in 1 to 15 digits, `L` or
+/// `R`, and `-`. `L` stands on an ACK of a device or of the controller: its receiver didn't hear it.
+/// `R` stands on the last row of a reply that tells of a restart. Without a mark an ACK was heard,
+/// and there was no restart. The numbers rise, and all mark rows come first. A record with another
+/// number of fields, or with another second field, is a row of the transcript, as for `check`.
+///
+/// # Errors
+///
+/// The first of these: `BadRow` for the first record that is neither, with its number among all
+/// records, and with `BadLine` for a mark row after a row; `TooLong` for a mark row past
+/// [`ROWS_MAX`](super::ROWS_MAX) of them, or for a row past as many; `Mark` for a mark whose number
+/// is 0 or doesn't rise, at a row where it may not stand, and past the last row; `Read` and
+/// `Memory` as for `check`. Nothing has been written then. `Write` where the writer failed: then it
+/// took a front of the text that there is, and nothing else.
+pub fn replay<R: Read + Drop, W: Write>(
+    alloc: Global,
+    reader: R,
+    writer: &mut W,
+) -> Result<Outcome, RunFault>
+    ensures answer { IfSome (R.remaining reader) (λ text.
+        IsReplayAnswer power_on ROWS_MAX (records default_config (strip_bom text)) result) }
+    ensures whole { IfSome (R.remaining reader) (λ text. BYTES_MAX < length text → IsNoYes result) }
+    ensures written { IfOk result (λ outcome. Appends (W.contents writer.old)
+        (W.contents writer.new) (report_text power_on outcome)) }
+    ensures nothing_written { IfErr result (λ fault. fault ≢ RunFault.Write
+        → writer.new ≡ writer.old) }
+    ensures cut { IfSome (R.remaining reader) (λ text. result ≡ Err RunFault.Write
+        → IsCutReplay power_on ROWS_MAX (records default_config (strip_bom text))
+        (W.contents writer.old) (W.contents writer.new)) }
+{
+    replay_scoped(alloc, DeviceSet::NONE, reader, writer)
+}
+
+/// Does as [`replay`] does, with these devices left out, as `check_scoped` leaves them out.
+///
+/// # Errors
+///
+/// Those of `replay`.
+pub fn replay_scoped<R: Read + Drop, W: Write>(
+    alloc: Global,
+    without: DeviceSet,
+    reader: R,
+    writer: &mut W,
+) -> Result<Outcome, RunFault>
+    ensures answer { IfSome (R.remaining reader) (λ text. IsReplayAnswer (leaving_out without)
+        ROWS_MAX (records default_config (strip_bom text)) result) }
+    ensures whole { IfSome (R.remaining reader) (λ text. BYTES_MAX < length text → IsNoYes result) }
+    ensures written { IfOk result (λ outcome. Appends (W.contents writer.old)
+        (W.contents writer.new) (report_text (leaving_out without) outcome)) }
+    ensures nothing_written { IfErr result (λ fault. fault ≢ RunFault.Write
+        → writer.new ≡ writer.old) }
+    ensures cut { IfSome (R.remaining reader) (λ text. result ≡ Err RunFault.Write
+        → IsCutReplay (leaving_out without) ROWS_MAX (records default_config (strip_bom text))
+        (W.contents writer.old) (W.contents writer.new)) }
+{
+    let mut records = records_of(alloc, reader, BYTES_MAX);
+    replay_records(alloc, without, &mut records, writer)
+}
+
+/// Replays the records that are still to come, and writes the text of what that tells. What the
+/// records tell of where the reading ended is still to be asked then.
+pub fn replay_records<R: Read + Drop, W: Write>(
+    alloc: Global,
+    without: DeviceSet,
+    records: &mut Records<R>,
+    writer: &mut W,
+) -> Result<Outcome, RunFault>
+    ensures answer { (all : List (List (List ℕ))) → ToCome R.remaining records.old all
+        → IsReplayAnswer (leaving_out without) ROWS_MAX all result }
+    ensures whole { IsOverLimit R.remaining records.old → IsNoYes result }
+    ensures written { IfOk result (λ outcome. Appends (W.contents writer.old)
+        (W.contents writer.new) (report_text (leaving_out without) outcome)) }
+    ensures nothing_written { IfErr result (λ fault. fault ≢ RunFault.Write
+        → writer.new ≡ writer.old) }
+    ensures cut { (all : List (List (List ℕ))) → ToCome R.remaining records.old all
+        → result ≡ Err RunFault.Write → IsCutReplay (leaving_out without) ROWS_MAX all
+        (W.contents writer.old) (W.contents writer.new) }
+{
+    let outcome = outcome_of(alloc, without, records)?;
+    let Ok(text) = text_scoped(alloc, &Scope::leaving_out(without), &outcome) else {
+        return Err(RunFault::Memory);
+    };
+    write_text(writer, text.as_slice())?;
+    Ok(outcome)
+}
+
+/// What the replay of the records that are still to come tells.
+fn outcome_of<R: Read + Drop>(
+    alloc: Global,
+    without: DeviceSet,
+    records: &mut Records<R>,
+) -> Result<Outcome, RunFault>
+    ensures answer { (all : List (List (List ℕ))) → ToCome R.remaining records.old all
+        → IsReplayAnswer (leaving_out without) ROWS_MAX all result }
+    ensures whole { IsOverLimit R.remaining records.old → IsNoYes result }
+    ensures not_write { IfErr result (λ fault. fault ≢ RunFault.Write) }
+{
+    let mut taker = Replaying::new(alloc, without);
+    match read_rows(records, &mut Batch::new(), &mut taker, &mut (), ENTRIES_MAX)? {
+        None => taker.finish(),
+        Some(stop) => Ok(Outcome::No(stop?)),
+    }
+}

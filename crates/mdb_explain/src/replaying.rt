@@ -1,0 +1,243 @@
+//! The replay of an input's entries: its marks, and then its rows.
+
+ghost use Rattle.std.specs.Prelude.{◌≡◌, ◌≤◌, ◌<◌, ◌+◌, ◌++◌, ◌∷◌, List, [], ℕ, length, Err, IfErr, OnSome, ◌≢◌};
+ghost use Rattle.mdb_bus.specs.Scopes as scopes;
+ghost use Rattle.mdb_marks.specs.Replays.{rows_of, scope_of};
+ghost use Rattle.mdb_explain.specs.inner.Entries.{stop_by};
+
+use super::entry::Entry;
+use mdb_follow::{Offence, ROWS_MAX};
+use mdb_marks::{Mark, Replay, ReplayFault, laws};
+use mdb_msgs::DeviceSet;
+use mdb_text::Outcome;
+use mdb_verdict::{RunFault, TakeRows};
+use mdb_words::{Event, RowFault};
+use std::alloc::Global;
+
+/// So many entries there never are: one more than as many marks and as many rows as there may be.
+pub(crate) const ENTRIES_MAX: u64 = 200_000_001;
+
+/// The marks of an input, and the replay of its rows with them.
+#[derive(Drop)]
+pub(crate) struct Replaying {
+    replay: Replay,
+    marks: Vec<(u64, Mark)>,
+    /// The row of the last mark; 0 where there is none.
+    last: u64,
+    /// So many of the marks stand at rows that were taken.
+    passed: usize,
+    ghost few_marks: { length marks.items ≤ 100000000 },
+    ghost few_rows: { rows_of replay ≤ 100000000 },
+    ghost few_passed: { passed ≤ length marks.items },
+}
+
+/// Why it stops at an entry: at a row that cannot be, with the marks, or for a fault.
+type Stop = Result<Offence, RunFault>;
+
+impl Replaying {
+    ghost use Rattle.mdb_bus.specs.declared.scope.Scope.{Scope};
+    ghost use Rattle.mdb_marks.specs.declared.mark.Mark.{Mark};
+    ghost use Rattle.mdb_explain.specs.Replay.{mark_at};
+    ghost use Rattle.mdb_verdict.specs.Ending.{HasTaken};
+    ghost use Rattle.mdb_explain.specs.inner.Replaying.{Finishes, HasReplayed, HasStopped};
+    ghost use Rattle.mdb_explain.specs.inner.Replaying.{HasTakenNext, IsStoppedAt};
+
+    /// Before the first entry: these devices are left out.
+    pub(crate) fn new(alloc: Global, without: DeviceSet) -> Replaying
+        ensures none { HasReplayed (scopes.leaving_out without) result [] }
+        ensures scope { scope_of result.replay ≡ scopes.leaving_out without }
+    {
+        laws::replays_stand_for_the_only_run_with_their_marks();
+        Replaying {
+            replay: Replay::leaving_out(without),
+            marks: Vec::new(alloc),
+            last: 0,
+            passed: 0,
+        }
+    }
+
+    /// Takes the next entries, or tells why it stops at one of them.
+    fn take_each(&mut self, entries: &[Entry]) -> Option<Stop>
+        ensures taken { (scope : Scope) (earlier : List Entry) → HasReplayed scope self.old earlier
+            → HasTaken (HasReplayed scope self.new) (HasStopped scope) earlier entries.now result }
+        ensures scope { scope_of self.new.replay ≡ scope_of self.old.replay }
+    {
+        for entry in entries {
+            let stop = self.take(*entry);
+            if stop.is_some() {
+                return stop;
+            }
+        }
+        None
+    }
+
+    /// Takes the next entry, or tells why it stops at it.
+    fn take(&mut self, entry: Entry) -> Option<Stop>
+        ensures taken { (scope : Scope) (earlier : List Entry) → HasReplayed scope self.old earlier
+            → HasTakenNext scope self.new earlier entry result }
+        ensures scope { scope_of self.new.replay ≡ scope_of self.old.replay }
+    {
+        match entry {
+            Entry::Mark(row, mark) => self.add(row, mark),
+            Entry::BadMark(fault) => Some(Err(self.refuse_mark(fault))),
+            Entry::Row(event) => self.feed(event),
+            Entry::BadRow(fault) => Some(Err(self.refuse_row(fault))),
+        }
+    }
+
+    /// Adds a mark, or tells why it stops at it.
+    fn add(&mut self, row: u64, mark: Mark) -> Option<Stop>
+        ensures taken { (scope : Scope) (earlier : List Entry) → HasReplayed scope self.old earlier
+            → HasTakenNext scope self.new earlier (Entry.Mark row mark) result }
+        ensures scope { scope_of self.new.replay ≡ scope_of self.old.replay }
+    {
+        if self.replay.rows() > 0 {
+            return Some(Err(self.bad_record(RowFault::BadLine)));
+        }
+        if self.marks.len() as u64 >= ROWS_MAX {
+            return Some(Err(RunFault::TooLong));
+        }
+        if row <= self.last {
+            return Some(Err(RunFault::Mark { row }));
+        }
+        if self.marks.push((row, mark)).is_err() {
+            return Some(Err(RunFault::Memory));
+        }
+        self.last = row;
+        None
+    }
+
+    /// Feeds a row with its mark, or tells why it stops at it.
+    fn feed(&mut self, event: Event) -> Option<Stop>
+        ensures taken { (scope : Scope) (earlier : List Entry) → HasReplayed scope self.old earlier
+            → HasTakenNext scope self.new earlier (Entry.Row event) result }
+        ensures scope { scope_of self.new.replay ≡ scope_of self.old.replay }
+    {
+        if self.replay.rows() >= ROWS_MAX {
+            return Some(Err(RunFault::TooLong));
+        }
+        let mark = self.next_mark();
+        match self.replay.feed(event, mark) {
+            Err(fault) => Some(stop_of(fault)),
+            Ok(()) => {
+                if mark.is_some() {
+                    self.passed += 1;
+                }
+                None
+            }
+        }
+    }
+
+    /// The mark that stands at the next row, if one does.
+    fn next_mark(&self) -> Option<Mark>
+        ensures some { OnSome result (self.now.passed < length self.now.marks.items) }
+        ensures at { (passed later : List (ℕ × Mark)) → self.now.marks.items ≡ passed ++ later
+            → self.now.passed ≡ length passed
+            → result ≡ mark_at (rows_of self.now.replay + 1) later }
+    {
+        let (row, mark) = *self.marks.get(self.passed)?;
+        if row == self.replay.rows() + 1 {
+            Some(mark)
+        } else {
+            None
+        }
+    }
+
+    /// Why a mark row is refused that is refused by itself.
+    fn refuse_mark(&self, fault: RowFault) -> RunFault
+        ensures { (scope : Scope) (earlier : List Entry) → HasReplayed scope self.now earlier
+            → IsStoppedAt scope earlier (Entry.BadMark fault) (Err result) }
+    {
+        if self.replay.rows() > 0 {
+            if fault == RowFault::BadTime {
+                return self.bad_record(fault);
+            }
+            return self.bad_record(RowFault::BadLine);
+        }
+        if self.marks.len() as u64 >= ROWS_MAX {
+            return RunFault::TooLong;
+        }
+        self.bad_record(fault)
+    }
+
+    /// Why a record is refused that is no row.
+    fn refuse_row(&self, fault: RowFault) -> RunFault
+        ensures { (scope : Scope) (earlier : List Entry) → HasReplayed scope self.now earlier
+            → IsStoppedAt scope earlier (Entry.BadRow fault) (Err result) }
+    {
+        if self.replay.rows() >= ROWS_MAX {
+            return RunFault::TooLong;
+        }
+        self.bad_record(fault)
+    }
+
+    /// The fault of the next record.
+    fn bad_record(&self, fault: RowFault) -> RunFault
+        ensures { result ≡ RunFault.BadRow (length self.now.marks.items + rows_of self.now.replay
+            + 1) fault }
+    {
+        RunFault::BadRow {
+            row: self.marks.len() as u64 + self.replay.rows() + 1,
+            fault,
+        }
+    }
+
+    /// What the rows tell, after the last entry.
+    ///
+    /// # Errors
+    ///
+    /// `Mark` where a mark stands past the last row.
+    pub(crate) fn finish(&self) -> Result<Outcome, RunFault>
+        ensures finishes { (scope : Scope) (taken : List Entry)
+            → HasReplayed scope self.now taken → Finishes scope taken result }
+        ensures not_write { IfErr result (λ fault. fault ≢ RunFault.Write) }
+    {
+        if let Some((row, _)) = self.marks.get(self.passed) {
+            return Err(RunFault::Mark { row: *row });
+        }
+        match self.replay.report() {
+            Ok(report) => Ok(Outcome::Yes(report)),
+            Err(ReplayFault::Offence(offence)) => Ok(Outcome::No(offence)),
+            Err(ReplayFault::Mark(row)) => Err(RunFault::Mark { row }),
+        }
+    }
+}
+
+/// Why it stops at a row, by the fault of the replay.
+fn stop_of(fault: ReplayFault) -> Stop
+    ensures { result ≡ stop_by fault }
+{
+    match fault {
+        ReplayFault::Offence(offence) => Ok(offence),
+        ReplayFault::Mark(row) => Err(RunFault::Mark { row }),
+    }
+}
+
+/// It stops at the first entry that isn't taken.
+impl TakeRows<()> for Replaying {
+    ghost use Rattle.mdb_explain.specs.inner.Replaying.{HasReplayed, HasStopped};
+
+    type Row = Entry;
+
+    type Stop = Stop;
+
+    ghost most = { 200000001 };
+
+    ghost count = { λ taker. length taker.marks.items + rows_of taker.replay };
+
+    ghost scope = { λ taker. scope_of taker.replay };
+
+    ghost has = { λ taker before after. HasReplayed (scope_of taker.replay) taker };
+
+    ghost stops = { λ taker before after. HasStopped (scope_of taker.replay) };
+
+    fn rows_taken(&self) -> u64 {
+        self.marks.len() as u64 + self.replay.rows()
+    }
+
+    fn take_all(&mut self, _out: &mut (), rows: &[Entry]) -> Option<Stop> {
+        self.take_each(rows)
+    }
+
+    ghost counts = { λ taker before after rows has. has.count };
+}

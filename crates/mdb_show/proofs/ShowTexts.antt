@@ -1,0 +1,302 @@
+-- The lines of `show`, as a row adds to them.
+use Rattle.std.proofs.Common.{arith, refl, ap, sym, subst, ◌∙◌, inl, inr, ◌≡◌, ◌+◌, ◌/◌, ◌%◌, ◌^◌, ◌<◌, ◌≤◌, ◌⊎◌, ℕ, Bool, true, false, List, [], ◌∷◌, ◌++◌, Option, Some, None, length, length-append, append_assoc, nat_lt, Result, Ok, Err, if◌then◌else◌}
+use Rattle.std.proofs.lemmas.Fmt.{decimal_digit, decimal_step}
+use Rattle.std.proofs.lemmas.List.{append-nil, take_more}
+use Rattle.std.proofs.lemmas.Bool.{ltb-true, ltb-false}
+use Rattle.std.specs.Prelude.{OnOk, codes, get_or, is_ok, take}
+use Rattle.std.specs.Fmt.{decimal, digit_glyph}
+use Rattle.mdb_words.specs.declared.event.Event.{Event}
+use Rattle.mdb_bus.specs.declared.act.Act.{Act}
+use Rattle.mdb_bus.specs.declared.act.Act.TheVariants as acts
+use Rattle.mdb_bus.specs.ActLists.{Piece, Whole, AskTail, ReplyTail, RepeatTail, Position, Quiet, InAsk, Asked, InReply, Replied, Returned, InRepeat, InForeign, ArePieces, BlockMayCome, IsTail, MayCome, MayStand, act_in, events_of, piece_events}
+use Rattle.mdb_bus.specs.Bus.{Grown}
+use Rattle.mdb_show.specs.inner.ShowSteps.{cut_text, ended_text}
+use Rattle.mdb_show.specs.ShowText.{act_text, bytes_text, closed_pieces, piece_line, piece_text, rows_line, show_text}
+use Rattle.mdb_bus.specs.declared.scope.Scope.{Scope}
+
+-- one byte more
+bytes_push : (bytes : List ℕ) (byte : ℕ) → bytes_text (bytes ++ byte ∷ []) ≡ bytes_text bytes ++ 32 ∷ digit_glyph true (byte / 16) ∷ digit_glyph true (byte % 16) ∷ []
+bytes_push [] byte = refl
+bytes_push (b ∷ bytes) byte = ap (λ l. 32 ∷ digit_glyph true (b / 16) ∷ digit_glyph true (b % 16) ∷ l) (bytes_push bytes byte)
+
+pub bytes_more : (now front bytes : List ℕ) (i : ℕ) → i < length bytes → (high low : ℕ) (new : List ℕ) → now ≡ front ++ bytes_text (take i bytes)
+    → high ≡ digit_glyph true (get_or bytes i 0 / 16) → low ≡ digit_glyph true (get_or bytes i 0 % 16) → new ≡ now ++ 32 ∷ high ∷ low ∷ []
+    → new ≡ front ++ bytes_text (take (i + 1) bytes)
+bytes_more now front bytes i below high low new so_far first second added =
+    let byte : ℕ = get_or bytes i 0 in
+    let pushed : new ≡ (front ++ bytes_text (take i bytes)) ++ 32 ∷ digit_glyph true (byte / 16) ∷ digit_glyph true (byte % 16) ∷ [] = cc in
+    pushed ∙ (append_assoc front (bytes_text (take i bytes)) _
+    ∙ ap (λ l. front ++ l) (sym (bytes_push (take i bytes) byte) ∙ ap bytes_text (sym (take_more bytes i 0 below))))
+
+-- what was appended, where memory was had for it
+pub had_room : {T E : Type 0} (answer : Result T E) (new old more text : List ℕ) → new ≡ (if is_ok answer then old ++ more else old) → text ≡ more → OnOk answer (new ≡ old ++ text)
+had_room (Ok done) new old more text is same = is ∙ ap (λ l. old ++ l) (sym same)
+had_room (Err e) new old more text is same = tt
+
+-- the same after others
+pub had_more : {T E : Type 0} (answer : Result T E) (new between old first more text : List ℕ) → new ≡ (if is_ok answer then between ++ more else between) → between ≡ old ++ first
+    → text ≡ first ++ more → OnOk answer (new ≡ old ++ text)
+had_more (Ok done) new between old first more text is before same =
+    is ∙ (ap (λ l. l ++ more) before ∙ (append_assoc old first more ∙ ap (λ l. old ++ l) (sym same)))
+had_more (Err e) new between old first more text is before same = tt
+
+-- a position inside a block
+abbrev pub IsInside : Position → Type 0
+IsInside (InAsk bytes) = Unit {0}
+IsInside (InReply command bytes) = Unit {0}
+IsInside (InRepeat command reply words) = Unit {0}
+IsInside _ = ⊥
+
+abbrev pub IsBreakAct : Act → Type 0
+IsBreakAct (acts.Break length) = Unit {0}
+IsBreakAct _ = ⊥
+
+abbrev pub IsBreakPiece : Piece → Type 0
+IsBreakPiece (Whole act events) = IsBreakAct act
+IsBreakPiece _ = ⊥
+
+no_block : (position : Position) (from : Option Event) (to : Event) → IsInside position → BlockMayCome position from to → ⊥
+no_block Quiet from to inside comes = absurd inside
+no_block (InAsk bytes) from to inside comes = comes
+no_block (Asked command) from to inside comes = absurd inside
+no_block (InReply command bytes) from to inside comes = comes
+no_block (Replied command reply) from to inside comes = absurd inside
+no_block (Returned command reply) from to inside comes = absurd inside
+no_block (InRepeat command reply words) from to inside comes = comes
+no_block InForeign from to inside comes = absurd inside
+
+-- inside a block nothing comes but a break
+only_a_break : (piece : Piece) (position : Position) (from : Option Event) (to : Event) → IsInside position → MayCome piece position from to → IsBreakPiece piece
+only_a_break (Whole (acts.Ask command) events) position from to inside comes = absurd (no_block position from to inside comes)
+only_a_break (Whole (acts.Ack command) events) position from to inside comes = absurd (subst IsInside comes.0 inside)
+only_a_break (Whole (acts.Nak command) events) position from to inside comes = absurd (subst IsInside comes.0 inside)
+only_a_break (Whole (acts.Reply command reply) events) position from to inside comes = absurd (subst IsInside comes.0 inside)
+only_a_break (Whole (acts.VmcAck command reply) events) position from to inside comes = absurd (subst IsInside comes.0 inside)
+only_a_break (Whole (acts.VmcNak command reply) events) position from to inside comes = absurd (subst IsInside comes.0 inside)
+only_a_break (Whole (acts.VmcRet command reply) events) position from to inside comes = absurd (subst IsInside comes.0 inside)
+only_a_break (Whole (acts.Repeat command reply) events) position from to inside comes = absurd (subst IsInside comes.0 inside)
+only_a_break (Whole acts.Foreign events) position from to inside (inl opening) = absurd (no_block position from to inside opening.1)
+only_a_break (Whole acts.Foreign events) position from to inside (inr further) = absurd (subst IsInside further.1 inside)
+only_a_break (Whole (acts.Break length) events) position from to inside comes = tt
+only_a_break (AskTail bytes events) position from to inside comes = absurd (no_block position from to inside comes)
+only_a_break (ReplyTail command bytes events) position from to inside comes = absurd (subst IsInside comes.0 inside)
+only_a_break (RepeatTail command reply words events) position from to inside comes = absurd (subst IsInside comes.0 inside)
+
+-- so what is no break stands on pieces that are closed
+on_closed : (scope : Scope) (pieces : List Piece) (piece : Piece) → MayStand scope pieces piece → (IsBreakPiece piece → ⊥) → closed_pieces pieces ≡ pieces
+on_closed scope [] piece stands not = refl
+on_closed scope (Whole act events ∷ pieces) piece stands not = refl
+on_closed scope (AskTail bytes events ∷ pieces) piece stands not = absurd (not (only_a_break piece (InAsk bytes) _ _ tt stands.comes))
+on_closed scope (ReplyTail command bytes events ∷ pieces) piece stands not = absurd (not (only_a_break piece (InReply command bytes) _ _ tt stands.comes))
+on_closed scope (RepeatTail command reply words events ∷ pieces) piece stands not = absurd (not (only_a_break piece (InRepeat command reply words) _ _ tt stands.comes))
+
+tail_no_break : (piece : Piece) → act_in piece ≡ None → IsBreakPiece piece → ⊥
+tail_no_break (Whole act events) none is = cc
+tail_no_break (AskTail bytes events) none is = is
+tail_no_break (ReplyTail command bytes events) none is = is
+tail_no_break (RepeatTail command reply words events) none is = is
+
+closed_tail : (piece : Piece) (pieces : List Piece) → IsTail piece → closed_pieces (piece ∷ pieces) ≡ pieces
+closed_tail (Whole act events) pieces is = absurd is
+closed_tail (AskTail bytes events) pieces is = refl
+closed_tail (ReplyTail command bytes events) pieces is = refl
+closed_tail (RepeatTail command reply words events) pieces is = refl
+
+none_tail : (piece : Piece) → act_in piece ≡ None → IsTail piece
+none_tail (Whole act events) none = cc
+none_tail (AskTail bytes events) none = tt
+none_tail (ReplyTail command bytes events) none = tt
+none_tail (RepeatTail command reply words events) none = tt
+
+-- a row that ends no act leaves the closed pieces as they were
+pub goes_on_closed : (scope : Scope) (pieces longer : List Piece) (row : Event) → Grown pieces row None longer → ArePieces scope longer → closed_pieces longer ≡ closed_pieces pieces
+goes_on_closed scope pieces longer row grown order = with_from grown.from
+  where
+    after : closed_pieces longer ≡ grown.earlier
+    after = ap closed_pieces grown.are ∙ closed_tail grown.newest grown.earlier (none_tail grown.newest grown.ends)
+
+    ordered : ArePieces scope (grown.newest ∷ grown.earlier)
+    ordered = subst (ArePieces scope) grown.are order
+
+    with_from : ((grown.begun ≡ []) × (pieces ≡ grown.earlier)) ⊎ ((tail : Piece) × IsTail tail × (piece_events tail ≡ grown.begun) × (pieces ≡ tail ∷ grown.earlier)) → closed_pieces longer ≡ closed_pieces pieces
+    with_from (inl new) =
+        after ∙ (sym (on_closed scope grown.earlier grown.newest ordered.1 (tail_no_break grown.newest grown.ends)) ∙ ap closed_pieces (sym new.1))
+    with_from (inr old) = after ∙ sym (ap closed_pieces old.3 ∙ closed_tail old.0 grown.earlier old.1)
+
+-- lines of rows in all
+cut_none : (n m : ℕ) → n ≡ m → cut_text n m ≡ []
+cut_none n m same = off (nat_lt n m) refl
+  where
+    off : (b : Bool) → nat_lt n m ≡ b → cut_text n m ≡ []
+    off true is = absurd (omega (arith, ltb-true n m is, same))
+    off false is = cc
+
+cut_some : (n m : ℕ) → n < m → cut_text n m ≡ rows_line (n + 1) m (codes "cut")
+cut_some n m below = on (nat_lt n m) refl
+  where
+    on : (b : Bool) → nat_lt n m ≡ b → cut_text n m ≡ rows_line (n + 1) m (codes "cut")
+    on false is = absurd (omega (arith, ltb-false n m is, below))
+    on true is = cc
+
+tail_said : (piece : Piece) → IsTail piece → piece_text piece ≡ codes "cut"
+tail_said (Whole act events) is = absurd is
+tail_said (AskTail bytes events) is = refl
+tail_said (ReplyTail command bytes events) is = refl
+tail_said (RepeatTail command reply words events) is = refl
+
+-- a tail has rows
+some_events : (scope : Scope) (pieces : List Piece) (piece : Piece) → MayStand scope pieces piece → 0 < length (piece_events piece)
+some_events scope pieces piece stands = let begins : piece_events piece ≡ stands.first ∷ stands.others = stands.begins in omega (arith, ap length begins)
+
+with_tail : (scope : Scope) (piece : Piece) (pieces : List Piece) → IsTail piece → MayStand scope pieces piece
+    → show_text (piece ∷ pieces) ≡ show_text pieces ++ cut_text (length (events_of pieces)) (length (events_of (piece ∷ pieces)))
+with_tail scope piece pieces is stands =
+    let n : ℕ = length (events_of pieces) in
+    let m : ℕ = length (piece_events piece) in
+    let counted : length (events_of (piece ∷ pieces)) ≡ n + m = length-append (events_of pieces) (piece_events piece) in
+    let said : piece_line n piece ≡ rows_line (n + 1) (n + m) (codes "cut") = ap (λ said. rows_line (n + 1) (n + m) said) (tail_said piece is) in
+    let cut : cut_text n (n + m) ≡ rows_line (n + 1) (n + m) (codes "cut") = cut_some n (n + m) (omega (arith, some_events scope pieces piece stands)) in
+    ap (λ l. show_text pieces ++ l) (said ∙ (sym cut ∙ ap (λ k. cut_text n k) (sym counted)))
+
+-- the lines of all pieces are those of the closed ones, and that of a tail
+pub all_shown : (scope : Scope) (pieces : List Piece) → ArePieces scope pieces
+    → show_text pieces ≡ show_text (closed_pieces pieces) ++ cut_text (length (events_of (closed_pieces pieces))) (length (events_of pieces))
+all_shown scope [] order = sym (append-nil _) ∙ ap (λ l. show_text [] ++ l) (sym (cut_none 0 0 refl))
+all_shown scope (Whole act events ∷ pieces) order =
+    let n : ℕ = length (events_of (Whole act events ∷ pieces)) in
+    sym (append-nil (show_text (Whole act events ∷ pieces))) ∙ ap (λ l. show_text (Whole act events ∷ pieces) ++ l) (sym (cut_none n n refl))
+all_shown scope (AskTail bytes events ∷ pieces) order = with_tail scope (AskTail bytes events) pieces tt order.1
+all_shown scope (ReplyTail command bytes events ∷ pieces) order = with_tail scope (ReplyTail command bytes events) pieces tt order.1
+all_shown scope (RepeatTail command reply words events ∷ pieces) order = with_tail scope (RepeatTail command reply words events) pieces tt order.1
+
+-- an act is a break or not
+break_or_not : (act : Act) → IsBreakAct act ⊎ (IsBreakAct act → ⊥)
+break_or_not (acts.Ask command) = inr (λ is. is)
+break_or_not (acts.Ack command) = inr (λ is. is)
+break_or_not (acts.Nak command) = inr (λ is. is)
+break_or_not (acts.Reply command reply) = inr (λ is. is)
+break_or_not (acts.VmcAck command reply) = inr (λ is. is)
+break_or_not (acts.VmcNak command reply) = inr (λ is. is)
+break_or_not (acts.VmcRet command reply) = inr (λ is. is)
+break_or_not (acts.Repeat command reply) = inr (λ is. is)
+break_or_not acts.Foreign = inr (λ is. is)
+break_or_not (acts.Break length) = inl tt
+
+ended_break : (shown rows : ℕ) (act : Act) → IsBreakAct act → ended_text shown rows act ≡ cut_text shown rows ++ rows_line (rows + 1) (rows + 1) (act_text act)
+ended_break shown rows (acts.Ask command) is = absurd is
+ended_break shown rows (acts.Ack command) is = absurd is
+ended_break shown rows (acts.Nak command) is = absurd is
+ended_break shown rows (acts.Reply command reply) is = absurd is
+ended_break shown rows (acts.VmcAck command reply) is = absurd is
+ended_break shown rows (acts.VmcNak command reply) is = absurd is
+ended_break shown rows (acts.VmcRet command reply) is = absurd is
+ended_break shown rows (acts.Repeat command reply) is = absurd is
+ended_break shown rows acts.Foreign is = absurd is
+ended_break shown rows (acts.Break length) is = refl
+
+ended_other : (shown rows : ℕ) (act : Act) → (IsBreakAct act → ⊥) → ended_text shown rows act ≡ rows_line (shown + 1) (rows + 1) (act_text act)
+ended_other shown rows (acts.Ask command) not = refl
+ended_other shown rows (acts.Ack command) not = refl
+ended_other shown rows (acts.Nak command) not = refl
+ended_other shown rows (acts.Reply command reply) not = refl
+ended_other shown rows (acts.VmcAck command reply) not = refl
+ended_other shown rows (acts.VmcNak command reply) not = refl
+ended_other shown rows (acts.VmcRet command reply) not = refl
+ended_other shown rows (acts.Repeat command reply) not = refl
+ended_other shown rows acts.Foreign not = refl
+ended_other shown rows (acts.Break length) not = absurd (not tt)
+
+-- a whole piece with its act
+pub whole_of : (piece : Piece) (act : Act) → act_in piece ≡ Some act → piece ≡ Whole act (piece_events piece)
+whole_of (Whole other events) act is = let same : other ≡ act = cc in ap (λ a. Whole a events) same
+whole_of (AskTail bytes events) act is = cc
+whole_of (ReplyTail command bytes events) act is = cc
+whole_of (RepeatTail command reply words events) act is = cc
+
+break_short : (scope : Scope) (act : Act) (events : List Event) (pieces : List Piece) → ArePieces scope (Whole act events ∷ pieces) → IsBreakAct act → length events ≡ 1
+break_short scope (acts.Ask command) events pieces order is = absurd is
+break_short scope (acts.Ack command) events pieces order is = absurd is
+break_short scope (acts.Nak command) events pieces order is = absurd is
+break_short scope (acts.Reply command reply) events pieces order is = absurd is
+break_short scope (acts.VmcAck command reply) events pieces order is = absurd is
+break_short scope (acts.VmcNak command reply) events pieces order is = absurd is
+break_short scope (acts.VmcRet command reply) events pieces order is = absurd is
+break_short scope (acts.Repeat command reply) events pieces order is = absurd is
+break_short scope acts.Foreign events pieces order is = absurd is
+break_short scope (acts.Break len) events pieces order is = ap length order.0.said.1
+
+-- the line of a piece with its rows
+whole_line : (act : Act) (events : List Event) (pieces : List Piece) (n last : ℕ) → length (events_of pieces) ≡ n → n + length events ≡ last
+    → show_text (Whole act events ∷ pieces) ≡ show_text pieces ++ rows_line (n + 1) last (act_text act)
+whole_line act events pieces n last counted end =
+    ap (λ k. show_text pieces ++ rows_line (k + 1) (k + length events) (act_text act)) counted
+    ∙ ap (λ k. show_text pieces ++ rows_line (n + 1) k (act_text act)) end
+
+-- a row that ends an act adds the lines of that act
+pub ends_act : (scope : Scope) (pieces longer : List Piece) (row : Event) (act : Act) (shown rows : ℕ) → Grown pieces row (Some act) longer → ArePieces scope pieces → ArePieces scope longer
+    → length (events_of (closed_pieces pieces)) ≡ shown → length (events_of pieces) ≡ rows
+    → (closed_pieces longer ≡ longer) × (show_text longer ≡ show_text (closed_pieces pieces) ++ ended_text shown rows act)
+ends_act scope pieces longer row act shown rows grown before order closed counted = (stays, with_from grown.from)
+  where
+    events : List Event
+    events = piece_events grown.newest
+
+    are : longer ≡ Whole act events ∷ grown.earlier
+    are = grown.are ∙ ap (λ piece. piece ∷ grown.earlier) (whole_of grown.newest act grown.ends)
+
+    stays : closed_pieces longer ≡ longer
+    stays = ap closed_pieces are ∙ sym are
+
+    ordered : ArePieces scope (Whole act events ∷ grown.earlier)
+    ordered = subst (ArePieces scope) are order
+
+    long : length events ≡ length grown.begun + 1
+    long = ap length grown.events ∙ length-append grown.begun (row ∷ [])
+
+    lines : (n last : ℕ) → length (events_of grown.earlier) ≡ n → n + length events ≡ last → show_text longer ≡ show_text grown.earlier ++ rows_line (n + 1) last (act_text act)
+    lines n last first end = ap show_text are ∙ whole_line act events grown.earlier n last first end
+
+    -- the act is a piece of this row alone
+    alone : grown.begun ≡ [] → pieces ≡ grown.earlier → IsBreakAct act ⊎ (IsBreakAct act → ⊥) → show_text longer ≡ show_text (closed_pieces pieces) ++ ended_text shown rows act
+    alone none same (inl is) =
+        let none_long : length grown.begun ≡ 0 = ap length none in
+        let here : length (events_of grown.earlier) ≡ rows = ap (λ l. length (events_of l)) (sym same) ∙ counted in
+        let this : show_text longer ≡ show_text grown.earlier ++ rows_line (rows + 1) (rows + 1) (act_text act) = lines rows (rows + 1) here (omega (arith, long, none_long)) in
+        let all : show_text pieces ≡ show_text (closed_pieces pieces) ++ cut_text shown rows =
+        all_shown scope pieces before ∙ (ap (λ n. show_text (closed_pieces pieces) ++ cut_text n (length (events_of pieces))) closed
+        ∙ ap (λ n. show_text (closed_pieces pieces) ++ cut_text shown n) counted) in
+        this ∙ (ap (λ l. show_text l ++ rows_line (rows + 1) (rows + 1) (act_text act)) (sym same)
+        ∙ (ap (λ l. l ++ rows_line (rows + 1) (rows + 1) (act_text act)) all
+        ∙ (append_assoc (show_text (closed_pieces pieces)) (cut_text shown rows) _
+        ∙ ap (λ l. show_text (closed_pieces pieces) ++ l) (sym (ended_break shown rows act is)))))
+    alone none same (inr not) =
+        let none_long : length grown.begun ≡ 0 = ap length none in
+        let shut : closed_pieces pieces ≡ pieces = ap closed_pieces same ∙ (on_closed scope grown.earlier (Whole act events) ordered.1 not ∙ sym same) in
+        let both : shown ≡ rows = sym closed ∙ (ap (λ l. length (events_of l)) shut ∙ counted) in
+        let earlier : grown.earlier ≡ closed_pieces pieces = sym same ∙ sym shut in
+        let here : length (events_of grown.earlier) ≡ shown = ap (λ l. length (events_of l)) earlier ∙ closed in
+        lines shown (rows + 1) here (omega (arith, long, none_long, both))
+        ∙ (ap (λ l. show_text l ++ rows_line (shown + 1) (rows + 1) (act_text act)) earlier
+        ∙ ap (λ l. show_text (closed_pieces pieces) ++ l) (sym (ended_other shown rows act not)))
+
+    -- the act is what a tail has become
+    of_tail : (tail : Piece) → IsTail tail → piece_events tail ≡ grown.begun → pieces ≡ tail ∷ grown.earlier → IsBreakAct act ⊎ (IsBreakAct act → ⊥)
+        → show_text longer ≡ show_text (closed_pieces pieces) ++ ended_text shown rows act
+    of_tail tail is said same (inl broken) =
+        let tail_order : ArePieces scope (tail ∷ grown.earlier) = subst (ArePieces scope) same before in
+        let said_long : length (piece_events tail) ≡ length grown.begun = ap length said in
+        absurd (omega (arith, break_short scope act events grown.earlier ordered broken, long, said_long, some_events scope grown.earlier tail tail_order.1))
+    of_tail tail is said same (inr not) =
+        let said_long : length (piece_events tail) ≡ length grown.begun = ap length said in
+        let earlier : grown.earlier ≡ closed_pieces pieces = sym (ap closed_pieces same ∙ closed_tail tail grown.earlier is) in
+        let here : length (events_of grown.earlier) ≡ shown = ap (λ l. length (events_of l)) earlier ∙ closed in
+        let all : length (events_of grown.earlier ++ piece_events tail) ≡ rows = ap (λ l. length (events_of l)) (sym same) ∙ counted in
+        let split : length (events_of grown.earlier ++ piece_events tail) ≡ length (events_of grown.earlier) + length (piece_events tail) = length-append (events_of grown.earlier) (piece_events tail) in
+        lines shown (rows + 1) here (omega (arith, long, said_long, all, split, here))
+        ∙ (ap (λ l. show_text l ++ rows_line (shown + 1) (rows + 1) (act_text act)) earlier
+        ∙ ap (λ l. show_text (closed_pieces pieces) ++ l) (sym (ended_other shown rows act not)))
+
+    with_from : ((grown.begun ≡ []) × (pieces ≡ grown.earlier)) ⊎ ((tail : Piece) × IsTail tail × (piece_events tail ≡ grown.begun) × (pieces ≡ tail ∷ grown.earlier))
+        → show_text longer ≡ show_text (closed_pieces pieces) ++ ended_text shown rows act
+    with_from (inl new) = alone new.0 new.1 (break_or_not act)
+    with_from (inr old) = of_tail old.0 old.1 old.2 old.3 (break_or_not act)

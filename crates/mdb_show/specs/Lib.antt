@@ -1,0 +1,4 @@
+pub mod Show
+pub mod ShowText
+pub mod ShownFault
+pub mod inner

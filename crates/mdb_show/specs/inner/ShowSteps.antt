@@ -1,0 +1,143 @@
+-- How the lines of `show` come about, row by row. This file serves private functions and proofs: no
+-- public clause cites it.
+use Rattle.std.specs.Prelude.{◌≡◌, ◌⊎◌, ◌+◌, ◌≤◌, ℕ, List, [], ◌∷◌, ◌++◌, length, ⊤, codes, Option, Some, None, Result, Ok, Err, if◌then◌else◌, nat_lt}
+use Rattle.std.specs.Io.KnownBytes.{Appends}
+use Rattle.mdb_words.specs.declared.event.Event.{Event}
+use Rattle.mdb_bus.specs.declared.act.Act.{Act}
+use Rattle.mdb_bus.specs.declared.act.Act.TheVariants as acts
+use Rattle.mdb_bus.specs.declared.bus.Bus.{Bus}
+use Rattle.mdb_bus.specs.declared.fault.LinkFault.{LinkFault}
+use Rattle.mdb_bus.specs.ActLists.{ArePieces, Piece, events_of}
+use Rattle.mdb_bus.specs.Bus.{StandsFor, scope_of}
+use Rattle.mdb_bus.specs.LinkFaults.{IsLinkFault}
+use Rattle.mdb_records.specs.declared.ReadFault.{ReadFault}
+use Rattle.mdb_records.specs.declared.ReadFault.TheVariants as reading
+use Rattle.mdb_verdict.specs.declared.fault.RunFault.{RunFault}
+use Rattle.mdb_verdict.specs.declared.fault.RunFault.TheVariants.{BadRow, TooLong, Read, Write, Memory, Mark}
+use Rattle.mdb_show.specs.declared.page.Page.{Page}
+use Rattle.mdb_show.specs.declared.showing.Lines.{Lines}
+use Rattle.mdb_show.specs.Show.{IsShowing}
+use Rattle.mdb_verdict.specs.Output.{Breaks, Output, Puts}
+use Rattle.mdb_show.specs.ShowText.{act_text, closed_pieces, fault_line, rows_line, show_text}
+use Rattle.mdb_bus.specs.declared.scope.Scope.{Scope}
+
+-- the line of a tail, if there is one: of `rows` rows only the first `shown` are in pieces that are
+-- closed
+abbrev pub cut_text : ℕ → ℕ → List ℕ
+cut_text shown rows = if nat_lt shown rows then rows_line (shown + 1) rows (codes "cut") else []
+
+-- the lines of the act that the next row ends: before it that of the tail that a break cuts
+abbrev pub ended_text : ℕ → ℕ → Act → List ℕ
+ended_text shown rows (acts.Break length) =
+    cut_text shown rows ++ rows_line (rows + 1) (rows + 1) (act_text (acts.Break length))
+ended_text shown rows act = rows_line (shown + 1) (rows + 1) (act_text act)
+
+-- what is on its way to a writer with a page
+abbrev pub output : Option (List ℕ) → Page → Output
+output contents page = record { held = contents; waiting = page.lines.items }
+
+-- a text isn't put there: with want of memory nothing has changed
+abbrev pub IsNotTaken : RunFault → Output → Output → List ℕ → Type 0
+IsNotTaken (BadRow row fault) before after text = ⊥
+IsNotTaken TooLong before after text = ⊥
+IsNotTaken Read before after text = ⊥
+IsNotTaken Write before after text = Breaks before after text
+IsNotTaken Memory before after text = after ≡ before
+IsNotTaken (Mark row) before after text = ⊥
+
+-- A bus stands for some pieces.
+abbrev pub HasPieces : Bus → Type 0
+HasPieces bus = (pieces : List Piece) × StandsFor bus pieces
+
+-- The rows so far are those of pieces for which the bus stands. The lines of the closed ones, which
+-- have the first `shown` rows, are on their way.
+pub record HasShown (scope : Scope) (lines : Lines) (before after : Output) (rows : List Event) : Type 0 where
+  pub in_scope : scope_of lines.bus ≡ scope
+  pub pieces : List Piece
+  pub stands : StandsFor lines.bus pieces
+  pub are : events_of pieces ≡ rows
+  pub counted : length rows ≡ lines.rows
+  pub closed : length (events_of (closed_pieces pieces)) ≡ lines.shown
+  pub few : lines.shown ≤ lines.rows
+  pub written : Puts before after (show_text (closed_pieces pieces))
+
+-- pieces of earlier rows and of the first of some rows
+pub record LeadInto (scope : Scope) (earlier rows : List Event) (pieces : List Piece) : Type 0 where
+  pub front : List Event
+  pub rest : List Event
+  pub parts : rows ≡ front ++ rest
+  pub are : events_of pieces ≡ earlier ++ front
+  pub in_order : ArePieces scope pieces
+
+-- The text is the lines of the closed pieces of earlier rows and of the first of some rows.
+pub record IsAddedInPart (scope : Scope) (earlier rows : List Event) (text : List ℕ) : Type 0 where
+  pub pieces : List Piece
+  pub lead : LeadInto scope earlier rows pieces
+  pub lines : text ≡ show_text (closed_pieces pieces)
+
+-- One of some rows breaks a rule of the link. The text is the lines of the closed pieces before it,
+-- and its own.
+pub record IsAddedToFault (scope : Scope) (earlier rows : List Event) (fault : LinkFault)
+    (text : List ℕ) : Type 0 where
+  pub pieces : List Piece
+  pub row : Event
+  pub after : List Event
+  pub lead : LeadInto scope earlier rows pieces
+  pub next : lead.rest ≡ row ∷ after
+  pub is : IsLinkFault scope pieces row fault.rule fault.blame
+  pub lines : text ≡ show_text (closed_pieces pieces)
+      ++ fault_line (length (events_of pieces) + 1) fault
+
+-- a text that the adding of the lines of some rows may come to
+abbrev pub IsAdded : Scope → List Event → List Event → List ℕ → Type 0
+IsAdded scope earlier rows text =
+    IsAddedInPart scope earlier rows text
+    ⊎ ((fault : LinkFault) × IsAddedToFault scope earlier rows fault text)
+
+-- what the adding of the lines of some rows after earlier ones comes to
+abbrev pub HasAdded : Scope → Lines → Output → Output → List Event → List Event
+    → Result (Option LinkFault) RunFault → Type 0
+HasAdded scope lines before after earlier rows (Ok None) = HasShown scope lines before after (earlier ++ rows)
+HasAdded scope lines before after earlier rows (Ok (Some fault)) =
+    (text : List ℕ) × IsAddedToFault scope earlier rows fault text × Puts before after text
+HasAdded scope lines before after earlier rows (Err (BadRow row fault)) = ⊥
+HasAdded scope lines before after earlier rows (Err TooLong) = ⊥
+HasAdded scope lines before after earlier rows (Err Read) = ⊥
+HasAdded scope lines before after earlier rows (Err Write) =
+    (text : List ℕ) × IsAdded scope earlier rows text × Breaks before after text
+HasAdded scope lines before after earlier rows (Err Memory) =
+    (text : List ℕ) × IsAddedInPart scope earlier rows text × Puts before after text
+HasAdded scope lines before after earlier rows (Err (Mark row)) = ⊥
+
+-- the same where one of the rows was stopped at
+abbrev pub HasStopped : Scope → Lines → Output → Output → List Event → List Event
+    → Result LinkFault RunFault → Type 0
+HasStopped scope lines before after earlier rows (Ok fault) =
+    HasAdded scope lines before after earlier rows (Ok (Some fault))
+HasStopped scope lines before after earlier rows (Err fault) =
+    HasAdded scope lines before after earlier rows (Err fault)
+
+-- The writer failed with a front of a text that is written of the records.
+pub record IsBroken (scope : Scope) (records : List (List (List ℕ))) (before after : Output) : Type 0 where
+  pub answer : Result (Option LinkFault) RunFault
+  pub text : List ℕ
+  pub showing : IsShowing scope records answer text
+  pub broken : Breaks before after text
+
+-- what `Shows` says, where some of the text may still be on its way
+abbrev pub PutsShowing : Scope → List (List (List ℕ)) → Output → Output
+    → Result (Option LinkFault) RunFault → Type 0
+PutsShowing scope records before after answer =
+    ((text : List ℕ) × IsShowing scope records answer text × Puts before after text)
+    ⊎ ((answer ≡ Err Write) × IsBroken scope records before after)
+
+-- a fault of reading that was met is the answer, or that of a row or a line before it is
+abbrev pub IsShownAs : ReadFault → Result (Option LinkFault) RunFault → Type 0
+IsShownAs met (Ok None) = ⊥
+IsShownAs met (Ok (Some fault)) = ⊤
+IsShownAs met (Err (BadRow row fault)) = ⊥
+IsShownAs met (Err TooLong) = ⊥
+IsShownAs met (Err Read) = met ≡ reading.Read
+IsShownAs met (Err Write) = ⊤
+IsShownAs met (Err Memory) = ⊤
+IsShownAs met (Err (Mark row)) = ⊥

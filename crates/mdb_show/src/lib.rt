@@ -1,0 +1,9 @@
+//! What was said on the bus, line by line: an act, a tail that was cut, or the row that cannot be.
+#![tactic(auto)]
+
+pub mod laws;
+mod page;
+mod show_text;
+mod showing;
+
+pub use showing::{show, show_records, show_scoped};

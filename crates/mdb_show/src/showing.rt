@@ -1,0 +1,249 @@
+//! The acts of a transcript.
+
+ghost use Rattle.std.specs.Prelude.{◌≡◌, ◌≢◌, ◌<◌, List, [], ℕ, Err, IfErr, IfSome, None, Ok, Some, length};
+ghost use Rattle.csv.specs.Reading.{default_config, records, strip_bom};
+ghost use Rattle.mdb_records.specs.ToCome.{IsOverLimit, ToCome, fault_of};
+ghost use Rattle.mdb_records.specs.declared.ReadFault.{ReadFault};
+ghost use Rattle.mdb_verdict.specs.declared.verdict.TheConstants.{BYTES_MAX};
+ghost use Rattle.mdb_bus.specs.Bus.{scope_of};
+ghost use Rattle.mdb_bus.specs.declared.scope.Scope.{Scope};
+ghost use Rattle.mdb_bus.specs.Scopes.{power_on};
+ghost use Rattle.mdb_show.specs.Show.{Shows};
+ghost use Rattle.mdb_verdict.specs.Output.{begun};
+ghost use Rattle.mdb_show.specs.inner.ShowSteps.{HasShown, IsShownAs, PutsShowing, output};
+
+use super::page::Page;
+use mdb_bus::{Act, Bus, LinkFault, Scope, laws};
+use mdb_follow::ROWS_MAX;
+use mdb_records::Records;
+use mdb_verdict::{BYTES_MAX, Batch, RunFault, TakeRows, read_rows, records_of};
+use mdb_words::Event;
+use std::alloc::Global;
+use std::io::{Read, Write};
+
+/// Reads a transcript, and writes a line for each act that was done, as it reads: its first and its
+/// last row, and the act with the bytes of its block. A block that a break or the end of the
+/// transcript cuts has a line too, and so has the first row that breaks a rule of the link. That
+/// row ends the reading, and is answered. Recording began at power-on or at a break, and all devices
+/// are followed: this is [`show_scoped`] of [`Scope::POWER_ON`].
+///
+/// The rows are those of `check`. Nothing is said of coins, bills and sales: a transcript that is
+/// shown to its end may still be one that cannot have been.
+///
+/// # Errors
+///
+/// `BadRow` for the first record that is no row, if no row before it breaks a rule of the link;
+/// `TooLong` for a record past [`ROWS_MAX`]; `Read` where the reader failed, or for an input of
+/// more than [`BYTES_MAX`] bytes that isn't answered before; `Memory` where
+/// memory was refused. Then the lines of the acts so far were written, and of the tails that a
+/// break cut: at `BadRow` and `TooLong` those of all rows before that record. `Write` where the
+/// writer failed: then it took a front of what is written where it doesn't fail, and nothing else.
+pub fn show<R: Read + Drop, W: Write>(
+    alloc: Global,
+    reader: R,
+    writer: &mut W,
+) -> Result<Option<LinkFault>, RunFault>
+    ensures shows { IfSome (R.remaining reader) (λ text.
+        Shows power_on (records default_config (strip_bom text)) (W.contents writer.old)
+        (W.contents writer.new) result) }
+    ensures whole { IfSome (R.remaining reader) (λ text.
+        BYTES_MAX < length text → result ≢ Ok None) }
+{
+    show_scoped(alloc, &Scope::POWER_ON, reader, writer)
+}
+
+/// Does as [`show`] does, of a recording that is taken as `scope` says: each row of what is said to
+/// a device that is left out, and of what it answers, is a foreign act of its own.
+///
+/// # Errors
+///
+/// Those of `show`.
+pub fn show_scoped<R: Read + Drop, W: Write>(
+    alloc: Global,
+    scope: &Scope,
+    reader: R,
+    writer: &mut W,
+) -> Result<Option<LinkFault>, RunFault>
+    ensures shows { IfSome (R.remaining reader) (λ text.
+        Shows scope.now (records default_config (strip_bom text)) (W.contents writer.old)
+        (W.contents writer.new) result) }
+    ensures whole { IfSome (R.remaining reader) (λ text.
+        BYTES_MAX < length text → result ≢ Ok None) }
+{
+    let mut records = records_of(alloc, reader, BYTES_MAX);
+    show_records(alloc, scope, &mut records, writer)
+}
+
+/// Shows the records that are still to come. What they tell of where the reading ended is still to
+/// be asked then.
+pub fn show_records<R: Read + Drop, W: Write>(
+    alloc: Global,
+    scope: &Scope,
+    records: &mut Records<R>,
+    writer: &mut W,
+) -> Result<Option<LinkFault>, RunFault>
+    ensures shows { (all : List (List (List ℕ))) → ToCome R.remaining records.old all
+        → Shows scope.now all (W.contents writer.old) (W.contents writer.new) result }
+    ensures whole { IsOverLimit R.remaining records.old → result ≢ Ok None }
+{
+    let mut showing = Showing::new(alloc, scope);
+    let answer = show_rows(records, &mut showing, writer);
+    if answer != Err(RunFault::Write) {
+        showing.page.write_out(writer)?;
+    }
+    answer
+}
+
+/// Shows the records that are still to come, after none.
+fn show_rows<R: Read + Drop, W: Write>(
+    records: &mut Records<R>,
+    showing: &mut Showing,
+    writer: &mut W,
+) -> Result<Option<LinkFault>, RunFault>
+    requires { HasShown (scope_of showing.old.lines.bus) showing.old.lines (begun (W.contents writer.old))
+        (output (W.contents writer.old) showing.old.page) [] }
+    ensures shows { (all : List (List (List ℕ))) → ToCome R.remaining records.old all
+        → PutsShowing (scope_of showing.old.lines.bus) all (begun (W.contents writer.old))
+        (output (W.contents writer.new) showing.new.page) result }
+    ensures whole { IsOverLimit R.remaining records.old → result ≢ Ok None }
+    ensures heard { IfErr result (λ fault. fault ≡ RunFault.Read
+        → fault_of records.new ≡ Some ReadFault.Read) }
+    ensures met { fault_of records.old ≡ None → IfSome (fault_of records.new)
+        (λ fault. IsShownAs fault result) }
+{
+    if let Some(stop) = read_rows(records, &mut Batch::new(), showing, writer, ROWS_MAX)? {
+        return Ok(Some(stop?));
+    }
+    let Showing { lines, page } = showing;
+    page.add_cut(writer, lines.shown, lines.rows)?;
+    Ok(None)
+}
+
+/// Rows that are shown: how far their lines have come, and those that wait for the writer.
+#[derive(Drop)]
+struct Showing {
+    lines: Lines,
+    page: Page,
+}
+
+impl Showing {
+    ghost use Rattle.std.specs.Prelude.{[], Option};
+    ghost use Rattle.mdb_verdict.specs.Output.{begun};
+    ghost use Rattle.mdb_show.specs.inner.ShowSteps.{HasShown, output};
+
+    /// Before the first row.
+    fn new(alloc: Global, scope: &Scope) -> Showing
+        ensures shown { (contents : Option (List ℕ))
+            → HasShown scope.now result.lines (begun contents) (output contents result.page) [] }
+        ensures scope { scope_of result.lines.bus ≡ scope.now }
+    {
+        Showing {
+            lines: Lines::new(scope),
+            page: Page::new(alloc),
+        }
+    }
+}
+
+/// It stops at the first row that breaks a rule of the link, or where a line can't be added.
+impl<W: Write> TakeRows<W> for Showing {
+    ghost use Rattle.std.proofs.Common.{sym};
+    ghost use Rattle.mdb_follow.specs.declared.follower.TheConstants.{ROWS_MAX};
+    ghost use Rattle.mdb_verdict.specs.Output.{begun};
+    ghost use Rattle.mdb_show.specs.inner.ShowSteps.{HasShown, HasStopped, output};
+
+    type Row = Event;
+
+    type Stop = Result<LinkFault, RunFault>;
+
+    ghost most = { ROWS_MAX };
+
+    ghost count = { λ showing. showing.lines.rows };
+
+    ghost scope = { λ showing. scope_of showing.lines.bus };
+
+    ghost has = { λ showing before after rows. HasShown (scope_of showing.lines.bus) showing.lines
+        (begun (W.contents before)) (output (W.contents after) showing.page) rows };
+
+    ghost stops = { λ showing before after. HasStopped (scope_of showing.lines.bus) showing.lines
+        (begun (W.contents before)) (output (W.contents after) showing.page) };
+
+    fn rows_taken(&self) -> u64 {
+        self.lines.rows
+    }
+
+    fn take_all(&mut self, writer: &mut W, rows: &[Event]) -> Option<Result<LinkFault, RunFault>> {
+        self.lines.add_all(rows, &mut self.page, writer).transpose()
+    }
+
+    ghost counts = { λ showing before after rows has. sym has.counted };
+}
+
+/// How far the lines of the rows have come.
+#[derive(Drop)]
+struct Lines {
+    bus: Bus,
+    rows: u64,
+    /// So many rows have their lines. Those after them are a tail.
+    shown: u64,
+    /// Room for the act that a row ends. Between rows what is in it is of no matter.
+    act: Act,
+}
+
+impl Lines {
+    ghost use Rattle.std.specs.Prelude.{◌≤◌, ◌+◌, []};
+    ghost use Rattle.mdb_words.specs.declared.event.Event.{Event};
+    ghost use Rattle.mdb_bus.specs.Bus.{StandsFor, scope_of};
+    ghost use Rattle.mdb_verdict.specs.Output.{Output};
+    ghost use Rattle.mdb_show.specs.inner.ShowSteps.{HasAdded, HasPieces, HasShown};
+
+    /// No lines: before the first row.
+    fn new(scope: &Scope) -> Lines
+        ensures scope { scope_of result.bus ≡ scope.now }
+        ensures stands { StandsFor result.bus [] }
+        ensures rows { result.rows ≡ 0 }
+        ensures shown { result.shown ≡ 0 }
+    {
+        Lines {
+            bus: Bus::scoped(scope),
+            rows: 0,
+            shown: 0,
+            act: Act::Foreign,
+        }
+    }
+
+    /// Adds the lines of the next rows. The first of them that breaks a rule of the link has a line
+    /// too, and is answered: of those after it nothing is said.
+    fn add_all<W: Write>(
+        &mut self,
+        events: &[Event],
+        page: &mut Page,
+        writer: &mut W,
+    ) -> Result<Option<LinkFault>, RunFault>
+        requires stands { HasPieces self.old.bus }
+        requires few { self.old.shown ≤ self.old.rows }
+        requires room { self.old.rows + length events.now ≤ ROWS_MAX }
+        ensures added { (before : Output) (earlier : List Event)
+            → HasShown (scope_of self.old.bus) self.old before
+            (output (W.contents writer.old) page.old) earlier
+            → HasAdded (scope_of self.old.bus) self.new before
+            (output (W.contents writer.new) page.new) earlier events.now result }
+        ensures scope { scope_of self.new.bus ≡ scope_of self.old.bus }
+    {
+        laws::acts_name_replies_of_their_commands();
+        for event in events {
+            let ended = match self.bus.feed_into(*event, &mut self.act) {
+                Ok(ended) => ended,
+                Err(fault) => {
+                    page.add_fault(writer, self.rows + 1, fault)?;
+                    return Ok(Some(fault));
+                }
+            };
+            if ended {
+                page.add_ended(writer, self.shown, self.rows, &self.act)?;
+                self.shown = self.rows + 1;
+            }
+            self.rows += 1;
+        }
+        Ok(None)
+    }
+}

@@ -1,0 +1,17 @@
+use Rattle.std.proofs.Common.{[], ap, get_or}
+use Rattle.mdb_follow.specs.declared.account_name.AccountName.TheVariants.{CoinsIn}
+use Rattle.mdb_follow.specs.declared.account_name.TheConstants.AccountName.{ALL}
+use Rattle.mdb_follow.specs.Report.{account_of}
+use Rattle.mdb_text.specs.Text.{account_line}
+use Rattle.mdb_text.proofs.Texts.{all_parts, one_part_more}
+use Rattle.mdb_text.proofs.text.write_accounts.Goals as goal
+
+pub loop-name-preserved : goal.loop-name-preserved
+loop-name-preserved g c =
+    let i = c.loop-name.name-index in
+    one_part_more (λ name. account_line name (account_of name c.args.report.now)) _ _ _ [] ALL i CoinsIn _ c.loop-name-test.true c.loop-name.invariant
+    (ap (account_line (get_or ALL i CoinsIn)) c.account.ensures) c.in_ok-write_account.ensures
+
+pub returns : goal.returns
+returns g c =
+    all_parts (λ name. account_line name (account_of name c.args.report.now)) _ _ [] ALL c.loop-name.name-index c.loop-name-test.false c.loop-name.invariant

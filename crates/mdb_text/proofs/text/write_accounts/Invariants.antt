@@ -1,0 +1,12 @@
+use Rattle.std.proofs.Common.{take}
+use Rattle.std.specs.Io.KnownBytes.{Appends}
+use Rattle.std.specs.List.{flat_map}
+use Rattle.mdb_follow.specs.Report.{account_of}
+use Rattle.mdb_text.specs.Text.{account_line}
+use Rattle.mdb_text.proofs.text.write_accounts.Given as goal
+
+-- the accounts so far have their lines
+abbrev pub invariant-loop-name : goal.invariant-loop-name
+invariant-loop-name g l =
+    Appends (g.W.Write.contents l.fn.writer) (g.W.Write.contents l.writer)
+    (flat_map (λ name. account_line name (account_of name l.report)) (take l.name-index l.name-items))

@@ -1,0 +1,22 @@
+use Rattle.std.proofs.Common.{codes, ap, get_or}
+use Rattle.mdb_msgs.specs.declared.command.Device.TheVariants.{Changer}
+use Rattle.mdb_follow.specs.declared.report.TheConstants.Report.{DEVICES}
+use Rattle.mdb_follow.specs.Report.{device_decimals}
+use Rattle.mdb_text.specs.Text.{places_text}
+use Rattle.mdb_text.proofs.Texts.{all_parts, appended, on_ok, one_part_more}
+use Rattle.mdb_text.proofs.text.write_decimals.Goals as goal
+
+pub loop-device-init : goal.loop-device-init
+loop-device-init g c = c.in_ok-write.ensures.bytes
+
+pub loop-device-preserved : goal.loop-device-preserved
+loop-device-preserved g c =
+    let i = c.loop-device.device-index in
+    one_part_more (λ device. places_text device (device_decimals device c.args.report.now)) _ _ _ (codes "decimals") DEVICES i Changer _ c.loop-device-test.true c.loop-device.invariant
+    (ap (places_text (get_or DEVICES i Changer)) c.device_decimals.ensures) c.in_ok-write_places.ensures
+
+pub returns : goal.returns
+returns g c =
+    on_ok c.write-2.result _ _
+    (λ last. appended _ _ _ _ _ (all_parts (λ device. places_text device (device_decimals device c.args.report.now)) _ _ (codes "decimals") DEVICES c.loop-device.device-index c.loop-device-test.false c.loop-device.invariant) last)
+    c.write-2.ensures.bytes

@@ -1,0 +1,12 @@
+use Rattle.std.proofs.Common.{◌++◌, codes, take}
+use Rattle.std.specs.Io.KnownBytes.{Appends}
+use Rattle.std.specs.List.{flat_map}
+use Rattle.mdb_follow.specs.Report.{device_decimals}
+use Rattle.mdb_text.specs.Text.{places_text}
+use Rattle.mdb_text.proofs.text.write_decimals.Given as goal
+
+-- the devices so far have their parts
+abbrev pub invariant-loop-device : goal.invariant-loop-device
+invariant-loop-device g l =
+    Appends (g.W.Write.contents l.fn.writer) (g.W.Write.contents l.writer) (codes "decimals"
+    ++ flat_map (λ device. places_text device (device_decimals device l.report)) (take l.device-index l.device-items))

@@ -1,0 +1,11 @@
+use Rattle.std.proofs.Common.{◌++◌, take}
+use Rattle.std.specs.Io.KnownBytes.{Appends}
+use Rattle.std.specs.List.{flat_map}
+use Rattle.mdb_text.specs.Text.{word_in}
+use Rattle.mdb_text.proofs.text.write_devices.Given as goal
+
+-- the devices so far have their words, where they are of the set
+abbrev pub invariant-loop-device : goal.invariant-loop-device
+invariant-loop-device g l =
+    Appends (g.W.Write.contents l.fn.writer) (g.W.Write.contents l.writer) (l.word
+    ++ flat_map (word_in l.devices) (take l.device-index l.device-items))

@@ -1,0 +1,26 @@
+//! The devices of whose set-up something is known from elsewhere.
+
+ghost use Rattle.std.specs.Prelude.{◌≡◌, if◌then◌else◌};
+ghost use Rattle.mdb_msgs.specs.DeviceSets.{with_device};
+ghost use Rattle.mdb_text.specs.Known.{known_devices};
+
+use mdb_msgs::{Device, DeviceSet, ReaderUnit, Setups};
+
+/// The devices of which something is known.
+pub fn known_devices(setups: &Setups) -> DeviceSet
+    ensures { result ≡ known_devices setups.now }
+{
+    let first = with_if(DeviceSet::NONE, Device::Changer, setups.changer.is_some());
+    let second = with_if(first, Device::Bill, setups.bill.is_some());
+    let first_reader = Device::Reader(ReaderUnit::First);
+    let third = with_if(second, first_reader, setups.first_reader.is_some());
+    let second_reader = Device::Reader(ReaderUnit::Second);
+    with_if(third, second_reader, setups.second_reader.is_some())
+}
+
+/// A set, with a device more where it is known.
+fn with_if(set: DeviceSet, device: Device, is_known: bool) -> DeviceSet
+    ensures { result ≡ (if is_known then with_device set device else set) }
+{
+    if is_known { set.with(device) } else { set }
+}

@@ -1,0 +1,209 @@
+-- How far the reading of rows has come, and how it ends.
+use Rattle.std.proofs.Common.{arith, refl, ap, sym, subst, ◌∙◌, ◌≡◌, ◌+◌, ◌≤◌, ◌⊎◌, inl, inr, ℕ, List, [], ◌++◌, Bool, true, false, Option, Some, None, Result, Ok, Err, length, length-append, append_assoc}
+use Rattle.std.specs.Prelude.{IsErrAnd}
+use Rattle.mdb_words.specs.declared.row.RowFault.{RowFault}
+use Rattle.mdb_records.specs.declared.ReadFault.TheVariants as reading
+use Rattle.mdb_records.specs.declared.Records.{Records}
+use Rattle.mdb_records.specs.ToCome.{ToCome}
+use Rattle.mdb_verdict.specs.declared.batch.Next.{Next}
+use Rattle.mdb_verdict.specs.declared.batch.Next.TheVariants as next
+use Rattle.mdb_verdict.specs.declared.fault.RunFault.{RunFault}
+use Rattle.mdb_verdict.specs.declared.fault.RunFault.TheVariants.{BadRow, TooLong, Read, Write, Memory, Mark}
+use Rattle.mdb_verdict.specs.Batch.{FitsIn, HasRead}
+use Rattle.mdb_verdict.specs.Ending.{EndsAfter, HasEnded, HasFirst, HasTaken, IsStopped, IsTakenWhole, goes_on_by}
+use Rattle.mdb_verdict.proofs.Rows.{all_append, empty, first_row, no_rows}
+
+-- The first of the records are rows, which were taken, and this is what comes after them.
+pub record Progress {R Row : Type 0} (Is : List (List ℕ) → Row → Type 0) (Refuses : List (List ℕ) → RowFault → Type 0) (remaining : R → Option (List ℕ)) (Has : List Row → Type 0) (start records : Records R) (after : Next) : Type 0 where
+  pub rows : List Row
+  pub has : Has rows
+  pub has_read : (all : List (List (List ℕ))) → ToCome remaining start all → HasRead Is Refuses remaining all records rows after
+
+pub begins : {R Row : Type 0} (Is : List (List ℕ) → Row → Type 0) (Refuses : List (List ℕ) → RowFault → Type 0) (remaining : R → Option (List ℕ)) (Has : List Row → Type 0) (start : Records R) → Has [] → Progress Is Refuses remaining Has start start next.More
+begins Is Refuses remaining Has start has = record { rows = []; has = has; has_read = λ all to_come. record { done = []; rest = all; split = refl; told = tt; after = to_come } }
+
+-- the records of two batches
+both_read : {R Row : Type 0} (Is : List (List ℕ) → Row → Type 0) (Refuses : List (List ℕ) → RowFault → Type 0) (remaining : R → Option (List ℕ)) (all : List (List (List ℕ))) (old new : Records R) (rows later : List Row) (after : Next) → HasRead Is Refuses remaining all old rows next.More
+    → ((rest : List (List (List ℕ))) → ToCome remaining old rest → HasRead Is Refuses remaining rest new later after) → HasRead Is Refuses remaining all new (rows ++ later) after
+both_read Is Refuses remaining all old new rows later after first reads =
+    let second : HasRead Is Refuses remaining first.rest new later after = reads first.rest first.after in
+    record {
+      done = first.done ++ second.done;
+      rest = second.rest;
+      split = first.split ∙ (ap (λ l. first.done ++ l) second.split ∙ sym (append_assoc first.done second.done second.rest));
+      told = all_append Is first.done rows second.done later first.told second.told;
+      after = second.after;
+    }
+
+-- After a batch whose rows were taken: so many are taken then.
+pub record After {R Row : Type 0} (Is : List (List ℕ) → Row → Type 0) (Refuses : List (List ℕ) → RowFault → Type 0) (remaining : R → Option (List ℕ)) (Has : List Row → Type 0) (start records : Records R) (later : List Row) (after : Next) (count total : ℕ) : Type 0 where
+  pub progress : Progress Is Refuses remaining Has start records after
+  pub number : total ≡ length progress.rows
+  pub counted : total ≡ count + length later
+
+pub goes_on : {R Row Stop : Type 0} (Is : List (List ℕ) → Row → Type 0) (Refuses : List (List ℕ) → RowFault → Type 0) (remaining : R → Option (List ℕ)) (Has Later : List Row → Type 0) (Stops : List Row → List Row → Stop → Type 0) (start old new : Records R) (events later : List Row)
+    (after : Next) (count total : ℕ) (stop : Option Stop) → Progress Is Refuses remaining Has start old next.More → ((rest : List (List (List ℕ))) → ToCome remaining old rest → HasRead Is Refuses remaining rest new later after)
+    → events ≡ later → stop ≡ None → ((earlier : List Row) → Has earlier → HasTaken Later Stops earlier events stop)
+    → ((rows : List Row) → Has rows → count ≡ length rows) → ((rows : List Row) → Later rows → total ≡ length rows) → After Is Refuses remaining Later start new later after count total
+goes_on {Row = Row} {Stop = Stop} Is Refuses remaining Has Later Stops start old new events later after count total stop progress reads same none takes counts counts_later =
+    let P : Option Stop → Type 0 = λ s. HasTaken Later Stops progress.rows events s in
+    let Q : List Row → Type 0 = λ l. Later (progress.rows ++ l) in
+    let has : Later (progress.rows ++ later) = subst Q same (subst P none (takes progress.rows progress.has)) in
+    let number : total ≡ length (progress.rows ++ later) = counts_later (progress.rows ++ later) has in
+    record {
+      progress = record {
+        rows = progress.rows ++ later;
+        has = has;
+        has_read = λ all to_come. both_read Is Refuses remaining all old new progress.rows later after (progress.has_read all to_come) reads;
+      };
+      number = number;
+      counted = omega (arith, counts progress.rows progress.has, number, length-append progress.rows later);
+    }
+
+-- a row of a batch was stopped at
+pub stopped : {R Row Stop : Type 0} (Is : List (List ℕ) → Row → Type 0) (Refuses : List (List ℕ) → RowFault → Type 0) (remaining : R → Option (List ℕ)) (Has Later : List Row → Type 0) (Stops : List Row → List Row → Stop → Type 0) (limit : ℕ) (all : List (List (List ℕ)))
+    (start old new : Records R) (events later : List Row) (after : Next) (count : ℕ) (answer : Option Stop) (stop : Stop) → Progress Is Refuses remaining Has start old next.More
+    → ToCome remaining start all → ((rest : List (List (List ℕ))) → ToCome remaining old rest → HasRead Is Refuses remaining rest new later after) → ((rows : List Row) → Has rows → count ≡ length rows)
+    → events ≡ later → answer ≡ Some stop → ((earlier : List Row) → Has earlier → HasTaken Later Stops earlier events answer) → count + length later ≤ limit
+    → IsStopped Is (λ earlier rows. Stops earlier rows stop) limit all
+stopped {Row = Row} {Stop = Stop} Is Refuses remaining Has Later Stops limit all start old new events later after count answer stop progress to_come reads counts same is takes room =
+    let read = both_read Is Refuses remaining all old new progress.rows later after (progress.has_read all to_come) reads in
+    let P : Option Stop → Type 0 = λ s. HasTaken Later Stops progress.rows events s in
+    let Q : List Row → Type 0 = λ l. Stops progress.rows l stop in
+    record {
+      earlier = progress.rows;
+      later = later;
+      rest = read.rest;
+      read = record { done = read.done; split = read.split; told = read.told };
+      few = omega (arith, counts progress.rows progress.has, length-append progress.rows later, room);
+      stops = subst Q same (subst P is (takes progress.rows progress.has));
+    }
+
+-- What comes after a batch.
+
+-- more is to come
+pub is_more : (after : Next) (rows : ℕ) (told : Result Bool RunFault) (more : Bool) → told ≡ goes_on_by after rows → told ≡ Ok more → more ≡ true → after ≡ next.More
+is_more next.More rows told more by is goes = refl
+is_more next.End rows told more by is goes = absurd (cc)
+is_more (next.BadRow fault) rows told more by is goes = absurd (cc)
+is_more (next.Failed fault) rows told more by is goes = absurd (cc)
+
+-- the text ends
+pub is_end : (after : Next) (rows : ℕ) (told : Result Bool RunFault) (more : Bool) → told ≡ goes_on_by after rows → told ≡ Ok more → more ≡ false → after ≡ next.End
+is_end next.More rows told more by is ends = absurd (cc)
+is_end next.End rows told more by is ends = refl
+is_end (next.BadRow fault) rows told more by is ends = absurd (cc)
+is_end (next.Failed fault) rows told more by is ends = absurd (cc)
+
+-- the records are all taken
+pub whole : {R Row : Type 0} (Is : List (List ℕ) → Row → Type 0) (Refuses : List (List ℕ) → RowFault → Type 0) (remaining : R → Option (List ℕ)) (Has : List Row → Type 0) (limit : ℕ) (all : List (List (List ℕ))) (start records : Records R) (after : Next)
+    → (progress : Progress Is Refuses remaining Has start records after) → ToCome remaining start all → after ≡ next.End → length progress.rows ≤ limit → IsTakenWhole Is Has limit all
+whole Is Refuses remaining Has limit all start records after progress to_come is few =
+    let P : Next → Type 0 = λ n. HasRead Is Refuses remaining all records progress.rows n in
+    let read : HasRead Is Refuses remaining all records progress.rows next.End = subst P is (progress.has_read all to_come) in
+    record { rows = progress.rows; read = record { done = read.done; split = read.split ∙ ap (λ l. read.done ++ l) read.after; told = read.told }; few = few; has = progress.has }
+
+-- a record isn't taken, or can't be read
+refused_by : {R Row Stop : Type 0} (Is : List (List ℕ) → Row → Type 0) (Refuses : List (List ℕ) → RowFault → Type 0) (remaining : R → Option (List ℕ)) (Has : List Row → Type 0) (Stops : List Row → List Row → Stop → Type 0) (limit : ℕ) (all : List (List (List ℕ))) (records : Records R)
+    (rows : List Row) (after : Next) (count room : ℕ) (later : List Row) → Has rows → HasRead Is Refuses remaining all records rows after → count ≡ length rows → FitsIn room later after
+    → count + room ≡ limit + length later → (fault : RunFault) → goes_on_by after count ≡ Err fault → HasEnded Is Refuses Has Stops limit all (Err fault)
+refused_by Is Refuses remaining Has Stops limit all records rows next.More count room later has read number within total fault is = absurd (cc)
+refused_by Is Refuses remaining Has Stops limit all records rows next.End count room later has read number within total fault is = absurd (cc)
+refused_by Is Refuses remaining Has Stops limit all records rows (next.BadRow refused) count room later has read number within total fault is =
+    let told : BadRow (count + 1) refused ≡ fault = cc in
+    let P : RunFault → Type 0 = λ f. HasEnded Is Refuses Has Stops limit all (Err f) in
+    subst P told (record {
+      rows = rows;
+      fields = read.after.0;
+      rest = read.after.1;
+      read = record { done = read.done; split = read.split ∙ ap (λ l. read.done ++ l) read.after.2; told = read.told };
+      few = omega (arith, number, within, total);
+      number = omega (arith, number);
+      refused = read.after.3;
+      has = has;
+    })
+refused_by Is Refuses remaining Has Stops limit all records rows (next.Failed reading.Read) count room later has read number within total fault is =
+    let told : Read ≡ fault = cc in
+    let P : RunFault → Type 0 = λ f. HasEnded Is Refuses Has Stops limit all (Err f) in
+    subst P told (record { rows = rows; rest = read.rest; read = record { done = read.done; split = read.split; told = read.told }; has = has })
+refused_by Is Refuses remaining Has Stops limit all records rows (next.Failed reading.Memory) count room later has read number within total fault is =
+    let told : Memory ≡ fault = cc in
+    let P : RunFault → Type 0 = λ f. HasEnded Is Refuses Has Stops limit all (Err f) in
+    subst P told (record { rows = rows; rest = read.rest; read = record { done = read.done; split = read.split; told = read.told }; has = has })
+
+pub refused : {R Row Stop : Type 0} (Is : List (List ℕ) → Row → Type 0) (Refuses : List (List ℕ) → RowFault → Type 0) (remaining : R → Option (List ℕ)) (Has : List Row → Type 0) (Stops : List Row → List Row → Stop → Type 0) (limit : ℕ) (all : List (List (List ℕ))) (start records : Records R)
+    (after : Next) (count room : ℕ) (later : List Row) → (progress : Progress Is Refuses remaining Has start records after) → ToCome remaining start all → count ≡ length progress.rows → FitsIn room later after
+    → count + room ≡ limit + length later → (told : Result Bool RunFault) (fault : RunFault) → told ≡ goes_on_by after count → told ≡ Err fault
+    → (answer : Result (Option Stop) RunFault) → IsErrAnd answer (λ other. other ≡ fault) → HasEnded Is Refuses Has Stops limit all answer
+refused Is Refuses remaining Has Stops limit all start records after count room later progress to_come number within total told fault by is (Ok stop) handed = absurd handed
+refused Is Refuses remaining Has Stops limit all start records after count room later progress to_come number within total told fault by is (Err other) handed =
+    let P : RunFault → Type 0 = λ f. HasEnded Is Refuses Has Stops limit all (Err f) in
+    subst P (sym handed) (refused_by Is Refuses remaining Has Stops limit all records progress.rows after count room later progress.has (progress.has_read all to_come) number within total fault (sym by ∙ is))
+
+-- After as many rows as there may be.
+
+-- no record is found
+pub none_left : {R Row : Type 0} (Is : List (List ℕ) → Row → Type 0) (Refuses : List (List ℕ) → RowFault → Type 0) (remaining : R → Option (List ℕ)) (rest : List (List (List ℕ))) (new : Records R) (rows : List Row) (after : Next)
+    → HasRead Is Refuses remaining rest new rows after → FitsIn 1 rows after → after ≡ next.End → rest ≡ []
+none_left Is Refuses remaining rest new rows next.More read within is = absurd (cc)
+none_left Is Refuses remaining rest new rows next.End read within is = read.split ∙ (ap (λ l. l ++ read.rest) (no_rows Is read.done rows read.told (empty rows within)) ∙ read.after)
+none_left Is Refuses remaining rest new rows (next.BadRow fault) read within is = absurd (cc)
+none_left Is Refuses remaining rest new rows (next.Failed fault) read within is = absurd (cc)
+
+-- a row is found, or a record that is none
+abbrev pub HasMore : Next → Type 0
+HasMore after = (after ≡ next.More) ⊎ ((fault : RowFault) × (after ≡ next.BadRow fault))
+
+pub first_found : {R Row : Type 0} (Is : List (List ℕ) → Row → Type 0) (Refuses : List (List ℕ) → RowFault → Type 0) (remaining : R → Option (List ℕ)) (rest : List (List (List ℕ))) (new : Records R) (rows : List Row) (after : Next)
+    → HasRead Is Refuses remaining rest new rows after → FitsIn 1 rows after → HasMore after → HasFirst rest
+first_found Is Refuses remaining rest new rows next.More read within more =
+    let first : HasFirst (read.done ++ read.rest) = first_row Is read.done read.rest rows read.told within.0 in
+    record { fields = first.fields; rest = first.rest; is = read.split ∙ first.is }
+first_found Is Refuses remaining rest new rows (next.BadRow fault) read within more =
+    let none : read.done ≡ [] = no_rows Is read.done rows read.told (empty rows within) in
+    record { fields = read.after.0; rest = read.after.1; is = read.split ∙ (ap (λ l. l ++ read.rest) none ∙ read.after.2) }
+first_found Is Refuses remaining rest new rows next.End read within (inl is) = absurd (cc)
+first_found Is Refuses remaining rest new rows next.End read within (inr other) = let is = other.1 in absurd (cc)
+first_found Is Refuses remaining rest new rows (next.Failed fault) read within (inl is) = absurd (cc)
+first_found Is Refuses remaining rest new rows (next.Failed fault) read within (inr other) = let is = other.1 in absurd (cc)
+
+-- the text ends there
+pub whole_at : {R Row : Type 0} (Is : List (List ℕ) → Row → Type 0) (Refuses : List (List ℕ) → RowFault → Type 0) (remaining : R → Option (List ℕ)) (Has : List Row → Type 0) (limit : ℕ) (all : List (List (List ℕ))) (start records : Records R)
+    → (progress : Progress Is Refuses remaining Has start records next.More) → ToCome remaining start all → ((rest : List (List (List ℕ))) → ToCome remaining records rest → rest ≡ []) → length progress.rows ≤ limit
+    → IsTakenWhole Is Has limit all
+whole_at Is Refuses remaining Has limit all start records progress to_come none few =
+    let read : HasRead Is Refuses remaining all records progress.rows next.More = progress.has_read all to_come in
+    record {
+      rows = progress.rows;
+      read = record { done = read.done; split = read.split ∙ ap (λ l. read.done ++ l) (none read.rest read.after); told = read.told };
+      few = few;
+      has = progress.has;
+    }
+
+-- there is a record too many, or it can't be read
+refused_at_by : {R Row Stop : Type 0} (Is : List (List ℕ) → Row → Type 0) (Refuses : List (List ℕ) → RowFault → Type 0) (remaining : R → Option (List ℕ)) (Has : List Row → Type 0) (Stops : List Row → List Row → Stop → Type 0) (limit : ℕ) (all : List (List (List ℕ))) (records : Records R)
+    (rows : List Row) → Has rows → (read : HasRead Is Refuses remaining all records rows next.More) → length rows ≡ limit → (fault : RunFault) → EndsAfter read.rest (Err fault) → HasEnded Is Refuses Has Stops limit all (Err fault)
+refused_at_by Is Refuses remaining Has Stops limit all records rows has read full (BadRow row fault) ends = absurd ends
+refused_at_by Is Refuses remaining Has Stops limit all records rows has read full TooLong ends = record {
+  rows = rows;
+  fields = ends.fields;
+  rest = ends.rest;
+  read = record { done = read.done; split = read.split ∙ ap (λ l. read.done ++ l) ends.is; told = read.told };
+  full = full;
+  has = has;
+}
+refused_at_by Is Refuses remaining Has Stops limit all records rows has read full Read ends = record { rows = rows; rest = read.rest; read = record { done = read.done; split = read.split; told = read.told }; has = has }
+refused_at_by Is Refuses remaining Has Stops limit all records rows has read full Memory ends = record { rows = rows; rest = read.rest; read = record { done = read.done; split = read.split; told = read.told }; has = has }
+refused_at_by Is Refuses remaining Has Stops limit all records rows has read full Write ends = absurd ends
+refused_at_by Is Refuses remaining Has Stops limit all records rows has read full (Mark row) ends = absurd ends
+
+pub refused_at : {R Row Stop : Type 0} (Is : List (List ℕ) → Row → Type 0) (Refuses : List (List ℕ) → RowFault → Type 0) (remaining : R → Option (List ℕ)) (Has : List Row → Type 0) (Stops : List Row → List Row → Stop → Type 0) (limit : ℕ) (all : List (List (List ℕ))) (start records : Records R)
+    → (progress : Progress Is Refuses remaining Has start records next.More) → ToCome remaining start all → length progress.rows ≡ limit → (told : Result Unit RunFault) (fault : RunFault)
+    → ((rest : List (List (List ℕ))) → ToCome remaining records rest → EndsAfter rest told) → told ≡ Err fault
+    → (answer : Result (Option Stop) RunFault) → IsErrAnd answer (λ other. other ≡ fault) → HasEnded Is Refuses Has Stops limit all answer
+refused_at Is Refuses remaining Has Stops limit all start records progress to_come full told fault ends is (Ok stop) handed = absurd handed
+refused_at Is Refuses remaining Has Stops limit all start records progress to_come full told fault ends is (Err other) handed =
+    let read : HasRead Is Refuses remaining all records progress.rows next.More = progress.has_read all to_come in
+    let P : RunFault → Type 0 = λ f. HasEnded Is Refuses Has Stops limit all (Err f) in
+    let Q : Result Unit RunFault → Type 0 = λ t. EndsAfter read.rest t in
+    subst P (sym handed) (refused_at_by Is Refuses remaining Has Stops limit all records progress.rows progress.has read full fault (subst Q is (ends read.rest read.after)))

@@ -1,0 +1,147 @@
+-- How a reading of rows ends.
+--
+-- `Is` says which fields are which row, `Refuses` why they are none. `Has` says which rows were
+-- taken, `Stops` that one of some rows after earlier ones was stopped at.
+use Rattle.std.specs.Prelude.{◌≡◌, ◌+◌, ◌<◌, ◌≤◌, ℕ, List, [], ◌∷◌, ◌++◌, length, ⊤, Bool, true, false, Option, Some, None, Result, Ok, Err}
+use Rattle.mdb_words.specs.declared.event.Event.{Event}
+use Rattle.mdb_words.specs.declared.row.RowFault.{RowFault}
+use Rattle.mdb_records.specs.declared.ReadFault.{ReadFault}
+use Rattle.mdb_records.specs.declared.ReadFault.TheVariants as reading
+use Rattle.mdb_follow.specs.declared.follower.Follower.{Follower}
+use Rattle.mdb_follow.specs.Follower.{StandsFor, rows_of, scope_of}
+use Rattle.mdb_verdict.specs.declared.batch.Next.{Next}
+use Rattle.mdb_verdict.specs.declared.batch.Next.TheVariants as next
+use Rattle.mdb_verdict.specs.declared.fault.RunFault.{RunFault}
+use Rattle.mdb_verdict.specs.declared.fault.RunFault.TheVariants.{BadRow, TooLong, Read, Write, Memory, Mark}
+use Rattle.mdb_verdict.specs.Batch.{AreAll}
+use Rattle.mdb_verdict.specs.Verdict.{run_fault_of}
+use Rattle.mdb_bus.specs.declared.scope.Scope.{Scope}
+
+-- the later rows were taken after the earlier ones, or one of them was stopped at
+abbrev pub HasTaken : {Row Stop : Type 0} → (List Row → Type 0)
+    → (List Row → List Row → Stop → Type 0) → List Row → List Row → Option Stop → Type 0
+HasTaken Has Stops earlier later None = Has (earlier ++ later)
+HasTaken Has Stops earlier later (Some stop) = Stops earlier later stop
+
+-- it was stopped at some row
+abbrev pub IsStop : {Row Stop : Type 0} → (List Row → List Row → Stop → Type 0) → Stop → Type 0
+IsStop {Row = Row} Stops stop = (earlier later : List Row) × Stops earlier later stop
+
+-- a follower has taken these rows
+pub record HasFollowed (scope : Scope) (follower : Follower) (rows : List Event) : Type 0 where
+  pub in_scope : scope_of follower ≡ scope
+  pub stands : StandsFor follower rows
+  pub counted : rows_of follower ≡ length rows
+
+-- The first of the records are these rows, and the rest stands after them.
+pub record AreRead {Row : Type 0} (Is : List (List ℕ) → Row → Type 0)
+    (records : List (List (List ℕ))) (rows : List Row) (rest : List (List (List ℕ)))
+    : Type 0 where
+  pub done : List (List (List ℕ))
+  pub split : records ≡ done ++ rest
+  pub told : AreAll Is done rows
+
+-- All records are rows, which were taken.
+pub record IsTakenWhole {Row : Type 0} (Is : List (List ℕ) → Row → Type 0)
+    (Has : List Row → Type 0) (limit : ℕ) (records : List (List (List ℕ))) : Type 0 where
+  pub rows : List Row
+  pub read : AreRead Is records rows []
+  pub few : length rows ≤ limit
+  pub has : Has rows
+
+-- One of the later rows was stopped at.
+pub record IsStopped {Row : Type 0} (Is : List (List ℕ) → Row → Type 0)
+    (Stops : List Row → List Row → Type 0) (limit : ℕ) (records : List (List (List ℕ)))
+    : Type 0 where
+  pub earlier : List Row
+  pub later : List Row
+  pub rest : List (List (List ℕ))
+  pub read : AreRead Is records (earlier ++ later) rest
+  pub few : length (earlier ++ later) ≤ limit
+  pub stops : Stops earlier later
+
+-- The record after the rows that were taken is no row.
+pub record IsTakenToBadRow {Row : Type 0} (Is : List (List ℕ) → Row → Type 0)
+    (Refuses : List (List ℕ) → RowFault → Type 0) (Has : List Row → Type 0) (limit : ℕ)
+    (records : List (List (List ℕ))) (row : ℕ) (fault : RowFault) : Type 0 where
+  pub rows : List Row
+  pub fields : List (List ℕ)
+  pub rest : List (List (List ℕ))
+  pub read : AreRead Is records rows (fields ∷ rest)
+  pub few : length rows < limit
+  pub number : row ≡ length rows + 1
+  pub refused : Refuses fields fault
+  pub has : Has rows
+
+-- There is a record after as many rows as there may be, which were taken.
+pub record IsTakenToLimit {Row : Type 0} (Is : List (List ℕ) → Row → Type 0)
+    (Has : List Row → Type 0) (limit : ℕ) (records : List (List (List ℕ))) : Type 0 where
+  pub rows : List Row
+  pub fields : List (List ℕ)
+  pub rest : List (List (List ℕ))
+  pub read : AreRead Is records rows (fields ∷ rest)
+  pub full : length rows ≡ limit
+  pub has : Has rows
+
+-- Some first records are rows, which were taken.
+pub record IsTakenInPart {Row : Type 0} (Is : List (List ℕ) → Row → Type 0)
+    (Has : List Row → Type 0) (records : List (List (List ℕ))) : Type 0 where
+  pub rows : List Row
+  pub rest : List (List (List ℕ))
+  pub read : AreRead Is records rows rest
+  pub has : Has rows
+
+-- what the reading of records came to: at the end of the text, at a row that was stopped at, at a
+-- record that isn't taken, and where a record can't be read
+abbrev pub HasEnded : {Row Stop : Type 0} → (List (List ℕ) → Row → Type 0)
+    → (List (List ℕ) → RowFault → Type 0) → (List Row → Type 0)
+    → (List Row → List Row → Stop → Type 0) → ℕ → List (List (List ℕ))
+    → Result (Option Stop) RunFault → Type 0
+HasEnded Is Refuses Has Stops limit records (Ok None) = IsTakenWhole Is Has limit records
+HasEnded Is Refuses Has Stops limit records (Ok (Some stop)) =
+    IsStopped Is (λ earlier later. Stops earlier later stop) limit records
+HasEnded Is Refuses Has Stops limit records (Err (BadRow row fault)) =
+    IsTakenToBadRow Is Refuses Has limit records row fault
+HasEnded Is Refuses Has Stops limit records (Err TooLong) = IsTakenToLimit Is Has limit records
+HasEnded Is Refuses Has Stops limit records (Err Read) = IsTakenInPart Is Has records
+HasEnded Is Refuses Has Stops limit records (Err Memory) = IsTakenInPart Is Has records
+HasEnded Is Refuses Has Stops limit records (Err Write) = ⊥
+HasEnded Is Refuses Has Stops limit records (Err (Mark row)) = ⊥
+
+-- a fault of reading is one that the reading of records has met, and no writer fails
+abbrev pub IsHeard : Option ReadFault → RunFault → Type 0
+IsHeard met (BadRow row fault) = ⊤
+IsHeard met TooLong = ⊤
+IsHeard met Read = met ≡ Some reading.Read
+IsHeard met Memory = met ≡ Some reading.Memory
+IsHeard met Write = ⊥
+IsHeard met (Mark row) = ⊥
+
+-- a fault of reading that was met is the answer, or a row before it was stopped at
+abbrev pub IsToldEnd : {Stop : Type 0} → ReadFault → Result (Option Stop) RunFault → Type 0
+IsToldEnd met (Ok None) = ⊥
+IsToldEnd met (Ok (Some stop)) = ⊤
+IsToldEnd met (Err fault) = fault ≡ run_fault_of met
+
+-- whether rows may come after so many of them and this, or which fault it is
+abbrev pub goes_on_by : Next → ℕ → Result Bool RunFault
+goes_on_by next.More rows = Ok true
+goes_on_by next.End rows = Ok false
+goes_on_by (next.BadRow fault) rows = Err (BadRow (rows + 1) fault)
+goes_on_by (next.Failed fault) rows = Err (run_fault_of fault)
+
+-- there is a record
+pub record HasFirst (records : List (List (List ℕ))) : Type 0 where
+  pub fields : List (List ℕ)
+  pub rest : List (List (List ℕ))
+  pub is : records ≡ fields ∷ rest
+
+-- no record may stand after the last row: there is none, there is one, or it can't be read
+abbrev pub EndsAfter : List (List (List ℕ)) → Result Unit RunFault → Type 0
+EndsAfter rest (Ok done) = rest ≡ []
+EndsAfter rest (Err (BadRow row fault)) = ⊥
+EndsAfter rest (Err TooLong) = HasFirst rest
+EndsAfter rest (Err Read) = ⊤
+EndsAfter rest (Err Memory) = ⊤
+EndsAfter rest (Err Write) = ⊥
+EndsAfter rest (Err (Mark row)) = ⊥

@@ -1,0 +1,53 @@
+//! Why there is no answer.
+
+ghost use Rattle.std.specs.Prelude.{◌≡◌};
+
+use mdb_records::ReadFault;
+use mdb_words::RowFault;
+use thiserror::Error;
+
+/// Why there is no answer.
+#[derive(Clone, Copy, PartialEq, Eq, Debug, Error)]
+pub enum RunFault {
+    /// A record is no row of a transcript.
+    #[error("row {row}: {fault:?}")]
+    BadRow {
+        /// The record's number, from 1.
+        row: u64,
+        /// What is wrong with it.
+        fault: RowFault,
+    },
+    /// The transcript has more rows than it may have.
+    #[error("more rows than are allowed")]
+    TooLong,
+    /// The reader failed, or the input has more bytes than it may have.
+    #[error("the input can't be read, or has more bytes than are allowed")]
+    Read,
+    /// The writer failed.
+    #[error("the output can't be written")]
+    Write,
+    /// Memory was refused.
+    #[error("out of memory")]
+    Memory,
+    /// A mark stands where none may: its row is 0, doesn't come after the row of the mark before
+    /// it, ends no act on which the mark may stand, or isn't there.
+    #[error("no such mark may stand at row {row}")]
+    Mark {
+        /// The row that the mark names, counted from 1.
+        row: u64,
+    },
+}
+
+impl From<ReadFault> for RunFault {
+    ghost use Rattle.std.specs.Prelude.{◌≡◌};
+    ghost use Rattle.mdb_verdict.specs.Verdict.{run_fault_of};
+
+    ghost from_gives = { λ fault told. told ≡ run_fault_of fault };
+
+    fn from(fault: ReadFault) -> RunFault {
+        match fault {
+            ReadFault::Read => RunFault::Read,
+            ReadFault::Memory => RunFault::Memory,
+        }
+    }
+}

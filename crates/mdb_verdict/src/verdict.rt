@@ -1,0 +1,307 @@
+//! The verdict on a transcript.
+
+ghost use Rattle.std.specs.Prelude.{◌≡◌, ◌≢◌, ◌<◌, ◌≤◌, List, ℕ, IfOk, IfErr, IfSome, None, Ok, Err, length};
+ghost use Rattle.std.specs.Io.KnownBytes.{Appends};
+ghost use Rattle.csv.specs.Reading.{default_config, records, strip_bom};
+ghost use Rattle.mdb_records.specs.ToCome.{IsOverLimit, IsUncut, ToCome, fault_of, limit_of};
+ghost use Rattle.mdb_verdict.specs.Headline.{Headline};
+ghost use Rattle.mdb_text.specs.Text.{report_text};
+ghost use Rattle.mdb_verdict.specs.CutReport.{IsCutReport};
+ghost use Rattle.mdb_verdict.specs.Verdict.{IsAnswer, IsYes, HasMet, IsNoYes, IsToldAs};
+ghost use Rattle.mdb_verdict.specs.Ending.{HasFollowed};
+ghost use Rattle.mdb_follow.specs.Follower.{StandsFor, rows_of, scope_of};
+ghost use Rattle.mdb_follow.specs.Offences.{HasOffence};
+ghost use Rattle.mdb_bus.specs.declared.scope.Scope.{Scope};
+ghost use Rattle.mdb_bus.specs.Scopes.{all_joined, power_on};
+ghost use Rattle.mdb_words.specs.declared.event.Event.{Event};
+
+use super::batch::Batch;
+use super::fault::RunFault;
+use super::laws::verdicts_say_the_headline;
+use super::reading::{TakeRows, read_rows};
+use super::text::text_scoped;
+use super::writing::write_text;
+use mdb_bus::Scope;
+use mdb_follow::{Follower, Offence, ROWS_MAX, laws};
+use mdb_msgs::{DeviceSet, Setups};
+use mdb_records::Records;
+use mdb_text::Outcome;
+use mdb_words::Event;
+use std::alloc::Global;
+use std::io::{Read, Write};
+
+/// The most bytes of an input (this profile).
+pub const BYTES_MAX: u64 = 6_400_000_000;
+
+/// Reads a transcript, writes the text of its verdict, and answers it. Recording began at power-on
+/// or at a break, and all devices are followed: this is [`check_scoped`] of [`Scope::POWER_ON`].
+///
+/// The rows are the records of the input as `csv` reads them, without a header: start in
+/// microseconds, line (`M`, `S` or `B`), and word or length of the break. The first record that is
+/// no row, or the first row that cannot follow the rows before it, ends the reading.
+///
+/// # Errors
+///
+/// `BadRow` for the first record that is no row, if no row before it is impossible; `TooLong` for a
+/// record past [`ROWS_MAX`]; `Read` where the reader failed, or for an input of more than
+/// [`BYTES_MAX`] bytes that isn't answered before; `Memory` where memory was refused. Nothing has
+/// been written then. `Write` where the writer failed: then it took a front of the text of the
+/// verdict that there is, and nothing else.
+pub fn check<R: Read + Drop, W: Write>(
+    alloc: Global,
+    reader: R,
+    writer: &mut W,
+) -> Result<Outcome, RunFault>
+    ensures answer { IfSome (R.remaining reader)
+        (λ text. IsAnswer power_on ROWS_MAX (records default_config (strip_bom text)) result) }
+    ensures headline { IfSome (R.remaining reader) (λ text.
+        IfOk result (Headline power_on ROWS_MAX (records default_config (strip_bom text)))) }
+    ensures whole { IfSome (R.remaining reader) (λ text. BYTES_MAX < length text → IsNoYes result) }
+    ensures written { IfOk result (λ outcome. Appends (W.contents writer.old)
+        (W.contents writer.new) (report_text power_on outcome)) }
+    ensures nothing_written { IfErr result (λ fault. fault ≢ RunFault.Write
+        → writer.new ≡ writer.old) }
+    ensures cut { IfSome (R.remaining reader) (λ text. result ≡ Err RunFault.Write
+        → IsCutReport power_on ROWS_MAX (records default_config (strip_bom text))
+        (W.contents writer.old) (W.contents writer.new)) }
+{
+    check_scoped(alloc, &Scope::POWER_ON, reader, writer)
+}
+
+/// Does as [`check`] does, of a recording that begins in mid-session, of which nothing is known
+/// from elsewhere: this is [`check_scoped`] of [`Scope::joined`] with [`Setups::NONE`] and
+/// [`DeviceSet::NONE`].
+///
+/// What was said before isn't known, and each device may be in any state. The text of a yes has one
+/// line more, its last: how often money moved on each device whose value isn't known.
+///
+/// # Errors
+///
+/// Those of `check`.
+pub fn check_joined<R: Read + Drop, W: Write>(
+    alloc: Global,
+    reader: R,
+    writer: &mut W,
+) -> Result<Outcome, RunFault>
+    ensures answer { IfSome (R.remaining reader)
+        (λ text. IsAnswer all_joined ROWS_MAX (records default_config (strip_bom text)) result) }
+    ensures headline { IfSome (R.remaining reader) (λ text.
+        IfOk result (Headline all_joined ROWS_MAX (records default_config (strip_bom text)))) }
+    ensures whole { IfSome (R.remaining reader) (λ text. BYTES_MAX < length text → IsNoYes result) }
+    ensures written { IfOk result (λ outcome. Appends (W.contents writer.old)
+        (W.contents writer.new) (report_text all_joined outcome)) }
+    ensures nothing_written { IfErr result (λ fault. fault ≢ RunFault.Write
+        → writer.new ≡ writer.old) }
+    ensures cut { IfSome (R.remaining reader) (λ text. result ≡ Err RunFault.Write
+        → IsCutReport all_joined ROWS_MAX (records default_config (strip_bom text))
+        (W.contents writer.old) (W.contents writer.new)) }
+{
+    let scope = Scope::joined(Setups::NONE, DeviceSet::NONE);
+    check_scoped(alloc, &scope, reader, writer)
+}
+
+/// Does as [`check`] does, with other limits: at most `rows_max` rows and `bytes_max` bytes, where
+/// `check` allows [`ROWS_MAX`] and [`BYTES_MAX`].
+///
+/// # Errors
+///
+/// Those of `check`. `TooLong` is for a record past `rows_max`, whatever it holds: it may be no
+/// row, and a row that cannot be. `Read` is also for an input of more than `bytes_max` bytes that
+/// isn't answered before.
+pub fn check_within<R: Read + Drop, W: Write>(
+    alloc: Global,
+    reader: R,
+    writer: &mut W,
+    rows_max: u64,
+    bytes_max: u64,
+) -> Result<Outcome, RunFault>
+    requires rows { rows_max ≤ ROWS_MAX }
+    requires bytes { bytes_max ≤ BYTES_MAX }
+    ensures answer { IfSome (R.remaining reader)
+        (λ text. IsAnswer power_on rows_max (records default_config (strip_bom text)) result) }
+    ensures headline { IfSome (R.remaining reader) (λ text.
+        IfOk result (Headline power_on rows_max (records default_config (strip_bom text)))) }
+    ensures whole { IfSome (R.remaining reader) (λ text. bytes_max < length text → IsNoYes result) }
+    ensures written { IfOk result (λ outcome. Appends (W.contents writer.old)
+        (W.contents writer.new) (report_text power_on outcome)) }
+    ensures nothing_written { IfErr result (λ fault. fault ≢ RunFault.Write
+        → writer.new ≡ writer.old) }
+    ensures cut { IfSome (R.remaining reader) (λ text. result ≡ Err RunFault.Write
+        → IsCutReport power_on rows_max (records default_config (strip_bom text))
+        (W.contents writer.old) (W.contents writer.new)) }
+{
+    check_scoped_within(alloc, &Scope::POWER_ON, reader, writer, rows_max, bytes_max)
+}
+
+/// Does as [`check`] does, of a recording that is taken as `scope` says: what is said to a device
+/// that is left out, and what it answers, is foreign traffic, whatever it is, and the text of a yes
+/// names that device in one line more, its last. Where recording began in mid-session, as for
+/// [`check_joined`], the line of what has no value stands before it, and, where setup data are
+/// known from elsewhere, a line that names their devices.
+///
+/// # Errors
+///
+/// Those of `check`.
+pub fn check_scoped<R: Read + Drop, W: Write>(
+    alloc: Global,
+    scope: &Scope,
+    reader: R,
+    writer: &mut W,
+) -> Result<Outcome, RunFault>
+    ensures answer { IfSome (R.remaining reader)
+        (λ text. IsAnswer scope.now ROWS_MAX (records default_config (strip_bom text)) result) }
+    ensures headline { IfSome (R.remaining reader) (λ text.
+        IfOk result (Headline scope.now ROWS_MAX (records default_config (strip_bom text)))) }
+    ensures whole { IfSome (R.remaining reader) (λ text. BYTES_MAX < length text → IsNoYes result) }
+    ensures written { IfOk result (λ outcome. Appends (W.contents writer.old)
+        (W.contents writer.new) (report_text scope.now outcome)) }
+    ensures nothing_written { IfErr result (λ fault. fault ≢ RunFault.Write
+        → writer.new ≡ writer.old) }
+    ensures cut { IfSome (R.remaining reader) (λ text. result ≡ Err RunFault.Write
+        → IsCutReport scope.now ROWS_MAX (records default_config (strip_bom text))
+        (W.contents writer.old) (W.contents writer.new)) }
+{
+    check_scoped_within(alloc, scope, reader, writer, ROWS_MAX, BYTES_MAX)
+}
+
+/// Does as [`check_scoped`] does, with other limits, as [`check_within`] has them.
+///
+/// # Errors
+///
+/// Those of `check_within`.
+pub fn check_scoped_within<R: Read + Drop, W: Write>(
+    alloc: Global,
+    scope: &Scope,
+    reader: R,
+    writer: &mut W,
+    rows_max: u64,
+    bytes_max: u64,
+) -> Result<Outcome, RunFault>
+    requires rows { rows_max ≤ ROWS_MAX }
+    requires bytes { bytes_max ≤ BYTES_MAX }
+    ensures answer { IfSome (R.remaining reader)
+        (λ text. IsAnswer scope.now rows_max (records default_config (strip_bom text)) result) }
+    ensures headline { IfSome (R.remaining reader) (λ text.
+        IfOk result (Headline scope.now rows_max (records default_config (strip_bom text)))) }
+    ensures whole { IfSome (R.remaining reader) (λ text. bytes_max < length text → IsNoYes result) }
+    ensures written { IfOk result (λ outcome. Appends (W.contents writer.old)
+        (W.contents writer.new) (report_text scope.now outcome)) }
+    ensures nothing_written { IfErr result (λ fault. fault ≢ RunFault.Write
+        → writer.new ≡ writer.old) }
+    ensures cut { IfSome (R.remaining reader) (λ text. result ≡ Err RunFault.Write
+        → IsCutReport scope.now rows_max (records default_config (strip_bom text))
+        (W.contents writer.old) (W.contents writer.new)) }
+{
+    let mut records = records_of(alloc, reader, bytes_max);
+    check_records(alloc, scope, &mut records, writer, rows_max)
+}
+
+/// Checks the records that are still to come, at most so many, and writes the text of the verdict.
+/// What the records tell of where the reading ended is still to be asked then.
+pub fn check_records<R: Read + Drop, W: Write>(
+    alloc: Global,
+    scope: &Scope,
+    records: &mut Records<R>,
+    writer: &mut W,
+    rows_max: u64,
+) -> Result<Outcome, RunFault>
+    requires { rows_max ≤ ROWS_MAX }
+    ensures answer { (all : List (List (List ℕ))) → ToCome R.remaining records.old all
+        → IsAnswer scope.now rows_max all result }
+    ensures headline { (all : List (List (List ℕ))) → ToCome R.remaining records.old all
+        → IfOk result (Headline scope.now rows_max all) }
+    ensures whole { IsOverLimit R.remaining records.old → IsNoYes result }
+    ensures written { IfOk result (λ outcome. Appends (W.contents writer.old)
+        (W.contents writer.new) (report_text scope.now outcome)) }
+    ensures nothing_written { IfErr result (λ fault. fault ≢ RunFault.Write
+        → writer.new ≡ writer.old) }
+    ensures cut { (all : List (List (List ℕ))) → ToCome R.remaining records.old all
+        → result ≡ Err RunFault.Write
+        → IsCutReport scope.now rows_max all (W.contents writer.old) (W.contents writer.new) }
+{
+    verdicts_say_the_headline();
+    let outcome = verdict_on(scope, records, rows_max)?;
+    let Ok(text) = text_scoped(alloc, scope, &outcome) else {
+        return Err(RunFault::Memory);
+    };
+    write_text(writer, text.as_slice())?;
+    Ok(outcome)
+}
+
+/// The records of the text that a reader has left, up to so many bytes and no less.
+pub fn records_of<R: Read + Drop>(alloc: Global, reader: R, bytes_max: u64) -> Records<R>
+    ensures records { IfSome (R.remaining reader) (λ text.
+        ToCome R.remaining result (records default_config (strip_bom text))) }
+    ensures over { IfSome (R.remaining reader) (λ text.
+        bytes_max < length text → IsOverLimit R.remaining result) }
+    ensures within { IfSome (R.remaining reader) (λ text.
+        length text ≤ bytes_max → IsUncut R.remaining result (strip_bom text)) }
+    ensures going { fault_of result ≡ None }
+    ensures limit { limit_of result ≡ bytes_max }
+{
+    Records::new(alloc, reader, bytes_max)
+}
+
+/// The verdict on the records that are still to come, at most so many.
+fn verdict_on<R: Read + Drop>(
+    scope: &Scope,
+    records: &mut Records<R>,
+    rows_max: u64,
+) -> Result<Outcome, RunFault>
+    requires { rows_max ≤ ROWS_MAX }
+    ensures answer { (all : List (List (List ℕ))) → ToCome R.remaining records.old all
+        → IsAnswer scope.now rows_max all result }
+    ensures whole { IsOverLimit R.remaining records.old → IsNoYes result }
+    ensures heard { IfErr result (HasMet (fault_of records.new)) }
+    ensures met { fault_of records.old ≡ None → IfSome (fault_of records.new)
+        (λ fault. IsToldAs fault result) }
+    ensures not_write { IfErr result (λ fault. fault ≢ RunFault.Write) }
+{
+    laws::followers_stand_for_reached_rows();
+    laws::sales_follow_their_approvals();
+    let mut follower = Follower::scoped(scope);
+    match read_rows(records, &mut Batch::new(), &mut follower, &mut (), rows_max)? {
+        None => Ok(outcome_of(&follower)),
+        Some(offence) => Ok(Outcome::No(offence)),
+    }
+}
+
+/// A follower stops at the first row that cannot be, and tells nothing before.
+impl TakeRows<()> for Follower {
+    ghost use Rattle.mdb_follow.specs.declared.follower.TheConstants.{ROWS_MAX};
+
+    type Row = Event;
+
+    type Stop = Offence;
+
+    ghost most = { ROWS_MAX };
+
+    ghost count = { rows_of };
+
+    ghost scope = { scope_of };
+
+    ghost has = { λ follower before after. HasFollowed (scope_of follower) follower };
+
+    ghost stops = { λ follower before after. HasOffence (scope_of follower) };
+
+    fn rows_taken(&self) -> u64 {
+        Follower::rows(self)
+    }
+
+    fn take_all(&mut self, _out: &mut (), rows: &[Event]) -> Option<Offence> {
+        self.feed_all(rows).err()
+    }
+
+    ghost counts = { λ follower before after rows has. has.counted };
+}
+
+/// What the rows that a follower has taken come to.
+pub fn outcome_of(follower: &Follower) -> Outcome
+    ensures { (rows : List Event) → StandsFor follower.now rows
+        → IsYes (scope_of follower.now) rows result }
+{
+    match follower.report() {
+        Ok(report) => Outcome::Yes(report),
+        Err(offence) => Outcome::No(offence),
+    }
+}
