@@ -1,8 +1,10 @@
 # Installs the programs that are built, their man pages, completions for bash and the pages of docs/.
-# It builds nothing: README.md says how to get the program.
+# For these it builds nothing: README.md says how to get the program. And it builds the page for a
+# browser, out/mdbcheck.html, which proves what that stands on (docs/page.md).
 #
 #     make install [PREFIX=/usr/local] [DESTDIR=..]
 #     make uninstall [PREFIX=/usr/local] [DESTDIR=..]
+#     make page
 
 PREFIX = /usr/local
 DESTDIR =
@@ -18,6 +20,10 @@ names = mdbcheck mdbimport
 
 help:
 	@echo 'make install [PREFIX=/usr/local] [DESTDIR=..] installs the built program, make uninstall takes it away'
+	@echo 'make page builds out/mdbcheck.html, the page for a browser'
+
+page:
+	page/build
 
 # Only what is built and what has a page or completions here. The second program may be missing.
 install:
@@ -38,4 +44,4 @@ uninstall:
 	for name in $(names); do rm -f '$(bin)'/$$name '$(man)'/$$name.1 '$(completions)'/$$name || exit 1; done
 	rm -rf '$(doc)'
 
-.PHONY: help install uninstall
+.PHONY: help install page uninstall

@@ -1,0 +1,74 @@
+use Rattle.std.proofs.Common.{◌≡◌, ◌≤◌, ◌<◌, [], ◌∷◌, ◌++◌, List, ℕ, length, refl, sym, subst, ap, ◌∙◌, arith}
+use Rattle.std.proofs.Math.Nat.{le_refl}
+use Rattle.std.proofs.lemmas.Bool.{eqb-true}
+use Rattle.std.proofs.lemmas.List.{nil_from_length}
+use Rattle.mdb_bus.specs.declared.scope.Scope.{Scope}
+use Rattle.mdb_follow.specs.Follower.{scope_of}
+use Rattle.mdb_follow.specs.Offences.{IsOffence}
+use Rattle.mdb_follow.specs.declared.offence.Offence.{Offence}
+use Rattle.mdb_page.specs.Lines.{IsBare, start, blank, row}
+use Rattle.mdb_page.specs.declared.answer.End.{End}
+use Rattle.mdb_page.specs.declared.answer.End.TheVariants as ends
+use Rattle.mdb_page.proofs.answer.follow.Goals as goal
+
+-- the offence of an end, and another one where it has none
+pub offence_of : End → Offence → Offence
+offence_of (ends.Offence offence) other = offence
+offence_of ends.Text other = other
+offence_of (ends.Line fault) other = other
+offence_of ends.TooLong other = other
+
+pub loop-line-init : goal.loop-line-init
+loop-line-init c = record {
+  left = le_refl (length c.args.rest.now.now);
+  scope = refl;
+  read = ([], start, c.requires);
+}
+
+pub returns-in-Err-feed-clause-offence : goal.returns-in-Err-feed-clause-offence
+unfolding offence_of
+returns-in-Err-feed-clause-offence c = λ offence same.
+    let before = c.loop-line.invariant in
+    let rows = before.read.0 in
+    let event = c.in-Ok.event in (
+      rows,
+      event,
+      c.first_line.result.1.now,
+      row event before.read.1 (record { line = c.first_line.result.0.now; first = c.first_line.ensures.line; is = c.without_return-line.ensures }) c.in-Ok.ensures,
+      subst (λ (told : Offence). IsOffence (scope_of c.args.follower.now) rows event told) (ap (λ end. offence_of end c.in-Err-feed.offence) same)
+          (subst (λ (scope : Scope). IsOffence scope rows event c.in-Err-feed.offence) before.scope (c.in-Err-feed.ensures.offence rows before.read.2)),
+    )
+
+pub loop-line-preserved-in_default : goal.loop-line-preserved-in_default
+loop-line-preserved-in_default c =
+    let before = c.loop-line.invariant in
+    let rows = before.read.0 in
+    let event = c.in-Ok.event in
+    let less : length c.first_line.result.1.now < length c.loop-line.rest.now = c.first_line.ensures.shorter in
+    let few : length c.loop-line.rest.now ≤ length c.args.rest.now.now = before.left in
+    record {
+      left = omega arith;
+      scope = c.in_default.ensures.scope ∙ before.scope;
+      read = (
+        rows ++ event ∷ [],
+        row event before.read.1 (record { line = c.first_line.result.0.now; first = c.first_line.ensures.line; is = c.without_return-line.ensures }) c.in-Ok.ensures,
+        c.in_default.ensures.reached rows before.read.2,
+      );
+    }
+
+pub loop-line-preserved : goal.loop-line-preserved
+loop-line-preserved c =
+    let before = c.loop-line.invariant in
+    let bare = c.without_return-line.result.now in
+    let less : length c.first_line.result.1.now < length c.loop-line.rest.now = c.first_line.ensures.shorter in
+    let few : length c.loop-line.rest.now ≤ length c.args.rest.now.now = before.left in
+    let empty : bare ≡ [] = nil_from_length bare (eqb-true (length bare) 0 (sym c.if-not-is_empty.ensures)) in
+    record {
+      left = omega arith;
+      scope = before.scope;
+      read = (
+        before.read.0,
+        blank before.read.1 (record { line = c.first_line.result.0.now; first = c.first_line.ensures.line; is = subst (λ (line : List ℕ). IsBare c.first_line.result.0.now line) empty c.without_return-line.ensures }),
+        before.read.2,
+      );
+    }

@@ -1,0 +1,39 @@
+-- What the check of a text answers.
+use Rattle.std.specs.Prelude.{◌≡◌, ℕ, List, [], ◌∷◌, ◌++◌, take}
+use Rattle.mdb_words.specs.declared.event.Event.{Event}
+use Rattle.mdb_bus.specs.declared.scope.Scope.{Scope}
+use Rattle.mdb_follow.specs.declared.report.Report.{Report}
+use Rattle.mdb_follow.specs.declared.offence.Offence.{Offence}
+use Rattle.mdb_follow.specs.Offences.{IsOffence}
+use Rattle.mdb_follow.specs.Report.{IsReport}
+use Rattle.mdb_text.specs.declared.outcome.Outcome.TheVariants.{No, Yes}
+use Rattle.mdb_text.specs.Text.{report_text}
+use Rattle.mdb_page.specs.Lines.{HasRead, IsUnmarked}
+use Rattle.mdb_page.specs.declared.sheet.PageText.{PageText}
+
+-- the bytes of an answer's text
+abbrev pub written : PageText → List ℕ
+written answer = take answer.count answer.bytes
+
+-- All lines of a text tell rows, and the answer is the text of the report on these, taken in a scope.
+pub record IsYes (scope : Scope) (text : List ℕ) (answer : PageText) : Type 0 where
+  pub lines : List ℕ
+  pub unmarked : IsUnmarked text lines
+  pub rows : List Event
+  pub read : HasRead lines rows []
+  pub report : Report
+  pub is : IsReport scope rows report
+  pub told : written answer ≡ report_text scope (Yes report)
+
+-- The first lines of a text tell rows, the last of which is the first that can't be, and the answer is
+-- the text that says so.
+pub record IsNo (scope : Scope) (text : List ℕ) (answer : PageText) : Type 0 where
+  pub lines : List ℕ
+  pub unmarked : IsUnmarked text lines
+  pub rows : List Event
+  pub event : Event
+  pub rest : List ℕ
+  pub read : HasRead lines (rows ++ event ∷ []) rest
+  pub offence : Offence
+  pub is : IsOffence scope rows event offence
+  pub told : written answer ≡ report_text scope (No offence)

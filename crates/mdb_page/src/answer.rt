@@ -1,0 +1,165 @@
+//! The verdict on a text.
+
+ghost use Rattle.std.specs.Prelude.{◌≡◌, ◌≢◌, ◌≤◌, [], ◌∷◌, ◌++◌, List, ℕ, length};
+ghost use Rattle.mdb_words.specs.declared.event.Event.{Event};
+ghost use Rattle.mdb_bus.specs.declared.scope.Scope.{Scope};
+ghost use Rattle.mdb_follow.specs.Follower.{StandsFor, rows_of, scope_of};
+ghost use Rattle.mdb_follow.specs.Offences.{IsOffence};
+ghost use Rattle.mdb_follow.specs.declared.offence.Offence.{Offence};
+ghost use Rattle.mdb_text.specs.Text.{report_text};
+ghost use Rattle.mdb_page.specs.Answers.{IsNo, IsYes, written};
+ghost use Rattle.mdb_page.specs.Lines.{HasRead};
+ghost use Rattle.mdb_page.specs.Options.{IsTakenSo};
+
+use crate::lines::{LineFault, first_line, row_of, without_mark, without_return};
+use crate::options::{PageOptions, taken_so};
+use crate::sheet::PageText;
+use mdb_bus::Scope;
+use mdb_follow::{Follower, Offence, ROWS_MAX};
+use mdb_text::{Outcome, write_outcome};
+use mdb_words::RowFault;
+
+/// The answers of the calls.
+pub(crate) const YES: u32 = 0;
+
+pub(crate) const NO: u32 = 1;
+
+pub(crate) const BAD_ROW: u32 = 2;
+
+pub(crate) const TOO_LONG: u32 = 3;
+
+pub(crate) const UNREAD: u32 = 4;
+
+pub(crate) const BAD_OPTIONS: u32 = 5;
+
+pub(crate) const NO_ROOM: u32 = 6;
+
+/// Where a reading ended.
+#[repr(C)]
+#[derive(Drop)]
+pub struct PageTold {
+    /// How many rows were read, or the number of the row that ended it, from 1.
+    pub row: u64,
+    /// How many bytes of the text stand in front of the line of that row, or were read.
+    pub offset: u64,
+    /// Why that row is none: 0 to 3, in the order of `RowFault`.
+    pub fault: u64,
+    /// How many acts there are.
+    pub acts: u64,
+}
+
+/// The end of a reading of rows.
+enum End {
+    /// That of the text.
+    Text,
+    /// A row that can't be.
+    Offence(Offence),
+    /// A line that is no row.
+    Line(LineFault),
+    /// A row more than there may be.
+    TooLong,
+}
+
+/// The number of the fault of a row.
+pub(crate) fn fault_number(fault: RowFault) -> u64 {
+    match fault {
+        RowFault::FieldCount => 0,
+        RowFault::BadTime => 1,
+        RowFault::BadLine => 2,
+        RowFault::BadValue => 3,
+    }
+}
+
+/// Checks the recording that lies in memory as text. It answers
+///
+/// - 0: all rows are possible, and `answer` has the text of the report;
+/// - 1: a row can't be, and `answer` has the text that says so;
+/// - 2: a line is no row;
+/// - 3: there are more rows than there may be;
+/// - 4: a line has a quote, or a CR that doesn't end it;
+/// - 5: the options name no way to take a recording;
+/// - 6: the text of the answer has no room.
+///
+/// `told` says where the reading ended.
+#[unsafe(no_mangle)]
+pub extern "C" fn mdb_page_check(
+    options: &PageOptions,
+    text: &[u8],
+    told: &mut PageTold,
+    answer: &mut PageText,
+) -> u32
+    ensures yes { result ≡ 0 → (scope : Scope) × IsTakenSo options.now scope × IsYes scope text.now answer.new }
+    ensures no { result ≡ 1 → (scope : Scope) × IsTakenSo options.now scope × IsNo scope text.now answer.new }
+{
+    answer.count = 0;
+    let Some(scope) = taken_so(options) else {
+        return BAD_OPTIONS;
+    };
+    let mut follower = Follower::scoped(&scope);
+    let mut rest = without_mark(text);
+    let end = follow(&mut follower, &mut rest);
+    told.offset = (text.len() - rest.len()) as u64;
+    told.row = follower.rows() + 1;
+    match end {
+        End::Text => {
+            told.row = follower.rows();
+            match follower.report() {
+                Ok(report) => write_as(YES, &scope, &Outcome::Yes(report), answer),
+                Err(_) => UNREAD,
+            }
+        }
+        End::Offence(offence) => {
+            told.row = offence.row;
+            write_as(NO, &scope, &Outcome::No(offence), answer)
+        }
+        End::Line(LineFault::BadRow(fault)) => {
+            told.fault = fault_number(fault);
+            BAD_ROW
+        }
+        End::Line(LineFault::Unread) => UNREAD,
+        End::TooLong => TOO_LONG,
+    }
+}
+
+/// Follows the rows of a text, and leaves what stands from the line on that ends it.
+fn follow(follower: &mut Follower, rest: &mut &[u8]) -> End
+    requires { StandsFor follower.old [] }
+    ensures left { length rest.new.now ≤ length rest.old.now }
+    ensures text { result ≡ End.Text → (rows : List Event)
+        × HasRead rest.old.now rows [] × StandsFor follower.new rows }
+    ensures offence { (offence : Offence) → result ≡ End.Offence offence → (rows : List Event)
+        × (event : Event) × (after : List ℕ) × HasRead rest.old.now (rows ++ event ∷ []) after
+        × IsOffence (scope_of follower.old) rows event offence }
+    ensures scope { scope_of follower.new ≡ scope_of follower.old }
+{
+    while !rest.is_empty() {
+        let (line, behind) = first_line(*rest);
+        let line = without_return(line);
+        if !line.is_empty() {
+            if follower.rows() >= ROWS_MAX {
+                return End::TooLong;
+            }
+            let event = match row_of(line) {
+                Ok(event) => event,
+                Err(fault) => return End::Line(fault),
+            };
+            if let Err(offence) = follower.feed(event) {
+                return End::Offence(offence);
+            }
+        }
+        *rest = behind;
+    }
+    End::Text
+}
+
+/// Writes the text of an outcome, and answers so if there is room for it.
+fn write_as(number: u32, scope: &Scope, outcome: &Outcome, answer: &mut PageText) -> u32
+    requires empty { answer.old.count ≡ 0 }
+    requires other { number ≢ 6 }
+    ensures { result ≢ 6 → (result ≡ number) × (written answer.new ≡ report_text scope.now outcome.now) }
+{
+    match write_outcome(answer, scope, outcome) {
+        Ok(()) => number,
+        Err(_) => NO_ROOM,
+    }
+}

@@ -1,0 +1,98 @@
+#!/usr/bin/env python3
+"""make.py MODULE.wasm PAGE.html: puts the page's sources and the module into one file.
+
+The texts of the rules are those of docs/rules.md. Scripts and styles are named by their checksums
+in the page's Content-Security-Policy, so that the browser runs nothing else. The same input gives
+the same bytes.
+"""
+
+import base64
+import hashlib
+import json
+import pathlib
+import re
+import sys
+
+HERE = pathlib.Path(__file__).resolve().parent
+RULES = "Order Speaker Mode Early Late Spacing Length Sum Break Answer Message Same Profile Changer Bill Cashless".split()
+LEADS = {"At the bench": "bench", "The row": "row", "Blame": "blame", "Look at": "look"}
+
+
+def plain(text):
+    """Words without the marks of Markdown, and without the sentences that name another page."""
+    text = re.sub(r",? `[a-z-]+\.md`(?=\))", "", text)
+    text = re.sub(r"(?:^|(?<=\. ))[^.]*\.md`[^.]*\. ?", "", text)
+    return text.replace("`", "").replace("**", "").replace("*", "").strip()
+
+
+def rule_texts():
+    """The paragraphs of each rule in docs/rules.md, by their leading words."""
+    text = (HERE.parent / "docs" / "rules.md").read_text()
+    rules = {}
+    for section in re.split(r"^## ", text, flags=re.M)[1:]:
+        name, _, body = section.partition("\n")
+        if name.strip() not in RULES:
+            continue
+        rule, last = {}, None
+        for part in body.strip().split("\n\n"):
+            lead = re.match(r"\*\*([^*]+?)\.?\*\*,? ?", part)
+            key = LEADS.get(lead.group(1)) if lead else None
+            if key:
+                last = rule.setdefault(key, [])
+                words = part if key in ("row", "blame", "look") else part[lead.end():]
+                last.append(plain(words))
+            elif part.startswith("- ") and last is not None:
+                last.extend("• " + plain(item) for item in re.split(r"\n?^- ", part, flags=re.M) if item)
+        missing = set(LEADS.values()) - set(rule)
+        if missing:
+            sys.exit(f"docs/rules.md: the rule {name} has no {sorted(missing)}")
+        rules[name.strip()] = rule
+    if list(rules) != RULES:
+        sys.exit(f"docs/rules.md: the rules are {list(rules)}")
+    return rules
+
+
+def in_script(text):
+    """A JSON text that may stand inside a script of a page."""
+    return json.dumps(text, ensure_ascii=False).replace("</", "<\\/").replace("<!--", "<\\!--")
+
+
+def digest(text):
+    return "'sha256-" + base64.b64encode(hashlib.sha256(text.encode()).digest()).decode() + "'"
+
+
+def main():
+    module, page = map(pathlib.Path, sys.argv[1:])
+    wasm = module.read_bytes()
+    style = (HERE / "page.css").read_text()
+    parts = [(HERE / name).read_text() for name in ("words.js", "page.js")]
+    constants = [
+        '"use strict";',
+        f"const RULES = {in_script(rule_texts())};",
+        f"const WORKER = {in_script((HERE / 'worker.js').read_text())};",
+        f'const MODULE = "{base64.b64encode(wasm).decode()}";',
+    ]
+    script = "\n".join(["", *constants, *parts])
+    policy = "; ".join(
+        [
+            "default-src 'none'",
+            f"script-src {digest(script)} 'wasm-unsafe-eval'",
+            f"style-src {digest(style)}",
+            "worker-src blob:",
+            "base-uri 'none'",
+            "form-action 'none'",
+        ]
+    )
+    made = f"The module has {len(wasm):,} bytes, SHA-256 {hashlib.sha256(wasm).hexdigest()}."
+    text = (HERE / "page.html").read_text()
+    for mark, value in (("POLICY", policy), ("STYLE", style), ("MADE", made), ("SCRIPT", script)):
+        if text.count(f"@{mark}@") != 1:
+            sys.exit(f"page.html: @{mark}@ doesn't stand there once")
+        text = text.replace(f"@{mark}@", value)
+    page.parent.mkdir(parents=True, exist_ok=True)
+    page.write_text(text)
+    print(f"{page}: {len(text.encode()):,} bytes")
+
+
+if __name__ == "__main__":
+    main()

@@ -1,0 +1,121 @@
+// Runs the checker's module on one recording. The text stays in the module's memory, so that it can
+// be checked again in another way.
+"use strict";
+const PAGE = 65536, CHUNK = 1 << 24, ACT = 80, OPTIONS = 153, ANSWER = 2056;
+// So many acts are listed, the first and the last ones if there are more.
+const MOST = 800000, HALF = MOST / 2;
+// So many bytes are checked first, to know how quick this computer is.
+const FRONT = 1 << 20;
+let call, at, size, read;
+
+// Places in the module's memory, each a multiple of 8 above what the module has for itself.
+function places(length) {
+  const options = Math.ceil(Number(call.__heap_base.value) / 8) * 8, told = options + 160;
+  const answer = told + 32, text = answer + ANSWER, acts = text + Math.ceil(length / 8) * 8 + 8;
+  const room = Math.min(MOST, Math.floor(length / 8) + 2);
+  return { options, told, answer, text, acts, room, end: acts + room * ACT };
+}
+
+function grow(bytes) {
+  const have = call.memory.buffer.byteLength;
+  if (bytes > have) call.memory.grow(BigInt(Math.ceil((bytes - have) / PAGE)));
+}
+
+function tell(doing, part, most) { postMessage({ told: "progress", doing, part, most }); }
+
+function load(file) {
+  size = file.size; at = places(size); grow(at.end);
+  const reader = new FileReaderSync(), begin = performance.now();
+  for (let i = 0; i < size; i += CHUNK) {
+    tell("Reading", i / size);
+    const part = new Uint8Array(reader.readAsArrayBuffer(file.slice(i, i + CHUNK)));
+    new Uint8Array(call.memory.buffer, at.text + i, part.length).set(part);
+  }
+  read = performance.now() - begin;
+}
+
+function told() {
+  const v = new DataView(call.memory.buffer, at.told), u64 = (i) => Number(v.getBigUint64(i, true));
+  return { row: u64(0), offset: u64(8), fault: u64(16), acts: u64(24) };
+}
+
+function check(length) {
+  return call.mdb_page_check(BigInt(at.options), BigInt(at.text), BigInt(length), BigInt(at.told), BigInt(at.answer));
+}
+
+function list(skip, place, room) {
+  return call.mdb_page_acts(BigInt(at.options), BigInt(at.text), BigInt(size), BigInt(skip), BigInt(at.told), BigInt(place), BigInt(room));
+}
+
+// The lines about a place in the text: up to six in front of it, that one, and up to four behind it.
+function lines(offset, row) {
+  const text = new Uint8Array(call.memory.buffer, at.text, size), found = [], FAR = 65536, LONG = 200;
+  const cut = (from, to) => {
+    while (to > from && (text[to - 1] === 10 || text[to - 1] === 13)) to--;
+    return { bytes: text.slice(from, Math.min(to, from + LONG)), whole: to - from <= LONG, length: to - from };
+  };
+  let to = offset;
+  const low = Math.max(0, offset - FAR);
+  while (to > low && found.length < 6) {
+    let from = to - 1;
+    while (from > low && text[from - 1] !== 10) from--;
+    if (from === low && low > 0) break;
+    const line = cut(from, to);
+    if (from === 0 && line.bytes[0] === 0xEF && line.bytes[1] === 0xBB && line.bytes[2] === 0xBF) { line.bytes = line.bytes.slice(3); line.length -= 3; }
+    if (line.length > 0) found.unshift({ ...line, row: row - found.length - 1 });
+    to = from;
+  }
+  let from = offset, number = row;
+  while (from < size && number < row + 5) {
+    let end = text.indexOf(10, from);
+    if (end < 0) end = size;
+    const line = cut(from, end);
+    if (line.length > 0) found.push({ ...line, row: number++ });
+    if (end - from > FAR) break;
+    from = end + 1;
+  }
+  return found;
+}
+
+// The fields that the program tells of a row that is none.
+function answerText() {
+  const count = Number(new DataView(call.memory.buffer, at.answer).getBigUint64(0, true));
+  return new TextDecoder().decode(new Uint8Array(call.memory.buffer, at.answer + 8, count).slice());
+}
+
+function judge(options) {
+  new Uint8Array(call.memory.buffer, at.options, OPTIONS).set(options);
+  if (size > 8 * FRONT) {
+    const begin = performance.now();
+    check(FRONT);
+    tell("Checking", 0, (performance.now() - begin) * (size / FRONT));
+  } else tell("Checking", 0, 0);
+  const begin = performance.now();
+  const answer = check(size), end = told();
+  const text = answer < 2 ? answerText() : "";
+  const checked = performance.now();
+  tell("Listing", 0, (checked - begin) / 2);
+  const linkAnswer = list(0, at.acts, at.room), link = told();
+  let listed = Math.min(link.acts, at.room);
+  const hole = link.acts > at.room;
+  if (hole) list(link.acts - HALF, at.acts + HALF * ACT, at.room - HALF);
+  const acts = new Uint8Array(call.memory.buffer, at.acts, listed * ACT).slice().buffer;
+  const done = performance.now();
+  const stops = answer === 1 || answer === 2 || answer === 3 || answer === 4;
+  postMessage({ told: "done", answer, text, row: end.row, offset: end.offset, fault: end.fault,
+    lines: stops ? lines(end.offset, end.row) : [], acts, listed, all: link.acts, hole: hole ? HALF : -1,
+    link: { answer: linkAnswer, row: link.row }, size,
+    ms: { read, check: checked - begin, list: done - checked }, memory: call.memory.buffer.byteLength }, [acts]);
+}
+
+onmessage = async ({ data }) => {
+  try {
+    if (data.module) {
+      call = (await WebAssembly.instantiate(data.module)).exports;
+      load(data.file);
+    }
+    judge(data.options);
+  } catch (fault) {
+    postMessage({ told: "fault", words: String(fault) });
+  }
+};
