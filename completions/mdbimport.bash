@@ -10,12 +10,14 @@ _mdbimport() {
             return
             ;;
         --unit) words='s ms us ns' ;;
-        --controller | --peripheral | --from | --until) ;;
+        --controller | --peripheral | --break | --from | --until) ;;
         *)
             case ${COMP_WORDS[1]} in
-                sigrok) words='--swap' ;;
+                sigrok) words='--swap --from --until' ;;
                 rows) words='--unit --controller --peripheral --from --until' ;;
-                *) words='sigrok rows' ;;
+                saleae) words='--controller --peripheral --break --from --until' ;;
+                edges) words='--unit --controller --peripheral --invert --from --until' ;;
+                *) words='sigrok rows saleae edges' ;;
             esac
             ;;
     esac

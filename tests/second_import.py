@@ -3,7 +3,7 @@
 written from the pages in words (docs/sigrok-trace.md) and not from a program's code, to compare
 with.
 
-    tests/second_import.py sigrok [--swap] < TRACE
+    tests/second_import.py sigrok [--swap] [--from MICROSECONDS] [--until MICROSECONDS] < TRACE
 
 prints the rows, or one line that tells why there are none, with status 2. As a module:
 `read_sigrok(text, swap)` answers a list of rows, each (time, line, value) with the value as it
@@ -188,15 +188,30 @@ def read_sigrok(text: bytes, swap: bool = False):
     return sorted(controller.rows + device.rows, key=lambda row: (row[0], row[1] == "S"))
 
 
+def part_of(rows, first=None, last=None):
+    """The rows of a part, and how many are before it and after it."""
+    rest = [row for row in rows if first is None or row[0] >= first]
+    part = [row for row in rest if last is None or row[0] <= last]
+    return part, len(rows) - len(rest), len(rest) - len(part)
+
+
 def main(words):
-    if words not in (["sigrok"], ["sigrok", "--swap"]):
+    told = {}
+    rest = list(words[1:])
+    while rest:
+        option = rest.pop(0)
+        if option not in ("--swap", "--from", "--until") or (option != "--swap" and not rest):
+            words = []
+            break
+        told[option] = True if option == "--swap" else int(rest.pop(0))
+    if words[:1] != ["sigrok"]:
         print(__doc__, file=sys.stderr)
         return 2
-    rows = read_sigrok(sys.stdin.buffer.read(), "--swap" in words)
+    rows = read_sigrok(sys.stdin.buffer.read(), "--swap" in told)
     if isinstance(rows, Refusal):
         print(f"second_import: {rows}", file=sys.stderr)
         return 2
-    for time, line, value in rows:
+    for time, line, value in part_of(rows, told.get("--from"), told.get("--until"))[0]:
         print(f"{time},{line},{value}")
     return 0
 

@@ -21,10 +21,13 @@ class Answer(NamedTuple):
 
     rows: "list[str]"  # those of the part, up to the record that is refused
     refused: "int | None"  # the number of that record, from 1
+    at: "int | None"  # the time that its first field tells
+    behind: "int | None"  # the time of the last row before it that isn't after the part
     why: "str | None"  # what was wanted there
     header: bool  # the first record is one
     before: int  # how many rows are before the part
     after: int  # and after it
+    passed: int  # how many records outside it are no rows, or not in order
     lines: "set[str]"  # M, S, B: those that the rows of the whole export have
     marked: bool  # one of its words has its mode bit set
 
@@ -111,6 +114,19 @@ def time_of_day(field):
     return (hours * 60 + minutes) * 60 * 10**15 + seconds
 
 
+def time_of(field, unit):
+    """The microsecond that a field tells, or a text that says what was wanted."""
+    if time_of_day(field) is not None:
+        time = microseconds(time_of_day(field), "s")
+    elif number_of(field) is None:
+        return "a time"
+    elif unit is None:
+        return "the unit of the times"
+    else:
+        time = microseconds(number_of(field), unit)
+    return "a time of at most 15 digits of microseconds" if time > LAST_TIME else time
+
+
 def row_of(record, unit, names, before):
     """The row of a record: (time, line, value), or a text that says what was wanted."""
     fields = fields_of(record)
@@ -118,16 +134,10 @@ def row_of(record, unit, names, before):
         return "three fields"
     time, line, value = fields
     if time_of_day(time) is not None:
-        time = microseconds(time_of_day(time), "s")
         unit = unit or "s"
-    elif number_of(time) is None:
-        return "a time"
-    elif unit is None:
-        return "the unit of the times"
-    else:
-        time = microseconds(number_of(time), unit)
-    if time > LAST_TIME:
-        return "a time of at most 15 digits of microseconds"
+    time = time_of(time, unit)
+    if isinstance(time, str):
+        return time
     line = names.get(line)
     if line is None:
         return "M, S or B"
@@ -154,7 +164,7 @@ def read(text, unit=None, controller=None, peripheral=None, first=None, last=Non
         names[controller.encode()] = "M"
     if peripheral is not None:
         names[peripheral.encode()] = "S"
-    rows, header, before_part, after_part = [], False, 0, 0
+    rows, header, before_part, after_part, passed = [], False, 0, 0, 0
     before, lines, marked = None, set(), False
     for number, record in enumerate(records_of(plain(text)), 1):
         time = fields_of(record)[0]
@@ -163,17 +173,25 @@ def read(text, unit=None, controller=None, peripheral=None, first=None, last=Non
             continue
         row = row_of(record, unit, names, before)
         if isinstance(row, str):
-            return Answer(rows, number, row, header, before_part, after_part, lines, marked)
-        before = row[0]
+            own = time_of(time, unit)
+            own = None if isinstance(own, str) else own
+            if own is not None and (own < (first or 0) or (last is not None and own > last)):
+                passed += 1
+                continue
+            return Answer(rows, number, own, before, row, header, before_part, after_part, passed,
+                          lines, marked)
         lines.add(row[1])
         marked = marked or (row[1] != "B" and row[2] >= "100")
-        if first is not None and before < first:
+        if first is not None and row[0] < first:
             before_part += 1
-        elif last is not None and before > last:
+        elif last is not None and row[0] > last:
             after_part += 1
+            continue  # what comes next need not be later than that
         else:
             rows.append("%d,%s,%s" % row)
-    return Answer(rows, None, None, header, before_part, after_part, lines, marked)
+        before = row[0]
+    return Answer(rows, None, None, None, None, header, before_part, after_part, passed, lines,
+                  marked)
 
 
 def read_rows(text: bytes, unit=None, controller=None, peripheral=None, first=None, last=None):

@@ -15,7 +15,7 @@ use Rattle.mdb_import.specs.Refusals.{IsFieldsFault, IsNoRow, IsTimeFault}
 use Rattle.mdb_import.specs.declared.fault.RecordFault.{RecordFault}
 use Rattle.mdb_import.specs.declared.fault.RecordFault.TheVariants as fault
 use Rattle.mdb_import.specs.Exports.{last_start, row_line, rows_text, taken_of, is_taken}
-use Rattle.mdb_import.specs.Rows.{AreEvents, AreRows, IsAfter, IsExportedRow, IsHeader}
+use Rattle.mdb_import.specs.Rows.{AreEvents, AreRows, IsAfter, IsExportedRow, IsHeader, IsPassed, TellsTime, last_with}
 use Rattle.mdb_import.specs.inner.Steps.{part_line}
 use Rattle.mdb_import.proofs.Readings.{time_same}
 
@@ -78,18 +78,60 @@ row_no_header options fields event row header =
 
 -- a record more
 rows_more : (options : RowsOptions) (last : Option ℕ) (done : List (List (List ℕ))) (events : List Event) (row : List (List ℕ)) (event : Event) → AreRows options last done events → IsExportedRow options row event
-    → IsAfter (last_start last events) event → AreRows options last (done ++ row ∷ []) (events ++ event ∷ [])
-rows_more options last [] [] row event are is after = (event, [], refl, is, after, refl)
+    → IsAfter (last_start options last events) event → AreRows options last (done ++ row ∷ []) (events ++ event ∷ [])
+rows_more options last [] [] row event are is after = inl (event, [], refl, is, after, refl)
 rows_more options last [] (e ∷ events) row event are is after = absurd (cc)
-rows_more options last (r ∷ done) events row event are is after =
-    let P : List Event → Type 0 = λ l. IsAfter (last_start last l) event in
-    (are.0, are.1 ++ event ∷ [], ap (λ l. l ++ event ∷ []) are.2, are.3, are.4, rows_more options (Some (start_of are.0)) done are.1 row event are.5 is (subst P are.2 after))
+rows_more options last (r ∷ done) events row event (inl are) is after =
+    let P : List Event → Type 0 = λ l. IsAfter (last_start options last l) event in
+    inl (are.0, are.1 ++ event ∷ [], ap (λ l. l ++ event ∷ []) are.2, are.3, are.4, rows_more options (last_with options last are.0) done are.1 row event are.5 is (subst P are.2 after))
+rows_more options last (r ∷ done) events row event (inr passed) is after = inr (passed.0, rows_more options last done events row event passed.1 is after)
 
 pub events_more : (options : RowsOptions) (done : List (List (List ℕ))) (events : List Event) (row : List (List ℕ)) (event : Event) → AreEvents options done events → IsExportedRow options row event
-    → IsAfter (last_start None events) event → AreEvents options (done ++ row ∷ []) (events ++ event ∷ [])
+    → IsAfter (last_start options None events) event → AreEvents options (done ++ row ∷ []) (events ++ event ∷ [])
 events_more options done events row event (inl are) is after = inl (rows_more options None done events row event are is after)
 events_more options [] events row event (inr are) is after = absurd are
 events_more options (header ∷ done) events row event (inr are) is after = inr (are.0, rows_more options None done events row event are.1 is after)
+
+-- a record more that is passed over
+rows_passed : (options : RowsOptions) (last : Option ℕ) (done : List (List (List ℕ))) (events : List Event) (row : List (List ℕ)) → AreRows options last done events → IsPassed options (last_start options last events) row
+    → AreRows options last (done ++ row ∷ []) events
+rows_passed options last [] [] row are is = inr (is, refl)
+rows_passed options last [] (e ∷ events) row are is = absurd (cc)
+rows_passed options last (r ∷ done) events row (inl are) is =
+    let P : List Event → Type 0 = λ l. IsPassed options (last_start options last l) row in
+    inl (are.0, are.1, are.2, are.3, are.4, rows_passed options (last_with options last are.0) done are.1 row are.5 (subst P are.2 is))
+rows_passed options last (r ∷ done) events row (inr passed) is = inr (passed.0, rows_passed options last done events row passed.1 is)
+
+pub events_passed : (options : RowsOptions) (done : List (List (List ℕ))) (events : List Event) (row : List (List ℕ)) → AreEvents options done events → IsPassed options (last_start options None events) row
+    → AreEvents options (done ++ row ∷ []) events
+events_passed options done events row (inl are) is = inl (rows_passed options None done events row are is)
+events_passed options [] events row (inr are) is = absurd are
+events_passed options (header ∷ done) events row (inr are) is = inr (are.0, rows_passed options None done events row are.1 is)
+
+-- fields tell one time
+pub tells_same : (options : RowsOptions) (fields : List (List ℕ)) (a b : ℕ) → TellsTime options fields a → TellsTime options fields b → a ≡ b
+tells_same options fields a b one two =
+    let both : one.first ∷ one.others ≡ two.first ∷ two.others = sym one.some ∙ two.some in
+    let same : one.first ≡ two.first = cc in
+    time_same options.unit two.first a b (subst (λ t. IsTime options.unit t a) same one.time) two.time
+
+-- the time of a line is that of its first part
+pub line_tells : (options : RowsOptions) (line first : List ℕ) (separator at : ℕ) → separator ≡ separator_of line → ((others : List (List ℕ)) × (parts_of separator line ≡ first ∷ others)) → (field : List ℕ) → field ≡ bare first
+    → IsTime options.unit field at → TellsTime options (line_fields line) at
+line_tells options line first separator at is parts field is_bare time = record {
+  first = bare first;
+  others = map bare parts.0;
+  some = ap (map bare) (ap (λ s. parts_of s line) (sym is) ∙ parts.1);
+  time = subst (λ f. IsTime options.unit f at) is_bare time;
+}
+
+pub line_tells_none : (options : RowsOptions) (line first : List ℕ) (separator : ℕ) → separator ≡ separator_of line → ((others : List (List ℕ)) × (parts_of separator line ≡ first ∷ others)) → (field : List ℕ) → field ≡ bare first
+    → ((at : ℕ) → IsTime options.unit field at → ⊥) → (at : ℕ) → TellsTime options (line_fields line) at → ⊥
+line_tells_none options line first separator is parts field is_bare none at tells =
+    let fields : line_fields line ≡ bare first ∷ map bare parts.0 = ap (map bare) (ap (λ s. parts_of s line) (sym is) ∙ parts.1) in
+    let both : bare first ∷ map bare parts.0 ≡ tells.first ∷ tells.others = sym fields ∙ tells.some in
+    let same : bare first ≡ tells.first = cc in
+    none at (subst (λ f. IsTime options.unit f at) (sym (is_bare ∙ same)) tells.time)
 
 -- the first record is a header
 pub events_header : (options : RowsOptions) (done : List (List (List ℕ))) (events : List Event) (header : List (List ℕ)) → length done ≡ 0 → AreEvents options done events → IsHeader header → AreEvents options (done ++ header ∷ []) events
@@ -97,10 +139,10 @@ events_header options [] events header none (inl are) is = inr (is, are)
 events_header options [] events header none (inr are) is = absurd are
 events_header options (r ∷ done) events header none are is = absurd (omega (arith, none))
 
--- when the last of some events started, with one more
-pub last_more : (last : Option ℕ) (events : List Event) (event : Event) → last_start last (events ++ event ∷ []) ≡ Some (start_of event)
-last_more last [] event = refl
-last_more last (e ∷ events) event = last_more (Some (start_of e)) events event
+-- the time that the next row has to come after, with an event more
+pub last_more : (options : RowsOptions) (last : Option ℕ) (events : List Event) (event : Event) → last_start options last (events ++ event ∷ []) ≡ last_with options (last_start options last events) event
+last_more options last [] event = refl
+last_more options last (e ∷ events) event = last_more options (last_with options last e) events event
 
 -- the rows with an event more
 pub text_more : (options : RowsOptions) (events : List Event) (event : Event) → rows_text (taken_of options (events ++ event ∷ [])) ≡ rows_text (taken_of options events) ++ part_line options event

@@ -8,3 +8,4 @@ pub mod Events
 pub mod Outputs
 pub mod Imports
 pub mod Decodings
+pub mod Orders

@@ -1,7 +1,7 @@
 -- What is on its way to a writer.
 use Rattle.std.proofs.Common.{refl, ap, sym, subst, inl, inr, ◌∙◌, ◌≡◌, ℕ, List, [], ◌++◌, Option, Some, None, Result, Ok, Err, append_assoc}
 use Rattle.std.proofs.lemmas.List.{append-nil}
-use Rattle.std.specs.Prelude.{IfOk, IfSome, IsErrAnd}
+use Rattle.std.specs.Prelude.{IfOk, IsErrAnd}
 use Rattle.std.specs.Io.KnownBytes.{Appends}
 use Rattle.mdb_import.specs.Exports.{Exports, IsCutShort, IsExport, IsExported, export_records, taken_of}
 use Rattle.mdb_import.specs.inner.Output.{Breaks, Output, Puts, begun}
@@ -87,11 +87,6 @@ cut_short options all before later fault (Err told) is write cut = inr (ap Err (
 pub exported_ok : (options : RowsOptions) (text : List ℕ) (before after : Option (List ℕ)) (answer : Result Imported ImportFault) → Exports options (export_records text) before after answer → IfOk answer (λ imported. IsExported options text before after)
 exported_ok options text before after (Ok imported) (inl written) =
     let P : List ℕ → Type 0 = λ t. Appends before after t in
-    (taken_of options written.1.0, (written.1.0, written.1.1, refl), subst P written.1.3 written.2)
+    (taken_of options written.1.0, (written.1.0, written.1.1, refl), subst P written.1.4 written.2)
 exported_ok options text before after (Ok imported) (inr cut) = absurd (let never = cut.0 in cc)
 exported_ok options text before after (Err fault) written = tt
-
--- the same under a premise
-pub some_under : (known : Option (List ℕ)) (P Q : List ℕ → Type 0) (Z : Type 0) → IfSome known P → ((text : List ℕ) → P text → Q text) → IfSome known (λ text. Z → Q text)
-some_under None P Q Z is then = tt
-some_under (Some text) P Q Z is then = λ z. then text is

@@ -223,6 +223,11 @@ time_ok (Ok time) told field n d micros seconds near is = record {
 }
 time_ok (Err e) told field n d micros seconds near is = tt
 
+-- a field tells no other time
+pub time_only : {E : Type 0} (r : Result ℕ E) (told : Option Unit) (field : List ℕ) → IfOk r (IsTime told field) → IfOk r (λ time. (micros : ℕ) → IsTime told field micros → micros ≡ time)
+time_only (Ok time) told field is = λ micros other. time_same told field micros time other is
+time_only (Err e) told field is = tt
+
 pub time_err : {T E : Type 0} (r : Result T E) (told : Option Unit) (field : List ℕ) (n d micros : ℕ) → IsSeconds told field n d → IsNearest n d micros → IfErr r (λ fault. 10 ^ 15 ≤ micros) → IfErr r (λ fault. (m : ℕ) → IsTime told field m → ⊥)
 time_err (Ok time) told field n d micros seconds near long = tt
 time_err (Err e) told field n d micros seconds near long = λ m time.

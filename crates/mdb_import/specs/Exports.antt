@@ -1,5 +1,5 @@
 -- What the import of an export answers, and what it writes.
-use Rattle.std.specs.Prelude.{◌≡◌, ◌⊎◌, ◌+◌, ◌&&◌, ℕ, List, [], ◌∷◌, ◌++◌, length, filter, flat_map, nat_le, min, not, count_by, ◌-◌, ◌^◌, Bool, true, false, Option, Some, None, Result, Ok, Err}
+use Rattle.std.specs.Prelude.{◌≡◌, ◌⊎◌, ◌≤◌, ◌+◌, ℕ, List, [], ◌∷◌, ◌++◌, length, filter, flat_map, nat_le, min, count_by, ◌-◌, ◌^◌, Bool, true, false, IfSome, IfNone, Option, Some, None, ⊤, Result, Ok, Err}
 use Rattle.std.specs.Io.KnownBytes.{Appends}
 use Rattle.mdb_words.specs.Event.{start_of}
 use Rattle.mdb_words.specs.Row.{joined_by_commas, row_fields}
@@ -8,33 +8,21 @@ use Rattle.mdb_words.specs.declared.event.Event.{Event}
 use Rattle.mdb_words.specs.declared.event.Event.TheVariants.{Word, Break}
 use Rattle.mdb_words.specs.declared.word.Line.TheVariants.{Controller, Peripheral}
 use Rattle.csv.specs.Reading.{default_config, records, strip_bom}
+use Rattle.mdb_records.specs.ToCome.{ToCome, fault_of}
 use Rattle.mdb_records.specs.declared.ReadFault.{ReadFault}
+use Rattle.mdb_records.specs.declared.Records.{Records}
 use Rattle.mdb_records.specs.declared.ReadFault.TheVariants as reading
 use Rattle.mdb_import.specs.Encodings.{decoded}
 use Rattle.mdb_import.specs.Fields.{export_fields}
 use Rattle.mdb_import.specs.Refusals.{IsFault}
 use Rattle.mdb_import.specs.declared.fault.RecordFault.{RecordFault}
-use Rattle.mdb_import.specs.Rows.{AreEvents, IsAfter, IsExportedRow, IsHeader}
+pub use Rattle.mdb_import.specs.Part.{is_before, is_behind, is_from, is_in, is_taken, is_until}
+use Rattle.mdb_import.specs.Rows.{AreEvents, IsAfter, IsExportedRow, IsHeader, TellsTime, last_with}
 use Rattle.mdb_import.specs.Written.{HasTaken}
 use Rattle.mdb_import.specs.declared.options.RowsOptions.{RowsOptions}
 use Rattle.mdb_import.specs.declared.fault.ImportFault.{ImportFault}
 use Rattle.mdb_import.specs.declared.fault.ImportFault.TheVariants.{BadRecord, Read, Write, Memory}
 use Rattle.mdb_import.specs.declared.fault.Imported.{Imported}
-
--- whether a time isn't before the first that was asked for, if one was
-abbrev pub is_from : Option ℕ → ℕ → Bool
-is_from None at = true
-is_from (Some first) at = nat_le first at
-
--- whether a time isn't after the last that was asked for, if one was
-abbrev pub is_until : Option ℕ → ℕ → Bool
-is_until None at = true
-is_until (Some last) at = nat_le at last
-
--- whether an event is in the part that was asked for
-abbrev pub is_taken : RowsOptions → Event → Bool
-is_taken options event =
-    is_from options.from (start_of event) && is_until options.until (start_of event)
 
 -- the events of the part that was asked for
 abbrev pub taken_of : RowsOptions → List Event → List Event
@@ -57,19 +45,30 @@ abbrev pub AreExported : RowsOptions → List (List (List ℕ)) → List Event �
 AreExported options records rows =
     (events : List Event) × AreEvents options records events × (rows ≡ taken_of options events)
 
--- when the last of some events started
-abbrev pub last_start : Option ℕ → List Event → Option ℕ
-last_start last [] = last
-last_start last (event ∷ events) = last_start (Some (start_of event)) events
+-- rows each of which starts after the one before it, and the first after a time, if there is one
+abbrev pub AreInOrder : Option ℕ → List Event → Type 0
+AreInOrder last [] = ⊤
+AreInOrder last (row ∷ rows) = IsAfter last row × AreInOrder (Some (start_of row)) rows
 
--- a record after some others is neither the row of a later event nor, as the first, a header, and
--- why it isn't
+-- the time that the next row has to come after, behind some events
+abbrev pub last_start : RowsOptions → Option ℕ → List Event → Option ℕ
+last_start options last [] = last
+last_start options last (event ∷ events) = last_start options (last_with options last event) events
+
+-- A record after some others is neither the row of a later event nor, as the first, a header, nor
+-- is it outside the part; and this is its own time, if it tells one, the time of the last row, and
+-- why it is refused.
 pub record IsRefusedRecord (options : RowsOptions) (done : List (List (List ℕ)))
-    (events : List Event) (named : List (List ℕ)) (fault : RecordFault) : Type 0 where
+    (events : List Event) (named : List (List ℕ)) (own last : Option ℕ) (fault : RecordFault)
+    : Type 0 where
   pub no_row : (event : Event) → IsExportedRow options named event
-      → IsAfter (last_start None events) event → ⊥
+      → IsAfter (last_start options None events) event → ⊥
   pub no_header : done ≡ [] → IsHeader named → ⊥
-  pub why : IsFault options (last_start None events) (export_fields named) fault
+  pub not_passed : (at : ℕ) → TellsTime options (export_fields named) at → is_in options at ≡ true
+  pub own_time : IfSome own (TellsTime options (export_fields named))
+  pub no_time : IfNone own ((at : ℕ) → TellsTime options (export_fields named) at → ⊥)
+  pub last_time : last ≡ last_start options None events
+  pub why : IsFault options (last_start options None events) (export_fields named) fault
 
 -- the first records stand for events, and the text is that of their rows
 pub record IsExportedUpTo (options : RowsOptions) (records : List (List (List ℕ)))
@@ -81,14 +80,14 @@ pub record IsExportedUpTo (options : RowsOptions) (records : List (List (List �
 
 -- a record is refused, and the text is that of the rows before it
 pub record IsExportedToFault (options : RowsOptions) (records : List (List (List ℕ)))
-    (number : ℕ) (fault : RecordFault) (text : List ℕ) : Type 0 where
+    (number : ℕ) (own last : Option ℕ) (fault : RecordFault) (text : List ℕ) : Type 0 where
   pub done : List (List (List ℕ))
   pub events : List Event
   pub named : List (List ℕ)
   pub rest : List (List (List ℕ))
   pub before : IsExportedUpTo options records done events (named ∷ rest) text
   pub counted : number ≡ length done + 1
-  pub refused : IsRefusedRecord options done events named fault
+  pub refused : IsRefusedRecord options done events named own last fault
 
 -- some first records stand for events, and the text is that of their rows
 pub record IsExportedInPart (options : RowsOptions) (records : List (List (List ℕ)))
@@ -115,18 +114,19 @@ is_peripherals (Word at Controller word) = false
 is_peripherals (Word at Peripheral word) = true
 is_peripherals (Break at length) = false
 
--- an event before the part that was asked for
-abbrev pub is_before : RowsOptions → Event → Bool
-is_before options event = not (is_from options.from (start_of event))
-
--- an event after that part
-abbrev pub is_behind : RowsOptions → Event → Bool
-is_behind options event =
-    is_from options.from (start_of event) && not (is_until options.until (start_of event))
-
 -- how many events are such, where 2^64 - 1 stands for more too
 abbrev pub told_count : (Event → Bool) → List Event → ℕ
 told_count is_such events = min (count_by is_such events) (2 ^ 64 - 1)
+
+-- one where it is so, else none
+abbrev pub weight : Bool → ℕ
+weight true = 1
+weight false = 0
+
+-- each record is the row of an event, was passed over, or is the header
+abbrev pub IsCounted : List (List (List ℕ)) → List Event → Imported → Type 0
+IsCounted records events imported =
+    length records ≡ length events + imported.passed + weight imported.header
 
 -- What is told of all events: how many were written, and how many are before and after the part,
 -- whether there is a marked word, and one on each line.
@@ -143,9 +143,9 @@ abbrev pub IsExport : RowsOptions → List (List (List ℕ)) → Result Imported
     → Type 0
 IsExport options records (Ok imported) text =
     (events : List Event) × AreEvents options records events × IsTold options events imported
-    × (text ≡ rows_text (taken_of options events))
-IsExport options records (Err (BadRecord number fault)) text =
-    IsExportedToFault options records number fault text
+    × IsCounted records events imported × (text ≡ rows_text (taken_of options events))
+IsExport options records (Err (BadRecord number own last fault)) text =
+    IsExportedToFault options records number own last fault text
 IsExport options records (Err Read) text = IsExportedInPart options records text
 IsExport options records (Err Memory) text = IsExportedInPart options records text
 IsExport options records (Err Write) text = ⊥
@@ -171,6 +171,11 @@ abbrev pub IsExported : RowsOptions → List ℕ → Option (List ℕ) → Optio
 IsExported options text before after =
     (rows : List Event) × AreExported options (export_records text) rows
     × Appends before after (rows_text rows)
+
+-- a read of records failed after they stood so; or there are more than can be counted
+abbrev pub HasFailed : {R : Type 0} → (R → Option (List ℕ)) → Records R → Records R → Type 0
+HasFailed remaining before after = (fault_of after ≡ Some reading.Read)
+    ⊎ ((all : List (List (List ℕ))) → ToCome remaining before all → 2 ^ 64 - 1 ≤ length all)
 
 -- what a fault of reading is told as
 abbrev pub import_fault_of : ReadFault → ImportFault

@@ -2,6 +2,7 @@ pub mod Encodings
 pub mod Exports
 pub mod Fields
 pub mod Numbers
+pub mod Part
 pub mod Refusals
 pub mod Rows
 pub mod Times

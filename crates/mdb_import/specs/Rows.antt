@@ -1,11 +1,12 @@
 -- Which records of an export stand for which events.
-use Rattle.std.specs.Prelude.{◌≡◌, ◌⊎◌, ◌<◌, ℕ, List, [], ◌∷◌, ⊤, Option, Some, None, option_map, string_bytes}
+use Rattle.std.specs.Prelude.{◌≡◌, ◌⊎◌, ◌<◌, ℕ, List, [], ◌∷◌, ⊤, false, if◌then◌else◌, Option, Some, None, option_map, string_bytes}
 use Rattle.mdb_words.specs.Event.{start_of}
 use Rattle.mdb_words.specs.declared.event.Event.{Event}
 use Rattle.mdb_words.specs.declared.event.Event.TheVariants.{Word, Break}
 use Rattle.mdb_words.specs.declared.word.Line.{Line}
 use Rattle.mdb_words.specs.declared.word.Line.TheVariants.{Controller, Peripheral}
 use Rattle.mdb_import.specs.Fields.{export_fields}
+use Rattle.mdb_import.specs.Part.{is_behind, is_in}
 use Rattle.mdb_import.specs.Times.{IsLength, IsTime, IsTimeForm}
 use Rattle.mdb_import.specs.Values.{IsWord}
 use Rattle.mdb_import.specs.declared.options.RowsOptions.{RowsOptions}
@@ -66,13 +67,34 @@ abbrev pub IsAfter : Option ℕ → Event → Type 0
 IsAfter None event = ⊤
 IsAfter (Some last) event = last < start_of event
 
--- records that stand for events, each of which starts after the one before it
+-- the time that the next row has to come after: that of the last row that isn't behind the part
+abbrev pub last_with : RowsOptions → Option ℕ → Event → Option ℕ
+last_with options last event = if is_behind options event then last else Some (start_of event)
+
+-- fields of which the first tells this time, whatever the others are
+pub record TellsTime (options : RowsOptions) (fields : List (List ℕ)) (at : ℕ) : Type 0 where
+  pub first : List ℕ
+  pub others : List (List ℕ)
+  pub some : fields ≡ first ∷ others
+  pub time : IsTime options.unit first at
+
+-- A record that is passed over: it is no row that may stand there, and tells a time outside the
+-- part that was asked for.
+pub record IsPassed (options : RowsOptions) (last : Option ℕ) (row : List (List ℕ)) : Type 0 where
+  pub at : ℕ
+  pub tells : TellsTime options (export_fields row) at
+  pub outside : is_in options at ≡ false
+  pub no_row : (event : Event) → IsExportedRow options row event → IsAfter last event → ⊥
+
+-- Records that stand for events, each of which starts after the one before it that isn't behind the
+-- part. Records that are passed over stand for none.
 abbrev pub AreRows : RowsOptions → Option ℕ → List (List (List ℕ)) → List Event → Type 0
 AreRows options last [] events = events ≡ []
 AreRows options last (row ∷ rows) events =
-    (event : Event) × (rest : List Event) × (events ≡ event ∷ rest)
+    ((event : Event) × (rest : List Event) × (events ≡ event ∷ rest)
     × IsExportedRow options row event × IsAfter last event
-    × AreRows options (Some (start_of event)) rows rest
+    × AreRows options (last_with options last event) rows rest)
+    ⊎ (IsPassed options last row × AreRows options last rows events)
 
 -- the same after a header
 abbrev pub AreRowsAfterHeader : RowsOptions → List (List (List ℕ)) → List Event → Type 0

@@ -1,10 +1,10 @@
 //! A reader of text that may be in UTF-16.
 
-ghost use Rattle.std.specs.Prelude.{◌≡◌, ◌<◌, ◌≤◌, ◌∷◌, ◌+◌, [], List, ℕ, None, length};
+ghost use Rattle.std.specs.Prelude.{◌≡◌, ◌<◌, ◌≤◌, ◌∷◌, ◌++◌, ◌+◌, [], Bool, List, ℕ, None, length, option_to_list};
 ghost use Rattle.std.specs.Io.{ReadsAtMost};
 ghost use Rattle.std.specs.Io.KnownBytes.{ReadConsumes};
 ghost use Rattle.arrayvec.specs.ArrayVec.{array_vec_len};
-ghost use Rattle.mdb_import.specs.Encodings.{decoded, unit_bytes, unit_of as unit_in};
+ghost use Rattle.mdb_import.specs.Encodings.{decoded, is_pair as are_halves, sign_bytes, sign_of, unit_bytes, unit_of as unit_in, units_of, units_text};
 ghost use Rattle.mdb_import.specs.inner.Decoding.{ReadsOne, decoded_of, given_by, mode_text};
 
 use arrayvec::ArrayVec;
@@ -26,6 +26,8 @@ pub(crate) enum Mode {
         high_first: bool,
         /// The first byte of a unit, once it was read.
         held: Option<u8>,
+        /// The last unit that was read, if it wasn't given yet: it may be the first half of a sign.
+        last: Option<u16>,
     },
 }
 
@@ -34,7 +36,7 @@ pub(crate) enum Mode {
 pub(crate) struct Decoding {
     mode: Mode,
     // Bytes that are decoded and not given yet.
-    ready: ArrayVec<u8, 4>,
+    ready: ArrayVec<u8, 8>,
 }
 
 impl Decoding {
@@ -59,24 +61,50 @@ impl Decoding {
             Mode::Plain => self.ready.push(byte),
             Mode::Wide {
                 high_first,
-                held: None,
-            } => {
+                held,
+                last,
+            } => self.take_wide(high_first, held, last, byte),
+        }
+    }
+
+    /// Takes the next byte of a text in UTF-16, after these.
+    fn take_wide(&mut self, high_first: bool, held: Option<u8>, last: Option<u16>, byte: u8)
+        requires empty { self.old.ready.items ≡ [] }
+        ensures { (text : List ℕ) → given_by self.new text ≡ units_text
+            (option_to_list last ++ units_of high_first (option_to_list held ++ byte ∷ text)) }
+    {
+        match held {
+            None => {
                 self.mode = Mode::Wide {
                     high_first,
                     held: Some(byte),
+                    last,
                 };
             }
-            Mode::Wide {
-                high_first,
-                held: Some(first),
-            } => {
-                self.ready = bytes_of_unit(unit_of(high_first, first, byte));
-                self.mode = Mode::Wide {
-                    high_first,
-                    held: None,
-                };
+            Some(first) => self.take_unit(high_first, last, unit_of(high_first, first, byte)),
+        }
+    }
+
+    /// Takes the next unit, after this one, if there is one that wasn't given yet.
+    fn take_unit(&mut self, high_first: bool, last: Option<u16>, unit: u16)
+        requires empty { self.old.ready.items ≡ [] }
+        ensures { (text : List ℕ) → given_by self.new text
+            ≡ units_text (option_to_list last ++ unit ∷ units_of high_first text) }
+    {
+        let mut waiting = Some(unit);
+        if let Some(before) = last {
+            if is_pair(before, unit) {
+                self.ready = bytes_of_sign(before, unit);
+                waiting = None;
+            } else {
+                self.ready = bytes_of_unit(before);
             }
         }
+        self.mode = Mode::Wide {
+            high_first,
+            held: None,
+            last: waiting,
+        };
     }
 
     /// Takes the first two bytes of the text.
@@ -88,11 +116,13 @@ impl Decoding {
             self.mode = Mode::Wide {
                 high_first: false,
                 held: None,
+                last: None,
             };
         } else if first == 0xFE && second == 0xFF {
             self.mode = Mode::Wide {
                 high_first: true,
                 held: None,
+                last: None,
             };
         } else {
             self.mode = Mode::Plain;
@@ -114,12 +144,14 @@ impl Decoding {
             }
             Mode::Wide {
                 high_first,
-                held: Some(_),
+                held,
+                last,
             } => {
-                self.ready = bytes_of_unit(0xFFFD);
+                self.ready = bytes_at_end(last, held);
                 self.mode = Mode::Wide {
                     high_first,
                     held: None,
+                    last: None,
                 };
             }
             _ => {}
@@ -138,9 +170,48 @@ fn unit_of(high_first: bool, first: u8, second: u8) -> u16
     }
 }
 
+/// Whether two code units are the halves of one sign.
+fn is_pair(high: u16, low: u16) -> bool
+    ensures { result ≡ are_halves high low }
+{
+    (0xD800 <= high && high < 0xDC00) && (0xDC00 <= low && low < 0xE000)
+}
+
+/// The bytes in UTF-8 of the sign of two halves.
+fn bytes_of_sign(high: u16, low: u16) -> ArrayVec<u8, 8>
+    ensures { result.items ≡ sign_bytes (sign_of high low) }
+{
+    let sign = 0x1_0000 + u32::from(high % 1024) * 1024 + u32::from(low % 1024);
+    let mut bytes = ArrayVec::new();
+    bytes.push((0xF0 + sign / 0x4_0000) as u8);
+    bytes.push((0x80 + sign / 0x1000 % 64) as u8);
+    bytes.push((0x80 + sign / 64 % 64) as u8);
+    bytes.push((0x80 + sign % 64) as u8);
+    bytes
+}
+
+/// The bytes of the last unit, if it wasn't given yet, and of a last byte that is alone, if there
+/// is one.
+fn bytes_at_end(last: Option<u16>, held: Option<u8>) -> ArrayVec<u8, 8>
+    ensures { (high_first : Bool) → result.items
+        ≡ units_text (option_to_list last ++ units_of high_first (option_to_list held ++ [])) }
+{
+    let mut bytes = match last {
+        Some(unit) => bytes_of_unit(unit),
+        None => ArrayVec::new(),
+    };
+    if held.is_some() {
+        bytes.push(0xEF);
+        bytes.push(0xBF);
+        bytes.push(0xBD);
+    }
+    bytes
+}
+
 /// The bytes of a code unit in UTF-8.
-fn bytes_of_unit(unit: u16) -> ArrayVec<u8, 4>
-    ensures { result.items ≡ unit_bytes unit }
+fn bytes_of_unit(unit: u16) -> ArrayVec<u8, 8>
+    ensures bytes { result.items ≡ unit_bytes unit }
+    ensures few { array_vec_len result ≤ 3 }
 {
     let mut bytes = ArrayVec::new();
     if unit < 0x80 {

@@ -16,6 +16,8 @@ pub struct Imported {
     pub before: u64,
     /// How many rows were left out since they are after it.
     pub after: u64,
+    /// How many records outside the part were passed over that are no rows that may stand there.
+    pub passed: u64,
     /// Whether a word had its mode bit set.
     pub marked: bool,
     /// Whether the controller said a word.
@@ -64,6 +66,10 @@ pub enum ImportFault {
     BadRecord {
         /// The record's number, from 1.
         number: u64,
+        /// The microsecond that its first field tells, if that tells one.
+        own: Option<u64>,
+        /// The microsecond of the last row before it that isn't after the part, if there is one.
+        last: Option<u64>,
         /// What is wrong with it.
         fault: RecordFault,
     },

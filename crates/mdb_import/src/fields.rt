@@ -48,7 +48,7 @@ pub(crate) fn separator_of(line: &[u8]) -> u8
 }
 
 /// What stands before the first such byte of a text, and what after it; `None` where there is none.
-pub(crate) fn parted(text: &[u8], byte: u8) -> Option<(&[u8], &[u8])>
+pub fn parted(text: &[u8], byte: u8) -> Option<(&[u8], &[u8])>
     ensures some { IfSome result (λ parts. text.now ≡ parts.0.now ++ byte ∷ parts.1.now) }
     ensures first { IfSome result (λ parts. has_byte byte parts.0.now ≡ false) }
     ensures none { IfNone result (has_byte byte text.now ≡ false) }
@@ -90,7 +90,7 @@ pub(crate) fn first_part(line: &[u8], separator: u8) -> &[u8]
 }
 
 /// A field without the blanks and quotation marks around it.
-pub(crate) fn bare(field: &[u8]) -> &[u8]
+pub fn bare(field: &[u8]) -> &[u8]
     ensures { result.now ≡ bare_of field.now }
 {
     bare_at_end(bare_at_start(field))

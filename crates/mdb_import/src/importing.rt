@@ -1,14 +1,16 @@
 //! The import of rows: record by record, as they are read.
 
-ghost use Rattle.std.specs.Prelude.{◌≡◌, ◌<◌, ◌-◌, ◌^◌, [], List, ℕ, IfErr, IfOk, IfSome, OnOk, None, Some, length};
+ghost use Rattle.std.specs.Prelude.{◌≡◌, ◌<◌, ◌-◌, ◌^◌, [], List, ℕ, IfErr, IfOk, IfSome, OnOk, None, Some, length, true};
 ghost use Rattle.csv.specs.Records.{fields_of};
 ghost use Rattle.mdb_records.specs.ToCome.{ToCome};
 ghost use Rattle.mdb_words.specs.Event.{start_of};
-ghost use Rattle.mdb_import.specs.Exports.{Exports, IsExported, IsTold, export_records};
+ghost use Rattle.mdb_import.specs.Exports.{Exports, HasFailed, IsCounted, IsExported, IsTold, export_records};
 ghost use Rattle.mdb_import.specs.Fields.{line_fields};
 ghost use Rattle.mdb_import.specs.inner.Decoded.{decoded_remaining};
 ghost use Rattle.mdb_import.specs.inner.Output.{IsNotTaken, Puts, begun, output};
-ghost use Rattle.mdb_import.specs.inner.Steps.{HasImported, IsNext, IsNoted, IsSaid, PutsExport, TakesOne, part_line};
+ghost use Rattle.mdb_import.specs.Rows.{last_with};
+ghost use Rattle.mdb_import.specs.inner.Steps.{HasImported, IsKept, IsNext, IsNoted, IsOutside, IsRefusalFor, IsSaid, PutsExport};
+ghost use Rattle.mdb_import.specs.inner.Steps.{TakesOne, TellsSame, counted_more, part_line};
 
 use super::decoded::Decoded;
 use super::fault::{ImportFault, Imported, RecordFault};
@@ -16,7 +18,7 @@ use super::fields::join;
 use super::options::RowsOptions;
 use super::order::expect_after;
 use super::page::Page;
-use super::rows::{event_in, is_header};
+use super::rows::{event_in, is_header, time_in};
 use csv::ByteRecord;
 use mdb_records::Records;
 use mdb_words::{Event, Line};
@@ -37,8 +39,11 @@ pub fn import_records<R: Read + Drop, W: Write>(
     records: &mut Records<R>,
     writer: &mut W,
 ) -> Result<Imported, ImportFault>
-    ensures { (all : List (List (List ℕ))) → ToCome R.remaining records.old all
+    ensures exports { (all : List (List (List ℕ))) → ToCome R.remaining records.old all
         → Exports options.now all (W.contents writer.old) (W.contents writer.new) result }
+    // A failed read is told only where there was one.
+    ensures failed { IfErr result (λ fault. fault ≡ ImportFault.Read
+        → HasFailed R.remaining records.old records.new) }
 {
     let mut importing = Importing::new(alloc);
     let answer = importing.take_all(options, records, writer);
@@ -97,6 +102,7 @@ impl Importing {
     fn new(alloc: Global) -> Importing
         ensures last { result.last ≡ None }
         ensures told { (options : RowsOptions) → IsTold options [] result.tally }
+        ensures counted { IsCounted [] [] result.tally }
         ensures page { result.page.lines.items ≡ [] }
     {
         Importing {
@@ -106,6 +112,7 @@ impl Importing {
                 rows: 0,
                 before: 0,
                 after: 0,
+                passed: 0,
                 marked: false,
                 controller: false,
                 peripheral: false,
@@ -124,8 +131,11 @@ impl Importing {
     ) -> Result<Imported, ImportFault>
         requires last { self.old.last ≡ None }
         requires told { IsTold options.now [] self.old.tally }
+        requires counted { IsCounted [] [] self.old.tally }
         requires page { self.old.page.lines.items ≡ [] }
-        ensures { (all : List (List (List ℕ))) → ToCome R.remaining records.old all
+        ensures failed { IfErr result (λ fault. fault ≡ ImportFault.Read
+            → HasFailed R.remaining records.old records.new) }
+        ensures puts { (all : List (List (List ℕ))) → ToCome R.remaining records.old all
             → PutsExport options.now all (begun (W.contents writer.old))
             (output (W.contents writer.new) self.new.page) result }
     {
@@ -153,7 +163,8 @@ impl Importing {
         writer: &mut W,
     ) -> Result<(), ImportFault>
         requires { done < 2 ^ 64 - 1 }
-        ensures { (before : Output) (earlier : List (List (List ℕ))) (events : List Event)
+        ensures unread { IfErr result (λ fault. fault ≡ ImportFault.Read → ⊥) }
+        ensures takes { (before : Output) (earlier : List (List (List ℕ))) (events : List Event)
             → length earlier ≡ done
             → HasImported options.now self.old before (output (W.contents writer.old) self.old.page)
             earlier events
@@ -169,11 +180,40 @@ impl Importing {
                 self.tally.header = true;
                 Ok(())
             }
-            Err(fault) => Err(ImportFault::BadRecord {
-                number: done + 1,
-                fault,
-            }),
+            Err(fault) => self.pass(options, done, fault),
         }
+    }
+
+    /// Passes over a record after so many, if its own time is outside the part that is asked for,
+    /// else refuses it for this.
+    fn pass(
+        &mut self,
+        options: &RowsOptions,
+        done: u64,
+        fault: RecordFault,
+    ) -> Result<(), ImportFault>
+        requires { done < 2 ^ 64 - 1 }
+        ensures passed { OnOk result (IsOutside options.now (line_fields self.old.line.items)) }
+        ensures counted { OnOk result
+            (self.new.tally.passed ≡ counted_more self.old.tally.passed true) }
+        ensures header { self.new.tally.header ≡ self.old.tally.header }
+        ensures refused { IfErr result (IsRefusalFor options.now (line_fields self.old.line.items)
+            done self.old.last fault) }
+        ensures told { TellsSame self.old.tally self.new.tally }
+        ensures last { self.new.last ≡ self.old.last }
+        ensures page { self.new.page ≡ self.old.page }
+    {
+        let own = time_in(options, self.line.as_slice());
+        if options.is_outside(own) {
+            self.tally.passed = self.tally.passed.saturating_add(1);
+            return Ok(());
+        }
+        Err(ImportFault::BadRecord {
+            number: done + 1,
+            own,
+            last: self.last,
+            fault,
+        })
     }
 
     /// Adds the row of an event, if it is in the part that is asked for.
@@ -183,7 +223,8 @@ impl Importing {
         event: &Event,
         writer: &mut W,
     ) -> Result<(), ImportFault>
-        ensures last { OnOk result (self.new.last ≡ Some (start_of event.now)) }
+        ensures last { OnOk result
+            (self.new.last ≡ last_with options.now self.old.last event.now) }
         ensures noted { IsNoted options.now self.old.tally self.new.tally event.now }
         ensures added { OnOk result (Puts (output (W.contents writer.old) self.old.page)
             (output (W.contents writer.new) self.new.page) (part_line options.now event.now)) }
@@ -192,9 +233,9 @@ impl Importing {
             (output (W.contents writer.new) self.new.page) (part_line options.now event.now)) }
     {
         let at = event.start().value();
-        self.last = Some(at);
         self.note(event);
         if options.from.is_some_and(|first| at < first) {
+            self.last = Some(at);
             self.tally.before = self.tally.before.saturating_add(1);
             return Ok(());
         }
@@ -202,6 +243,7 @@ impl Importing {
             self.tally.after = self.tally.after.saturating_add(1);
             return Ok(());
         }
+        self.last = Some(at);
         self.tally.rows = self.tally.rows.saturating_add(1);
         self.page.add(writer, event)
     }
@@ -212,6 +254,7 @@ impl Importing {
         ensures counts { (self.new.tally.rows ≡ self.old.tally.rows)
             × (self.new.tally.before ≡ self.old.tally.before)
             × (self.new.tally.after ≡ self.old.tally.after) }
+        ensures kept { IsKept self.old.tally self.new.tally }
         ensures last { self.new.last ≡ self.old.last }
         ensures page { self.new.page ≡ self.old.page }
     {

@@ -7,11 +7,13 @@ ghost use Rattle.mdb_import.specs.Numbers.{AreClock, AreDigits, IsClock, IsNeare
 use super::fields::parted;
 use mdb_words::Time;
 
-/// A number with decimals: `count / 10^places`.
+/// A number with decimals: `count / 10^places`, where `count` is below 10^30 and `places` at most 15.
 #[derive(Clone, Copy, PartialEq, Eq, Debug)]
-pub(crate) struct Number {
-    pub(crate) count: u128,
-    pub(crate) places: usize,
+pub struct Number {
+    /// All its digits as a whole number.
+    pub count: u128,
+    /// How many of them are behind the mark.
+    pub places: usize,
     ghost small: { count < 10 ^ 30 },
     ghost few: { places ≤ 15 },
 }
@@ -36,8 +38,8 @@ static POWERS: [u64; 16] = [
     1_000_000_000_000_000,
 ];
 
-/// A power of ten.
-pub(crate) fn power(places: usize) -> u64
+/// A power of ten, up to 10^15.
+pub fn power(places: usize) -> u64
     requires { places ≤ 15 }
     ensures value { result ≡ 10 ^ places }
     ensures some { 0 < result }
@@ -46,8 +48,9 @@ pub(crate) fn power(places: usize) -> u64
     POWERS[places]
 }
 
-/// The number that a field writes; `None` where it writes none.
-pub(crate) fn read_number(field: &[u8]) -> Option<Number>
+/// The number that a field writes: 1 to 15 digits, and perhaps a decimal point or comma and 1 to 15
+/// digits more; `None` where it writes none.
+pub fn read_number(field: &[u8]) -> Option<Number>
     ensures some { IfSome result (λ it. IsNumber field.now it.count it.places) }
     ensures none { IfNone result ((n places : ℕ) → IsNumber field.now n places → ⊥) }
 {

@@ -1,5 +1,8 @@
 //! What is told of an export beside its text.
 
+ghost use Rattle.std.specs.Prelude.{◌≡◌, ◌↔◌, IsSomeAnd, IsTrue, false};
+ghost use Rattle.mdb_import.specs.Part.{is_in as in_part};
+
 /// A unit of time.
 #[derive(Clone, Copy, PartialEq, Eq, Debug)]
 pub enum Unit {
@@ -26,4 +29,25 @@ pub struct RowsOptions {
     pub from: Option<u64>,
     /// The last microsecond of the part that is asked for; `None`: to the end.
     pub until: Option<u64>,
+}
+
+impl RowsOptions {
+    /// Whether a microsecond is in the part that is asked for.
+    pub(crate) fn is_in(&self, at: u64) -> bool
+        ensures { result ≡ in_part self.now at }
+    {
+        if self.from.is_some_and(|first| at < first) {
+            return false;
+        }
+        !self.until.is_some_and(|last| at > last)
+    }
+    /// Whether a microsecond, if there is one, is outside that part.
+    pub(crate) fn is_outside(&self, at: Option<u64>) -> bool
+        ensures { IsTrue result ↔ IsSomeAnd at (λ time. in_part self.now time ≡ false) }
+    {
+        match at {
+            Some(time) => !self.is_in(time),
+            None => false,
+        }
+    }
 }

@@ -8,8 +8,9 @@ ghost use Rattle.mdb_import.specs.Rows.{IsAfter};
 use super::fault::RecordFault;
 use mdb_words::Event;
 
-/// Refuses an event that doesn't start after the time of the row before it, if there is one.
-pub(crate) fn expect_after(last: Option<u64>, event: &Event) -> Result<(), RecordFault>
+/// Refuses an event that doesn't start after the time of the row before it, if there is one, as
+/// `SameTime` or `EarlierTime`.
+pub fn expect_after(last: Option<u64>, event: &Event) -> Result<(), RecordFault>
     ensures ok { OnOk result (IsAfter last event.now) }
     ensures err { IfErr result (λ fault. IfSome last (λ before. start_of event.now ≤ before)) }
     ensures some { IfErr result (λ fault. IsSome last) }

@@ -19,13 +19,13 @@ const PAGE: usize = 65_536;
 
 /// Rows that are still to be written, all of them whole. Their memory is used again and again.
 #[derive(Drop)]
-pub(crate) struct Page {
+pub struct Page {
     lines: Vec<u8>,
 }
 
 impl Page {
     /// An empty page.
-    pub(crate) fn new(alloc: Global) -> Page
+    pub fn new(alloc: Global) -> Page
         ensures { result.lines.items ≡ [] }
     {
         Page {
@@ -34,7 +34,7 @@ impl Page {
     }
 
     /// Adds the row of an event, and writes the page out when it is long.
-    pub(crate) fn add<W: Write>(&mut self, writer: &mut W, event: &Event) -> Result<(), ImportFault>
+    pub fn add<W: Write>(&mut self, writer: &mut W, event: &Event) -> Result<(), ImportFault>
         ensures added { OnOk result (Puts (output (W.contents writer.old) self.old)
             (output (W.contents writer.new) self.new) (row_line event.now)) }
         ensures refused { IfErr result (λ fault. IsNotTaken fault
@@ -56,7 +56,7 @@ impl Page {
     }
 
     /// Writes the page out, and leaves it empty.
-    pub(crate) fn write_out<W: Write>(&mut self, writer: &mut W) -> Result<(), ImportFault>
+    pub fn write_out<W: Write>(&mut self, writer: &mut W) -> Result<(), ImportFault>
         ensures written { OnOk result
             (Appends (W.contents writer.old) (W.contents writer.new) self.old.lines.items) }
         ensures empty { OnOk result (self.new.lines.items ≡ []) }

@@ -5,7 +5,7 @@ ghost use Rattle.mdb_words.specs.declared.event.Event.{Event};
 ghost use Rattle.mdb_words.specs.declared.word.Line.{Line};
 ghost use Rattle.mdb_import.specs.Fields.{line_fields};
 ghost use Rattle.mdb_import.specs.Refusals.{IsFieldsFault, IsNoRow};
-ghost use Rattle.mdb_import.specs.Rows.{AreOf, IsBreak, IsHeaderOf, IsLetterOf, IsLine, IsNamed, IsRowOf};
+ghost use Rattle.mdb_import.specs.Rows.{AreOf, IsBreak, IsHeaderOf, IsLetterOf, IsLine, IsNamed, IsRowOf, TellsTime};
 ghost use Rattle.mdb_import.specs.Times.{IsTime};
 
 use super::fault::RecordFault;
@@ -26,6 +26,17 @@ pub(crate) fn event_in(options: &RowsOptions, line: &[u8]) -> Result<Event, Reco
         return Err(RecordFault::FieldCount);
     };
     event_of(options, bare(time), bare(name), bare(value))
+}
+
+/// The microsecond that the first field of a line tells, if it tells one.
+pub(crate) fn time_in(options: &RowsOptions, line: &[u8]) -> Option<u64>
+    ensures some { IfSome result (TellsTime options.now (line_fields line.now)) }
+    ensures none { IfNone result ((at : ℕ) → TellsTime options.now (line_fields line.now) at → ⊥) }
+{
+    match read_time(options.unit, bare(first_part(line, separator_of(line)))) {
+        Ok(time) => Some(time.value()),
+        Err(_) => None,
+    }
 }
 
 /// Whether a line is that of a header.
@@ -81,7 +92,7 @@ fn line_of(options: &RowsOptions, field: &[u8]) -> Option<Line>
 }
 
 /// Whether a field is one of two letters or, where there is one, a name.
-fn is_named(field: &[u8], capital: u8, small: u8, name: &Option<String>) -> bool
+pub fn is_named(field: &[u8], capital: u8, small: u8, name: &Option<String>) -> bool
     ensures { IsTrue result
         ↔ IsNamed capital small (option_map string_bytes name.now) field.now }
 {

@@ -45,8 +45,10 @@ fn time_of(micros: u128) -> Result<Time, RecordFault>
 }
 
 /// The nearest microsecond to the time that a field tells, in the unit that was told, if one was.
-pub(crate) fn read_time(unit: Option<Unit>, field: &[u8]) -> Result<Time, RecordFault>
+pub fn read_time(unit: Option<Unit>, field: &[u8]) -> Result<Time, RecordFault>
     ensures ok { IfOk result (IsTime unit field.now) }
+    ensures only { IfOk result (λ time. (micros : ℕ) → IsTime unit field.now micros
+        → micros ≡ time) }
     ensures err { IfErr result (λ fault. (micros : ℕ) → IsTime unit field.now micros → ⊥) }
     ensures why { IfErr result (IsTimeFault unit field.now) }
 {

@@ -34,8 +34,8 @@ fn digits_of(field: &[u8]) -> &[u8]
     field
 }
 
-/// What stands behind `0x` or `0X`.
-fn behind_prefix(field: &[u8]) -> Option<&[u8]>
+/// What stands behind `0x` or `0X`; `None` where a field begins with neither.
+pub fn behind_prefix(field: &[u8]) -> Option<&[u8]>
     ensures some { IfSome result (λ digits. IsPrefixed field.now digits.now) }
     ensures none { IfNone result ((digits : List ℕ) → IsPrefixed field.now digits → ⊥) }
 {
@@ -57,7 +57,7 @@ fn before_suffix(field: &[u8]) -> Option<&[u8]>
 }
 
 /// The number of 1 to 4 hexadecimal digits of either case; `None` where they are none.
-fn read_hex(digits: &[u8]) -> Option<u16>
+pub fn read_hex(digits: &[u8]) -> Option<u16>
     ensures some { IfSome result (IsHex digits.now) }
     ensures none { IfNone result ((word : ℕ) → IsHex digits.now word → ⊥) }
 {

@@ -1,11 +1,265 @@
--- What the status of the program says.
-use Rattle.std.specs.Prelude.{◌⊎◌, Bool, ℕ, List, Option}
-use Rattle.mdb_sigrok.specs.Import.{IsImported}
+-- What the words of a command line name, and what the answer of the program says.
+use Rattle.std.specs.Prelude.{◌≡◌, ◌≢◌, ◌⊎◌, ℕ, Bool, List, [], ◌∷◌, ◌<◌, ◌^◌, codes, ⊤, Option, Some, None, option_map, option_to_list, string_bytes, unwrap_or, Result, Ok, Err}
+use Rattle.clap.specs.declared.error.kind.ErrorKind.TheVariants.{OutOfMemory}
+use Rattle.mdb_words.specs.Digits.{IsDecimal}
+use Rattle.mdb_import.specs.Exports.{Exports, export_records}
 use Rattle.mdb_import.specs.declared.options.RowsOptions.{RowsOptions}
-use Rattle.mdb_import.specs.Exports.{IsExported}
+use Rattle.mdb_import.specs.declared.options.Unit.{Unit}
+use Rattle.mdb_import.specs.declared.options.Unit.TheVariants as unit
+use Rattle.mdb_sigrok.specs.Import.{AnswersTo}
+use Rattle.mdb_sigrok.specs.declared.options.SigrokOptions.{SigrokOptions}
+use Rattle.mdb_saleae.specs.Exports as table
+use Rattle.mdb_saleae.specs.declared.options.SaleaeOptions.{SaleaeOptions}
+use Rattle.mdb_edges.specs.Import as edges
+use Rattle.mdb_edges.specs.declared.fault.EdgesFault.{EdgesFault}
+use Rattle.mdb_edges.specs.declared.options.EdgesOptions.{EdgesOptions}
+use Rattle.mdb_edges.specs.declared.part.EdgesImported.{EdgesImported}
+use Rattle.mdb_importer.specs.Options.{AreOptions, IsOneOf, Uses, chosen, is_used}
+use Rattle.mdb_importer.specs.declared.ended.Ended.{Ended}
+use Rattle.mdb_importer.specs.declared.ended.Ended.TheVariants.{Rows, Sigrok, Saleae, Edges, Refused}
+use Rattle.mdb_importer.specs.declared.refusal.Refusal.{Refusal}
+use Rattle.mdb_importer.specs.declared.refusal.Refusal.TheVariants.{Words}
 
--- all rows of an export of one of the formats were written, and nothing else
-abbrev pub IsAllWritten : List ℕ → Option (List ℕ) → Option (List ℕ) → Type 0
-IsAllWritten text before after =
-    ((options : RowsOptions) × IsExported options text before after)
-    ⊎ ((swap : Bool) × (count : ℕ) × IsImported swap text count before after)
+-- ---- what options tell
+
+-- the options of `rows`, each with a value
+abbrev pub rows_names : List (List ℕ)
+rows_names =
+    codes "unit" ∷ codes "controller" ∷ codes "peripheral" ∷ codes "from" ∷ codes "until" ∷ []
+
+-- the options of `sigrok` that have a value, and the one that has none
+abbrev pub sigrok_names : List (List ℕ)
+sigrok_names = codes "from" ∷ codes "until" ∷ []
+
+abbrev pub sigrok_flags : List (List ℕ)
+sigrok_flags = codes "swap" ∷ []
+
+-- the options of `saleae`, each with a value
+abbrev pub saleae_names : List (List ℕ)
+saleae_names =
+    codes "controller" ∷ codes "peripheral" ∷ codes "break" ∷ codes "from" ∷ codes "until" ∷ []
+
+-- the options of `edges` that have a value, and the one that has none
+abbrev pub edges_names : List (List ℕ)
+edges_names = rows_names
+
+abbrev pub edges_flags : List (List ℕ)
+edges_flags = codes "invert" ∷ []
+
+-- a value, if there is one, tells this, if it is there
+abbrev pub TellsIf : {A : Type 0} → (List ℕ → A → Type 0) → Option (List ℕ) → Option A → Type 0
+TellsIf Tells (Some value) (Some told) = Tells value told
+TellsIf Tells (Some value) None = ⊥
+TellsIf Tells None (Some told) = ⊥
+TellsIf Tells None None = ⊤
+
+-- there is at most one value, and what it tells is this
+abbrev pub TellsOnce : {A : Type 0} → (List ℕ → A → Type 0) → List (List ℕ) → Option A → Type 0
+TellsOnce Tells values told = (value : Option (List ℕ)) × (values ≡ option_to_list value)
+    × TellsIf Tells value told
+
+-- a word that names a unit
+abbrev pub IsUnit : List ℕ → Unit → Type 0
+IsUnit word unit.Seconds = word ≡ codes "s"
+IsUnit word unit.Milliseconds = word ≡ codes "ms"
+IsUnit word unit.Microseconds = word ≡ codes "us"
+IsUnit word unit.Nanoseconds = word ≡ codes "ns"
+
+-- the letters that name a line or a break by themselves
+abbrev pub letters : List (List ℕ)
+letters = codes "M" ∷ codes "m" ∷ codes "S" ∷ codes "s" ∷ codes "B" ∷ codes "b" ∷ []
+
+-- a word that can name a line: it isn't empty, and none of these letters
+abbrev pub IsLineName : List ℕ → List ℕ → Type 0
+IsLineName word name = (name ≡ word) × (word ≢ []) × (IsOneOf word letters → ⊥)
+
+-- two names, if both are there, are different
+abbrev pub AreApart : Option (List ℕ) → Option (List ℕ) → Type 0
+AreApart (Some one) (Some other) = one ≢ other
+AreApart (Some one) None = ⊤
+AreApart None other = ⊤
+
+-- the values of the options that name the lines tell these names
+pub record TellNames (values : List ℕ → List (List ℕ)) (controller peripheral : Option (List ℕ))
+    : Type 0 where
+  pub controller_is : TellsOnce IsLineName (values (codes "controller")) controller
+  pub peripheral_is : TellsOnce IsLineName (values (codes "peripheral")) peripheral
+  pub apart : AreApart controller peripheral
+
+-- a word that tells the length of a break: a number of microseconds below 10^9
+abbrev pub IsLength : List ℕ → ℕ → Type 0
+IsLength word length = IsDecimal 15 word length × (length < 10 ^ 9)
+
+-- the unit that the values of an option tell; where there is none, it is seconds
+abbrev pub TellsUnit : List (List ℕ) → Unit → Type 0
+TellsUnit values is = (told : Option Unit) × TellsOnce IsUnit values told
+    × (is ≡ unwrap_or told unit.Seconds)
+
+-- The values of the options of `rows` ask for an import with these options.
+pub record AskForRows (values : List ℕ → List (List ℕ)) (options : RowsOptions) : Type 0 where
+  pub unit : TellsOnce IsUnit (values (codes "unit")) options.unit
+  pub names : TellNames values (option_map string_bytes options.controller)
+      (option_map string_bytes options.peripheral)
+  pub from : TellsOnce (IsDecimal 15) (values (codes "from")) options.from
+  pub until : TellsOnce (IsDecimal 15) (values (codes "until")) options.until
+
+-- Those of `sigrok`, and whether its flag was used, ask for an import with these.
+pub record AskForSigrok (values : List ℕ → List (List ℕ)) (used : List ℕ → Bool)
+    (options : SigrokOptions) : Type 0 where
+  pub swap : used (codes "swap") ≡ options.swap
+  pub from : TellsOnce (IsDecimal 15) (values (codes "from")) options.from
+  pub until : TellsOnce (IsDecimal 15) (values (codes "until")) options.until
+
+-- Those of `saleae` ask for an import with these.
+pub record AskForSaleae (values : List ℕ → List (List ℕ)) (options : SaleaeOptions)
+    : Type 0 where
+  pub names : TellNames values (option_map string_bytes options.controller)
+      (option_map string_bytes options.peripheral)
+  pub length : TellsOnce IsLength (values (codes "break")) options.break_length
+  pub from : TellsOnce (IsDecimal 15) (values (codes "from")) options.from
+  pub until : TellsOnce (IsDecimal 15) (values (codes "until")) options.until
+
+-- Those of `edges`, and whether its flag was used, ask for an import with these.
+pub record AskForEdges (values : List ℕ → List (List ℕ)) (used : List ℕ → Bool)
+    (options : EdgesOptions) : Type 0 where
+  pub unit : TellsUnit (values (codes "unit")) options.unit
+  pub names : TellNames values (option_map string_bytes options.controller)
+      (option_map string_bytes options.peripheral)
+  pub invert : used (codes "invert") ≡ options.invert
+  pub from : TellsOnce (IsDecimal 15) (values (codes "from")) options.from
+  pub until : TellsOnce (IsDecimal 15) (values (codes "until")) options.until
+
+-- Two ways of importing rows that are told by the same.
+pub record AskTheSame (a b : RowsOptions) : Type 0 where
+  pub unit : a.unit ≡ b.unit
+  pub controller : option_map string_bytes a.controller ≡ option_map string_bytes b.controller
+  pub peripheral : option_map string_bytes a.peripheral ≡ option_map string_bytes b.peripheral
+  pub from : a.from ≡ b.from
+  pub until : a.until ≡ b.until
+
+-- two ways of importing an analyser's table that are told by the same
+pub record AskTheSameOfTable (a b : SaleaeOptions) : Type 0 where
+  pub controller : option_map string_bytes a.controller ≡ option_map string_bytes b.controller
+  pub peripheral : option_map string_bytes a.peripheral ≡ option_map string_bytes b.peripheral
+  pub length : a.break_length ≡ b.break_length
+  pub from : a.from ≡ b.from
+  pub until : a.until ≡ b.until
+
+-- two ways of importing a table of edges that are told by the same
+pub record AskTheSameOfEdges (a b : EdgesOptions) : Type 0 where
+  pub unit : a.unit ≡ b.unit
+  pub controller : option_map string_bytes a.controller ≡ option_map string_bytes b.controller
+  pub peripheral : option_map string_bytes a.peripheral ≡ option_map string_bytes b.peripheral
+  pub invert : a.invert ≡ b.invert
+  pub from : a.from ≡ b.from
+  pub until : a.until ≡ b.until
+
+-- ---- what words name
+
+-- The words of a command line, the program's name first, name a task with these uses of its
+-- options: they are its word, and after it its options.
+pub record NameTask (words : List (List ℕ)) (task : List ℕ) (names flags : List (List ℕ))
+    (uses : Uses) : Type 0 where
+  pub program : List ℕ
+  pub rest : List (List ℕ)
+  pub are : words ≡ program ∷ task ∷ rest
+  pub options : AreOptions names flags rest uses
+
+-- they name `rows` with these options
+abbrev pub NameRows : List (List ℕ) → RowsOptions → Type 0
+NameRows words options = (uses : Uses) × NameTask words (codes "rows") rows_names [] uses
+    × AskForRows (λ name. chosen name uses) options
+
+-- they name `sigrok` with these options
+abbrev pub NameSigrok : List (List ℕ) → SigrokOptions → Type 0
+NameSigrok words options = (uses : Uses)
+    × NameTask words (codes "sigrok") sigrok_names sigrok_flags uses
+    × AskForSigrok (λ name. chosen name uses) (λ name. is_used name uses) options
+
+-- they name `saleae` with these options
+abbrev pub NameSaleae : List (List ℕ) → SaleaeOptions → Type 0
+NameSaleae words options = (uses : Uses)
+    × NameTask words (codes "saleae") saleae_names [] uses
+    × AskForSaleae (λ name. chosen name uses) options
+
+-- they name `edges` with these options
+abbrev pub NameEdges : List (List ℕ) → EdgesOptions → Type 0
+NameEdges words options = (uses : Uses)
+    × NameTask words (codes "edges") edges_names edges_flags uses
+    × AskForEdges (λ name. chosen name uses) (λ name. is_used name uses) options
+
+-- they name the task with some options
+abbrev pub NamesRows : List (List ℕ) → Type 0
+NamesRows words = (options : RowsOptions) × NameRows words options
+
+abbrev pub NamesSigrok : List (List ℕ) → Type 0
+NamesSigrok words = (options : SigrokOptions) × NameSigrok words options
+
+abbrev pub NamesSaleae : List (List ℕ) → Type 0
+NamesSaleae words = (options : SaleaeOptions) × NameSaleae words options
+
+abbrev pub NamesEdges : List (List ℕ) → Type 0
+NamesEdges words = (options : EdgesOptions) × NameEdges words options
+
+-- they name one of the tasks
+abbrev pub NameATask : List (List ℕ) → Type 0
+NameATask words =
+    NamesRows words ⊎ (NamesSigrok words ⊎ (NamesSaleae words ⊎ NamesEdges words))
+
+-- ---- what is answered
+
+-- the refusal for want of memory
+abbrev pub no_memory : Refusal
+no_memory = Words OutOfMemory
+
+-- An answer is that of the task that the words name. Where they name one, they aren't refused, but
+-- for want of memory.
+abbrev pub IsAnswerTo : List (List ℕ) → Ended → Type 0
+IsAnswerTo words (Rows answer) = NamesRows words
+IsAnswerTo words (Sigrok answer) = NamesSigrok words
+IsAnswerTo words (Saleae answer) = NamesSaleae words
+IsAnswerTo words (Edges answer) = NamesEdges words
+IsAnswerTo words (Refused refusal) = NameATask words → refusal ≡ no_memory
+
+-- what the answer to a table of edges says of its text, and of the bytes that the writer held
+abbrev pub IsEdgesAnswer : EdgesOptions → List ℕ → Option (List ℕ) → Option (List ℕ)
+    → Result EdgesImported EdgesFault → Type 0
+IsEdgesAnswer options text before after (Ok told) =
+    edges.IsImported options text told before after
+IsEdgesAnswer options text before after (Err fault) =
+    edges.IsRefused options text fault before after
+
+-- What an answer says of a text, and of the bytes that the writer held before and after: that the
+-- task that the words name came to this with the options that they name. Where words are refused,
+-- nothing was written.
+abbrev pub Says : List (List ℕ) → List ℕ → Option (List ℕ) → Option (List ℕ) → Ended → Type 0
+Says words text before after (Rows answer) = (options : RowsOptions) × NameRows words options
+    × Exports options (export_records text) before after answer
+Says words text before after (Sigrok answer) = (options : SigrokOptions)
+    × NameSigrok words options × AnswersTo options text before after answer
+Says words text before after (Saleae answer) = (options : SaleaeOptions)
+    × NameSaleae words options × table.Exports options (export_records text) before after answer
+Says words text before after (Edges answer) = (options : EdgesOptions)
+    × NameEdges words options × IsEdgesAnswer options text before after answer
+Says words text before after (Refused refusal) =
+    (NameATask words → refusal ≡ no_memory) × (after ≡ before)
+
+-- the words were refused
+abbrev pub IsRefused : Ended → Type 0
+IsRefused (Rows answer) = ⊥
+IsRefused (Sigrok answer) = ⊥
+IsRefused (Saleae answer) = ⊥
+IsRefused (Edges answer) = ⊥
+IsRefused (Refused refusal) = ⊤
+
+-- the exit status: 0 where the rows that were asked for were written, else 2
+abbrev pub status_of : Ended → ℕ
+status_of (Rows (Ok imported)) = 0
+status_of (Rows (Err fault)) = 2
+status_of (Sigrok (Ok rows)) = 0
+status_of (Sigrok (Err fault)) = 2
+status_of (Saleae (Ok imported)) = 0
+status_of (Saleae (Err fault)) = 2
+status_of (Edges (Ok imported)) = 0
+status_of (Edges (Err fault)) = 2
+status_of (Refused refusal) = 2

@@ -3,8 +3,11 @@
 ghost use Rattle.std.specs.Prelude.{◌<◌};
 
 use csv::ByteRecord;
-use mdb_import::{ImportFault, Imported};
+use mdb_edges::{EdgesFault, EdgesImported};
+use mdb_import::{ImportFault, Imported, RecordFault};
 use mdb_records::{ReadCause, Records};
+use mdb_saleae::SaleaeFault;
+use mdb_sigrok::{SigrokFault, SigrokRows};
 use std::alloc::{AllocError, Global};
 use std::io::{Read, Write};
 
@@ -12,26 +15,157 @@ use std::io::{Read, Write};
 /// `\x` and two digits.
 const EXCERPT: usize = 48;
 
+/// So many microseconds have 15 digits or fewer.
+const TIMES: u64 = 1_000_000_000_000_000;
+
+/// Tells what was imported, or why it wasn't, of the records that the answer was met with.
+pub(crate) fn tell<R: Read + Drop, E: Write>(
+    alloc: Global,
+    answer: Result<Imported, ImportFault>,
+    records: &Records<R>,
+    err: &mut E,
+) {
+    match answer {
+        Ok(imported) => note(&imported, err),
+        Err(fault) => complain(alloc, fault, records, err),
+    }
+}
+
+/// Tells the same of a trace.
+pub(crate) fn tell_of_trace<E: Write>(answer: Result<SigrokRows, SigrokFault>, err: &mut E) {
+    match answer {
+        Ok(rows) => note_trace(&rows, err),
+        Err(fault) => complain_of_trace(fault, err),
+    }
+}
+
+/// Tells the same of the table of an analyser, of the records that the answer was met with.
+pub(crate) fn tell_of_table<R: Read + Drop, E: Write>(
+    alloc: Global,
+    answer: Result<Imported, SaleaeFault>,
+    records: &Records<R>,
+    err: &mut E,
+) {
+    match answer {
+        Ok(imported) => note_table(&imported, err),
+        Err(fault) => complain_of_table(alloc, fault, records, err),
+    }
+}
+
+/// Tells the same of a table of edges.
+pub(crate) fn tell_of_edges<E: Write>(answer: Result<EdgesImported, EdgesFault>, err: &mut E) {
+    match answer {
+        Ok(imported) => note_edges(&imported, err),
+        Err(fault) => complain_of_edges(fault, err),
+    }
+}
+
 /// Writes one line on a fault: at a record that is refused what was wanted and what stands there,
 /// where the reading failed its cause. The records are those that the fault was met with. Where the
 /// line is refused, nothing more is tried.
-pub(crate) fn complain<R: Read + Drop, E: Write>(
+fn complain<R: Read + Drop, E: Write>(
     alloc: Global,
     fault: ImportFault,
     records: &Records<R>,
     err: &mut E,
 ) {
     let _ = match fault {
-        ImportFault::BadRecord { .. } => complain_of_record(alloc, fault, records.row(), err),
+        ImportFault::BadRecord {
+            number,
+            own,
+            last,
+            fault,
+        } => {
+            let refused = Refused { number, own, last };
+            complain_of_record(alloc, refused, fault, records.row(), err)
+        }
         ImportFault::Read => writeln!(err, "mdbimport: {}", text_of_cause(records.cause())),
         ImportFault::Write | ImportFault::Memory => writeln!(err, "mdbimport: {fault}"),
     };
 }
 
+/// A record that is refused: its number, its own time, if it tells one, and that of the last row
+/// before it.
+#[derive(Clone, Copy)]
+struct Refused {
+    number: u64,
+    own: Option<u64>,
+    last: Option<u64>,
+}
+
 /// Writes the line on a record that is refused. Without memory it leaves out what stands there.
 fn complain_of_record<E: Write>(
     alloc: Global,
-    fault: ImportFault,
+    refused: Refused,
+    fault: RecordFault,
+    fields: &ByteRecord,
+    err: &mut E,
+) -> std::io::Result<()> {
+    write!(err, "mdbimport: record {}", refused.number)?;
+    match (refused.own, refused.last) {
+        (Some(at), _) => write!(err, " at {at}")?,
+        (None, Some(at)) => write!(err, " after {at}")?,
+        (None, None) => {}
+    }
+    write!(err, ": {fault}")?;
+    if let Ok(found) = excerpt(alloc, fields) {
+        err.write_all(b"; found \"")?;
+        err.write_all(found.as_slice())?;
+        err.write_all(b"\"")?;
+    }
+    if let Some(first) = first_after(refused) {
+        write!(err, "; go on with --from {first}")?;
+    }
+    err.write_all(b"\n")
+}
+
+/// The first microsecond after a record that is refused, and after all rows before it, where it
+/// tells its time and one of 15 digits comes after it.
+fn first_after(refused: Refused) -> Option<u64> {
+    let own = refused.own?;
+    let first = own.max(refused.last.unwrap_or(0)).saturating_add(1);
+    if first < TIMES { Some(first) } else { None }
+}
+
+/// Why the input can't be read.
+fn text_of_cause(cause: ReadCause) -> &'static str {
+    match cause {
+        ReadCause::Failed => "the input can't be read",
+        ReadCause::WouldBlock => "the input can't be read: it would have to be waited for",
+        ReadCause::OverLimit => "the input is too long",
+    }
+}
+
+/// Writes one line on a fault of a trace. Where the line is refused, nothing more is tried.
+fn complain_of_trace<E: Write>(fault: SigrokFault, err: &mut E) {
+    let _ = writeln!(err, "mdbimport: {fault}");
+}
+
+/// Writes one line on a fault of an analyser's table: at a record that is refused what was wanted
+/// and what stands there, where the reading failed its cause. The records are those that the fault
+/// was met with. Where the line is refused, nothing more is tried.
+fn complain_of_table<R: Read + Drop, E: Write>(
+    alloc: Global,
+    fault: SaleaeFault,
+    records: &Records<R>,
+    err: &mut E,
+) {
+    let _ = match fault {
+        SaleaeFault::BadHeader { .. }
+        | SaleaeFault::BadRecord { .. }
+        | SaleaeFault::BadRow { .. } => complain_of_row(alloc, fault, records.row(), err),
+        SaleaeFault::Read => writeln!(err, "mdbimport: {}", text_of_cause(records.cause())),
+        SaleaeFault::NoHeader | SaleaeFault::Write | SaleaeFault::Memory => {
+            writeln!(err, "mdbimport: {fault}")
+        }
+    };
+}
+
+/// Writes the line on a record of a table that is refused. Without memory it leaves out what stands
+/// there.
+fn complain_of_row<E: Write>(
+    alloc: Global,
+    fault: SaleaeFault,
     fields: &ByteRecord,
     err: &mut E,
 ) -> std::io::Result<()> {
@@ -44,28 +178,76 @@ fn complain_of_record<E: Write>(
     err.write_all(b"\n")
 }
 
-/// Why the input can't be read.
-fn text_of_cause(cause: ReadCause) -> &'static str {
-    match cause {
-        ReadCause::Failed => "the input can't be read",
-        ReadCause::WouldBlock => "the input can't be read: it would have to be waited for",
-        ReadCause::OverLimit => "the input is too long",
-    }
+/// Writes one line on a fault of a table of edges. Where the line is refused, nothing more is tried.
+fn complain_of_edges<E: Write>(fault: EdgesFault, err: &mut E) {
+    let _ = writeln!(err, "mdbimport: {fault}");
 }
 
-/// Writes a line for each thing that whoever recorded should know of what was imported: a header
-/// that was passed over, rows that were left out, and likely causes of what is missing.
-pub(crate) fn note<E: Write>(imported: &Imported, err: &mut E) {
-    let _ = note_what_was_left_out(imported, err);
-    let _ = note_what_is_missing(imported, err);
-}
-
-/// Notes a header, and the rows that were left out.
-fn note_what_was_left_out<E: Write>(imported: &Imported, err: &mut E) -> std::io::Result<()> {
+/// Writes a line for each thing that whoever recorded should know of the rows that were imported: a
+/// header that was passed over, rows that were left out, and likely causes of what is missing.
+fn note<E: Write>(imported: &Imported, err: &mut E) {
+    let heard = Heard {
+        controller: imported.controller,
+        peripheral: imported.peripheral,
+        marked: imported.marked,
+    };
     if imported.header {
-        writeln!(err, "mdbimport: the first record is taken for a header")?;
+        let _ = writeln!(err, "mdbimport: the first record is taken for a header");
     }
-    let Imported { before, after, .. } = *imported;
+    let _ = note_what_was_left_out(imported.before, imported.after, err);
+    if imported.passed > 0 {
+        let _ = writeln!(
+            err,
+            "mdbimport: left out {} records outside the part that are no rows, or not in order",
+            imported.passed
+        );
+    }
+    let _ = note_what_is_missing(heard, err);
+}
+
+/// Writes the same lines of a trace, which has no header.
+fn note_trace<E: Write>(rows: &SigrokRows, err: &mut E) {
+    let heard = Heard {
+        controller: rows.controller,
+        peripheral: rows.peripheral,
+        marked: rows.marked,
+    };
+    let _ = note_what_was_left_out(rows.before, rows.after, err);
+    let _ = note_what_is_missing(heard, err);
+}
+
+/// Writes the same lines of an analyser's table, which always has a header.
+fn note_table<E: Write>(imported: &Imported, err: &mut E) {
+    let heard = Heard {
+        controller: imported.controller,
+        peripheral: imported.peripheral,
+        marked: imported.marked,
+    };
+    let _ = note_what_was_left_out(imported.before, imported.after, err);
+    let _ = note_what_is_missing(heard, err);
+}
+
+/// Writes the same lines of a table of edges, which always has a header.
+fn note_edges<E: Write>(imported: &EdgesImported, err: &mut E) {
+    let heard = Heard {
+        controller: imported.controller,
+        peripheral: imported.peripheral,
+        marked: imported.marked,
+    };
+    let _ = note_what_was_left_out(imported.before, imported.after, err);
+    let _ = note_what_is_missing(heard, err);
+}
+
+/// Which words there are in a recording.
+#[derive(Clone, Copy)]
+struct Heard {
+    controller: bool,
+    peripheral: bool,
+    marked: bool,
+}
+
+/// Notes the rows that were left out.
+fn note_what_was_left_out<E: Write>(before: u64, after: u64, err: &mut E) -> std::io::Result<()> {
     if before > 0 || after > 0 {
         writeln!(
             err,
@@ -76,8 +258,8 @@ fn note_what_was_left_out<E: Write>(imported: &Imported, err: &mut E) -> std::io
 }
 
 /// Notes the likely cause where no word is marked, or a line has none.
-fn note_what_is_missing<E: Write>(imported: &Imported, err: &mut E) -> std::io::Result<()> {
-    match (imported.controller, imported.peripheral) {
+fn note_what_is_missing<E: Write>(heard: Heard, err: &mut E) -> std::io::Result<()> {
+    match (heard.controller, heard.peripheral) {
         (false, false) => writeln!(err, "mdbimport: there is no word on either line")?,
         (true, false) => writeln!(
             err,
@@ -89,7 +271,7 @@ fn note_what_is_missing<E: Write>(imported: &Imported, err: &mut E) -> std::io::
         )?,
         (true, true) => {}
     }
-    if !imported.marked && (imported.controller || imported.peripheral) {
+    if !heard.marked && (heard.controller || heard.peripheral) {
         writeln!(
             err,
             "mdbimport: no word has its mode bit set: was it recorded with 8 bits and not 9?"

@@ -3,6 +3,11 @@
 
 mod command_line;
 mod complaint;
+mod ended;
+pub mod laws;
 mod program;
+mod refusal;
 
+pub use ended::Ended;
 pub use program::run;
+pub use refusal::{Refusal, ValueFault};

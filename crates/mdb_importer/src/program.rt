@@ -1,92 +1,117 @@
 //! The program over its words.
 
-ghost use Rattle.std.specs.Prelude.{◌≡◌, ◌⊎◌, ℕ, IfSome};
-ghost use Rattle.mdb_import.specs.Exports.{IsExported};
-ghost use Rattle.mdb_importer.specs.Program.{IsAllWritten};
-ghost use Rattle.mdb_sigrok.specs.Import.{IsImported};
+ghost use Rattle.std.specs.Prelude.{◌≡◌, ◌⊎◌, IfSome, map, string_bytes};
+ghost use Rattle.mdb_import.specs.Exports.{Exports, export_records};
+ghost use Rattle.mdb_importer.specs.Program.{IsAnswerTo, IsEdgesAnswer, IsRefused, Says};
+ghost use Rattle.mdb_saleae.specs.Exports.{Exports as ExportsTable};
+ghost use Rattle.mdb_sigrok.specs.Import.{AnswersTo};
 
-use super::command_line::{Refusal, Task, USAGE, VERSION, task_in};
-use super::complaint::{complain, note};
+use super::command_line::{Task, USAGE, VERSION, task_of};
+use super::complaint::{tell, tell_of_edges, tell_of_table, tell_of_trace};
+use super::ended::Ended;
+use super::refusal::Refusal;
 use clap::error::ErrorKind;
-use mdb_import::{ImportFault, RowsOptions, import_records, records_of};
-use mdb_sigrok::import_sigrok;
+use mdb_edges::{EdgesFault, EdgesImported, EdgesOptions, import_edges};
+use mdb_import::{ImportFault, Imported, RowsOptions, import_records, records_of};
+use mdb_saleae::{SaleaeFault, SaleaeOptions, import_table};
+use mdb_sigrok::{SigrokFault, SigrokOptions, SigrokRows, import_sigrok};
 use std::alloc::Global;
 use std::io::{Read, Write};
 
-/// The status of an export whose rows are all on `out`.
-const IMPORTED: u8 = 0;
-
-/// The status of any other.
-const NOT_IMPORTED: u8 = 2;
-
-/// Runs the program over its words, the program's name first, and answers its exit status: 0 where
-/// the rows of the whole export are on `out`, else 2, and a line on `err` says why. At status 0
-/// lines on `err` tell what was passed over, and what is likely to be wrong with the recording.
+/// Runs the program over its words, the program's name first, and answers how that ended: with the
+/// answer of the import that the words name, or that they are refused, and nothing was written.
+///
+/// One line on `err` says why there is no import, or no whole one. Where there is one, lines on
+/// `err` tell what was passed over, and what is likely to be wrong with the recording. Where `err`
+/// refuses a line, the answer is the same.
 pub fn run<R: Read + Drop, W: Write, E: Write>(
     alloc: Global,
     words: Vec<String>,
     reader: R,
     out: &mut W,
     err: &mut E,
-) -> u8
-    ensures status { (result ≡ IMPORTED) ⊎ (result ≡ NOT_IMPORTED) }
-    ensures imported { IfSome (R.remaining reader) (λ text. result ≡ IMPORTED
-        → IsAllWritten text (W.contents out.old) (W.contents out.new)) }
+) -> Ended
+    ensures says { IfSome (R.remaining reader) (λ text. Says (map string_bytes words.items) text
+        (W.contents out.old) (W.contents out.new) result) }
+    ensures task { IsAnswerTo (map string_bytes words.items) result }
+    ensures untouched { IsRefused result → out.new ≡ out.old }
 {
-    match task_in(alloc, words.as_slice()) {
-        Ok(Task::Rows(options)) => run_rows(alloc, &options, reader, out, err),
-        Ok(Task::Sigrok { swap }) => run_sigrok(alloc, swap, reader, out, err),
+    match task_of(alloc, words.as_slice()) {
+        Ok(Task::Rows(options)) => Ended::Rows(run_rows(alloc, &options, reader, out, err)),
+        Ok(Task::Sigrok(options)) => Ended::Sigrok(run_sigrok(alloc, &options, reader, out, err)),
+        Ok(Task::Saleae(options)) => Ended::Saleae(run_saleae(alloc, &options, reader, out, err)),
+        Ok(Task::Edges(options)) => Ended::Edges(run_edges(alloc, &options, reader, out, err)),
         Err(refusal) => {
             refuse(refusal, err);
-            NOT_IMPORTED
+            Ended::Refused(refusal)
         }
     }
 }
 
-/// Imports the text that the reader has left.
+/// Imports the rows of the text that the reader has left.
 fn run_rows<R: Read + Drop, W: Write, E: Write>(
     alloc: Global,
     options: &RowsOptions,
     reader: R,
     out: &mut W,
     err: &mut E,
-) -> u8
-    ensures status { (result ≡ IMPORTED) ⊎ (result ≡ NOT_IMPORTED) }
-    ensures imported { IfSome (R.remaining reader) (λ text. result ≡ IMPORTED
-        → IsExported options.now text (W.contents out.old) (W.contents out.new)) }
+) -> Result<Imported, ImportFault>
+    ensures { IfSome (R.remaining reader) (λ text. Exports options.now (export_records text)
+        (W.contents out.old) (W.contents out.new) result) }
 {
     let mut records = records_of(alloc, reader);
-    match import_records(alloc, options, &mut records, out) {
-        Ok(imported) => {
-            note(&imported, err);
-            IMPORTED
-        }
-        Err(fault) => {
-            complain(alloc, fault, &records, err);
-            NOT_IMPORTED
-        }
-    }
+    let answer = import_records(alloc, options, &mut records, out);
+    tell(alloc, answer, &records, err);
+    answer
 }
 
 /// Imports the trace that the reader has left.
 fn run_sigrok<R: Read + Drop, W: Write, E: Write>(
     alloc: Global,
-    swap: bool,
+    options: &SigrokOptions,
     reader: R,
     out: &mut W,
     err: &mut E,
-) -> u8
-    ensures status { (result ≡ IMPORTED) ⊎ (result ≡ NOT_IMPORTED) }
-    ensures imported { IfSome (R.remaining reader) (λ text. result ≡ IMPORTED
-        → (count : ℕ) × IsImported swap text count (W.contents out.old) (W.contents out.new)) }
+) -> Result<SigrokRows, SigrokFault>
+    ensures { IfSome (R.remaining reader) (λ text. AnswersTo options.now text
+        (W.contents out.old) (W.contents out.new) result) }
 {
-    match import_sigrok(alloc, swap, reader, out) {
-        Ok(_) => IMPORTED,
-        Err(fault) => {
-            let _ = writeln!(err, "mdbimport: {fault}");
-            NOT_IMPORTED
-        }
-    }
+    let answer = import_sigrok(alloc, options, reader, out);
+    tell_of_trace(answer, err);
+    answer
+}
+
+/// Imports the table of an analyser that the reader has left.
+fn run_saleae<R: Read + Drop, W: Write, E: Write>(
+    alloc: Global,
+    options: &SaleaeOptions,
+    reader: R,
+    out: &mut W,
+    err: &mut E,
+) -> Result<Imported, SaleaeFault>
+    ensures { IfSome (R.remaining reader) (λ text. ExportsTable options.now (export_records text)
+        (W.contents out.old) (W.contents out.new) result) }
+{
+    let mut records = records_of(alloc, reader);
+    let answer = import_table(alloc, options, &mut records, out);
+    tell_of_table(alloc, answer, &records, err);
+    answer
+}
+
+/// Imports the table of edges that the reader has left.
+fn run_edges<R: Read + Drop, W: Write, E: Write>(
+    alloc: Global,
+    options: &EdgesOptions,
+    reader: R,
+    out: &mut W,
+    err: &mut E,
+) -> Result<EdgesImported, EdgesFault>
+    ensures { IfSome (R.remaining reader) (λ text. IsEdgesAnswer options.now text
+        (W.contents out.old) (W.contents out.new) result) }
+{
+    let answer = import_edges(alloc, options, reader, out);
+    tell_of_edges(answer, err);
+    answer
 }
 
 /// Tells why a command line is refused.

@@ -9,3 +9,4 @@ pub mod Merges
 pub mod Traces
 pub mod Pages
 pub mod Orders
+pub mod Tallies

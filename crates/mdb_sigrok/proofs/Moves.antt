@@ -17,21 +17,21 @@ use Rattle.mdb_sigrok.proofs.Whats.{one_next}
 
 pub refutes : (fault : SigrokFault) (P : Type 0) → IsOfTrace fault → (P → ⊥) → Refutes fault P
 refutes (Form number fault) P is never = never
-refutes (Order number micros fault) P is never = never
+refutes (Order number micros line fault) P is never = never
 refutes Read P is never = is
 refutes Write P is never = is
 refutes Memory P is never = tt
 
 pub refutes_too : (fault : SigrokFault) (P Q : Type 0) → (Q → P) → Refutes fault P → Refutes fault Q
 refutes_too (Form number fault) P Q from never = λ q. never (from q)
-refutes_too (Order number micros fault) P Q from never = λ q. never (from q)
+refutes_too (Order number micros line fault) P Q from never = λ q. never (from q)
 refutes_too Read P Q from never = never
 refutes_too Write P Q from never = never
 refutes_too Memory P Q from never = tt
 
 pub any_refuted : (fault : SigrokFault) (P : Type 0) (L : List Pair → List Event → Type 0) → ((pairs : List Pair) (rows : List Event) → Refutes fault (L pairs rows)) → (P → (pairs : List Pair) × (rows : List Event) × L pairs rows) → Refutes fault P
 any_refuted (Form number fault) P L never from = λ p. let found = from p in never found.0 found.1 found.2
-any_refuted (Order number micros fault) P L never from = λ p. let found = from p in never found.0 found.1 found.2
+any_refuted (Order number micros line fault) P L never from = λ p. let found = from p in never found.0 found.1 found.2
 any_refuted Read P L never from = never [] []
 any_refuted Write P L never from = never [] []
 any_refuted Memory P L never from = tt
@@ -198,7 +198,7 @@ moves_stop fault swap m n l k one two moves stops = λ s a.
   where
     both_refuted : (fault : SigrokFault) (P : Type 0) (L : List Event → List Event → Type 0) → ((t b : List Event) → Refutes fault (L t b)) → (P → (t b : List Event) × L t b) → Refutes fault P
     both_refuted (Form number fault_kind) P L never from = λ p. let found = from p in never found.0 found.1 found.2
-    both_refuted (Order number micros fault_kind) P L never from = λ p. let found = from p in never found.0 found.1 found.2
+    both_refuted (Order number micros line fault_kind) P L never from = λ p. let found = from p in never found.0 found.1 found.2
     both_refuted Read P L never from = never [] []
     both_refuted Write P L never from = never [] []
     both_refuted Memory P L never from = tt

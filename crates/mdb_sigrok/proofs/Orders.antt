@@ -13,7 +13,7 @@ use Rattle.mdb_sigrok.specs.Order.{Precedes, sender_of}
 use Rattle.mdb_sigrok.specs.Rows.{LineRows, Merges, nothing, unfinished, word, broken, controller_alone, devices_alone, controller_first, device_first}
 
 -- the rows of a line, each later than the one before it
-abbrev Ordered : Line → ℕ → List Event → Type 0
+abbrev pub Ordered : Line → ℕ → List Event → Type 0
 Ordered line earliest [] = Unit {0}
 Ordered line earliest (row ∷ rows) = (earliest ≤ start_of row) × (sender_of row ≡ line) × Ordered line (start_of row + 1) rows
 
@@ -24,7 +24,7 @@ ordered_of (word start data_pair value pairs rows starts what rest) = (starts.la
 ordered_of (broken start zero_pair frame end pairs rows starts what wrong breaks rest) = (breaks.late, sym breaks.sender, ordered_of rest)
 
 -- a row comes before each of some others
-abbrev Leading : Event → List Event → Type 0
+abbrev pub Leading : Event → List Event → Type 0
 Leading row [] = Unit {0}
 Leading row (other ∷ others) = Precedes row other × Leading row others
 
@@ -43,7 +43,7 @@ at_most : (row other : Event) → start_of row ≤ start_of other → sender_of 
 at_most row other le one two = elim (cases_lt (start_of row) (start_of other)) [ inl lt ↦ inl lt | inr ge ↦ inr (omega (arith, le, ge), one, two) ]
 
 -- each comes before all behind it
-abbrev InOrder : List Event → Type 0
+abbrev pub InOrder : List Event → Type 0
 InOrder [] = Unit {0}
 InOrder (row ∷ rows) = Leading row rows × InOrder rows
 
@@ -51,7 +51,7 @@ line_in_order : (line : Line) (e : ℕ) (rows : List Event) → Ordered line e r
 line_in_order line e [] ordered = tt
 line_in_order line e (row ∷ rows) ordered = (leads_later row line (start_of row + 1) rows (omega arith) ordered.2, line_in_order line (start_of row + 1) rows ordered.2)
 
-merged_in_order : {a b r : List Event} (e f : ℕ) → Merges a b r → Ordered Controller e a → Ordered Peripheral f b → InOrder r
+pub merged_in_order : {a b r : List Event} (e f : ℕ) → Merges a b r → Ordered Controller e a → Ordered Peripheral f b → InOrder r
 merged_in_order e f (controller_alone c) one two = line_in_order Controller e c one
 merged_in_order e f (devices_alone d) one two = line_in_order Peripheral f d two
 merged_in_order e f (controller_first m s cs ds rows le rest) one two = (
@@ -67,7 +67,7 @@ all_led : (row : Event) (rows : List Event) → Leading row rows → All (Preced
 all_led row [] leading = All-nil (Precedes row)
 all_led row (other ∷ others) leading = All-cons (Precedes row) other others leading.0 (all_led row others leading.1)
 
-all_pairs : (rows : List Event) → InOrder rows → AllPairs Precedes rows
+pub all_pairs : (rows : List Event) → InOrder rows → AllPairs Precedes rows
 all_pairs [] order = λ i j d lt within. absurd (omega (arith, within))
 all_pairs (row ∷ rows) order = AllPairs-cons Precedes row rows (all_led row rows order.0) (all_pairs rows order.1)
 

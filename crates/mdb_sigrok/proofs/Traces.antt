@@ -1,7 +1,12 @@
 -- The rows of a trace are those of both its lines.
-use Rattle.std.proofs.Common.{◌≡◌, Bool, List, ℕ, [], ◌∷◌, codes, sym, subst, ◌∙◌, Option, inl}
-use Rattle.mdb_sigrok.specs.Import.{IsRefused}
-use Rattle.mdb_sigrok.proofs.Pages.{kept}
+use Rattle.std.proofs.Common.{◌≡◌, ◌⊎◌, Bool, List, ℕ, [], ◌∷◌, codes, sym, subst, ◌∙◌, Option, inl, inr}
+use Rattle.std.specs.Io.KnownBytes.{Appends}
+use Rattle.mdb_sigrok.specs.Import.{HasTaken, IsImported, IsPartial, IsRefused}
+use Rattle.mdb_sigrok.specs.Part.{IsTold}
+use Rattle.mdb_sigrok.specs.inner.Tallies.{part_text}
+use Rattle.mdb_sigrok.specs.declared.tally.SigrokRows.{SigrokRows}
+use Rattle.mdb_sigrok.specs.declared.options.SigrokOptions.{SigrokOptions}
+use Rattle.mdb_sigrok.proofs.Pages.{kept, part_text_is}
 use Rattle.mdb_words.specs.declared.event.Event.{Event}
 use Rattle.mdb_sigrok.specs.declared.fault.SigrokFault.{SigrokFault}
 use Rattle.mdb_sigrok.specs.declared.fault.SigrokFault.TheVariants.{Form, Order, Read, Write, Memory}
@@ -27,14 +32,26 @@ only_rows swap text first rest sent answered rows is only merges = λ others tol
 
 pub refused_rows : (fault : SigrokFault) (swap : Bool) (text first rest : List ℕ) → lines_of text ≡ first ∷ lines_of rest → ((s a : List Event) → Refutes fault (Tells swap (lines_of rest) s a)) → (rows : List Event) → Refutes fault (AreRowsOfTrace swap text rows)
 refused_rows (Form number wrong) swap text first rest is never = λ rows told. never told.controller told.devices (tells_of swap text first rest rows is told)
-refused_rows (Order number micros wrong) swap text first rest is never = λ rows told. never told.controller told.devices (tells_of swap text first rest rows is told)
+refused_rows (Order number micros line wrong) swap text first rest is never = λ rows told. never told.controller told.devices (tells_of swap text first rest rows is told)
 refused_rows Read swap text first rest is never = λ rows. never [] []
 refused_rows Write swap text first rest is never = λ rows. never [] []
 refused_rows Memory swap text first rest is never = λ rows. tt
 
-pub refused_of : (swap : Bool) (text : List ℕ) (fault : SigrokFault) (held : Option (List ℕ)) → ((rows : List Event) → Refutes fault (AreRowsOfTrace swap text rows)) → IsRefused swap text fault held held
-refused_of swap text (Form number wrong) held never = (never, kept held)
-refused_of swap text (Order number micros wrong) held never = (never, kept held)
-refused_of swap text Read held never = absurd (never [])
-refused_of swap text Write held never = absurd (never [])
-refused_of swap text Memory held never = inl (kept held)
+pub refused_of : (options : SigrokOptions) (text : List ℕ) (fault : SigrokFault) (held : Option (List ℕ)) → ((rows : List Event) → Refutes fault (AreRowsOfTrace options.swap text rows)) → IsRefused options text fault held held
+refused_of options text (Form number wrong) held never = (never, kept held)
+refused_of options text (Order number micros line wrong) held never = (never, kept held)
+refused_of options text Read held never = absurd (never [])
+refused_of options text Write held never = absurd (never [])
+refused_of options text Memory held never = inl (kept held)
+
+-- the rows of the part are written, or a front of them
+pub imported_of : (options : SigrokOptions) (text : List ℕ) (rows : List Event) (told : SigrokRows) (before after : Option (List ℕ)) → AreRowsOfTrace options.swap text rows → IsTold options rows told → Appends before after (part_text options rows) → IsImported options text told before after
+imported_of options text rows told before after are tally written = record { rows = rows; are = are; tally = tally; written = subst (Appends before after) (part_text_is options rows) written }
+
+pub partial_of : (options : SigrokOptions) (text : List ℕ) (rows : List Event) (fault : SigrokFault) (before after : Option (List ℕ)) → AreRowsOfTrace options.swap text rows → HasTaken before after (part_text options rows) → (fault ≡ Write) ⊎ (fault ≡ Memory) → IsRefused options text fault before after
+partial_of options text rows fault before after are taken why =
+    let partial : IsPartial options text before after = record { rows = rows; are = are; written = subst (HasTaken before after) (part_text_is options rows) taken } in
+    elim why [
+      | inl write ↦ subst (λ f. IsRefused options text f before after) (sym write) partial
+      | inr memory ↦ subst (λ f. IsRefused options text f before after) (sym memory) (inr partial)
+    ]

@@ -1,11 +1,14 @@
 -- A trace from a reader, and its rows to a writer.
-use Rattle.std.specs.Prelude.{◌≡◌, ◌⊎◌, ◌++◌, Bool, ℕ, List, [], ◌∷◌, Option, length}
+use Rattle.std.specs.Prelude.{◌≡◌, ◌⊎◌, ◌++◌, ℕ, List, [], ◌∷◌, Option, Result, Ok, Err}
 use Rattle.std.specs.Io.KnownBytes.{Appends, Keeps}
 use Rattle.std.specs.List.{flat_map}
 use Rattle.mdb_words.specs.Row.{joined_by_commas, row_fields}
 use Rattle.mdb_words.specs.declared.event.Event.{Event}
 use Rattle.mdb_sigrok.specs.declared.fault.SigrokFault.{SigrokFault}
 use Rattle.mdb_sigrok.specs.declared.fault.SigrokFault.TheVariants.{Form, Order, Read, Write, Memory}
+use Rattle.mdb_sigrok.specs.declared.options.SigrokOptions.{SigrokOptions}
+use Rattle.mdb_sigrok.specs.declared.tally.SigrokRows.{SigrokRows}
+use Rattle.mdb_sigrok.specs.Part.{IsTold, part_of}
 use Rattle.mdb_sigrok.specs.Trace.{AreRowsOfTrace}
 
 -- the text of a row, and a line feed (10)
@@ -24,28 +27,41 @@ pub record HasTaken (before after : Option (List ℕ)) (text : List ℕ) : Type 
   pub parts : text ≡ front ++ rest
   pub grown : Appends before after front
 
--- the rows of the trace were written, so many
-pub record IsImported (swap : Bool) (text : List ℕ) (count : ℕ) (before after : Option (List ℕ)) :
+-- the rows of the part that was asked for were written, and of all rows this is told
+pub record IsImported (options : SigrokOptions) (text : List ℕ) (told : SigrokRows)
+    (before after : Option (List ℕ)) : Type 0 where
+  pub rows : List Event
+  pub are : AreRowsOfTrace options.swap text rows
+  pub tally : IsTold options rows told
+  pub written : Appends before after (rows_text (part_of options rows))
+
+-- the trace has rows, of which a front of those of the part was written
+pub record IsPartial (options : SigrokOptions) (text : List ℕ) (before after : Option (List ℕ)) :
     Type 0 where
   pub rows : List Event
-  pub told : AreRowsOfTrace swap text rows
-  pub counted : count ≡ length rows
-  pub written : Appends before after (rows_text rows)
+  pub are : AreRowsOfTrace options.swap text rows
+  pub written : HasTaken before after (rows_text (part_of options rows))
 
--- the trace has rows, of which a front was written
-pub record IsPartial (swap : Bool) (text : List ℕ) (before after : Option (List ℕ)) : Type 0 where
-  pub rows : List Event
-  pub told : AreRowsOfTrace swap text rows
-  pub written : HasTaken before after (rows_text rows)
+-- the trace has no rows
+abbrev pub HasNoRows : SigrokOptions → List ℕ → Type 0
+HasNoRows options text = (rows : List Event) → AreRowsOfTrace options.swap text rows → ⊥
 
 -- What a fault tells: where it is one of the trace, that this has no rows, and nothing was written.
 -- Where reading failed, nothing was written; where memory or writing did, a front of the rows, or
 -- nothing.
-abbrev pub IsRefused : Bool → List ℕ → SigrokFault → Option (List ℕ) → Option (List ℕ) → Type 0
-IsRefused swap text (Form number fault) before after =
-    ((rows : List Event) → AreRowsOfTrace swap text rows → ⊥) × Keeps before after
-IsRefused swap text (Order number micros fault) before after =
-    ((rows : List Event) → AreRowsOfTrace swap text rows → ⊥) × Keeps before after
-IsRefused swap text Read before after = Keeps before after
-IsRefused swap text Write before after = IsPartial swap text before after
-IsRefused swap text Memory before after = Keeps before after ⊎ IsPartial swap text before after
+abbrev pub IsRefused : SigrokOptions → List ℕ → SigrokFault → Option (List ℕ) → Option (List ℕ)
+    → Type 0
+IsRefused options text (Form number fault) before after =
+    HasNoRows options text × Keeps before after
+IsRefused options text (Order number micros line fault) before after =
+    HasNoRows options text × Keeps before after
+IsRefused options text Read before after = Keeps before after
+IsRefused options text Write before after = IsPartial options text before after
+IsRefused options text Memory before after =
+    Keeps before after ⊎ IsPartial options text before after
+
+-- the answer to a trace, and what the writer holds after it
+abbrev pub AnswersTo : SigrokOptions → List ℕ → Option (List ℕ) → Option (List ℕ)
+    → Result SigrokRows SigrokFault → Type 0
+AnswersTo options text before after (Ok told) = IsImported options text told before after
+AnswersTo options text before after (Err fault) = IsRefused options text fault before after

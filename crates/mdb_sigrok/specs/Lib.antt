@@ -1,5 +1,6 @@
 pub mod Import
 pub mod Order
+pub mod Part
 pub mod Record
 pub mod Rows
 pub mod Text

@@ -51,7 +51,7 @@ pub record AreRowsOfTrace (swap : Bool) (text : List ℕ) (rows : List Event) : 
 -- nothing of the trace. That reading or writing failed is never told.
 abbrev pub Refutes : SigrokFault → Type 0 → Type 0
 Refutes (Form number fault) claim = claim → ⊥
-Refutes (Order number micros fault) claim = claim → ⊥
+Refutes (Order number micros line fault) claim = claim → ⊥
 Refutes Read claim = ⊥
 Refutes Write claim = ⊥
 Refutes Memory claim = Unit {0}

@@ -3,3 +3,4 @@ pub mod Pages
 pub mod Pairs
 pub mod Stands
 pub mod Steps
+pub mod Tallies

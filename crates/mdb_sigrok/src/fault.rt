@@ -14,12 +14,14 @@ pub enum SigrokFault {
         fault: FormFault,
     },
     /// A record that can't stand where it does.
-    #[error("record {number} at {micros}: {fault}")]
+    #[error("record {number} at {micros}{line}: {fault}")]
     Order {
         /// The record, counted from 1.
         number: u64,
         /// Its time in whole microseconds.
         micros: u64,
+        /// The line that it is on.
+        line: FaultLine,
         /// What is wrong with it.
         fault: OrderFault,
     },
@@ -34,26 +36,40 @@ pub enum SigrokFault {
     Memory,
 }
 
+/// The line of the bus that a fault is on.
+#[derive(Clone, Copy, PartialEq, Eq, Debug, Error)]
+pub enum FaultLine {
+    /// That of the controller.
+    #[error(" on M")]
+    Controller,
+    /// That of the devices.
+    #[error(" on S")]
+    Devices,
+    /// It isn't known.
+    #[error("")]
+    Unknown,
+}
+
 /// What is wrong with a line of a trace.
 #[derive(Clone, Copy, PartialEq, Eq, Debug, Error)]
 pub enum FormFault {
     /// The first line is another one, or there is none.
-    #[error("no trace: its first line isn't {{\"traceEvents\": [")]
+    #[error("wanted a trace, whose first line is {{\"traceEvents\": [, and it is another one")]
     NoTrace,
     /// No record as sigrok-cli writes it for the decoder `uart-1`.
-    #[error("no record as sigrok-cli writes it for this decoder")]
+    #[error("wanted a record as sigrok-cli writes it for its decoder uart-1")]
     NoRecord,
     /// A time of more than 15 digits, in whole microseconds.
-    #[error("a time of more than 15 digits")]
+    #[error("wanted a time of at most 15 digits of microseconds")]
     LongTime,
     /// After a record without a comma something else than the end.
-    #[error("no record, and not the end of a trace")]
+    #[error("wanted the last line of a trace, ]}}, after a record without a comma")]
     NoEnd,
     /// Something after the end.
-    #[error("the trace goes on after its end")]
+    #[error("wanted nothing after the line ]}}, where the trace ends")]
     AfterEnd,
     /// The text ends before the trace.
-    #[error("the trace is cut: its end is missing")]
+    #[error("wanted more records, or the last line ]}}: the trace is cut")]
     Cut,
 }
 
@@ -61,45 +77,45 @@ pub enum FormFault {
 #[derive(Clone, Copy, PartialEq, Eq, Debug, Error)]
 pub enum OrderFault {
     /// The end of something, where the beginning of something should be.
-    #[error("an end without a beginning")]
+    #[error("wanted the beginning of something (B), and it is an end (E)")]
     EndFirst,
     /// The beginning of something, and its end isn't the next record.
-    #[error("a beginning without its end")]
+    #[error("wanted the end of what begins there as the next record")]
     NoSecond,
     /// Something that the decoder isn't asked for.
-    #[error("a record of another kind than those asked for")]
+    #[error("wanted something of RX or TX that was asked for: see the annotations (-A)")]
     Kind,
     /// A word without a start bit right before it on its line.
-    #[error("a word without a start bit")]
+    #[error("wanted a start bit right before the word")]
     NoStart,
     /// A word that isn't three hexadecimal digits.
-    #[error("a word that isn't three hexadecimal digits: decode with nine data bits")]
+    #[error("wanted a word of three hexadecimal digits: decode with nine data bits")]
     WordDigits,
     /// A word above 1FF.
-    #[error("a word above 1FF")]
+    #[error("wanted a word of at most 1FF: decode with nine data bits")]
     LargeWord,
     /// A start bit, and another one before its word came.
-    #[error("a start bit without a word")]
+    #[error("wanted the word of the start bit before the next start bit")]
     NoWord,
     /// A start, or a break, that isn't after the row before it on its line.
-    #[error("a time that isn't after that of the row before it on its line")]
+    #[error("wanted a time after that of the row before it on this line")]
     Early,
     /// A frame error that is none of a break.
-    #[error("a framing error that is no break")]
+    #[error("wanted a stop bit after the word: a framing error that is no break")]
     NoBreak,
     /// A parity error, where no parity was asked for.
-    #[error("a parity error")]
+    #[error("wanted no parity: decode with parity=none")]
     Parity,
     /// A break without a word 000 and a frame error right before it on its line.
-    #[error("a break without its framing error")]
+    #[error("wanted a word 000 and its framing error right before the break")]
     NoFrameError,
     /// A break on the line of the devices.
-    #[error("a break on the line of the devices")]
+    #[error("wanted no break on the line of the devices: are the lines exchanged (--swap)?")]
     DeviceBreak,
     /// A break that ends before it begins.
-    #[error("a break that ends before it begins")]
+    #[error("wanted the end of the break after its beginning")]
     Backwards,
     /// A break of more than 999,999,999 microseconds.
-    #[error("a break of more than 999999999 microseconds")]
+    #[error("wanted a break of at most 999999999 microseconds")]
     LongBreak,
 }

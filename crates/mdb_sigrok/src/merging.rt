@@ -15,8 +15,13 @@ struct First<'a> {
     devices: &'a [Event],
 }
 
-/// The rows of both lines in the order of their times, at one time those of the controller first.
-pub(crate) fn merged(
+/// The rows of both lines in the order of their times, at one time those of the controller first,
+/// where those of each line stand in that order.
+///
+/// # Errors
+///
+/// That memory was refused.
+pub fn merged(
     alloc: Global,
     controller: &[Event],
     devices: &[Event],

@@ -12,7 +12,7 @@ ghost use Rattle.mdb_sigrok.specs.inner.Steps.{IsOpen, open_pairs, told_by};
 use super::fault::{OrderFault, SigrokFault};
 use super::line::{Open, Place, Step, first_place, last_row, next_step};
 use super::pair::Pair;
-use super::trace::{end_of_trace, next_pair, order};
+use super::trace::{end_of_trace, fault_line, next_pair, order};
 use mdb_words::{Event, Line};
 use std::alloc::Global;
 
@@ -111,12 +111,15 @@ impl Reading {
     fn fault_at(&self, number: u64, pair: &Pair, fault: OrderFault) -> SigrokFault
         ensures { IsOfTrace result }
     {
+        let line = fault_line(self.place.line);
         match (self.place.held, fault) {
-            (Open::Started(start), OrderFault::NoWord) => order(self.number, start.from, fault),
-            (Open::Wrong(_, _, wrong), OrderFault::NoBreak) => {
-                order(self.number, wrong.from, fault)
+            (Open::Started(start), OrderFault::NoWord) => {
+                order(self.number, start.from, line, fault)
             }
-            _ => order(number, pair.from, fault),
+            (Open::Wrong(_, _, wrong), OrderFault::NoBreak) => {
+                order(self.number, wrong.from, line, fault)
+            }
+            _ => order(number, pair.from, line, fault),
         }
     }
 
@@ -124,11 +127,13 @@ impl Reading {
     fn fault_at_end(&self, fault: OrderFault) -> SigrokFault
         ensures { IsOfTrace result }
     {
+        let line = fault_line(self.place.line);
         match self.place.held {
-            Open::Wrong(_, _, wrong) => order(self.number, wrong.from, fault),
+            Open::Wrong(_, _, wrong) => order(self.number, wrong.from, line, fault),
             _ => SigrokFault::Order {
                 number: self.number,
                 micros: 0,
+                line,
                 fault,
             },
         }
@@ -140,7 +145,12 @@ impl Reading {
         ensures { IsOfTrace fault → IsOfTrace result }
     {
         match self.place.held {
-            Open::Wrong(_, _, wrong) => order(self.number, wrong.from, OrderFault::NoBreak),
+            Open::Wrong(_, _, wrong) => order(
+                self.number,
+                wrong.from,
+                fault_line(self.place.line),
+                OrderFault::NoBreak,
+            ),
             Open::Started(_) => fault,
             _ => without_start(fault),
         }
@@ -155,10 +165,12 @@ fn without_start(fault: SigrokFault) -> SigrokFault
         SigrokFault::Order {
             number,
             micros,
+            line,
             fault: OrderFault::WordDigits | OrderFault::LargeWord,
         } => SigrokFault::Order {
             number,
             micros,
+            line,
             fault: OrderFault::NoStart,
         },
         _ => fault,

@@ -8,7 +8,7 @@ ghost use Rattle.mdb_sigrok.specs.Record.{IsRecord};
 ghost use Rattle.mdb_sigrok.specs.Trace.{Refutes};
 
 use super::cut::{is_text, next_line};
-use super::fault::{FormFault, OrderFault, SigrokFault};
+use super::fault::{FaultLine, FormFault, OrderFault, SigrokFault};
 use super::moment::Moment;
 use super::pair::{Pair, line_of, what_of};
 use super::record::{Record, record_of};
@@ -93,13 +93,22 @@ pub(crate) fn form(number: u64, fault: FormFault) -> SigrokFault
 }
 
 /// A fault of a record that stands where it can't.
-pub(crate) fn order(number: u64, time: Moment, fault: OrderFault) -> SigrokFault
+pub(crate) fn order(number: u64, time: Moment, line: FaultLine, fault: OrderFault) -> SigrokFault
     ensures { IsOfTrace result }
 {
     SigrokFault::Order {
         number,
         micros: time.time().value(),
+        line,
         fault,
+    }
+}
+
+/// A line, as it is told.
+pub(crate) fn fault_line(line: Line) -> FaultLine {
+    match line {
+        Line::Controller => FaultLine::Controller,
+        Line::Peripheral => FaultLine::Devices,
     }
 }
 
@@ -111,7 +120,7 @@ fn fault_of_first(first: &Record<'_>, rest: &[u8], number: u64) -> Option<Sigrok
     ensures told { IfSome result IsOfTrace }
 {
     if first.ends {
-        return Some(order(number, first.time, OrderFault::EndFirst));
+        return Some(order(number, first.time, FaultLine::Unknown, OrderFault::EndFirst));
     }
     if first.more {
         return None;
@@ -140,13 +149,13 @@ fn pair_of(
 {
     if !is_second(first, second) {
         return Err(Refusal {
-            fault: order(number, first.time, OrderFault::NoSecond),
+            fault: order(number, first.time, FaultLine::Unknown, OrderFault::NoSecond),
             line: None,
         });
     }
     let Some((line, row)) = line_of(swap, first.tid) else {
         return Err(Refusal {
-            fault: order(number, first.time, OrderFault::Kind),
+            fault: order(number, first.time, FaultLine::Unknown, OrderFault::Kind),
             line: None,
         });
     };
@@ -158,7 +167,7 @@ fn pair_of(
             to: second.time,
         }),
         Err(fault) => Err(Refusal {
-            fault: order(number, first.time, fault),
+            fault: order(number, first.time, fault_line(line), fault),
             line: Some(line),
         }),
     }

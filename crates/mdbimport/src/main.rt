@@ -22,7 +22,10 @@ fn words(rt: &HostRuntime) -> io::Result<Vec<String>> {
 /// there is no memory for what is asked at once, a line says so, as of any other want of memory.
 fn run(rt: &HostRuntime, words: Vec<String>) -> u8 {
     match BufReader::with_capacity(rt.alloc(), READ_SIZE, rt.stdin()) {
-        Ok(input) => mdb_importer::run(rt.alloc(), words, input, &mut rt.stdout(), &mut rt.stderr()),
+        Ok(input) => {
+            let (mut out, mut err) = (rt.stdout(), rt.stderr());
+            mdb_importer::run(rt.alloc(), words, input, &mut out, &mut err).status()
+        }
         Err(error) => {
             let _ = eprintln!(rt; "mdbimport: {error}");
             NOT_BEGUN

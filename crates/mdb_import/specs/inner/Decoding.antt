@@ -2,7 +2,7 @@
 -- clause cites it.
 use Rattle.std.specs.Prelude.{◌++◌, ◌∷◌, ℕ, List, [], Option, Some, None, option_map, option_to_list, Result, MatchResult}
 use Rattle.std.specs.Io.KnownBytes.{Consumes, IsAtEnd, Keeps}
-use Rattle.mdb_import.specs.Encodings.{decoded, wide_text}
+use Rattle.mdb_import.specs.Encodings.{decoded, units_of, units_text}
 use Rattle.mdb_import.specs.declared.decoded.Decoding.{Decoding}
 use Rattle.mdb_import.specs.declared.decoded.Mode.{Mode}
 use Rattle.mdb_import.specs.declared.decoded.Mode.TheVariants as mode
@@ -11,7 +11,8 @@ use Rattle.mdb_import.specs.declared.decoded.Mode.TheVariants as mode
 abbrev pub mode_text : Mode → List ℕ → List ℕ
 mode_text (mode.Start held) text = decoded (option_to_list held ++ text)
 mode_text mode.Plain text = text
-mode_text (mode.Wide high_first held) text = wide_text high_first (option_to_list held ++ text)
+mode_text (mode.Wide high_first held last) text =
+    units_text (option_to_list last ++ units_of high_first (option_to_list held ++ text))
 
 -- the text that is still to be given, where these bytes are still to be read
 abbrev pub given_by : Decoding → List ℕ → List ℕ

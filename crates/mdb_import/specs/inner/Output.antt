@@ -33,7 +33,7 @@ Breaks before after text = HasTaken before.held after.held (before.waiting ++ te
 
 -- a text isn't put there: with want of memory nothing has changed
 abbrev pub IsNotTaken : ImportFault → Output → Output → List ℕ → Type 0
-IsNotTaken (BadRecord number fault) before after text = ⊥
+IsNotTaken (BadRecord number own last fault) before after text = ⊥
 IsNotTaken Read before after text = ⊥
 IsNotTaken Write before after text = Breaks before after text
 IsNotTaken Memory before after text = after ≡ before

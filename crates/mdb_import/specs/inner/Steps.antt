@@ -1,10 +1,11 @@
 -- How the rows of an export come about, record by record. This file serves private functions and
 -- proofs: no public clause cites it.
-use Rattle.std.specs.Prelude.{◌≡◌, ◌⊎◌, ◌+◌, ◌++◌, ◌∷◌, ◌||◌, ◌-◌, ◌^◌, min, false, ℕ, List, [], length, Bool, true, Option, Some, None, Result, Ok, Err, if◌then◌else◌}
+use Rattle.std.specs.Prelude.{◌≡◌, ◌⊎◌, ◌+◌, ◌++◌, ◌∷◌, ◌||◌, ◌-◌, ◌^◌, min, false, ℕ, List, [], length, Bool, true, IfSome, IfNone, Option, Some, None, Result, Ok, Err, if◌then◌else◌}
 use Rattle.mdb_words.specs.declared.event.Event.{Event}
-use Rattle.mdb_import.specs.Exports.{IsExport, IsRefusedRecord, IsTold, is_before, is_behind, is_controllers, is_marked, is_peripherals, is_taken, last_start, row_line, rows_text, taken_of}
+use Rattle.mdb_import.specs.Exports.{IsCounted, IsExport, IsRefusedRecord, IsTold, is_before, is_behind, is_controllers, is_marked, is_peripherals, is_taken, last_start, row_line, rows_text, taken_of}
 use Rattle.mdb_import.specs.Refusals.{IsFault}
-use Rattle.mdb_import.specs.Rows.{AreEvents, IsAfter, IsHeaderOf, IsRowOf}
+use Rattle.mdb_import.specs.Part.{is_in}
+use Rattle.mdb_import.specs.Rows.{AreEvents, IsAfter, IsHeaderOf, IsRowOf, TellsTime}
 use Rattle.mdb_import.specs.inner.Output.{Breaks, Output, Puts}
 use Rattle.mdb_import.specs.declared.fault.ImportFault.{ImportFault}
 use Rattle.mdb_import.specs.declared.fault.ImportFault.TheVariants.{BadRecord, Read, Write, Memory}
@@ -39,19 +40,56 @@ abbrev pub counted_more : ℕ → Bool → ℕ
 counted_more count true = min (count + 1) (2 ^ 64 - 1)
 counted_more count false = count
 
+-- what is told of records that are no events stays as it is
+pub record IsKept (old new : Imported) : Type 0 where
+  pub header : new.header ≡ old.header
+  pub passed : new.passed ≡ old.passed
+
 -- what is told with an event more
 pub record IsNoted (options : RowsOptions) (old new : Imported) (event : Event) : Type 0 where
   pub rows : new.rows ≡ counted_more old.rows (is_taken options event)
   pub before : new.before ≡ counted_more old.before (is_before options event)
   pub after : new.after ≡ counted_more old.after (is_behind options event)
   pub said : IsSaid old new event
+  pub kept : IsKept old new
+
+-- what is told of events stays as it is
+pub record TellsSame (old new : Imported) : Type 0 where
+  pub rows : new.rows ≡ old.rows
+  pub before : new.before ≡ old.before
+  pub after : new.after ≡ old.after
+  pub marked : new.marked ≡ old.marked
+  pub controller : new.controller ≡ old.controller
+  pub peripheral : new.peripheral ≡ old.peripheral
+
+-- fields that tell a time outside the part that was asked for
+pub record IsOutside (options : RowsOptions) (fields : List (List ℕ)) : Type 0 where
+  pub at : ℕ
+  pub tells : TellsTime options fields at
+  pub outside : is_in options at ≡ false
+
+-- fields that aren't, with the time that they tell, if they tell one
+pub record IsInside (options : RowsOptions) (fields : List (List ℕ)) (own : Option ℕ) : Type 0
+  where
+    pub within : IfSome own (λ at. TellsTime options fields at × (is_in options at ≡ true))
+    pub no_time : IfNone own ((at : ℕ) → TellsTime options fields at → ⊥)
+
+-- a record with these fields after so many is refused for this
+abbrev pub IsRefusalFor : RowsOptions → List (List ℕ) → ℕ → Option ℕ → RecordFault → ImportFault
+    → Type 0
+IsRefusalFor options fields done before why (BadRecord number own last fault) =
+    (number ≡ done + 1) × (last ≡ before) × (fault ≡ why) × IsInside options fields own
+IsRefusalFor options fields done before why Read = ⊥
+IsRefusalFor options fields done before why Write = ⊥
+IsRefusalFor options fields done before why Memory = ⊥
 
 -- the records so far stand for these events, whose rows are on their way
 pub record HasImported (options : RowsOptions) (importing : Importing) (before after : Output)
     (done : List (List (List ℕ))) (events : List Event) : Type 0 where
   pub are : AreEvents options done events
-  pub last : importing.last ≡ last_start None events
+  pub last : importing.last ≡ last_start options None events
   pub told : IsTold options events importing.tally
+  pub counted : IsCounted done events importing.tally
   pub written : Puts before after (rows_text (taken_of options events))
 
 -- what the taking of a record after others comes to
@@ -59,8 +97,8 @@ abbrev pub TakesOne : RowsOptions → Importing → Output → Output → List (
     → List (List ℕ) → Result Unit ImportFault → Type 0
 TakesOne options importing before after done events row (Ok taken) =
     (more : List Event) × HasImported options importing before after (done ++ row ∷ []) more
-TakesOne options importing before after done events row (Err (BadRecord number fault)) =
-    (number ≡ length done + 1) × IsRefusedRecord options done events row fault
+TakesOne options importing before after done events row (Err (BadRecord number own last fault)) =
+    (number ≡ length done + 1) × IsRefusedRecord options done events row own last fault
     × Puts before after (rows_text (taken_of options events))
 TakesOne options importing before after done events row (Err Read) = ⊥
 TakesOne options importing before after done events row (Err Write) =

@@ -17,7 +17,7 @@ use Rattle.mdb_sigrok.specs.inner.Steps.{EndsWith, IsOpen, Leads, open_pairs}
 -- what is wrong with a trace
 abbrev pub IsOfTrace : SigrokFault → Type 0
 IsOfTrace (Form number fault) = Unit {0}
-IsOfTrace (Order number micros fault) = Unit {0}
+IsOfTrace (Order number micros line fault) = Unit {0}
 IsOfTrace Read = ⊥
 IsOfTrace Write = ⊥
 IsOfTrace Memory = ⊥

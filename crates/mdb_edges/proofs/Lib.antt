@@ -1,0 +1,12 @@
+pub mod Orders
+pub mod Parts
+pub mod Frames
+pub mod Standings
+pub mod Waves
+pub mod Stops
+pub mod Headers
+pub mod Records
+pub mod Tables
+pub mod PartRows
+pub mod Refusals
+pub mod OneTable

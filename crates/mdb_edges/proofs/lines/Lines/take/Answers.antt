@@ -1,0 +1,18 @@
+use Rattle.std.proofs.Common.{inl, inr, refl}
+use Rattle.mdb_words.specs.declared.word.Line.TheVariants.{Controller, Peripheral}
+use Rattle.mdb_edges.proofs.Stops.{claims_with}
+use Rattle.mdb_edges.proofs.lines.Lines.take.Goals as goal
+
+pub returns-in-Err-clause-err : goal.returns-in-Err-clause-err
+returns-in-Err-clause-err c moments heard later =
+    claims_with c.in-Err.stop _ _ inl (c.in-Err.ensures.err Controller moments c.args.moment.now heard.controller (record { instant = refl; level = refl; later = later }))
+
+pub returns-in-Ok-take-clause-ok : goal.returns-in-Ok-take-clause-ok
+returns-in-Ok-take-clause-ok c moments heard later = record {
+  controller = c.in-Ok.ensures.ok Controller moments c.args.moment.now heard.controller (record { instant = refl; level = refl; later = later });
+  peripheral = c.in-Ok-take.ensures.ok Peripheral moments c.args.moment.now heard.peripheral (record { instant = refl; level = refl; later = later });
+}
+
+pub returns-in-Err-take-clause-err : goal.returns-in-Err-take-clause-err
+returns-in-Err-take-clause-err c moments heard later =
+    claims_with c.in-Err-take.stop _ _ inr (c.in-Err-take.ensures.err Peripheral moments c.args.moment.now heard.peripheral (record { instant = refl; level = refl; later = later }))

@@ -1,0 +1,4 @@
+pub mod Import
+pub mod Levels
+pub mod Table
+pub mod inner

@@ -1,0 +1,4 @@
+pub mod Parts
+pub mod Standing
+pub mod Stops
+pub mod Waves

@@ -1,0 +1,58 @@
+-- What it means that the reading of a table stops. This file serves private functions and proofs:
+-- no public clause cites it.
+use Rattle.std.specs.Prelude.{◌≡◌, ◌≤◌, ℕ}
+use Rattle.mdb_edges.specs.declared.fault.Stop.{Stop}
+use Rattle.mdb_edges.specs.declared.fault.Stop.TheVariants as stop
+use Rattle.mdb_edges.specs.declared.fault.EdgesFault.{EdgesFault}
+use Rattle.mdb_edges.specs.declared.fault.EdgesFault.TheVariants.{Form, Order, Line, Read, Write, Memory}
+
+-- something stands in the table
+abbrev pub IsOfTable : Stop → Type 0
+IsOfTable (stop.Form fault) = Unit {0}
+IsOfTable (stop.Order at fault) = Unit {0}
+IsOfTable (stop.Line line wrong) = Unit {0}
+IsOfTable stop.Memory = ⊥
+
+-- for what stands in the table this isn't so
+abbrev pub Denies : Stop → Type 0 → Type 0
+Denies (stop.Form fault) P = P → ⊥
+Denies (stop.Order at fault) P = P → ⊥
+Denies (stop.Line line wrong) P = P → ⊥
+Denies stop.Memory P = Unit {0}
+
+-- for what stands in the table this is so
+abbrev pub Claims : Stop → Type 0 → Type 0
+Claims (stop.Form fault) P = P
+Claims (stop.Order at fault) P = P
+Claims (stop.Line line wrong) P = P
+Claims stop.Memory P = Unit {0}
+
+-- the same of what is told, by the number of the record: where reading fails or memory is refused
+-- nothing is said
+abbrev pub Refutes : EdgesFault → (ℕ → Type 0) → Type 0
+Refutes (Form number fault) P = P number → ⊥
+Refutes (Order number micros fault) P = P number → ⊥
+Refutes (Line number micros line fault) P = P number → ⊥
+Refutes Read P = Unit {0}
+Refutes Write P = ⊥
+Refutes Memory P = Unit {0}
+
+-- what is told of a stop at the record of a number
+abbrev pub IsTellOf : Stop → ℕ → EdgesFault → Type 0
+IsTellOf (stop.Form fault) at (Form number told) = number ≡ at
+IsTellOf (stop.Order instant fault) at (Order number micros told) = number ≡ at
+IsTellOf (stop.Line line wrong) at (Line number micros wire told) = number ≡ at
+IsTellOf stop.Memory at Memory = Unit {0}
+IsTellOf (stop.Form fault) at _ = ⊥
+IsTellOf (stop.Order instant fault) at _ = ⊥
+IsTellOf (stop.Line line wrong) at _ = ⊥
+IsTellOf stop.Memory at _ = ⊥
+
+-- what is told isn't of a record before the first
+abbrev pub IsNumbered : EdgesFault → Type 0
+IsNumbered (Form number fault) = 1 ≤ number
+IsNumbered (Order number micros fault) = 1 ≤ number
+IsNumbered (Line number micros line fault) = 1 ≤ number
+IsNumbered Read = Unit {0}
+IsNumbered Write = Unit {0}
+IsNumbered Memory = Unit {0}

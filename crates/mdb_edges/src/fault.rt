@@ -1,0 +1,166 @@
+//! Why there are no rows.
+
+ghost use Rattle.mdb_edges.specs.inner.Stops.{IsTellOf};
+
+use super::instant::Instant;
+use mdb_words::Line;
+use thiserror::Error;
+
+/// Why a table of edges gives no rows: the first thing that is met in the order of its records.
+#[derive(Clone, Copy, PartialEq, Eq, Debug, Error)]
+pub enum EdgesFault {
+    /// A record that isn't what should stand there.
+    #[error("record {number}: {fault}")]
+    Form {
+        /// Its number, counted from 1: the header is 1.
+        number: u64,
+        /// What is wrong with it.
+        fault: FormFault,
+    },
+    /// A record that can't stand where it does.
+    #[error("record {number} at {micros}: {fault}")]
+    Order {
+        /// Its number, counted from 1.
+        number: u64,
+        /// Its time in whole microseconds.
+        micros: u64,
+        /// What is wrong with it.
+        fault: OrderFault,
+    },
+    /// Levels of a line that are no words and breaks.
+    #[error("record {number} at {micros} on {line}: {fault}")]
+    Line {
+        /// The number of the record at which that is seen, counted from 1; at the end of the table
+        /// that of the record that would come.
+        number: u64,
+        /// When that began, in whole microseconds.
+        micros: u64,
+        /// On which line.
+        line: Wire,
+        /// What is wrong.
+        fault: LineFault,
+    },
+    /// The reader failed.
+    #[error("the input can't be read")]
+    Read,
+    /// The writer failed.
+    #[error("the output can't be written")]
+    Write,
+    /// Memory was refused.
+    #[error("out of memory")]
+    Memory,
+}
+
+/// A line, as it is told of.
+#[derive(Clone, Copy, PartialEq, Eq, Debug, Error)]
+pub enum Wire {
+    /// The controller's line.
+    #[error("line M")]
+    Controller,
+    /// The peripherals' line.
+    #[error("line S")]
+    Peripheral,
+}
+
+/// What is wrong with a record by itself.
+#[derive(Clone, Copy, PartialEq, Eq, Debug, Error)]
+pub enum FormFault {
+    /// There is no header.
+    #[error("wanted a header that names the columns")]
+    NoHeader,
+    /// The header hasn't one column of each line.
+    #[error("wanted one column of each line: M and S, or give --controller and --peripheral")]
+    Columns,
+    /// It hasn't as many fields as the header.
+    #[error("wanted as many fields as the header has")]
+    FieldCount,
+    /// Its first field is no time.
+    #[error("wanted a time: up to 15 digits, perhaps with decimals")]
+    BadTime,
+    /// The time has more than 15 digits of microseconds.
+    #[error("wanted a time of at most 15 digits of microseconds")]
+    LongTime,
+}
+
+/// What is wrong with the time of a record.
+#[derive(Clone, Copy, PartialEq, Eq, Debug, Error)]
+pub enum OrderFault {
+    /// It is that of the record before it.
+    #[error("wanted a time after that of the record before it, and it is the same")]
+    SameTime,
+    /// It is earlier than the record before it.
+    #[error("wanted a time after that of the record before it, and it is earlier")]
+    EarlierTime,
+}
+
+/// What is wrong with the levels of a line.
+#[derive(Clone, Copy, PartialEq, Eq, Debug, Error)]
+pub enum LineFault {
+    /// A field that is no level, in a record of that time.
+    #[error("wanted a level, 0 or 1")]
+    BadLevel,
+    /// The line falls, and is high again half a bit later.
+    #[error("a start bit that is high again at its middle")]
+    Glitch,
+    /// The line is low at the middle of a stop bit, and it isn't low for 100 milliseconds from the
+    /// start bit on.
+    #[error("a framing error that is no break: the stop bit is low")]
+    Framing,
+    /// A break on the line of the peripherals.
+    #[error("a break on the line of the peripherals")]
+    DeviceBreak,
+    /// A break of more than 999,999,999 microseconds.
+    #[error("a break of more than 999999999 microseconds")]
+    LongBreak,
+    /// The line is low at the end of the table.
+    #[error("the table ends while the line is low")]
+    Cut,
+}
+
+/// Why a line's levels are no words and breaks.
+#[derive(Clone, Copy, PartialEq, Eq, Debug)]
+pub(crate) struct Wrong {
+    /// When that began.
+    pub(crate) start: Instant,
+    /// What is wrong.
+    pub(crate) fault: LineFault,
+}
+
+/// Why the reading of a table stops.
+#[derive(Clone, Copy, PartialEq, Eq, Debug)]
+pub(crate) enum Stop {
+    /// A record that isn't what should stand there.
+    Form(FormFault),
+    /// A record that can't stand where it does.
+    Order(Instant, OrderFault),
+    /// Levels of a line that are no words and breaks.
+    Line(Line, Wrong),
+    /// Memory was refused.
+    Memory,
+}
+
+impl Stop {
+    /// What is told of it where it is met at the record of this number.
+    pub(crate) fn at(self, number: u64) -> EdgesFault
+        ensures { IsTellOf self number result }
+    {
+        match self {
+            Stop::Form(fault) => EdgesFault::Form { number, fault },
+            Stop::Order(at, fault) => EdgesFault::Order {
+                number,
+                micros: at.time().value(),
+                fault,
+            },
+            Stop::Line(line, wrong) => EdgesFault::Line {
+                number,
+                micros: wrong.start.time().value(),
+                line: match line {
+                    Line::Controller => Wire::Controller,
+                    Line::Peripheral => Wire::Peripheral,
+                },
+                fault: wrong.fault,
+            },
+            Stop::Memory => EdgesFault::Memory,
+        }
+    }
+}

@@ -1,0 +1,72 @@
+//! A table of edges from a reader, and its rows to a writer.
+
+ghost use Rattle.std.specs.Prelude.{◌≡◌, List, ℕ, IfErr, IfOk, IfSome};
+ghost use Rattle.mdb_import.specs.Exports.{export_records};
+ghost use Rattle.mdb_edges.specs.Import.{IsImported, IsRefused};
+ghost use Rattle.mdb_edges.specs.Table.{AreRowsOfTable};
+
+use super::fault::EdgesFault;
+use super::options::EdgesOptions;
+use super::part::{EdgesImported, part_of};
+use super::table::rows_of_records;
+use mdb_import::records_of;
+use mdb_sigrok::{SigrokFault, write_rows};
+use mdb_words::Event;
+use std::alloc::Global;
+use std::io::{Read, Write};
+
+/// Reads a table of edges, and writes the rows of its words and breaks, each with a line feed.
+///
+/// Nothing is written before all is read, so where the table is refused nothing is. Its text isn't
+/// kept, but its rows are, up to three times: 200,000 rows of a table of 17 MB take 14 MB.
+///
+/// # Errors
+///
+/// The first record of what is no table of words and breaks, with its number, and where that is
+/// known with its time in microseconds and the line; or that reading or writing failed, or that
+/// memory was refused.
+pub fn import_edges<R: Read + Drop, W: Write>(
+    alloc: Global,
+    options: &EdgesOptions,
+    reader: R,
+    writer: &mut W,
+) -> Result<EdgesImported, EdgesFault>
+    ensures written { IfOk result (λ told. IfSome (R.remaining reader) (λ text.
+        IsImported options.now text told (W.contents writer.old) (W.contents writer.new))) }
+    ensures refused { IfErr result (λ fault. IfSome (R.remaining reader) (λ text.
+        IsRefused options.now text fault (W.contents writer.old) (W.contents writer.new))) }
+{
+    let mut records = records_of(alloc, reader);
+    match rows_of_records(alloc, options, &mut records) {
+        Ok(rows) => match write_part(alloc, options, rows.as_slice(), writer) {
+            Ok(told) => Ok(told),
+            Err(fault) => Err(fault),
+        },
+        Err(fault) => Err(fault),
+    }
+}
+
+/// Writes the rows of the part that is asked for.
+fn write_part<W: Write>(
+    alloc: Global,
+    options: &EdgesOptions,
+    rows: &[Event],
+    writer: &mut W,
+) -> Result<EdgesImported, EdgesFault>
+    ensures written { IfOk result (λ told. (text : List ℕ) →
+        AreRowsOfTable options.now (export_records text) rows.now →
+        IsImported options.now text told (W.contents writer.old) (W.contents writer.new)) }
+    ensures refused { IfErr result (λ fault. (text : List ℕ) →
+        AreRowsOfTable options.now (export_records text) rows.now →
+        IsRefused options.now text fault (W.contents writer.old) (W.contents writer.new)) }
+{
+    let part = match part_of(alloc, options, rows) {
+        Ok(part) => part,
+        Err(_) => return Err(EdgesFault::Memory),
+    };
+    match write_rows(alloc, part.0.as_slice(), writer) {
+        Ok(()) => Ok(part.1),
+        Err(SigrokFault::Write) => Err(EdgesFault::Write),
+        Err(_) => Err(EdgesFault::Memory),
+    }
+}

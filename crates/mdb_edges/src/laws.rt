@@ -1,0 +1,21 @@
+//! Laws of the rows of a table. Each function's contract is the law, and its body is empty.
+
+ghost use Rattle.std.specs.Prelude.{◌≡◌, ℕ, List};
+ghost use Rattle.std.specs.List.{AllPairs};
+ghost use Rattle.mdb_words.specs.declared.event.Event.{Event};
+ghost use Rattle.mdb_sigrok.specs.Order.{Precedes};
+ghost use Rattle.mdb_edges.specs.Table.{AreRowsOfTable};
+ghost use Rattle.mdb_edges.specs.declared.options.EdgesOptions.{EdgesOptions};
+
+/// A table has no other rows than its rows.
+pub fn rows_are_the_only_ones()
+    ensures { (options : EdgesOptions) (records : List (List (List ℕ))) (rows others : List Event) →
+        AreRowsOfTable options records rows → AreRowsOfTable options records others →
+        others ≡ rows }
+{}
+
+/// The rows of a table stand in the order of their times, at one time that of the controller first.
+pub fn rows_stand_in_order()
+    ensures { (options : EdgesOptions) (records : List (List (List ℕ))) (rows : List Event) →
+        AreRowsOfTable options records rows → AllPairs Precedes rows }
+{}

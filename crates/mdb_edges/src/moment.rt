@@ -1,0 +1,14 @@
+//! The moments that a table tells.
+
+use super::instant::Instant;
+
+/// The levels of both lines from an instant on.
+#[derive(Clone, Copy, PartialEq, Eq, Debug)]
+pub struct Moment {
+    /// The instant.
+    pub at: Instant,
+    /// Whether the controller's line is high.
+    pub controller: bool,
+    /// Whether the peripherals' line is high.
+    pub peripheral: bool,
+}

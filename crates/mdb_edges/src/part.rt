@@ -1,0 +1,97 @@
+//! The part of the rows that is asked for.
+
+ghost use Rattle.std.specs.Prelude.{◌≡◌, [], IfOk};
+ghost use Rattle.mdb_words.specs.declared.event.Event.{Event};
+ghost use Rattle.mdb_edges.specs.Import.{IsTold, is_taken, part_of as rows_of_part};
+ghost use Rattle.mdb_edges.specs.declared.options.EdgesOptions.{EdgesOptions};
+ghost use Rattle.mdb_edges.specs.inner.Parts.{IsNoted, IsSaid};
+
+use super::options::EdgesOptions;
+use mdb_words::{Event, Line};
+use std::alloc::{AllocError, Global};
+
+/// What a whole import tells beside the rows.
+#[derive(Clone, Copy, PartialEq, Eq, Debug)]
+pub struct EdgesImported {
+    /// How many rows were written.
+    pub rows: u64,
+    /// How many rows were left out since they are before the part that was asked for.
+    pub before: u64,
+    /// How many rows were left out since they are after it.
+    pub after: u64,
+    /// Whether a word had its mode bit set.
+    pub marked: bool,
+    /// Whether the controller said a word.
+    pub controller: bool,
+    /// Whether a peripheral said a word.
+    pub peripheral: bool,
+}
+
+impl EdgesImported {
+    /// Of no rows.
+    fn new() -> EdgesImported
+        ensures { (options : EdgesOptions) → IsTold options [] result }
+    {
+        EdgesImported {
+            rows: 0,
+            before: 0,
+            after: 0,
+            marked: false,
+            controller: false,
+            peripheral: false,
+        }
+    }
+
+    /// Notes which line said something, and whether it was marked.
+    fn note(&mut self, event: &Event)
+        ensures said { IsSaid self.old self.new event.now }
+        ensures counts { (self.new.rows ≡ self.old.rows) × (self.new.before ≡ self.old.before)
+            × (self.new.after ≡ self.old.after) }
+    {
+        if let Event::Word { line, word, .. } = *event {
+            self.marked = self.marked || word.marked();
+            match line {
+                Line::Controller => self.controller = true,
+                Line::Peripheral => self.peripheral = true,
+            }
+        }
+    }
+
+    /// Counts a row, and says whether it is in the part that is asked for.
+    fn count(&mut self, options: &EdgesOptions, event: &Event) -> bool
+        ensures noted { IsNoted options.now self.old self.new event.now }
+        ensures taken { result ≡ is_taken options.now event.now }
+    {
+        let at = event.start().value();
+        self.note(event);
+        if options.from.is_some_and(|first| at < first) {
+            self.before = self.before.saturating_add(1);
+            return false;
+        }
+        if options.until.is_some_and(|last| at > last) {
+            self.after = self.after.saturating_add(1);
+            return false;
+        }
+        self.rows = self.rows.saturating_add(1);
+        true
+    }
+}
+
+/// The rows of the part that is asked for, and what is told of all.
+pub(crate) fn part_of(
+    alloc: Global,
+    options: &EdgesOptions,
+    rows: &[Event],
+) -> Result<(Vec<Event>, EdgesImported), AllocError>
+    ensures part { IfOk result (λ part. part.0.items ≡ rows_of_part options.now rows.now) }
+    ensures told { IfOk result (λ part. IsTold options.now rows.now part.1) }
+{
+    let mut told = EdgesImported::new();
+    let mut part = Vec::new(alloc);
+    for row in rows {
+        if told.count(options, row) {
+            part.push(*row)?;
+        }
+    }
+    Ok((part, told))
+}

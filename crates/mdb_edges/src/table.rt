@@ -1,0 +1,177 @@
+//! A table of edges, record by record.
+
+ghost use Rattle.std.specs.Prelude.{◌≡◌, ◌⊎◌, ◌+◌, ◌-◌, ◌<◌, ◌++◌, ◌∷◌, [], List, ℕ, IfErr, IfOk, OnOk};
+ghost use Rattle.csv.specs.Records.{fields_of};
+ghost use Rattle.mdb_records.specs.ToCome.{ToCome};
+ghost use Rattle.mdb_words.specs.declared.event.Event.{Event};
+ghost use Rattle.mdb_edges.specs.Table.{AreRowsOfTable, AreThere, IsHeader};
+ghost use Rattle.mdb_edges.specs.declared.columns.Columns.{Columns};
+ghost use Rattle.mdb_edges.specs.declared.moment.Moment.{Moment};
+ghost use Rattle.mdb_edges.specs.inner.Stops.{Denies, IsNumbered, IsOfTable, Refutes};
+ghost use Rattle.mdb_edges.specs.inner.Waves.{BeginSame, Comes, HasRead, HaveHeard, IsHeaded};
+
+use super::columns::Columns;
+use super::fault::{EdgesFault, FormFault, OrderFault, Stop};
+use super::header::columns_of;
+use super::instant::Instant;
+use super::lines::Lines;
+use super::moment::Moment;
+use super::options::EdgesOptions;
+use super::record::moment_of;
+use csv::ByteRecord;
+use mdb_records::{ReadFault, Records};
+use mdb_sigrok::merged;
+use mdb_words::Event;
+use std::alloc::Global;
+use std::io::Read;
+
+/// The rows of both lines in the order of their times, by the records that are still to come.
+pub(crate) fn rows_of_records<R: Read + Drop>(
+    alloc: Global,
+    options: &EdgesOptions,
+    records: &mut Records<R>,
+) -> Result<Vec<Event>, EdgesFault>
+    ensures ok { IfOk result (λ rows. (all : List (List (List ℕ))) →
+        ToCome R.remaining records.old all → AreRowsOfTable options.now all rows.items) }
+    ensures err { IfErr result (λ fault. (all : List (List (List ℕ))) →
+        ToCome R.remaining records.old all → (others : List (List (List ℕ))) (rows : List Event) →
+        Refutes fault (λ n. BeginSame n all others × AreRowsOfTable options.now others rows)) }
+{
+    let columns = match read_header(options, records) {
+        Ok(columns) => columns,
+        Err(fault) => return Err(fault),
+    };
+    let mut lines = Lines::new(alloc);
+    match read_moments(options, &columns, records, &mut lines) {
+        Ok(()) => (),
+        Err(fault) => return Err(fault),
+    }
+    match merged(
+        alloc,
+        lines.controller.rows.as_slice(),
+        lines.peripheral.rows.as_slice(),
+    ) {
+        Ok(rows) => Ok(rows),
+        Err(_) => Err(EdgesFault::Memory),
+    }
+}
+
+/// Reads the header.
+fn read_header<R: Read + Drop>(
+    options: &EdgesOptions,
+    records: &mut Records<R>,
+) -> Result<Columns, EdgesFault>
+    ensures ok { IfOk result (λ columns. (all : List (List (List ℕ))) →
+        ToCome R.remaining records.old all →
+        (rest : List (List (List ℕ))) × IsHeaded options.now all columns rest
+        × ToCome R.remaining records.new rest) }
+    ensures there { IfOk result AreThere }
+    ensures err { IfErr result (λ fault. (all others rest : List (List (List ℕ)))
+        (columns : Columns) → ToCome R.remaining records.old all →
+        Refutes fault (λ n. BeginSame n all others × IsHeaded options.now others columns rest)) }
+{
+    match records.advance() {
+        Ok(true) => match columns_of(options, records.row()) {
+            Ok(columns) => Ok(columns),
+            Err(fault) => Err(EdgesFault::Form { number: 1, fault }),
+        },
+        Ok(false) => Err(EdgesFault::Form {
+            number: 1,
+            fault: FormFault::NoHeader,
+        }),
+        Err(fault) => Err(fault_of_reading(fault)),
+    }
+}
+
+/// Reads the records below the header, and what the lines come to at their end.
+fn read_moments<R: Read + Drop>(
+    options: &EdgesOptions,
+    columns: &Columns,
+    records: &mut Records<R>,
+    lines: &mut Lines,
+) -> Result<(), EdgesFault>
+    requires there { AreThere columns.now }
+    requires heard { HaveHeard lines.old [] }
+    ensures ok { OnOk result ((all : List (List (List ℕ))) → ToCome R.remaining records.old all →
+        Comes options.now columns.now all lines.new.controller.rows.items
+        lines.new.peripheral.rows.items) }
+    ensures err { IfErr result (λ fault. (all : List (List (List ℕ))) →
+        ToCome R.remaining records.old all →
+        (others : List (List (List ℕ))) (sent answered : List Event) → Refutes fault
+        (λ n. BeginSame (n - 1) all others × Comes options.now columns.now others sent answered)) }
+    ensures numbered { IfErr result IsNumbered }
+{
+    let mut earliest = 0;
+    for number in 2..u64::MAX {
+        match records.advance() {
+            Ok(true) => (),
+            Ok(false) => {
+                return match lines.end() {
+                    Ok(()) => Ok(()),
+                    Err(stop) => Err(stop.at(number)),
+                };
+            }
+            Err(fault) => return Err(fault_of_reading(fault)),
+        }
+        match take_record(options, columns, earliest, records.row(), lines) {
+            Ok(at) => earliest = at.parts() + 1,
+            Err(stop) => return Err(stop.at(number)),
+        }
+    }
+    Err(EdgesFault::Read)
+}
+
+/// Takes a record, whose instant isn't before the earliest that it may have, and answers that.
+fn take_record(
+    options: &EdgesOptions,
+    columns: &Columns,
+    earliest: u128,
+    row: &ByteRecord,
+    lines: &mut Lines,
+) -> Result<Instant, Stop>
+    requires { AreThere columns.now }
+    ensures ok { IfOk result (λ at. (body : List (List (List ℕ))) (moments : List Moment) →
+        HasRead options.now columns.now earliest lines.old body moments →
+        (more : List Moment) × HasRead options.now columns.now (at + 1) lines.new
+        (body ++ fields_of row.now ∷ []) more) }
+    ensures err { IfErr result (λ stop. (body rest : List (List (List ℕ))) (moments : List Moment)
+        (sent answered : List Event) →
+        HasRead options.now columns.now earliest lines.old body moments →
+        Denies stop (Comes options.now columns.now (body ++ fields_of row.now ∷ rest) sent
+        answered)) }
+{
+    let moment = match moment_of(options, columns, row) {
+        Ok(moment) => moment,
+        Err(stop) => return Err(stop),
+    };
+    if moment.at.parts() < earliest {
+        return Err(early(&moment, earliest));
+    }
+    match lines.take(&moment) {
+        Ok(()) => Ok(moment.at),
+        Err(stop) => Err(stop),
+    }
+}
+
+/// A moment that isn't later than the one before it.
+fn early(moment: &Moment, earliest: u128) -> Stop
+    requires { moment.now.at < earliest }
+    ensures { IsOfTable result }
+{
+    let fault = if moment.at.parts() + 1 == earliest {
+        OrderFault::SameTime
+    } else {
+        OrderFault::EarlierTime
+    };
+    Stop::Order(moment.at, fault)
+}
+
+/// Why the records can't be read.
+fn fault_of_reading(fault: ReadFault) -> EdgesFault
+    ensures { (result ≡ EdgesFault.Read) ⊎ (result ≡ EdgesFault.Memory) }
+{
+    match fault {
+        ReadFault::Read => EdgesFault::Read,
+        ReadFault::Memory => EdgesFault::Memory,
+    }
+}

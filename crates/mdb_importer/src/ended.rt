@@ -1,0 +1,47 @@
+//! What the program answers.
+
+ghost use Rattle.std.specs.Prelude.{◌≡◌};
+ghost use Rattle.mdb_importer.specs.Program.{status_of};
+
+use super::refusal::Refusal;
+use mdb_edges::{EdgesFault, EdgesImported};
+use mdb_import::{ImportFault, Imported};
+use mdb_saleae::SaleaeFault;
+use mdb_sigrok::{SigrokFault, SigrokRows};
+
+/// The status of an import whose rows are all written.
+const IMPORTED: u8 = 0;
+
+/// The status of any other.
+const NOT_IMPORTED: u8 = 2;
+
+/// How a run of the program ended.
+#[derive(Clone, Copy, Debug)]
+pub enum Ended {
+    /// The words name `rows`, and this is the answer of that import.
+    Rows(Result<Imported, ImportFault>),
+    /// The words name `sigrok`, and this is the answer of that import.
+    Sigrok(Result<SigrokRows, SigrokFault>),
+    /// The words name `saleae`, and this is the answer of that import.
+    Saleae(Result<Imported, SaleaeFault>),
+    /// The words name `edges`, and this is the answer of that import.
+    Edges(Result<EdgesImported, EdgesFault>),
+    /// There was no import: the words were refused.
+    Refused(Refusal),
+}
+
+impl Ended {
+    /// The exit status of the program: 0 where the rows that were asked for were written, else 2.
+    pub fn status(&self) -> u8
+        ensures { result ≡ status_of self.now }
+    {
+        match self {
+            Ended::Rows(Ok(_))
+            | Ended::Sigrok(Ok(_))
+            | Ended::Saleae(Ok(_))
+            | Ended::Edges(Ok(_)) => IMPORTED,
+            Ended::Rows(Err(_)) | Ended::Sigrok(Err(_)) => NOT_IMPORTED,
+            Ended::Saleae(Err(_)) | Ended::Edges(Err(_)) | Ended::Refused(_) => NOT_IMPORTED,
+        }
+    }
+}

@@ -1,0 +1,30 @@
+//! Laws of command lines. Each function's contract is the law, and its body is empty.
+
+ghost use Rattle.std.specs.Prelude.{◌≡◌, ◌⊎◌, List, ℕ};
+ghost use Rattle.mdb_import.specs.declared.options.RowsOptions.{RowsOptions};
+ghost use Rattle.mdb_sigrok.specs.declared.options.SigrokOptions.{SigrokOptions};
+ghost use Rattle.mdb_saleae.specs.declared.options.SaleaeOptions.{SaleaeOptions};
+ghost use Rattle.mdb_edges.specs.declared.options.EdgesOptions.{EdgesOptions};
+ghost use Rattle.mdb_importer.specs.Program.{AskTheSame, AskTheSameOfEdges, AskTheSameOfTable};
+ghost use Rattle.mdb_importer.specs.Program.{NameEdges, NameRows, NameSaleae, NameSigrok};
+ghost use Rattle.mdb_importer.specs.Program.{NamesEdges, NamesRows, NamesSaleae, NamesSigrok};
+
+/// Words name at most one task, with options that ask for one thing.
+///
+/// So where a clause says that words name a task with some options, these are the ones.
+pub fn command_lines_name_one_task()
+    ensures rows { (words : List (List ℕ)) (a b : RowsOptions)
+        → NameRows words a → NameRows words b → AskTheSame a b }
+    ensures sigrok { (words : List (List ℕ)) (a b : SigrokOptions)
+        → NameSigrok words a → NameSigrok words b → a ≡ b }
+    ensures saleae { (words : List (List ℕ)) (a b : SaleaeOptions)
+        → NameSaleae words a → NameSaleae words b → AskTheSameOfTable a b }
+    ensures edges { (words : List (List ℕ)) (a b : EdgesOptions)
+        → NameEdges words a → NameEdges words b → AskTheSameOfEdges a b }
+    ensures rows_alone { (words : List (List ℕ)) → NamesRows words
+        → NamesSigrok words ⊎ (NamesSaleae words ⊎ NamesEdges words) → ⊥ }
+    ensures sigrok_alone { (words : List (List ℕ)) → NamesSigrok words
+        → NamesSaleae words ⊎ NamesEdges words → ⊥ }
+    ensures saleae_alone { (words : List (List ℕ)) → NamesSaleae words
+        → NamesEdges words → ⊥ }
+{}

@@ -1,0 +1,9 @@
+pub mod FieldsAt
+pub mod Places
+pub mod Words
+pub mod Decimals
+pub mod Nearest
+pub mod Refused
+pub mod Taken
+pub mod Outputs
+pub mod Imports

@@ -1,0 +1,11 @@
+use Rattle.std.proofs.Common.{ℕ, List}
+use Rattle.mdb_records.specs.ToCome.{ToCome}
+use Rattle.mdb_import.specs.inner.Output.{begun, output}
+use Rattle.mdb_saleae.proofs.Imports.{SoFar}
+use Rattle.mdb_saleae.proofs.importing.Importing.take_all.Given as goal
+
+-- the records so far are imported, and the rest is to come
+abbrev pub invariant-loop-number : goal.invariant-loop-number
+invariant-loop-number g l =
+    (all : List (List (List ℕ))) → ToCome g.R.Read.remaining l.fn.records all
+    → SoFar g.R.Read.remaining l.records l.options l.columns l.self (begun (g.W.Write.contents l.fn.writer)) (output (g.W.Write.contents l.writer) l.self.page) l.number all

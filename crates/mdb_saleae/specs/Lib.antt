@@ -1,0 +1,9 @@
+pub mod Cells
+pub mod Columns
+pub mod Exports
+pub mod Frames
+pub mod Refusals
+pub mod Rows
+pub mod Seconds
+pub mod Values
+pub mod inner

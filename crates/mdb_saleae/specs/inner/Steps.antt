@@ -1,0 +1,97 @@
+-- How the rows of a table come about, record by record. This file serves private functions and
+-- proofs: no public clause cites it.
+use Rattle.std.specs.Prelude.{◌≡◌, ◌⊎◌, ◌+◌, ◌++◌, ◌∷◌, ℕ, List, [], length, Option, Some, None, Result, Ok, Err, if◌then◌else◌}
+use Rattle.mdb_words.specs.declared.event.Event.{Event}
+use Rattle.mdb_records.specs.ToCome.{ToCome}
+use Rattle.mdb_records.specs.declared.Records.{Records}
+use Rattle.mdb_import.specs.Exports.{row_line}
+use Rattle.mdb_import.specs.Rows.{IsAfter}
+use Rattle.mdb_import.specs.inner.Output.{Breaks, Output, Puts}
+use Rattle.mdb_import.specs.inner.Steps.{IsSaid, counted_more}
+use Rattle.mdb_import.specs.declared.fault.Imported.{Imported}
+use Rattle.mdb_saleae.specs.Columns.{IsColumns}
+use Rattle.mdb_saleae.specs.Exports.{IsHeaderAnswer, IsRefusedRow, IsRowsExport, IsTold, is_before, is_behind, is_taken, part_text}
+use Rattle.mdb_saleae.specs.Refusals.{IsFault}
+use Rattle.mdb_saleae.specs.Rows.{AreRows, IsTableRow, last_start}
+use Rattle.mdb_saleae.specs.declared.columns.Columns.{Columns}
+use Rattle.mdb_saleae.specs.declared.fault.RowFault.{RowFault}
+use Rattle.mdb_saleae.specs.declared.fault.SaleaeFault.{SaleaeFault}
+use Rattle.mdb_saleae.specs.declared.fault.SaleaeFault.TheVariants.{BadRecord, BadRow, Write, Memory}
+use Rattle.mdb_saleae.specs.declared.importing.Importing.{Importing}
+use Rattle.mdb_saleae.specs.declared.options.SaleaeOptions.{SaleaeOptions}
+use Rattle.mdb_saleae.specs.declared.rows.Refusal.{Refusal}
+
+-- the columns of the first of some records, behind which others come; or why there are none
+abbrev pub Begins : {R : Type 0} → (R → Option (List ℕ)) → Records R → List (List (List ℕ))
+    → Result Columns SaleaeFault → Type 0
+Begins remaining now records (Ok columns) =
+    (header : List (List ℕ)) × (rows : List (List (List ℕ))) × (records ≡ header ∷ rows)
+    × IsColumns header columns × ToCome remaining now rows
+Begins remaining now records (Err fault) = IsHeaderAnswer records (Err fault)
+
+-- the event of a record that comes after a time, or why there is none
+abbrev pub IsNext : SaleaeOptions → Columns → Option ℕ → List (List ℕ) → Result Event Refusal
+    → Type 0
+IsNext options columns last fields (Ok event) =
+    IsTableRow options columns fields event × IsAfter last event
+IsNext options columns last fields (Err refusal) =
+    ((event : Event) → IsTableRow options columns fields event → IsAfter last event → ⊥)
+    × IsFault options columns last fields refusal.at refusal.fault
+
+-- a refusal with the number of its record
+abbrev pub fault_at : ℕ → Option ℕ → RowFault → SaleaeFault
+fault_at number None fault = BadRecord number fault
+fault_at number (Some at) fault = BadRow number at fault
+
+-- what is written of an event: its row, if it is in the part that was asked for
+abbrev pub part_line : SaleaeOptions → Event → List ℕ
+part_line options event = if is_taken options event then row_line event else []
+
+-- what is told with an event more
+pub record IsNoted (options : SaleaeOptions) (old new : Imported) (event : Event) : Type 0 where
+  pub rows : new.rows ≡ counted_more old.rows (is_taken options event)
+  pub before : new.before ≡ counted_more old.before (is_before options event)
+  pub after : new.after ≡ counted_more old.after (is_behind options event)
+  pub said : IsSaid old new event
+
+-- the records so far stand for these events, whose rows are on their way
+pub record HasImported (options : SaleaeOptions) (columns : Columns) (importing : Importing)
+    (before after : Output) (done : List (List (List ℕ))) (events : List Event) : Type 0 where
+  pub are : AreRows options columns None done events
+  pub last : importing.last ≡ last_start None events
+  pub told : IsTold options events importing.tally
+  pub written : Puts before after (part_text options events)
+
+-- what the taking of a record after others comes to
+abbrev pub TakesOne : SaleaeOptions → Columns → Importing → Output → Output
+    → List (List (List ℕ)) → List Event → List (List ℕ) → Result Unit SaleaeFault → Type 0
+TakesOne options columns importing before after done events row (Ok taken) =
+    (more : List Event)
+    × HasImported options columns importing before after (done ++ row ∷ []) more
+TakesOne options columns importing before after done events row (Err (BadRecord number fault)) =
+    (number ≡ length done + 2) × IsRefusedRow options columns events row None fault
+    × Puts before after (part_text options events)
+TakesOne options columns importing before after done events row (Err (BadRow number at fault)) =
+    (number ≡ length done + 2) × IsRefusedRow options columns events row (Some at) fault
+    × Puts before after (part_text options events)
+TakesOne options columns importing before after done events row (Err Write) =
+    (more : List Event) × AreRows options columns None (done ++ row ∷ []) more
+    × Breaks before after (part_text options more)
+TakesOne options columns importing before after done events row (Err Memory) =
+    Puts before after (part_text options events)
+TakesOne options columns importing before after done events row (Err other) = ⊥
+
+-- The writer failed with a front of a text that is written of the records.
+pub record IsBroken (options : SaleaeOptions) (columns : Columns) (rows : List (List (List ℕ)))
+    (before after : Output) : Type 0 where
+  pub answer : Result Imported SaleaeFault
+  pub text : List ℕ
+  pub export : IsRowsExport options columns rows answer text
+  pub broken : Breaks before after text
+
+-- the answer to the records behind a header, where some of the text may still be on its way
+abbrev pub PutsRows : SaleaeOptions → Columns → List (List (List ℕ)) → Output → Output
+    → Result Imported SaleaeFault → Type 0
+PutsRows options columns rows before after answer =
+    ((text : List ℕ) × IsRowsExport options columns rows answer text × Puts before after text)
+    ⊎ ((answer ≡ Err Write) × IsBroken options columns rows before after)

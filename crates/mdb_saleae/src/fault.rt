@@ -1,0 +1,167 @@
+//! Why a table isn't imported.
+
+use super::columns::Column;
+use mdb_import::{ImportFault, RecordFault};
+use mdb_records::ReadFault;
+use thiserror::Error;
+
+/// What is wrong with a header.
+#[derive(Clone, Copy, PartialEq, Eq, Debug, Error)]
+pub enum HeaderFault {
+    /// A column isn't there that has to be.
+    #[error("wanted a column {column}")]
+    Missing {
+        /// The column.
+        column: Column,
+    },
+    /// A column is there twice.
+    #[error("wanted one column {column}, and there are more")]
+    Twice {
+        /// The column.
+        column: Column,
+    },
+}
+
+/// What is wrong with a record.
+#[derive(Clone, Copy, PartialEq, Eq, Debug, Error)]
+pub enum RowFault {
+    /// It has more fields than the header, or fewer.
+    #[error("wanted as many fields as the header has")]
+    FieldCount,
+    /// Its time is before the time zero.
+    #[error("wanted no negative time: set the time zero to the start of the capture")]
+    NegativeTime,
+    /// Its time is no number.
+    #[error("wanted a time in seconds: up to 15 digits, perhaps with decimals behind a point")]
+    BadTime,
+    /// Its time has more than 15 digits of microseconds.
+    #[error("wanted a time of at most 15 digits of microseconds")]
+    LongTime,
+    /// It is of another kind than `data`.
+    #[error("wanted the type data, which a word has")]
+    BadKind,
+    /// Its analyser is none of the two.
+    #[error("wanted M or S as the analyser, or a name given by --controller or --peripheral")]
+    BadName,
+    /// A parity is wrong, which nine bits don't have.
+    #[error("wanted no parity error: set the analyser to nine bits with no parity bit")]
+    Parity,
+    /// Its error is unknown.
+    #[error("wanted no error, or the error framing")]
+    BadError,
+    /// What is there besides its data tells neither that its mode bit is set nor that it isn't.
+    #[error("wanted true or false as the address, or nothing")]
+    BadAddress,
+    /// Its data aren't told in hexadecimal digits.
+    #[error("wanted data as 0x and 1 to 4 hexadecimal digits: export them as hexadecimal")]
+    NoHex,
+    /// Its data have more than nine bits, or more than eight where the mode bit stands elsewhere.
+    #[error("wanted data of at most 0x1FF, and of at most 0xFF beside a column address")]
+    LongData,
+    /// A peripheral's word has no stop bit.
+    #[error("wanted a stop bit: only the controller sends a break")]
+    PeripheralFraming,
+    /// A word has no stop bit, and isn't 0.
+    #[error("wanted a stop bit: a word that isn't 0 is no break")]
+    Framing,
+    /// A break, whose length isn't told.
+    #[error("the table doesn't tell how long the break is: give --break MICROSECONDS")]
+    NoLength,
+    /// It is at the same microsecond as the row before it.
+    #[error("wanted a time after that of the row before it, and it is the same")]
+    SameTime,
+    /// It is earlier than the row before it.
+    #[error("wanted a later time than the row before it: sort the table by the start time")]
+    EarlierTime,
+}
+
+impl From<RecordFault> for RowFault {
+    ghost use Rattle.std.specs.Prelude.{◌≡◌};
+    ghost use Rattle.mdb_saleae.specs.inner.Faults.{row_fault_of};
+
+    ghost from_gives = { λ fault told. told ≡ row_fault_of fault };
+
+    fn from(fault: RecordFault) -> RowFault {
+        match fault {
+            RecordFault::FieldCount => RowFault::FieldCount,
+            RecordFault::BadTime | RecordFault::NoUnit => RowFault::BadTime,
+            RecordFault::LongTime => RowFault::LongTime,
+            RecordFault::BadLine => RowFault::BadName,
+            RecordFault::BadWord => RowFault::LongData,
+            RecordFault::BadLength => RowFault::NoLength,
+            RecordFault::SameTime => RowFault::SameTime,
+            RecordFault::EarlierTime => RowFault::EarlierTime,
+        }
+    }
+}
+
+/// Why there is no import, or only that of the rows before.
+#[derive(Clone, Copy, PartialEq, Eq, Debug, Error)]
+pub enum SaleaeFault {
+    /// There is no record at all.
+    #[error("record 1: wanted a header with the names of the columns, and the table is empty")]
+    NoHeader,
+    /// The first record is no header as it is wanted.
+    #[error("record 1: {fault}")]
+    BadHeader {
+        /// What is wrong with it.
+        fault: HeaderFault,
+    },
+    /// A record is no row, and its time isn't known.
+    #[error("record {number}: {fault}")]
+    BadRecord {
+        /// The record's number, from 1; the header is the first.
+        number: u64,
+        /// What is wrong with it.
+        fault: RowFault,
+    },
+    /// A record with a time is no row, or none that may come there.
+    #[error("record {number} at {at}: {fault}")]
+    BadRow {
+        /// The record's number, from 1; the header is the first.
+        number: u64,
+        /// Its time in microseconds.
+        at: u64,
+        /// What is wrong with it.
+        fault: RowFault,
+    },
+    /// The reader failed.
+    #[error("the input can't be read")]
+    Read,
+    /// The writer failed.
+    #[error("the output can't be written")]
+    Write,
+    /// Memory was refused.
+    #[error("out of memory")]
+    Memory,
+}
+
+impl From<ReadFault> for SaleaeFault {
+    ghost use Rattle.std.specs.Prelude.{◌≡◌};
+    ghost use Rattle.mdb_saleae.specs.Exports.{read_fault_of};
+
+    ghost from_gives = { λ fault told. told ≡ read_fault_of fault };
+
+    fn from(fault: ReadFault) -> SaleaeFault {
+        match fault {
+            ReadFault::Read => SaleaeFault::Read,
+            ReadFault::Memory => SaleaeFault::Memory,
+        }
+    }
+}
+
+impl From<ImportFault> for SaleaeFault {
+    ghost use Rattle.std.specs.Prelude.{◌≡◌};
+    ghost use Rattle.mdb_saleae.specs.inner.Faults.{page_fault_of};
+
+    ghost from_gives = { λ fault told. told ≡ page_fault_of fault };
+
+    // The fault of a page, which meets no record and no reader.
+    fn from(fault: ImportFault) -> SaleaeFault {
+        match fault {
+            ImportFault::Memory => SaleaeFault::Memory,
+            ImportFault::Write => SaleaeFault::Write,
+            ImportFault::Read | ImportFault::BadRecord { .. } => SaleaeFault::Read,
+        }
+    }
+}

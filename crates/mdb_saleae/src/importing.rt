@@ -1,0 +1,267 @@
+//! The import of a table: record by record, as they are read.
+
+ghost use Rattle.std.specs.Prelude.{◌≡◌, ◌<◌, ◌≤◌, ◌+◌, ◌-◌, ◌^◌, [], List, ℕ, IfErr, IfOk, IfSome, OnOk, None, Some, length};
+ghost use Rattle.csv.specs.Records.{fields_of};
+ghost use Rattle.mdb_records.specs.ToCome.{ToCome};
+ghost use Rattle.mdb_words.specs.Event.{start_of};
+ghost use Rattle.mdb_import.specs.Exports.{export_records};
+ghost use Rattle.mdb_import.specs.inner.Output.{Puts, begun, output};
+ghost use Rattle.mdb_import.specs.inner.Steps.{IsSaid};
+ghost use Rattle.mdb_saleae.specs.Exports.{Exports, IsExported, IsTold};
+ghost use Rattle.mdb_saleae.specs.inner.Output.{IsNotTaken};
+ghost use Rattle.mdb_saleae.specs.inner.Steps.{Begins, HasImported, IsNext, IsNoted, PutsRows, TakesOne, fault_at, part_line};
+
+use super::columns::{Columns, read_columns};
+use super::fault::{RowFault, SaleaeFault};
+use super::options::SaleaeOptions;
+use super::rows::{Refusal, event_in};
+use csv::ByteRecord;
+use mdb_import::{Imported, Page, expect_after, records_of};
+use mdb_records::Records;
+use mdb_words::{Event, Line};
+use std::alloc::Global;
+use std::io::{Read, Write};
+
+/// The number of the first record behind the header.
+const FIRST: u64 = 2;
+
+/// Imports the records that are still to come, the header first, and writes their rows as it reads.
+///
+/// # Errors
+///
+/// `NoHeader` where there is no record, and `BadHeader` where the first one lacks a column or has
+/// one twice. `BadRow`, or `BadRecord` where its time isn't known, for the first record behind it
+/// that is no row after the one before it: then the rows of all records before it were written.
+/// `Read` where the reader failed and `Memory` where memory was refused: then those of some first
+/// records were. `Write` where the writer failed: then it took a front of what is written where it
+/// doesn't fail.
+pub fn import_table<R: Read + Drop, W: Write>(
+    alloc: Global,
+    options: &SaleaeOptions,
+    records: &mut Records<R>,
+    writer: &mut W,
+) -> Result<Imported, SaleaeFault>
+    ensures { (all : List (List (List ℕ))) → ToCome R.remaining records.old all
+        → Exports options.now all (W.contents writer.old) (W.contents writer.new) result }
+{
+    let columns = match columns_of(records) {
+        Ok(columns) => columns,
+        Err(fault) => return Err(fault),
+    };
+    let mut importing = Importing::new(alloc);
+    let answer = importing.take_all(options, &columns, records, writer);
+    if answer != Err(SaleaeFault::Write) {
+        importing.page.write_out(writer)?;
+    }
+    answer
+}
+
+/// Imports the table that a reader has left, and writes the rows as it reads.
+///
+/// # Errors
+///
+/// As [`import_table`].
+pub fn import_saleae<R: Read + Drop, W: Write>(
+    alloc: Global,
+    options: &SaleaeOptions,
+    reader: R,
+    writer: &mut W,
+) -> Result<Imported, SaleaeFault>
+    ensures exported { IfSome (R.remaining reader) (λ text. IfOk result (λ imported.
+        IsExported options.now text (W.contents writer.old) (W.contents writer.new))) }
+    ensures exports { IfSome (R.remaining reader) (λ text. Exports options.now
+        (export_records text) (W.contents writer.old) (W.contents writer.new) result) }
+{
+    let mut records = records_of(alloc, reader);
+    import_table(alloc, options, &mut records, writer)
+}
+
+/// The columns that the first of the records that are still to come names.
+fn columns_of<R: Read + Drop>(records: &mut Records<R>) -> Result<Columns, SaleaeFault>
+    ensures { (all : List (List (List ℕ))) → ToCome R.remaining records.old all
+        → Begins R.remaining records.new all result }
+{
+    match records.advance() {
+        Ok(true) => match read_columns(records.row()) {
+            Ok(columns) => Ok(columns),
+            Err(fault) => Err(SaleaeFault::BadHeader { fault }),
+        },
+        Ok(false) => Err(SaleaeFault::NoHeader),
+        Err(fault) => Err(SaleaeFault::from(fault)),
+    }
+}
+
+/// How far an import has come.
+#[derive(Drop)]
+pub(crate) struct Importing {
+    // When the last row started.
+    last: Option<u64>,
+    tally: Imported,
+    page: Page,
+}
+
+impl Importing {
+    ghost use Rattle.std.specs.Prelude.{Option};
+    ghost use Rattle.mdb_words.specs.declared.event.Event.{Event};
+    ghost use Rattle.mdb_import.specs.inner.Output.{Output};
+    ghost use Rattle.mdb_saleae.specs.declared.options.SaleaeOptions.{SaleaeOptions};
+
+    /// Before the first record behind the header.
+    fn new(alloc: Global) -> Importing
+        ensures last { result.last ≡ None }
+        ensures told { (options : SaleaeOptions) → IsTold options [] result.tally }
+        ensures page { result.page.lines.items ≡ [] }
+    {
+        Importing {
+            last: None,
+            tally: Imported {
+                header: true,
+                rows: 0,
+                before: 0,
+                after: 0,
+                passed: 0,
+                marked: false,
+                controller: false,
+                peripheral: false,
+            },
+            page: Page::new(alloc),
+        }
+    }
+
+    /// Takes all records that are still to come behind the header, after none.
+    fn take_all<R: Read + Drop, W: Write>(
+        &mut self,
+        options: &SaleaeOptions,
+        columns: &Columns,
+        records: &mut Records<R>,
+        writer: &mut W,
+    ) -> Result<Imported, SaleaeFault>
+        requires last { self.old.last ≡ None }
+        requires told { IsTold options.now [] self.old.tally }
+        requires page { self.old.page.lines.items ≡ [] }
+        ensures { (all : List (List (List ℕ))) → ToCome R.remaining records.old all
+            → PutsRows options.now columns.now all (begun (W.contents writer.old))
+            (output (W.contents writer.new) self.new.page) result }
+    {
+        for number in FIRST..u64::MAX {
+            let found = match records.advance() {
+                Ok(found) => found,
+                Err(fault) => return Err(SaleaeFault::from(fault)),
+            };
+            if !found {
+                return Ok(self.tally);
+            }
+            if let Err(fault) = self.take(options, columns, number, records.row(), writer) {
+                return Err(fault);
+            }
+        }
+        Err(SaleaeFault::Read)
+    }
+
+    /// Takes the record of a number.
+    fn take<W: Write>(
+        &mut self,
+        options: &SaleaeOptions,
+        columns: &Columns,
+        number: u64,
+        fields: &ByteRecord,
+        writer: &mut W,
+    ) -> Result<(), SaleaeFault>
+        ensures { (before : Output) (earlier : List (List (List ℕ))) (events : List Event)
+            → length earlier + 2 ≡ number
+            → HasImported options.now columns.now self.old before
+            (output (W.contents writer.old) self.old.page) earlier events
+            → TakesOne options.now columns.now self.new before
+            (output (W.contents writer.new) self.new.page) earlier events
+            (fields_of fields.now) result }
+    {
+        match next_in(options, columns, self.last, fields) {
+            Ok(event) => self.add(options, &event, writer),
+            Err(refusal) => Err(told(number, refusal)),
+        }
+    }
+
+    /// Adds the row of an event, if it is in the part that is asked for.
+    fn add<W: Write>(
+        &mut self,
+        options: &SaleaeOptions,
+        event: &Event,
+        writer: &mut W,
+    ) -> Result<(), SaleaeFault>
+        ensures last { OnOk result (self.new.last ≡ Some (start_of event.now)) }
+        ensures noted { IsNoted options.now self.old.tally self.new.tally event.now }
+        ensures added { OnOk result (Puts (output (W.contents writer.old) self.old.page)
+            (output (W.contents writer.new) self.new.page) (part_line options.now event.now)) }
+        ensures refused { IfErr result (λ fault. IsNotTaken fault
+            (output (W.contents writer.old) self.old.page)
+            (output (W.contents writer.new) self.new.page) (part_line options.now event.now)) }
+    {
+        let at = event.start().value();
+        self.last = Some(at);
+        self.note(event);
+        if options.from.is_some_and(|first| at < first) {
+            self.tally.before = self.tally.before.saturating_add(1);
+            return Ok(());
+        }
+        if options.until.is_some_and(|last| at > last) {
+            self.tally.after = self.tally.after.saturating_add(1);
+            return Ok(());
+        }
+        self.tally.rows = self.tally.rows.saturating_add(1);
+        match self.page.add(writer, event) {
+            Ok(()) => Ok(()),
+            Err(fault) => Err(SaleaeFault::from(fault)),
+        }
+    }
+
+    /// Notes which line said something, and whether it was marked.
+    fn note(&mut self, event: &Event)
+        ensures said { IsSaid self.old.tally self.new.tally event.now }
+        ensures counts { (self.new.tally.rows ≡ self.old.tally.rows)
+            × (self.new.tally.before ≡ self.old.tally.before)
+            × (self.new.tally.after ≡ self.old.tally.after) }
+        ensures last { self.new.last ≡ self.old.last }
+        ensures page { self.new.page ≡ self.old.page }
+    {
+        if let Event::Word { line, word, .. } = *event {
+            self.tally.marked = self.tally.marked || word.marked();
+            match line {
+                Line::Controller => self.tally.controller = true,
+                Line::Peripheral => self.tally.peripheral = true,
+            }
+        }
+    }
+}
+
+/// The event of a record that comes after a time, or why there is none.
+fn next_in(
+    options: &SaleaeOptions,
+    columns: &Columns,
+    last: Option<u64>,
+    fields: &ByteRecord,
+) -> Result<Event, Refusal>
+    ensures { IsNext options.now columns.now last (fields_of fields.now) result }
+{
+    let event = match event_in(options, columns, fields) {
+        Ok(event) => event,
+        Err(refusal) => return Err(refusal),
+    };
+    match expect_after(last, &event) {
+        Ok(()) => Ok(event),
+        Err(fault) => Err(Refusal {
+            at: Some(event.start().value()),
+            fault: RowFault::from(fault),
+        }),
+    }
+}
+
+/// A refusal with the number of its record.
+fn told(number: u64, refusal: Refusal) -> SaleaeFault
+    ensures { result ≡ fault_at number refusal.at refusal.fault }
+{
+    let Refusal { at, fault } = refusal;
+    match at {
+        Some(at) => SaleaeFault::BadRow { number, at, fault },
+        None => SaleaeFault::BadRecord { number, fault },
+    }
+}

@@ -1,6 +1,0 @@
-use Rattle.std.proofs.Common.{take}
-use Rattle.mdb_sigrok.proofs.Pages.{SoFar}
-use Rattle.mdb_sigrok.proofs.writing.write_rows.Given as goal
-
-abbrev pub invariant-loop-row : goal.invariant-loop-row
-invariant-loop-row g l = SoFar (g.W.Write.contents l.initial.writer) (g.W.Write.contents l.writer) l.page.items (take l.row-index l.rows)
