@@ -88,8 +88,10 @@ pub extern "C" fn mdb_page_check(
     told: &mut PageTold,
     answer: &mut PageText,
 ) -> u32
-    ensures yes { result ≡ 0 → (scope : Scope) × IsTakenSo options.now scope × IsYes scope text.now answer.new }
-    ensures no { result ≡ 1 → (scope : Scope) × IsTakenSo options.now scope × IsNo scope text.now answer.new }
+    ensures yes { result ≡ 0 → (scope : Scope) × IsTakenSo options.now scope
+        × IsYes scope text.now answer.new }
+    ensures no { result ≡ 1 → (scope : Scope) × IsTakenSo options.now scope
+        × IsNo scope text.now answer.new }
 {
     answer.count = 0;
     let Some(scope) = taken_so(options) else {
@@ -156,7 +158,8 @@ fn follow(follower: &mut Follower, rest: &mut &[u8]) -> End
 fn write_as(number: u32, scope: &Scope, outcome: &Outcome, answer: &mut PageText) -> u32
     requires empty { answer.old.count ≡ 0 }
     requires other { number ≢ 6 }
-    ensures { result ≢ 6 → (result ≡ number) × (written answer.new ≡ report_text scope.now outcome.now) }
+    ensures { result ≢ 6 → (result ≡ number)
+        × (written answer.new ≡ report_text scope.now outcome.now) }
 {
     match write_outcome(answer, scope, outcome) {
         Ok(()) => number,
