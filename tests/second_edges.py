@@ -134,7 +134,7 @@ def rows_of_line(records, letter):
 
     def fault(number, start, why):
         if number == end and not levels[-1]:
-            why = "the table ends while the line is low"
+            why = "wanted a line that is high at the end of the table, and it is low"
         return rows, Refused(number, why, micros(start), letter)
 
     rows = []
@@ -149,7 +149,8 @@ def rows_of_line(records, letter):
         if number is None:
             break
         if level(middles[0]):
-            return fault(number, start, "a start bit that is high again at its middle")
+            return fault(number, start, "wanted a start bit that is low at its middle, and it is"
+                         " high there")
         number = records.seen(middles[10])
         if number is None:
             break
@@ -165,15 +166,17 @@ def rows_of_line(records, letter):
             if records.fault:
                 break
             return fault(end, start, None)
-        framing = "a framing error that is no break: the stop bit is low"
+        framing = "wanted a high stop bit, or a break of 100 ms or more, and the stop bit is low"
         if times[at] <= middles[10]:
             return fault(number, start, framing)
         if micros(times[at] - start) < 100_000:
             return fault(at + 2, start, framing)
         if letter == "S":
-            return fault(at + 2, start, "a break on the line of the peripherals")
+            return fault(at + 2, start, "wanted words alone on the line of the peripherals, and it"
+                         " is low for a break")
         if micros(times[at] - start) > 999_999_999:
-            return fault(at + 2, start, "a break of more than 999999999 microseconds")
+            return fault(at + 2, start, "wanted a break of at most 999999999 microseconds, and it"
+                         " is longer")
         rows.append((micros(start), "B", str(micros(times[at] - start))))
     return rows, None
 
@@ -190,8 +193,8 @@ def records_in(text, controller, peripheral, unit, invert):
                 columns["M"] = column_of(fields, controller, "Mm")
                 columns["S"] = column_of(fields, peripheral, "Ss")
                 if None in columns.values() or columns["M"] == columns["S"]:
-                    raise Refused(1, "wanted one column of each line: M and S, or give --controller"
-                                  " and --peripheral")
+                    raise Refused(1, "wanted one column of each line: as --controller and"
+                                  " --peripheral say, or M and S")
                 width = len(fields)
                 continue
             if len(fields) != width:

@@ -14,7 +14,8 @@ use Rattle.mdb_edges.specs.Table.{AreMoments, AreRowsOfTable, IsHeader, level_at
 use Rattle.mdb_edges.specs.declared.options.EdgesOptions.{EdgesOptions}
 use Rattle.mdb_edges.proofs.Headers.{one_header}
 use Rattle.mdb_edges.proofs.Orders.{differ}
-use Rattle.mdb_edges.proofs.Standings.{break_only, one_rise, word_only}
+use Rattle.mdb_edges.proofs.Passes.{one_rise}
+use Rattle.mdb_edges.proofs.Standings.{break_only, word_only}
 use Rattle.mdb_edges.proofs.Tables.{head_same, same_all}
 
 still : {line : Line} {level : ℕ → Bool} {from : ℕ} {rows : List Event} → ((t : ℕ) → from ≤ t → level t ≡ true) → Follows line level from rows → rows ≡ []

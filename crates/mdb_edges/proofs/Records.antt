@@ -3,8 +3,7 @@ use Rattle.std.proofs.Common.{◌≡◌, ◌≤◌, ◌+◌, ◌++◌, Bool, tru
 use Rattle.mdb_edges.specs.declared.columns.Columns.{Columns}
 use Rattle.mdb_edges.specs.declared.moment.Moment.{Moment}
 use Rattle.mdb_edges.specs.declared.options.EdgesOptions.{EdgesOptions}
-use Rattle.mdb_edges.specs.Table.{AreMoments, IsInstant, IsMoment, level_digit}
-use Rattle.mdb_edges.specs.inner.Waves.{end_of}
+use Rattle.mdb_edges.specs.Table.{AreMoments, IsInstant, IsMoment, end_of, level_digit}
 use Rattle.mdb_edges.proofs.Headers.{one_field}
 use Rattle.mdb_edges.proofs.Parts.{one_instant, per_some}
 use Rattle.mdb_edges.proofs.Waves.{IsRising}

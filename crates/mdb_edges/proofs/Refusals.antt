@@ -2,8 +2,8 @@
 use Rattle.std.proofs.Common.{inl, List, ℕ, [], Option}
 use Rattle.mdb_words.specs.declared.event.Event.{Event}
 use Rattle.mdb_sigrok.proofs.Pages.{kept}
-use Rattle.mdb_import.specs.Exports.{export_records}
-use Rattle.mdb_edges.specs.Import.{IsRefused}
+use Rattle.mdb_edges.specs.Faults.{IsFirstFault}
+use Rattle.mdb_edges.specs.Import.{AreRefused}
 use Rattle.mdb_edges.specs.Table.{AreRowsOfTable}
 use Rattle.mdb_edges.specs.inner.Stops.{Refutes}
 use Rattle.mdb_edges.specs.inner.Waves.{BeginSame}
@@ -11,13 +11,10 @@ use Rattle.mdb_edges.specs.declared.fault.EdgesFault.{EdgesFault}
 use Rattle.mdb_edges.specs.declared.fault.EdgesFault.TheVariants.{Form, Order, Line, Read, Write, Memory}
 use Rattle.mdb_edges.specs.declared.options.EdgesOptions.{EdgesOptions}
 
-pub refused_of : (options : EdgesOptions) (text : List ℕ) (fault : EdgesFault) (held : Option (List ℕ)) → ((others : List (List (List ℕ))) (rows : List Event) → Refutes fault (λ n. BeginSame n (export_records text) others × AreRowsOfTable options others rows)) → IsRefused options text fault held held
-refused_of options text (Form number fault) held never = (λ others rows same table. never others rows (same, table), kept held)
-refused_of options text (Order number micros fault) held never = (λ others rows same table. never others rows (same, table), kept held)
-refused_of options text (Line number micros line fault) held never = (λ others rows same table. never others rows (same, table), kept held)
-refused_of options text Read held never = kept held
-refused_of options text Write held never = absurd (never [] [])
-refused_of options text Memory held never = inl (kept held)
-
-pub kept_memory : (options : EdgesOptions) (text : List ℕ) (held : Option (List ℕ)) → IsRefused options text Memory held held
-kept_memory options text held = inl (kept held)
+pub refused_of : (options : EdgesOptions) (all : List (List (List ℕ))) (fault : EdgesFault) (held : Option (List ℕ)) → IsFirstFault options all fault → ((others : List (List (List ℕ))) (rows : List Event) → Refutes fault (λ n. BeginSame n all others × AreRowsOfTable options others rows)) → AreRefused options all fault held held
+refused_of options all (Form number fault) held first never = (first, λ others rows same table. never others rows (same, table), kept held)
+refused_of options all (Order number micros fault) held first never = (first, λ others rows same table. never others rows (same, table), kept held)
+refused_of options all (Line number micros line fault) held first never = (first, λ others rows same table. never others rows (same, table), kept held)
+refused_of options all Read held first never = kept held
+refused_of options all Write held first never = absurd (never [] [])
+refused_of options all Memory held first never = inl (kept held)

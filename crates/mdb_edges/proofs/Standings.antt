@@ -9,37 +9,9 @@ use Rattle.mdb_edges.specs.declared.receiver.State.{State}
 use Rattle.mdb_edges.specs.declared.receiver.State.TheVariants.{Unknown, Idle, Framed, Low}
 use Rattle.mdb_edges.specs.Levels.{AreRowsOfLine, Falls, Follows, IsBreak, IsFrame, Rises, bits_value, micros_of, middle_of, silent, word, broken}
 use Rattle.mdb_edges.specs.inner.Standing.{HasNone, Holds, IsBreakRow, IsDue, IsFramed, IsIdle, IsLow, Leads, Stands, held_of}
+use Rattle.mdb_edges.specs.Faults.{there}
 use Rattle.mdb_edges.proofs.Orders.{compared, differ}
-
-one_fall : (level : ℕ → Bool) (from a b : ℕ) → Falls level from a → Falls level from b → a ≡ b
-one_fall level from a b one other =
-    elim (compared a b) [
-      | inl lt ↦ absurd (differ (level a) (other.high a one.later lt) one.low)
-      | inr le ↦ elim (compared b a) [
-        | inl lt ↦ absurd (differ (level b) (one.high b other.later lt) other.low)
-        | inr ge ↦ omega arith
-      ]
-    ]
-
-pub one_rise : (level : ℕ → Bool) (a b : ℕ) → Rises level a → Rises level b → a ≡ b
-one_rise level a b one other =
-    elim (compared a b) [
-      | inl lt ↦ absurd (differ (level a) one.high (other.low a lt))
-      | inr le ↦ elim (compared b a) [
-        | inl lt ↦ absurd (differ (level b) other.high (one.low b lt))
-        | inr ge ↦ omega arith
-      ]
-    ]
-
-one_end : (level : ℕ → Bool) (start a b : ℕ) → start ≤ a → start ≤ b → Holds level start a false → level a ≡ true → Holds level start b false → level b ≡ true → a ≡ b
-one_end level start a b ale ble alow ahigh blow bhigh =
-    elim (compared a b) [
-      | inl lt ↦ absurd (differ (level a) ahigh (blow a ale lt))
-      | inr le ↦ elim (compared b a) [
-        | inl lt ↦ absurd (differ (level b) bhigh (alow b ble lt))
-        | inr ge ↦ omega arith
-      ]
-    ]
+use Rattle.mdb_edges.proofs.Passes.{one_end, one_fall, one_rise, passes_break, passes_word}
 
 -- what follows from where a line falls
 
@@ -67,6 +39,9 @@ break_only {line = line} {level = level} {from = from} start end falls breaks (b
 
 pub leads_word : (line : Line) (level : ℕ → Bool) (rows : List Event) (from start value : ℕ) → Leads line level rows from → Falls level from start → IsFrame level start value → Leads line level (rows ++ Word (micros_of start) line value ∷ []) (middle_of start 10)
 leads_word line level rows from start value leads falls frame = record {
+  first = leads.first;
+  rises = leads.rises;
+  passes = passes_word leads.passes start value falls frame;
   took = λ more after.
       subst (AreRowsOfLine line level) (sym (append_assoc rows (Word (micros_of start) line value ∷ []) more))
       (leads.took (Word (micros_of start) line value ∷ more) (word start value more falls frame after));
@@ -78,6 +53,9 @@ leads_word line level rows from start value leads falls frame = record {
 
 pub leads_break : (line : Line) (level : ℕ → Bool) (rows : List Event) (from start end : ℕ) → Leads line level rows from → line ≡ Controller → Falls level from start → IsBreak level start end → Leads line level (rows ++ Break (micros_of start) (micros_of (end - start)) ∷ []) end
 leads_break line level rows from start end leads controllers falls breaks = record {
+  first = leads.first;
+  rises = leads.rises;
+  passes = passes_break leads.passes start end controllers falls breaks;
   took = λ more after.
       subst (AreRowsOfLine line level) (sym (append_assoc rows (Break (micros_of start) (micros_of (end - start)) ∷ []) more))
       (leads.took (Break (micros_of start) (micros_of (end - start)) ∷ more) (broken start end more controllers falls breaks after));
@@ -89,6 +67,9 @@ leads_break line level rows from start end leads controllers falls breaks = reco
 
 pub leads_rise : (line : Line) (level : ℕ → Bool) (from : ℕ) → Rises level from → Leads line level [] from
 leads_rise line level from rises = record {
+  first = from;
+  rises = rises;
+  passes = there refl;
   took = λ more after. inr (from, rises, after);
   only = λ all are. elim are [
     | inl never ↦ absurd (differ (level from) rises.high (never.0 from))

@@ -16,9 +16,9 @@ use Rattle.mdb_edges.specs.declared.fault.Stop.TheVariants as stop
 use Rattle.mdb_edges.specs.declared.lines.Lines.{Lines}
 use Rattle.mdb_edges.specs.declared.moment.Moment.{Moment}
 use Rattle.mdb_edges.specs.declared.options.EdgesOptions.{EdgesOptions}
-use Rattle.mdb_edges.specs.Table.{AreMoments, AreRowsOfTable, IsHeader, IsMoment, level_at}
+use Rattle.mdb_edges.specs.Table.{AreMoments, AreRowsOfTable, IsHeader, IsMoment, end_of, level_at}
 use Rattle.mdb_edges.specs.inner.Stops.{Claims, Denies, IsNumbered, IsOfTable, IsTellOf, Refutes}
-use Rattle.mdb_edges.specs.inner.Waves.{AreBarred, BeginSame, Comes, HasRead, HaveHeard, IsEmpty, IsHeaded, IsWhole, Shows, end_of}
+use Rattle.mdb_edges.specs.inner.Waves.{AreBarred, BeginSame, Comes, HasRead, HaveHeard, IsEmpty, IsHeaded, IsWhole, Shows}
 use Rattle.mdb_edges.proofs.Headers.{one_header}
 use Rattle.mdb_edges.proofs.Records.{moments_more, moments_rise, moments_split, one_moment}
 use Rattle.mdb_edges.proofs.Orders.{compared}

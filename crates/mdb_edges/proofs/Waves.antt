@@ -6,9 +6,11 @@ use Rattle.mdb_words.specs.declared.word.Line.{Line}
 use Rattle.mdb_edges.specs.declared.lines.Wave.{Wave}
 use Rattle.mdb_edges.specs.declared.moment.Moment.{Moment}
 use Rattle.mdb_edges.specs.declared.receiver.State.TheVariants.{Unknown}
-use Rattle.mdb_edges.specs.Table.{level_at, level_on}
-use Rattle.mdb_edges.specs.inner.Standing.{HasNone, Holds, Stands, held_of}
-use Rattle.mdb_edges.specs.inner.Waves.{Fits, HasHeard, IsNow, Shows, end_of, last_of}
+use Rattle.mdb_edges.specs.Table.{end_of, level_at, level_on}
+use Rattle.mdb_edges.specs.declared.fault.Wrong.{Wrong}
+use Rattle.mdb_edges.specs.inner.Standing.{HasNone, Holds, IsWrongBy, IsWrongInEnd, Stands, held_of}
+use Rattle.mdb_edges.specs.inner.Waves.{Fits, HasHeard, IsFineBy, IsNow, Shows, last_of}
+use Rattle.mdb_edges.proofs.Wrongs.{fine_where}
 
 pub shown_more : (line : Line) (level : ℕ → Bool) (b : Bool) (from : ℕ) (ms : List Moment) (m : Moment) → Shows line level b from (ms ++ m ∷ []) → Shows line level b from ms × Holds level (end_of from ms) m.at (last_of line b ms) × (level m.at ≡ level_on line m)
 shown_more line level b from [] m shows = (tt, shows.0, shows.1)
@@ -120,3 +122,12 @@ stays_at line b from (m ∷ ms) rising t le =
 
 pub fits_at : (line : Line) (ms : List Moment) → IsRising 0 ms → Fits line (level_at line false ms) ms
 fits_at line ms rising = record { shows = shows_at line false 0 ms rising; stays = stays_at line false 0 ms rising }
+
+pub fine_by : (wave : Wave) (line : Line) (ms : List Moment) → HasHeard wave line ms → IsFineBy line ms
+fine_by wave line ms heard level shows = fine_where line level (end_of 0 ms) wave.state wave.rows.items (heard.stands level shows)
+
+pub wrong_on : (wave : Wave) (line : Line) (ms : List Moment) (level : ℕ → Bool) (at : ℕ) (wrong : Wrong) → HasHeard wave line ms → IsWrongBy wave.line level at wrong → IsWrongBy line level at wrong
+wrong_on wave line ms level at wrong heard is = subst (λ l. IsWrongBy l level at wrong) heard.same is
+
+pub wrong_in_end : (wave : Wave) (line : Line) (ms : List Moment) (level : ℕ → Bool) (wrong : Wrong) → HasHeard wave line ms → IsWrongInEnd wave.line level wrong → IsWrongInEnd line level wrong
+wrong_in_end wave line ms level wrong heard is = subst (λ l. IsWrongInEnd l level wrong) heard.same is

@@ -1,11 +1,15 @@
 -- A table from a reader, and its rows to a writer.
-use Rattle.std.specs.Prelude.{◌≡◌, ◌⊎◌, ◌&&◌, not, Bool, ℕ, List, Option, filter, take}
+use Rattle.std.specs.Prelude.{◌≡◌, ◌⊎◌, ◌≤◌, ◌-◌, ◌^◌, ◌&&◌, not, Bool, ℕ, List, Option, Some, filter, length, take}
 use Rattle.std.specs.List.{list_any}
 use Rattle.std.specs.Io.KnownBytes.{Appends, Keeps}
 use Rattle.mdb_words.specs.Event.{start_of}
 use Rattle.mdb_words.specs.declared.event.Event.{Event}
+use Rattle.mdb_records.specs.ToCome.{ToCome, fault_of}
+use Rattle.mdb_records.specs.declared.ReadFault.TheVariants as reading
+use Rattle.mdb_records.specs.declared.Records.{Records}
 use Rattle.mdb_import.specs.Exports.{export_records, is_controllers, is_from, is_marked, is_peripherals, is_until, told_count}
 use Rattle.mdb_sigrok.specs.Import.{HasTaken, rows_text}
+use Rattle.mdb_edges.specs.Faults.{IsFirstFault}
 use Rattle.mdb_edges.specs.Table.{AreRowsOfTable}
 use Rattle.mdb_edges.specs.declared.fault.EdgesFault.{EdgesFault}
 use Rattle.mdb_edges.specs.declared.fault.EdgesFault.TheVariants.{Form, Order, Line, Read, Write, Memory}
@@ -38,41 +42,66 @@ pub record IsTold (options : EdgesOptions) (rows : List Event) (told : EdgesImpo
   pub controller : told.controller ≡ list_any is_controllers rows
   pub peripheral : told.peripheral ≡ list_any is_peripherals rows
 
--- the rows of the table that are in the part were written
-pub record IsImported (options : EdgesOptions) (text : List ℕ) (told : EdgesImported)
-    (before after : Option (List ℕ)) : Type 0 where
+-- the rows of the table of these records that are in the part were written
+pub record AreImported (options : EdgesOptions) (records : List (List (List ℕ)))
+    (told : EdgesImported) (before after : Option (List ℕ)) : Type 0 where
   pub rows : List Event
-  pub of_table : AreRowsOfTable options (export_records text) rows
+  pub of_table : AreRowsOfTable options records rows
   pub counted : IsTold options rows told
   pub written : Appends before after (rows_text (part_of options rows))
 
--- the table has rows, and of those in the part a front was written
-pub record IsPartial (options : EdgesOptions) (text : List ℕ) (before after : Option (List ℕ)) :
-    Type 0 where
+-- the table of these records has rows, and of those in the part a front was written
+pub record ArePartial (options : EdgesOptions) (records : List (List (List ℕ)))
+    (before after : Option (List ℕ)) : Type 0 where
   pub rows : List Event
-  pub of_table : AreRowsOfTable options (export_records text) rows
+  pub of_table : AreRowsOfTable options records rows
   pub written : HasTaken before after (rows_text (part_of options rows))
 
--- No table has rows that begins with the first records of this one, so many, whatever comes behind
--- them. (Where it has fewer, that is this table alone.)
-abbrev pub HasNoRows : EdgesOptions → ℕ → List ℕ → Type 0
-HasNoRows options number text = (others : List (List (List ℕ))) (rows : List Event) →
-    take number others ≡ take number (export_records text) →
-    AreRowsOfTable options others rows → ⊥
+-- No table has rows that begins with the first of these records, so many, whatever comes behind
+-- them. (Where there are fewer, that is the table of these alone.)
+abbrev pub HaveNoRows : EdgesOptions → ℕ → List (List (List ℕ)) → Type 0
+HaveNoRows options number records = (others : List (List (List ℕ))) (rows : List Event) →
+    take number others ≡ take number records → AreRowsOfTable options others rows → ⊥
 
--- What a fault tells: where it is one of the table, that this has no rows, for its records up to the
--- one that is told, and nothing was written.
--- Where reading failed, nothing was written; where memory or writing did, a front of the rows, or
+-- a fault of the table: it is the first, there are no rows, for the records up to the one of the
+-- number, and nothing was written
+abbrev pub AreFaulty : EdgesOptions → List (List (List ℕ)) → EdgesFault → ℕ → Option (List ℕ) →
+    Option (List ℕ) → Type 0
+AreFaulty options records fault number before after =
+    IsFirstFault options records fault × HaveNoRows options number records × Keeps before after
+
+-- What a fault tells of records: where it is one of the table, what is wrong with that. Where
+-- reading failed, nothing was written; where memory or writing did, a front of the rows, or
 -- nothing.
+abbrev pub AreRefused : EdgesOptions → List (List (List ℕ)) → EdgesFault → Option (List ℕ) →
+    Option (List ℕ) → Type 0
+AreRefused options records (Form number fault) before after =
+    AreFaulty options records (Form number fault) number before after
+AreRefused options records (Order number micros fault) before after =
+    AreFaulty options records (Order number micros fault) number before after
+AreRefused options records (Line number micros line fault) before after =
+    AreFaulty options records (Line number micros line fault) number before after
+AreRefused options records Read before after = Keeps before after
+AreRefused options records Write before after = ArePartial options records before after
+AreRefused options records Memory before after =
+    Keeps before after ⊎ ArePartial options records before after
+
+-- the same of the records of a text
+abbrev pub IsImported : EdgesOptions → List ℕ → EdgesImported → Option (List ℕ) → Option (List ℕ)
+    → Type 0
+IsImported options text told before after =
+    AreImported options (export_records text) told before after
+
 abbrev pub IsRefused : EdgesOptions → List ℕ → EdgesFault → Option (List ℕ) → Option (List ℕ) →
     Type 0
-IsRefused options text (Form number fault) before after =
-    HasNoRows options number text × Keeps before after
-IsRefused options text (Order number micros fault) before after =
-    HasNoRows options number text × Keeps before after
-IsRefused options text (Line number micros line fault) before after =
-    HasNoRows options number text × Keeps before after
-IsRefused options text Read before after = Keeps before after
-IsRefused options text Write before after = IsPartial options text before after
-IsRefused options text Memory before after =
-    Keeps before after ⊎ IsPartial options text before after
+IsRefused options text fault before after =
+    AreRefused options (export_records text) fault before after
+
+-- a read of records failed after they stood so; or there are so many records or more
+abbrev pub IsUnread : {R : Type 0} → (R → Option (List ℕ)) → Records R → Records R → ℕ → Type 0
+IsUnread remaining before after many = (fault_of after ≡ Some reading.Read)
+    ⊎ ((all : List (List (List ℕ))) → ToCome remaining before all → many ≤ length all)
+
+-- a read of records failed after they stood so; or there are more than can be counted
+abbrev pub HasFailed : {R : Type 0} → (R → Option (List ℕ)) → Records R → Records R → Type 0
+HasFailed remaining before after = IsUnread remaining before after (2 ^ 64 - 2)

@@ -1,3 +1,4 @@
+pub mod Faults
 pub mod Import
 pub mod Levels
 pub mod Table

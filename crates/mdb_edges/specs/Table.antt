@@ -96,6 +96,11 @@ AreMoments options columns earliest (row ∷ rows) (moment ∷ moments) =
     IsMoment options columns row moment × (earliest ≤ moment.at)
     × AreMoments options columns (moment.at + 1) rows moments
 
+-- the first instant behind moments, the first of which isn't before an instant
+abbrev pub end_of : ℕ → List Moment → ℕ
+end_of from [] = from
+end_of from (moment ∷ moments) = end_of (moment.at + 1) moments
+
 -- whether a line is high from a moment on
 abbrev pub level_on : Line → Moment → Bool
 level_on Controller moment = moment.controller

@@ -69,7 +69,7 @@ pub enum FormFault {
     #[error("wanted a header that names the columns")]
     NoHeader,
     /// The header hasn't one column of each line.
-    #[error("wanted one column of each line: M and S, or give --controller and --peripheral")]
+    #[error("wanted one column of each line: as --controller and --peripheral say, or M and S")]
     Columns,
     /// It hasn't as many fields as the header.
     #[error("wanted as many fields as the header has")]
@@ -100,20 +100,20 @@ pub enum LineFault {
     #[error("wanted a level, 0 or 1")]
     BadLevel,
     /// The line falls, and is high again half a bit later.
-    #[error("a start bit that is high again at its middle")]
+    #[error("wanted a start bit that is low at its middle, and it is high there")]
     Glitch,
     /// The line is low at the middle of a stop bit, and it isn't low for 100 milliseconds from the
     /// start bit on.
-    #[error("a framing error that is no break: the stop bit is low")]
+    #[error("wanted a high stop bit, or a break of 100 ms or more, and the stop bit is low")]
     Framing,
     /// A break on the line of the peripherals.
-    #[error("a break on the line of the peripherals")]
+    #[error("wanted words alone on the line of the peripherals, and it is low for a break")]
     DeviceBreak,
     /// A break of more than 999,999,999 microseconds.
-    #[error("a break of more than 999999999 microseconds")]
+    #[error("wanted a break of at most 999999999 microseconds, and it is longer")]
     LongBreak,
     /// The line is low at the end of the table.
-    #[error("the table ends while the line is low")]
+    #[error("wanted a line that is high at the end of the table, and it is low")]
     Cut,
 }
 

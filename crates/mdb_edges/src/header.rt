@@ -1,8 +1,10 @@
 //! The header of a table.
 
-ghost use Rattle.std.specs.Prelude.{◌≡◌, ◌↔◌, ◌∷◌, [], ℕ, IfOk, IfErr, IfSome, IfNone, IsTrue, option_map, string_bytes};
+ghost use Rattle.std.specs.Prelude.{◌≡◌, ◌↔◌, ◌∷◌, [], ℕ, IfOk, IfErr, IfSome, IfNone, IsTrue};
+ghost use Rattle.std.specs.Prelude.{option_map, string_bytes};
 ghost use Rattle.csv.specs.Records.{fields_of};
 ghost use Rattle.mdb_edges.specs.declared.columns.Columns.{Columns};
+ghost use Rattle.mdb_edges.specs.Faults.{IsNoHeader};
 ghost use Rattle.mdb_edges.specs.Table.{AreThere, IsColumn, IsHeader, IsName};
 
 use super::columns::Columns;
@@ -46,6 +48,7 @@ pub(crate) fn columns_of(options: &EdgesOptions, header: &ByteRecord) -> Result<
     ensures ok { IfOk result (IsHeader options.now (fields_of header.now)) }
     ensures err { IfErr result (λ _. (columns : Columns) →
         IsHeader options.now (fields_of header.now) columns → ⊥) }
+    ensures why { IfErr result (IsNoHeader options.now (fields_of header.now)) }
     ensures there { IfOk result AreThere }
 {
     if header.len() == 0 {

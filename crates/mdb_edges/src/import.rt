@@ -1,8 +1,8 @@
 //! A table of edges from a reader, and its rows to a writer.
 
 ghost use Rattle.std.specs.Prelude.{◌≡◌, List, ℕ, IfErr, IfOk, IfSome};
-ghost use Rattle.mdb_import.specs.Exports.{export_records};
-ghost use Rattle.mdb_edges.specs.Import.{IsImported, IsRefused};
+ghost use Rattle.mdb_records.specs.ToCome.{ToCome};
+ghost use Rattle.mdb_edges.specs.Import.{AreImported, AreRefused, HasFailed, IsImported, IsRefused};
 ghost use Rattle.mdb_edges.specs.Table.{AreRowsOfTable};
 
 use super::fault::EdgesFault;
@@ -10,12 +10,14 @@ use super::options::EdgesOptions;
 use super::part::{EdgesImported, part_of};
 use super::table::rows_of_records;
 use mdb_import::records_of;
+use mdb_records::Records;
 use mdb_sigrok::{SigrokFault, write_rows};
 use mdb_words::Event;
 use std::alloc::Global;
 use std::io::{Read, Write};
 
-/// Reads a table of edges, and writes the rows of its words and breaks, each with a line feed.
+/// Reads the table of edges whose records are still to come, and writes the rows of its words and
+/// breaks, each with a line feed.
 ///
 /// Nothing is written before all is read, so where the table is refused nothing is. Its text isn't
 /// kept, but its rows are, up to three times: 200,000 rows of a table of 17 MB take 14 MB.
@@ -23,8 +25,38 @@ use std::io::{Read, Write};
 /// # Errors
 ///
 /// The first record of what is no table of words and breaks, with its number, and where that is
-/// known with its time in microseconds and the line; or that reading or writing failed, or that
-/// memory was refused.
+/// known with its time in microseconds and the line: the records stand at that one then. Or that
+/// reading or writing failed, or that memory was refused.
+pub fn import_edge_records<R: Read + Drop, W: Write>(
+    alloc: Global,
+    options: &EdgesOptions,
+    records: &mut Records<R>,
+    writer: &mut W,
+) -> Result<EdgesImported, EdgesFault>
+    ensures written { IfOk result (λ told. (all : List (List (List ℕ))) →
+        ToCome R.remaining records.old all →
+        AreImported options.now all told (W.contents writer.old) (W.contents writer.new)) }
+    ensures refused { IfErr result (λ fault. (all : List (List (List ℕ))) →
+        ToCome R.remaining records.old all →
+        AreRefused options.now all fault (W.contents writer.old) (W.contents writer.new)) }
+    // A failed read is told only where there was one.
+    ensures failed { IfErr result (λ fault. fault ≡ EdgesFault.Read →
+        HasFailed R.remaining records.old records.new) }
+{
+    match rows_of_records(alloc, options, records) {
+        Ok(rows) => match write_part(alloc, options, rows.as_slice(), writer) {
+            Ok(told) => Ok(told),
+            Err(fault) => Err(fault),
+        },
+        Err(fault) => Err(fault),
+    }
+}
+
+/// Reads the table of edges that a reader has left, and writes the same rows.
+///
+/// # Errors
+///
+/// As [`import_edge_records`].
 pub fn import_edges<R: Read + Drop, W: Write>(
     alloc: Global,
     options: &EdgesOptions,
@@ -37,11 +69,8 @@ pub fn import_edges<R: Read + Drop, W: Write>(
         IsRefused options.now text fault (W.contents writer.old) (W.contents writer.new))) }
 {
     let mut records = records_of(alloc, reader);
-    match rows_of_records(alloc, options, &mut records) {
-        Ok(rows) => match write_part(alloc, options, rows.as_slice(), writer) {
-            Ok(told) => Ok(told),
-            Err(fault) => Err(fault),
-        },
+    match import_edge_records(alloc, options, &mut records, writer) {
+        Ok(told) => Ok(told),
         Err(fault) => Err(fault),
     }
 }
@@ -53,12 +82,13 @@ fn write_part<W: Write>(
     rows: &[Event],
     writer: &mut W,
 ) -> Result<EdgesImported, EdgesFault>
-    ensures written { IfOk result (λ told. (text : List ℕ) →
-        AreRowsOfTable options.now (export_records text) rows.now →
-        IsImported options.now text told (W.contents writer.old) (W.contents writer.new)) }
-    ensures refused { IfErr result (λ fault. (text : List ℕ) →
-        AreRowsOfTable options.now (export_records text) rows.now →
-        IsRefused options.now text fault (W.contents writer.old) (W.contents writer.new)) }
+    ensures written { IfOk result (λ told. (all : List (List (List ℕ))) →
+        AreRowsOfTable options.now all rows.now →
+        AreImported options.now all told (W.contents writer.old) (W.contents writer.new)) }
+    ensures refused { IfErr result (λ fault. (all : List (List (List ℕ))) →
+        AreRowsOfTable options.now all rows.now →
+        AreRefused options.now all fault (W.contents writer.old) (W.contents writer.new)) }
+    ensures read { IfErr result (λ fault. fault ≡ EdgesFault.Read → ⊥) }
 {
     let part = match part_of(alloc, options, rows) {
         Ok(part) => part,

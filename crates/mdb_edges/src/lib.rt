@@ -3,8 +3,9 @@
 //!
 //! Such a table has a record for each change: when it was, and the level of each channel from then
 //! on. This crate decodes the words and breaks of both lines of the bus out of it, 9600 baud and
-//! nine data bits, and answers the rows that `mdbcheck` reads. Nothing is guessed, and nothing is
-//! left out in silence.
+//! nine data bits, and answers the rows that `mdbcheck` reads. Nothing is guessed. A line counts as
+//! low until it is high for the first time, and that it is low till then is no row, and isn't told;
+//! rows outside the part that is asked for are counted; and whatever else is no row is refused.
 #![tactic(auto)]
 
 mod columns;
@@ -25,6 +26,6 @@ mod record;
 mod table;
 
 pub use fault::{EdgesFault, FormFault, LineFault, OrderFault, Wire};
-pub use import::import_edges;
+pub use import::{import_edge_records, import_edges};
 pub use options::EdgesOptions;
 pub use part::EdgesImported;

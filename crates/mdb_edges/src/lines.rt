@@ -5,7 +5,10 @@ ghost use Rattle.mdb_words.specs.declared.word.Line.{Line};
 ghost use Rattle.mdb_edges.specs.declared.moment.Moment.{Moment};
 ghost use Rattle.mdb_edges.specs.inner.Standing.{told_by};
 ghost use Rattle.mdb_edges.specs.inner.Stops.{Claims};
-ghost use Rattle.mdb_edges.specs.inner.Waves.{AreBarred, HasHeard, HaveHeard, IsBarred, IsEmpty, IsNow, IsWhole, end_of};
+ghost use Rattle.mdb_edges.specs.inner.Waves.{AreBarred, AreShown, AreShownInEnd, HasHeard};
+ghost use Rattle.mdb_edges.specs.inner.Waves.{HaveHeard, IsBarred, IsEmpty, IsNow, IsShownBy};
+ghost use Rattle.mdb_edges.specs.inner.Waves.{IsShownInEnd, IsStopOf, IsWhole};
+ghost use Rattle.mdb_edges.specs.Table.{end_of};
 
 use super::fault::Stop;
 use super::instant::Instant;
@@ -45,6 +48,9 @@ impl Wave {
         ensures err { IfErr result (λ stop. (line : Line) (moments : List Moment) (moment : Moment)
             → HasHeard self.old line moments → IsNow line moments moment at high →
             Claims stop (IsBarred line (moments ++ moment ∷ []))) }
+        ensures wrong { IfErr result (λ stop. (line : Line) (moments : List Moment)
+            (moment : Moment) → HasHeard self.old line moments → IsNow line moments moment at high
+            → IsStopOf line (IsShownBy line (moments ++ moment ∷ []) at) stop) }
     {
         match wait_until(self.line, self.state, at) {
             Ok(step) => match self.add(step) {
@@ -79,6 +85,8 @@ impl Wave {
             HasHeard self.old line moments → IsWhole line moments self.new.rows.items) }
         ensures err { IfErr result (λ stop. (line : Line) (moments : List Moment) →
             HasHeard self.old line moments → Claims stop (IsEmpty line moments)) }
+        ensures wrong { IfErr result (λ stop. (line : Line) (moments : List Moment) →
+            HasHeard self.old line moments → IsStopOf line (IsShownInEnd line moments) stop) }
     {
         match finish(self.line, self.state) {
             Ok(row) => match self.push(row) {
@@ -134,6 +142,9 @@ impl Lines {
         ensures err { IfErr result (λ stop. (moments : List Moment) →
             HaveHeard self.old moments → end_of 0 moments ≤ moment.now.at →
             Claims stop (AreBarred (moments ++ moment.now ∷ []))) }
+        ensures wrong { IfErr result (λ stop. (moments : List Moment) →
+            HaveHeard self.old moments → end_of 0 moments ≤ moment.now.at →
+            AreShown (moments ++ moment.now ∷ []) moment.now.at stop) }
     {
         match self.controller.take(moment.at, moment.controller) {
             Ok(()) => (),
@@ -152,6 +163,8 @@ impl Lines {
             × IsWhole Line.Peripheral moments self.new.peripheral.rows.items) }
         ensures err { IfErr result (λ stop. (moments : List Moment) → HaveHeard self.old moments →
             Claims stop (IsEmpty Line.Controller moments ⊎ IsEmpty Line.Peripheral moments)) }
+        ensures wrong { IfErr result (λ stop. (moments : List Moment) → HaveHeard self.old moments →
+            AreShownInEnd moments stop) }
     {
         match self.controller.end() {
             Ok(()) => (),

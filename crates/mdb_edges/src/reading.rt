@@ -1,9 +1,10 @@
 //! The bits of a frame, read one after the other.
 
-ghost use Rattle.std.specs.Prelude.{◌≡◌, ◌⊎◌, ◌+◌, ◌-◌, ◌^◌, ◌<◌, ◌≤◌, ◌&&◌, not, Bool, ℕ, List, true, false, IfOk, IfErr};
+ghost use Rattle.std.specs.Prelude.{◌≡◌, ◌⊎◌, ◌+◌, ◌-◌, ◌^◌, ◌<◌, ◌≤◌, ◌&&◌, not, Bool, ℕ, List};
+ghost use Rattle.std.specs.Prelude.{true, false, IfOk, IfErr};
 ghost use Rattle.mdb_words.specs.declared.event.Event.{Event};
 ghost use Rattle.mdb_words.specs.declared.word.Line.{Line};
-ghost use Rattle.mdb_edges.specs.inner.Standing.{HasNone, Holds, IsFramed, IsReadOn};
+ghost use Rattle.mdb_edges.specs.inner.Standing.{HasNone, Holds, IsFramed, IsGlitch, IsReadOn};
 
 use super::fault::{LineFault, Wrong};
 use super::frame::Frame;
@@ -46,6 +47,9 @@ impl Frame {
         ensures err { IfErr result (λ _. (line : Line) (level : ℕ → Bool) (known : ℕ)
             (rows : List Event) → IsFramed line level known rows self
             → Holds level known at self.high → HasNone line level) }
+        ensures glitch { IfErr result (λ wrong. (line : Line) (level : ℕ → Bool) (known : ℕ)
+            (rows : List Event) → IsFramed line level known rows self
+            → Holds level known at self.high → IsGlitch line level at wrong) }
     {
         let mut frame = self;
         while frame.taken < STOP_BIT && frame.next < at {
@@ -61,7 +65,9 @@ impl Frame {
     }
 
     /// What is wrong with the frame.
-    pub(crate) fn wrong(self, fault: LineFault) -> Wrong {
+    pub(crate) fn wrong(self, fault: LineFault) -> Wrong
+        ensures { result ≡ record { start = self.start; fault = fault } }
+    {
         Wrong {
             start: self.start,
             fault,

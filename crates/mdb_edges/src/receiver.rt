@@ -1,9 +1,12 @@
 //! A line of the bus, whose levels are read one after the other.
 
-ghost use Rattle.std.specs.Prelude.{◌≡◌, ◌+◌, ◌-◌, ◌<◌, ◌≤◌, ◌++◌, ◌↔◌, Bool, ℕ, List, true, None, IfOk, IfErr, IsTrue};
+ghost use Rattle.std.specs.Prelude.{◌≡◌, ◌+◌, ◌-◌, ◌<◌, ◌≤◌, ◌++◌, ◌↔◌, Bool, ℕ, List, true, false};
+ghost use Rattle.std.specs.Prelude.{None, IfOk, IfErr, IsTrue};
 ghost use Rattle.mdb_words.specs.declared.event.Event.{Event};
 ghost use Rattle.mdb_edges.specs.Levels.{AreRowsOfLine, micros_of};
-ghost use Rattle.mdb_edges.specs.inner.Standing.{HasNone, Holds, IsBreakRow, IsDue, IsFramed, IsLow, Stands, held_of, told_by};
+ghost use Rattle.mdb_edges.specs.inner.Standing.{HasNone, Holds, IsBreakRow, IsDue, IsFramed};
+ghost use Rattle.mdb_edges.specs.inner.Standing.{IsLow, IsNoBreak, IsWrongBy, IsWrongInEnd};
+ghost use Rattle.mdb_edges.specs.inner.Standing.{Stands, held_of, told_by};
 
 use super::fault::{LineFault, Wrong};
 use super::frame::Frame;
@@ -44,6 +47,9 @@ pub(crate) fn wait_until(line: Line, state: State, at: Instant) -> Result<Step, 
     ensures err { IfErr result (λ _. (level : ℕ → Bool) (known : ℕ) (rows : List Event) →
         Stands line level known state rows → known ≤ at → Holds level known at (held_of state) →
         HasNone line level) }
+    ensures wrong { IfErr result (λ wrong. (level : ℕ → Bool) (known : ℕ) (rows : List Event) →
+        Stands line level known state rows → known ≤ at → Holds level known at (held_of state) →
+        IsWrongBy line level at wrong) }
 {
     let State::Framed(frame) = state else {
         return Ok(silent(state));
@@ -73,6 +79,10 @@ fn stop(line: Line, frame: Frame) -> Result<Step, Wrong>
     ensures err { IfErr result (λ _. (level : ℕ → Bool) (known at : ℕ) (rows : List Event) →
         IsFramed line level known rows frame → known ≤ at → frame.next < at →
         Holds level known at frame.high → HasNone line level) }
+    ensures wrong { IfErr result (λ wrong. (level : ℕ → Bool) (known at : ℕ) (rows : List Event) →
+        IsFramed line level known rows frame → known ≤ at → frame.next < at →
+        Holds level known at frame.high → IsWrongBy line level at wrong) }
+    ensures low { IfErr result (λ _. frame.high ≡ false) }
 {
     if frame.high {
         return Ok(Step {
@@ -100,6 +110,8 @@ pub(crate) fn turn(line: Line, state: State, at: Instant, high: bool) -> Result<
     ensures held { IfOk result (λ step. held_of step.state ≡ high) }
     ensures err { IfErr result (λ _. (level : ℕ → Bool) (rows : List Event) →
         Stands line level at state rows → level at ≡ high → HasNone line level) }
+    ensures wrong { IfErr result (λ wrong. (level : ℕ → Bool) (rows : List Event) →
+        Stands line level at state rows → level at ≡ high → IsWrongBy line level at wrong) }
 {
     match state {
         State::Unknown if high => Ok(silent(State::Idle)),
@@ -128,6 +140,8 @@ fn rise(line: Line, start: Instant, at: Instant) -> Result<Step, Wrong>
     ensures held { IfOk result (λ step. step.state ≡ State.Idle) }
     ensures err { IfErr result (λ _. (level : ℕ → Bool) (rows : List Event) →
         IsLow line level at rows start → level at ≡ true → HasNone line level) }
+    ensures wrong { IfErr result (λ wrong. (level : ℕ → Bool) (rows : List Event) →
+        IsLow line level at rows start → level at ≡ true → IsWrongBy line level at wrong) }
 {
     match break_of(line, start, at) {
         Ok(row) => Ok(Step {
@@ -142,6 +156,7 @@ fn rise(line: Line, start: Instant, at: Instant) -> Result<Step, Wrong>
 fn break_of(line: Line, start: Instant, end: Instant) -> Result<Event, LineFault>
     ensures ok { IfOk result (IsBreakRow line start end) }
     ensures err { IfErr result (λ _. (row : Event) → IsBreakRow line start end row → ⊥) }
+    ensures why { IfErr result (IsNoBreak line (micros_of (end - start))) }
 {
     if !is_long(start, end) {
         return Err(LineFault::Framing);
@@ -174,6 +189,9 @@ pub(crate) fn finish(line: Line, state: State) -> Result<Option<Event>, Wrong>
     ensures err { IfErr result (λ _. (level : ℕ → Bool) (known : ℕ) (rows : List Event) →
         Stands line level known state rows →
         ((t : ℕ) → known ≤ t → level t ≡ held_of state) → HasNone line level) }
+    ensures wrong { IfErr result (λ wrong. (level : ℕ → Bool) (known : ℕ) (rows : List Event) →
+        Stands line level known state rows →
+        ((t : ℕ) → known ≤ t → level t ≡ held_of state) → IsWrongInEnd line level wrong) }
 {
     match state {
         State::Unknown | State::Idle => Ok(None),
@@ -197,6 +215,9 @@ fn last_row(line: Line, frame: Frame) -> Result<Option<Event>, Wrong>
     ensures err { IfErr result (λ _. (level : ℕ → Bool) (known : ℕ) (rows : List Event) →
         IsFramed line level known rows frame →
         ((t : ℕ) → known ≤ t → level t ≡ frame.high) → HasNone line level) }
+    ensures wrong { IfErr result (λ wrong. (level : ℕ → Bool) (known : ℕ) (rows : List Event) →
+        IsFramed line level known rows frame →
+        ((t : ℕ) → known ≤ t → level t ≡ frame.high) → IsWrongInEnd line level wrong) }
 {
     if !frame.high {
         return Err(frame.wrong(LineFault::Cut));

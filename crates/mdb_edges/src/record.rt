@@ -1,10 +1,12 @@
 //! The records of a table below its header.
 
-ghost use Rattle.std.specs.Prelude.{◌≡◌, ◌≢◌, ◌*◌, ◌≤◌, ◌∷◌, [], Bool, ℕ, IfOk, IfErr, IfSome, IfNone};
+ghost use Rattle.std.specs.Prelude.{◌≡◌, ◌≢◌, ◌*◌, ◌≤◌, ◌∷◌, [], Bool, ℕ, IfOk, IfErr, IfSome};
+ghost use Rattle.std.specs.Prelude.{IfNone};
 ghost use Rattle.csv.specs.Records.{fields_of};
 ghost use Rattle.mdb_edges.specs.declared.moment.Moment.{Moment};
 ghost use Rattle.mdb_edges.specs.Table.{AreParts, AreThere, IsInstant, IsMoment, level_digit};
-ghost use Rattle.mdb_edges.specs.inner.Stops.{Denies, IsOfTable};
+ghost use Rattle.mdb_edges.specs.Faults.{IsNoInstant};
+ghost use Rattle.mdb_edges.specs.inner.Stops.{Denies, IsOfRecord, IsOfTable};
 ghost use Rattle.mdb_import.specs.Times.{per_second};
 
 use super::columns::Columns;
@@ -30,6 +32,7 @@ pub(crate) fn moment_of(
     ensures ok { IfOk result (IsMoment options.now columns.now (fields_of row.now)) }
     ensures err { IfErr result (λ stop. (moment : Moment) →
         Denies stop (IsMoment options.now columns.now (fields_of row.now) moment)) }
+    ensures why { IfErr result (IsOfRecord options.now columns.now (fields_of row.now)) }
 {
     if row.len() != columns.width {
         return Err(Stop::Form(FormFault::FieldCount));
@@ -53,7 +56,8 @@ pub(crate) fn moment_of(
 
 /// A field that is no level.
 fn no_level(line: Line, at: Instant) -> Stop
-    ensures { IsOfTable result }
+    ensures of_table { IsOfTable result }
+    ensures is { result ≡ Stop.Line line (record { start = at; fault = LineFault.BadLevel }) }
 {
     Stop::Line(
         line,
@@ -82,6 +86,7 @@ fn level_of(invert: bool, field: &[u8]) -> Option<bool>
 fn instant_of(unit: Unit, field: &[u8]) -> Result<Instant, FormFault>
     ensures ok { IfOk result (IsInstant unit field.now) }
     ensures err { IfErr result (λ _. (at : ℕ) → IsInstant unit field.now at → ⊥) }
+    ensures why { IfErr result (IsNoInstant unit field.now) }
 {
     let Some(number) = read_number(field) else {
         return Err(FormFault::BadTime);

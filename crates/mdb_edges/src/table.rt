@@ -1,13 +1,17 @@
 //! A table of edges, record by record.
 
-ghost use Rattle.std.specs.Prelude.{◌≡◌, ◌⊎◌, ◌+◌, ◌-◌, ◌<◌, ◌++◌, ◌∷◌, [], List, ℕ, IfErr, IfOk, OnOk};
+ghost use Rattle.std.specs.Prelude.{◌≡◌, ◌⊎◌, ◌+◌, ◌-◌, ◌<◌, ◌++◌, ◌∷◌, ◌^◌, [], List, ℕ, Some};
+ghost use Rattle.std.specs.Prelude.{IfErr, IfOk, OnOk};
 ghost use Rattle.csv.specs.Records.{fields_of};
-ghost use Rattle.mdb_records.specs.ToCome.{ToCome};
+ghost use Rattle.mdb_records.specs.ToCome.{ToCome, fault_of};
 ghost use Rattle.mdb_words.specs.declared.event.Event.{Event};
 ghost use Rattle.mdb_edges.specs.Table.{AreRowsOfTable, AreThere, IsHeader};
 ghost use Rattle.mdb_edges.specs.declared.columns.Columns.{Columns};
 ghost use Rattle.mdb_edges.specs.declared.moment.Moment.{Moment};
-ghost use Rattle.mdb_edges.specs.inner.Stops.{Denies, IsNumbered, IsOfTable, Refutes};
+ghost use Rattle.mdb_edges.specs.Faults.{IsFirstFault};
+ghost use Rattle.mdb_edges.specs.Import.{HasFailed, IsUnread};
+ghost use Rattle.mdb_edges.specs.inner.Stops.{Denies, IsEarly, IsMet, IsNumbered, IsOfTable};
+ghost use Rattle.mdb_edges.specs.inner.Stops.{Refutes};
 ghost use Rattle.mdb_edges.specs.inner.Waves.{BeginSame, Comes, HasRead, HaveHeard, IsHeaded};
 
 use super::columns::Columns;
@@ -36,6 +40,10 @@ pub(crate) fn rows_of_records<R: Read + Drop>(
     ensures err { IfErr result (λ fault. (all : List (List (List ℕ))) →
         ToCome R.remaining records.old all → (others : List (List (List ℕ))) (rows : List Event) →
         Refutes fault (λ n. BeginSame n all others × AreRowsOfTable options.now others rows)) }
+    ensures why { IfErr result (λ fault. (all : List (List (List ℕ))) →
+        ToCome R.remaining records.old all → IsFirstFault options.now all fault) }
+    ensures failed { IfErr result (λ fault. fault ≡ EdgesFault.Read →
+        HasFailed R.remaining records.old records.new) }
 {
     let columns = match read_header(options, records) {
         Ok(columns) => columns,
@@ -69,6 +77,10 @@ fn read_header<R: Read + Drop>(
     ensures err { IfErr result (λ fault. (all others rest : List (List (List ℕ)))
         (columns : Columns) → ToCome R.remaining records.old all →
         Refutes fault (λ n. BeginSame n all others × IsHeaded options.now others columns rest)) }
+    ensures why { IfErr result (λ fault. (all : List (List (List ℕ))) →
+        ToCome R.remaining records.old all → IsFirstFault options.now all fault) }
+    ensures failed { IfErr result (λ fault. fault ≡ EdgesFault.Read →
+        fault_of records.new ≡ Some ReadFault.Read) }
 {
     match records.advance() {
         Ok(true) => match columns_of(options, records.row()) {
@@ -100,6 +112,11 @@ fn read_moments<R: Read + Drop>(
         (others : List (List (List ℕ))) (sent answered : List Event) → Refutes fault
         (λ n. BeginSame (n - 1) all others × Comes options.now columns.now others sent answered)) }
     ensures numbered { IfErr result IsNumbered }
+    ensures why { IfErr result (λ fault. (header : List (List ℕ)) (all : List (List (List ℕ))) →
+        IsHeader options.now header columns.now → ToCome R.remaining records.old all →
+        IsFirstFault options.now (header ∷ all) fault) }
+    ensures failed { IfErr result (λ fault. fault ≡ EdgesFault.Read →
+        IsUnread R.remaining records.old records.new (2 ^ 64 - 3)) }
 {
     let mut earliest = 0;
     for number in 2..u64::MAX {
@@ -139,6 +156,9 @@ fn take_record(
         HasRead options.now columns.now earliest lines.old body moments →
         Denies stop (Comes options.now columns.now (body ++ fields_of row.now ∷ rest) sent
         answered)) }
+    ensures why { IfErr result (λ stop. (body rest : List (List (List ℕ))) (moments : List Moment)
+        → HasRead options.now columns.now earliest lines.old body moments →
+        IsMet options.now columns.now moments (fields_of row.now ∷ rest) stop) }
 {
     let moment = match moment_of(options, columns, row) {
         Ok(moment) => moment,
@@ -156,7 +176,8 @@ fn take_record(
 /// A moment that isn't later than the one before it.
 fn early(moment: &Moment, earliest: u128) -> Stop
     requires { moment.now.at < earliest }
-    ensures { IsOfTable result }
+    ensures of_table { IsOfTable result }
+    ensures is { IsEarly earliest moment.now.at result }
 {
     let fault = if moment.at.parts() + 1 == earliest {
         OrderFault::SameTime
@@ -168,7 +189,8 @@ fn early(moment: &Moment, earliest: u128) -> Stop
 
 /// Why the records can't be read.
 fn fault_of_reading(fault: ReadFault) -> EdgesFault
-    ensures { (result ≡ EdgesFault.Read) ⊎ (result ≡ EdgesFault.Memory) }
+    ensures either { (result ≡ EdgesFault.Read) ⊎ (result ≡ EdgesFault.Memory) }
+    ensures read { result ≡ EdgesFault.Read → fault ≡ ReadFault.Read }
 {
     match fault {
         ReadFault::Read => EdgesFault::Read,

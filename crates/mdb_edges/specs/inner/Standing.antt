@@ -4,8 +4,12 @@ use Rattle.std.specs.Prelude.{◌≡◌, ◌+◌, ◌-◌, ◌^◌, ◌<◌, ◌
 use Rattle.mdb_words.specs.declared.event.Event.{Event}
 use Rattle.mdb_words.specs.declared.event.Event.TheVariants.{Break}
 use Rattle.mdb_words.specs.declared.word.Line.{Line}
-use Rattle.mdb_words.specs.declared.word.Line.TheVariants.{Controller}
-use Rattle.mdb_edges.specs.Levels.{AreRowsOfLine, Falls, Follows, bits_value, micros_of, middle_of}
+use Rattle.mdb_words.specs.declared.word.Line.TheVariants.{Controller, Peripheral}
+use Rattle.mdb_edges.specs.Faults.{Begins, IsWrong, IsWrongAtEnd, Passes}
+use Rattle.mdb_edges.specs.Levels.{AreRowsOfLine, Falls, Follows, Rises, bits_value, micros_of, middle_of}
+use Rattle.mdb_edges.specs.declared.fault.LineFault.{LineFault}
+use Rattle.mdb_edges.specs.declared.fault.LineFault.TheVariants.{BadLevel, Glitch, Framing, DeviceBreak, LongBreak, Cut}
+use Rattle.mdb_edges.specs.declared.fault.Wrong.{Wrong}
 use Rattle.mdb_edges.specs.declared.frame.Frame.{Frame}
 use Rattle.mdb_edges.specs.declared.receiver.State.{State}
 use Rattle.mdb_edges.specs.declared.receiver.State.TheVariants.{Unknown, Idle, Framed, Low}
@@ -17,6 +21,9 @@ told_by (Some row) = row ∷ []
 
 -- the rows of the line are these, and those of what comes from an instant on
 pub record Leads (line : Line) (level : ℕ → Bool) (rows : List Event) (from : ℕ) : Type 0 where
+  pub first : ℕ
+  pub rises : Rises level first
+  pub passes : Passes line level first from
   pub took : (more : List Event) → Follows line level from more →
       AreRowsOfLine line level (rows ++ more)
   pub only : (all : List Event) → AreRowsOfLine line level all →
@@ -100,3 +107,31 @@ pub record IsBreakRow (line : Line) (start end : ℕ) (row : Event) : Type 0 whe
   pub long : 100000 ≤ micros_of (end - start)
   pub short : micros_of (end - start) < 10 ^ 9
   pub is : row ≡ Break (micros_of start) (micros_of (end - start))
+
+-- why what is low for so many microseconds is no break of a line
+abbrev pub IsNoBreak : Line → ℕ → LineFault → Type 0
+IsNoBreak line length Framing = length < 100000
+IsNoBreak line length DeviceBreak = (100000 ≤ length) × (line ≡ Peripheral)
+IsNoBreak line length LongBreak = (10 ^ 9 ≤ length) × (line ≡ Controller)
+IsNoBreak line length Glitch = ⊥
+IsNoBreak line length Cut = ⊥
+IsNoBreak line length BadLevel = ⊥
+
+-- a start bit that is high at its middle, which is before an instant
+pub record IsGlitch (line : Line) (level : ℕ → Bool) (at : ℕ) (wrong : Wrong) : Type 0 where
+  pub fault : wrong.fault ≡ Glitch
+  pub begins : Begins line level wrong.start
+  pub high : level (middle_of wrong.start 0) ≡ true
+  pub before : middle_of wrong.start 0 < at
+
+-- what is wrong, as the levels up to an instant show
+pub record IsWrongBy (line : Line) (level : ℕ → Bool) (at : ℕ) (wrong : Wrong) : Type 0 where
+  pub begins : Begins line level wrong.start
+  pub seen : ℕ
+  pub wrong_is : IsWrong wrong.fault line level wrong.start seen
+  pub by_then : seen ≤ at
+
+-- what is wrong in the end
+pub record IsWrongInEnd (line : Line) (level : ℕ → Bool) (wrong : Wrong) : Type 0 where
+  pub begins : Begins line level wrong.start
+  pub wrong_is : IsWrongAtEnd wrong.fault level wrong.start

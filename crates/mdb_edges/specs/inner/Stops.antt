@@ -1,6 +1,12 @@
 -- What it means that the reading of a table stops. This file serves private functions and proofs:
 -- no public clause cites it.
-use Rattle.std.specs.Prelude.{◌≡◌, ◌≤◌, ℕ}
+use Rattle.std.specs.Prelude.{◌≡◌, ◌≤◌, ℕ, List, [], ◌∷◌}
+use Rattle.mdb_edges.specs.Faults.{IsLevelless, IsMisformed, IsMisplaced, IsOfLine, IsTooEarly, line_of}
+use Rattle.mdb_edges.specs.Levels.{micros_of}
+use Rattle.mdb_edges.specs.declared.columns.Columns.{Columns}
+use Rattle.mdb_edges.specs.declared.fault.LineFault.TheVariants.{BadLevel}
+use Rattle.mdb_edges.specs.declared.moment.Moment.{Moment}
+use Rattle.mdb_edges.specs.declared.options.EdgesOptions.{EdgesOptions}
 use Rattle.mdb_edges.specs.declared.fault.Stop.{Stop}
 use Rattle.mdb_edges.specs.declared.fault.Stop.TheVariants as stop
 use Rattle.mdb_edges.specs.declared.fault.EdgesFault.{EdgesFault}
@@ -39,9 +45,12 @@ Refutes Memory P = Unit {0}
 
 -- what is told of a stop at the record of a number
 abbrev pub IsTellOf : Stop → ℕ → EdgesFault → Type 0
-IsTellOf (stop.Form fault) at (Form number told) = number ≡ at
-IsTellOf (stop.Order instant fault) at (Order number micros told) = number ≡ at
-IsTellOf (stop.Line line wrong) at (Line number micros wire told) = number ≡ at
+IsTellOf (stop.Form fault) at (Form number told) = (number ≡ at) × (told ≡ fault)
+IsTellOf (stop.Order instant fault) at (Order number micros told) =
+    (number ≡ at) × (micros ≡ micros_of instant) × (told ≡ fault)
+IsTellOf (stop.Line line wrong) at (Line number micros wire told) =
+    (number ≡ at) × (micros ≡ micros_of wrong.start) × (line_of wire ≡ line)
+    × (told ≡ wrong.fault)
 IsTellOf stop.Memory at Memory = Unit {0}
 IsTellOf (stop.Form fault) at _ = ⊥
 IsTellOf (stop.Order instant fault) at _ = ⊥
@@ -56,3 +65,30 @@ IsNumbered (Line number micros line fault) = 1 ≤ number
 IsNumbered Read = Unit {0}
 IsNumbered Write = Unit {0}
 IsNumbered Memory = Unit {0}
+
+-- what is wrong with a record by itself
+abbrev pub IsOfRecord : EdgesOptions → Columns → List (List ℕ) → Stop → Type 0
+IsOfRecord options columns row (stop.Form fault) = IsMisformed options columns row fault
+IsOfRecord options columns row (stop.Order at fault) = ⊥
+IsOfRecord options columns row (stop.Line line wrong) =
+    (wrong.fault ≡ BadLevel) × IsLevelless options columns row line wrong.start
+IsOfRecord options columns row stop.Memory = Unit {0}
+
+-- what is wrong with a record behind moments, or behind the last record
+abbrev pub IsMet : EdgesOptions → Columns → List Moment → List (List (List ℕ)) → Stop → Type 0
+IsMet options columns moments [] (stop.Form fault) = ⊥
+IsMet options columns moments (row ∷ others) (stop.Form fault) =
+    IsMisformed options columns row fault
+IsMet options columns moments [] (stop.Order at fault) = ⊥
+IsMet options columns moments (row ∷ others) (stop.Order at fault) =
+    IsMisplaced options columns moments row at fault
+IsMet options columns moments others (stop.Line line wrong) =
+    IsOfLine options columns moments others line wrong.start wrong.fault
+IsMet options columns moments others stop.Memory = Unit {0}
+
+-- the stop at a moment that is before an instant
+abbrev pub IsEarly : ℕ → ℕ → Stop → Type 0
+IsEarly behind at (stop.Form fault) = ⊥
+IsEarly behind at (stop.Order instant fault) = (instant ≡ at) × IsTooEarly fault behind at
+IsEarly behind at (stop.Line line wrong) = ⊥
+IsEarly behind at stop.Memory = ⊥

@@ -5,13 +5,17 @@ use Rattle.mdb_words.specs.declared.event.Event.{Event}
 use Rattle.mdb_words.specs.declared.word.Line.{Line}
 use Rattle.mdb_words.specs.declared.word.Line.TheVariants.{Controller, Peripheral}
 use Rattle.mdb_edges.specs.Levels.{AreRowsOfLine}
-use Rattle.mdb_edges.specs.Table.{AreMoments, IsHeader, level_at, level_on}
+use Rattle.mdb_edges.specs.Table.{AreMoments, IsHeader, end_of, level_at, level_on}
 use Rattle.mdb_edges.specs.declared.columns.Columns.{Columns}
 use Rattle.mdb_edges.specs.declared.lines.Lines.{Lines}
 use Rattle.mdb_edges.specs.declared.lines.Wave.{Wave}
 use Rattle.mdb_edges.specs.declared.moment.Moment.{Moment}
 use Rattle.mdb_edges.specs.declared.options.EdgesOptions.{EdgesOptions}
-use Rattle.mdb_edges.specs.inner.Standing.{HasNone, Holds, Stands, held_of}
+use Rattle.mdb_edges.specs.declared.fault.Stop.{Stop}
+use Rattle.mdb_edges.specs.declared.fault.Stop.TheVariants as stop
+use Rattle.mdb_edges.specs.declared.fault.Wrong.{Wrong}
+use Rattle.mdb_edges.specs.Faults.{IsFineUntil}
+use Rattle.mdb_edges.specs.inner.Standing.{HasNone, Holds, IsWrongBy, IsWrongInEnd, Stands, held_of}
 
 -- levels are those of a line that moments tell, up to the last of them
 abbrev pub Shows : Line → (ℕ → Bool) → Bool → ℕ → List Moment → Type 0
@@ -20,11 +24,7 @@ Shows line level before from (moment ∷ moments) =
     Holds level from moment.at before × (level moment.at ≡ level_on line moment)
     × Shows line level (level_on line moment) (moment.at + 1) moments
 
--- from when on levels aren't told, and the level of a line there
-abbrev pub end_of : ℕ → List Moment → ℕ
-end_of from [] = from
-end_of from (moment ∷ moments) = end_of (moment.at + 1) moments
-
+-- the level of a line from where levels aren't told
 abbrev pub last_of : Line → Bool → List Moment → Bool
 last_of line before [] = before
 last_of line before (moment ∷ moments) = last_of line (level_on line moment) moments
@@ -95,3 +95,40 @@ pub record HasRead (options : EdgesOptions) (columns : Columns) (earliest : ℕ)
   pub told : AreMoments options columns 0 body moments
   pub heard : HaveHeard lines moments
   pub next : earliest ≡ end_of 0 moments
+
+-- what is wrong with a line that stops a reading, by all levels of which something is so
+abbrev pub IsStopOf : Line → (Wrong → Type 0) → Stop → Type 0
+IsStopOf line P (stop.Form fault) = ⊥
+IsStopOf line P (stop.Order at fault) = ⊥
+IsStopOf line P (stop.Line which wrong) = (which ≡ line) × P wrong
+IsStopOf line P stop.Memory = Unit {0}
+
+-- something is wrong with a line, as moments show
+abbrev pub IsShownBy : Line → List Moment → ℕ → Wrong → Type 0
+IsShownBy line moments at wrong =
+    (level : ℕ → Bool) → Shows line level false 0 moments → IsWrongBy line level at wrong
+
+-- nothing is wrong with a line that moments show
+abbrev pub IsFineBy : Line → List Moment → Type 0
+IsFineBy line moments = (level : ℕ → Bool) → Shows line level false 0 moments →
+    IsFineUntil line level (end_of 0 moments)
+
+-- something is wrong with a line at the end of moments
+abbrev pub IsShownInEnd : Line → List Moment → Wrong → Type 0
+IsShownInEnd line moments wrong =
+    (level : ℕ → Bool) → Fits line level moments → IsWrongInEnd line level wrong
+
+-- something is wrong with one of both lines, the controller's being first
+abbrev pub AreShown : List Moment → ℕ → Stop → Type 0
+AreShown moments at (stop.Form fault) = ⊥
+AreShown moments at (stop.Order instant fault) = ⊥
+AreShown moments at (stop.Line line wrong) = IsShownBy line moments at wrong
+    × (line ≡ Peripheral → IsFineBy Controller moments)
+AreShown moments at stop.Memory = Unit {0}
+
+abbrev pub AreShownInEnd : List Moment → Stop → Type 0
+AreShownInEnd moments (stop.Form fault) = ⊥
+AreShownInEnd moments (stop.Order instant fault) = ⊥
+AreShownInEnd moments (stop.Line line wrong) = IsShownInEnd line moments wrong
+    × (line ≡ Peripheral → (rows : List Event) × IsWhole Controller moments rows)
+AreShownInEnd moments stop.Memory = Unit {0}

@@ -1,8 +1,9 @@
 use Rattle.std.proofs.Common.{◌∙◌, arith, subst, sym}
 use Rattle.std.specs.Prelude.{option_map}
 use Rattle.csv.specs.Records.{fields_of}
+use Rattle.mdb_import.specs.Numbers.{IsNumber}
 use Rattle.mdb_edges.specs.Table.{IsColumn}
-use Rattle.mdb_edges.proofs.Headers.{is_below, one_column}
+use Rattle.mdb_edges.proofs.Headers.{is_below, one_column, one_field}
 use Rattle.mdb_edges.proofs.header.columns_of.Goals as goal
 
 pub returns-then-len-eq0-clause-err : goal.returns-then-len-eq0-clause-err
@@ -39,3 +40,24 @@ returns-clause-there c =
     let m = is_below header c.in-Some-column_of.controller _ c.in-Some-column_of.ensures.some.field in
     let s = is_below header c.in-Some-column_of-2.peripheral _ c.in-Some-column_of-2.ensures.some.field in
     record { some = omega (arith, m, c.len-2.ensures); controller = omega (arith, m, c.len-2.ensures); peripheral = omega (arith, s, c.len-2.ensures) }
+
+pub returns-then-len-eq0-clause-why : goal.returns-then-len-eq0-clause-why
+returns-then-len-eq0-clause-why c first field =
+    let below = is_below (fields_of c.args.header.now) 0 first field in
+    absurd (omega (arith, below, c.len.ensures, c.if-len-eq0.true))
+
+pub returns-in-Some-clause-why : goal.returns-in-Some-clause-why
+returns-in-Some-clause-why c first field =
+    (c.in-Some.field-0.count, c.in-Some.field-0.places, subst (λ f. IsNumber f c.in-Some.field-0.count c.in-Some.field-0.places) (one_field (fields_of c.args.header.now) 0 c.field_of.result.now first c.field_of.ensures field) c.in-Some.ensures.some)
+
+pub returns-in_default-column_of-clause-why : goal.returns-in_default-column_of-clause-why
+returns-in_default-column_of-clause-why c =
+    ((c.field_of.result.now, c.field_of.ensures, c.in_default.ensures.none), returns-in_default-column_of-clause-err c)
+
+pub returns-in_default-column_of-2-clause-why : goal.returns-in_default-column_of-2-clause-why
+returns-in_default-column_of-2-clause-why c =
+    ((c.field_of.result.now, c.field_of.ensures, c.in_default.ensures.none), returns-in_default-column_of-2-clause-err c)
+
+pub returns-then-controller-peripheral-clause-why : goal.returns-then-controller-peripheral-clause-why
+returns-then-controller-peripheral-clause-why c =
+    ((c.field_of.result.now, c.field_of.ensures, c.in_default.ensures.none), returns-then-controller-peripheral-clause-err c)

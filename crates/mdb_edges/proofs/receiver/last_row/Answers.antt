@@ -1,6 +1,7 @@
 use Rattle.std.proofs.Common.{◌≡◌, ◌≤◌, ◌+◌, ◌∙◌, ◌++◌, arith, sym}
+use Rattle.mdb_edges.proofs.Wrongs.{cut_framed, end_glitch}
 use Rattle.mdb_edges.specs.inner.Standing.{told_by}
-use Rattle.mdb_edges.proofs.Orders.{not_fails, not_holds}
+use Rattle.mdb_edges.proofs.Orders.{differ, not_fails, not_holds}
 use Rattle.mdb_edges.proofs.Standings.{ends_framed, ends_row}
 use Rattle.mdb_edges.proofs.receiver.last_row.Goals as goal
 
@@ -26,3 +27,15 @@ returns-in-Err-stop-clause-err c level known rows framed after =
     let whole = c.in-Ok.ensures.ok c.args.line level known rows framed (λ t le lt. after t le) in
     let high : c.in-Ok.whole.high ≡ c.args.frame.high = c.in-Ok.ensures.high in
     c.in-Err-stop.ensures.err level known (c.in-Ok.whole.next + 1) rows whole whole.near (omega arith) (λ t le lt. after t le ∙ sym high)
+
+pub returns-then-not-frame-clause-wrong : goal.returns-then-not-frame-clause-wrong
+returns-then-not-frame-clause-wrong c level known rows framed after =
+    cut_framed c.args.line level known rows c.args.frame c.wrong.result c.wrong.ensures (not_holds c.args.frame.high c.if-not-frame.true) framed after
+
+pub returns-in-Err-clause-wrong : goal.returns-in-Err-clause-wrong
+returns-in-Err-clause-wrong c level known rows framed after =
+    end_glitch c.args.line level _ c.in-Err.wrong (c.in-Err.ensures.glitch c.args.line level known rows framed (λ t le lt. after t le))
+
+pub returns-in-Err-stop-clause-wrong : goal.returns-in-Err-stop-clause-wrong
+returns-in-Err-stop-clause-wrong c level known rows framed after =
+    absurd (differ c.in-Ok.whole.high (c.in-Ok.ensures.high ∙ not_fails c.args.frame.high c.if-not-frame.false) c.in-Err-stop.ensures.low)

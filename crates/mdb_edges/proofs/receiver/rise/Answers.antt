@@ -1,3 +1,4 @@
+use Rattle.mdb_edges.proofs.Wrongs.{no_break_by}
 use Rattle.mdb_edges.proofs.Standings.{broke, no_broke}
 use Rattle.mdb_edges.proofs.receiver.rise.Goals as goal
 
@@ -6,3 +7,6 @@ returns-in-Ok-clause-ok c level rows low high = broke c.args.line level c.args.a
 
 pub returns-in-Err-clause-err : goal.returns-in-Err-clause-err
 returns-in-Err-clause-err c level rows low high = no_broke c.args.line level c.args.at c.args.start rows c.in-Err.ensures.err low high
+
+pub returns-in-Err-clause-wrong : goal.returns-in-Err-clause-wrong
+returns-in-Err-clause-wrong c level rows low high = no_break_by c.args.line level c.args.at c.args.start rows c.in-Err.fault c.in-Err.ensures.why low high

@@ -1,5 +1,6 @@
 use Rattle.std.proofs.Common.{◌++◌, ◌∷◌, [], sym, subst}
 use Rattle.mdb_words.specs.declared.event.Event.TheVariants.{Word}
+use Rattle.mdb_edges.proofs.Wrongs.{mixed_by}
 use Rattle.mdb_edges.specs.Levels.{micros_of}
 use Rattle.mdb_edges.specs.inner.Standing.{IsIdle}
 use Rattle.mdb_edges.proofs.Standings.{misframed, worded}
@@ -15,3 +16,7 @@ returns-then-frame-clause-ok c level known at rows framed le lt holds =
 pub returns-else-frame-2-clause-err : goal.returns-else-frame-2-clause-err
 returns-else-frame-2-clause-err c level known at rows framed le lt holds =
     misframed c.args.line level known at rows c.args.frame c.requires c.if-frame.false c.if-frame-2.false framed le lt holds
+
+pub returns-else-frame-2-clause-wrong : goal.returns-else-frame-2-clause-wrong
+returns-else-frame-2-clause-wrong c level known at rows framed le lt holds =
+    mixed_by c.args.line level known at rows c.args.frame c.wrong.result c.wrong.ensures c.requires c.if-frame.false c.if-frame-2.false framed le lt holds

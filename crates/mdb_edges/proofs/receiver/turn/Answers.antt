@@ -13,3 +13,7 @@ returns-in-Unknown-clause-ok c level rows stands here =
 pub returns-in-Err-clause-err : goal.returns-in-Err-clause-err
 returns-in-Err-clause-err c level rows stands here =
     c.in-Err.ensures.err level rows (subst (λ s. Stands c.args.line level c.args.at s rows) c.in-Low.is stands) (here ∙ c.if-high-2.true)
+
+pub returns-in-Err-clause-wrong : goal.returns-in-Err-clause-wrong
+returns-in-Err-clause-wrong c level rows stands here =
+    c.in-Err.ensures.wrong level rows (subst (λ s. Stands c.args.line level c.args.at s rows) c.in-Low.is stands) (here ∙ c.if-high-2.true)

@@ -14,3 +14,9 @@ returns-in-None-new-clause-err c at is =
 pub returns-in-None-clause-err : goal.returns-in-None-clause-err
 returns-in-None-clause-err c at is =
     far_instant c.args.unit c.args.field.now at c.in-Some.number.count c.in-Some.number.places c.in-Some.ensures.some c.in-None.ensures.none is
+
+pub returns-in-None-new-clause-why : goal.returns-in-None-new-clause-why
+returns-in-None-new-clause-why c = ((c.in-Some.number.count, c.in-Some.number.places, c.in-Some.ensures.some), returns-in-None-new-clause-err c)
+
+pub returns-in-None-clause-why : goal.returns-in-None-clause-why
+returns-in-None-clause-why c = ((c.in-Some.number.count, c.in-Some.number.places, c.in-Some.ensures.some), returns-in-None-clause-err c)

@@ -1,6 +1,8 @@
-use Rattle.std.proofs.Common.{Bool, ◌+◌, ◌++◌, ◌∷◌, [], sym, subst}
+use Rattle.std.proofs.Common.{Bool, ◌+◌, ◌++◌, ◌∷◌, ◌∙◌, [], Some, ap, arith, inl, inr, sym, subst}
 use Rattle.csv.specs.Records.{fields_of}
 use Rattle.mdb_records.specs.ToCome.{Advances}
+use Rattle.mdb_edges.proofs.Faults.{first_at, met_end, no_read, reached, too_many}
+use Rattle.mdb_edges.proofs.Records.{moments_rise}
 use Rattle.mdb_edges.specs.inner.Waves.{HasRead}
 use Rattle.mdb_edges.proofs.Tables.{all_come, none_come, so_far_more, so_far_none, stops_come}
 use Rattle.mdb_edges.proofs.table.read_moments.Goals as goal
@@ -39,3 +41,36 @@ loop-number-preserved g c all to_come =
     (λ body ms has.
     let more = c.in-Ok-take_record.ensures.ok body ms has in
     (more.0, subst (λ n. HasRead c.args.options.now c.args.columns.now (n + 1) c.take_record.new.lines (body ++ fields_of c.row.result.now ∷ []) more.0) (sym c.parts-earliest.ensures.value) more.1))
+
+pub returns-in-Err-end-clause-why : goal.returns-in-Err-end-clause-why
+returns-in-Err-end-clause-why g c header all named to_come =
+    let so_far = c.loop-number.invariant all to_come in
+    let P : Bool → Type 0 = λ b. Advances g.R.Read.remaining c.advance.new.self b so_far.rest in
+    let none = subst P c.in-Ok-false.field-0-test (c.in-Ok-false.ensures.next so_far.rest so_far.to_come) in
+    let rising = moments_rise c.args.options.now c.args.columns.now 0 so_far.done so_far.moments so_far.has.told in
+    first_at c.in-Err-end.stop c.at.result c.args.options.now (header ∷ all) c.loop-number.number c.args.columns.now so_far.moments []
+    (reached g.R.Read.remaining c.loop-number.records c.args.options.now c.args.columns.now c.loop-number.earliest c.loop-number.number c.loop-number.lines all [] header so_far none named)
+    (met_end c.in-Err-end.stop c.args.options.now c.args.columns.now so_far.moments rising (c.in-Err-end.ensures.wrong so_far.moments so_far.has.heard)) c.at.ensures
+
+pub returns-in-Err-take_record-clause-why : goal.returns-in-Err-take_record-clause-why
+returns-in-Err-take_record-clause-why g c header all named to_come =
+    let so_far = c.loop-number.invariant all to_come in
+    let P : Bool → Type 0 = λ b. Advances g.R.Read.remaining c.advance.new.self b so_far.rest in
+    let next = subst P c.in-Ok-true.field-0-test (c.in-Ok-true.ensures.next so_far.rest so_far.to_come) in
+    let row = fields_of c.row.result.now in
+    first_at c.in-Err-take_record.stop c.at-in-Err-take_record.result c.args.options.now (header ∷ all) c.loop-number.number c.args.columns.now so_far.moments (row ∷ next.0)
+    (reached g.R.Read.remaining c.loop-number.records c.args.options.now c.args.columns.now c.loop-number.earliest c.loop-number.number c.loop-number.lines all (row ∷ next.0) header so_far (next.1 ∙ ap (λ r. r ∷ next.0) (sym c.row.ensures)) named)
+    (c.in-Err-take_record.ensures.why so_far.done next.0 so_far.moments so_far.has) c.at-in-Err-take_record.ensures
+
+pub returns-in-Err-clause-failed : goal.returns-in-Err-clause-failed
+returns-in-Err-clause-failed g c is = inl (c.in-Err.ensures.failed ∙ ap Some (c.fault_of_reading.ensures.read is))
+
+pub returns-in-Err-end-clause-failed : goal.returns-in-Err-end-clause-failed
+returns-in-Err-end-clause-failed g c is = absurd (no_read c.in-Err-end.stop c.loop-number.number c.at.result c.at.ensures is)
+
+pub returns-in-Err-take_record-clause-failed : goal.returns-in-Err-take_record-clause-failed
+returns-in-Err-take_record-clause-failed g c is = absurd (no_read c.in-Err-take_record.stop c.loop-number.number c.at-in-Err-take_record.result c.at-in-Err-take_record.ensures is)
+
+pub returns-clause-failed : goal.returns-clause-failed
+returns-clause-failed g c is = inr (λ all to_come.
+    too_many g.R.Read.remaining c.loop-number.records c.args.options.now c.args.columns.now c.loop-number.earliest c.loop-number.number c.loop-number.lines all (c.loop-number.invariant all to_come) (omega arith))

@@ -1,4 +1,5 @@
 use Rattle.std.proofs.Common.{arith, ◌∙◌, sym, subst}
+use Rattle.mdb_edges.proofs.Wrongs.{glitch_by}
 use Rattle.mdb_edges.specs.inner.Standing.{Holds}
 use Rattle.mdb_edges.proofs.Frames.{at_next, read_on}
 use Rattle.mdb_edges.proofs.Standings.{glitched}
@@ -19,3 +20,9 @@ returns-then-frame-clause-err c line level known rows framed holds =
     let now = c.loop-frame.invariant.framed line level known rows framed holds in
     let here = subst (λ b. Holds level known c.args.at b) (sym c.loop-frame.invariant.high) holds in
     glitched line level known c.args.at rows c.loop-frame.frame (omega arith) c.if-frame.true now (omega arith) here
+
+pub returns-then-frame-clause-glitch : goal.returns-then-frame-clause-glitch
+returns-then-frame-clause-glitch c line level known rows framed holds =
+    let now = c.loop-frame.invariant.framed line level known rows framed holds in
+    let here = subst (λ b. Holds level known c.args.at b) (sym c.loop-frame.invariant.high) holds in
+    glitch_by line level known c.args.at rows c.loop-frame.frame c.wrong.result c.wrong.ensures (omega arith) c.if-frame.true now (omega arith) here

@@ -1,7 +1,7 @@
 use Rattle.std.proofs.Common.{◌+◌, ◌++◌, ◌∙◌, ap, sym, subst}
-use Rattle.mdb_edges.specs.inner.Standing.{HasNone, Stands, held_of, told_by}
-use Rattle.mdb_edges.specs.inner.Waves.{end_of}
-use Rattle.mdb_edges.proofs.Waves.{heard_more, none_on, ready}
+use Rattle.mdb_edges.specs.inner.Standing.{HasNone, IsWrongBy, Stands, held_of, told_by}
+use Rattle.mdb_edges.specs.Table.{end_of}
+use Rattle.mdb_edges.proofs.Waves.{heard_more, none_on, ready, wrong_on}
 use Rattle.mdb_edges.proofs.lines.Wave.take.Goals as goal
 
 pub returns-in-Err-clause-err : goal.returns-in-Err-clause-err
@@ -35,3 +35,25 @@ returns-in-Err-turn-clause-err c line moments moment heard now level shows =
     let first_on = subst (λ s. Stands old.line level c.args.at s (old.rows.items ++ told_by c.in-Ok.step.row)) (sym c.add.ensures.state) first in
     let none = c.in-Err-turn.ensures.err level (old.rows.items ++ told_by c.in-Ok.step.row) (subst (λ l. Stands l level c.args.at mid.state (old.rows.items ++ told_by c.in-Ok.step.row)) (sym c.add.ensures.line) first_on) r.now in
     none_on old line moments level heard (subst (λ l. HasNone l level) c.add.ensures.line none)
+
+pub returns-in-Err-clause-wrong : goal.returns-in-Err-clause-wrong
+returns-in-Err-clause-wrong c line moments moment heard now = (
+  heard.same,
+  λ level shows.
+      let wave = c.args.self.now in
+      let r = ready wave line moments moment c.args.at c.args.high heard now level shows in
+      wrong_on wave line moments level c.args.at c.in-Err.wrong heard (c.in-Err.ensures.wrong level (end_of 0 moments) wave.rows.items r.stands r.before r.holds),
+)
+
+pub returns-in-Err-turn-clause-wrong : goal.returns-in-Err-turn-clause-wrong
+returns-in-Err-turn-clause-wrong c line moments moment heard now = (
+  c.add.ensures.line ∙ heard.same,
+  λ level shows.
+      let old = c.args.self.now in
+      let mid = c.add.new.self in
+      let r = ready old line moments moment c.args.at c.args.high heard now level shows in
+      let first = c.in-Ok.ensures.ok level (end_of 0 moments) old.rows.items r.stands r.before r.holds in
+      let first_on = subst (λ s. Stands old.line level c.args.at s (old.rows.items ++ told_by c.in-Ok.step.row)) (sym c.add.ensures.state) first in
+      let is = c.in-Err-turn.ensures.wrong level (old.rows.items ++ told_by c.in-Ok.step.row) (subst (λ l. Stands l level c.args.at mid.state (old.rows.items ++ told_by c.in-Ok.step.row)) (sym c.add.ensures.line) first_on) r.now in
+      wrong_on old line moments level c.args.at c.in-Err-turn.wrong heard (subst (λ l. IsWrongBy l level c.args.at c.in-Err-turn.wrong) c.add.ensures.line is),
+)
