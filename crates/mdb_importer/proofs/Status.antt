@@ -58,11 +58,10 @@ saleae_says words options before after answer asks text exports = (options, asks
 pub edges_say : (words : List (List ℕ)) (options : EdgesOptions) (before after : Option (List ℕ)) (answer : Result EdgesImported EdgesFault) → AskFor words (Edges options) → (text : List ℕ) → IsEdgesAnswer options text before after answer → Says words text before after (ended.Edges answer)
 edges_say words options before after answer asks text answers = (options, asks, answers)
 
--- what is said of both answers to a table of edges is said of the answer
-pub edges_answer : (known : Option (List ℕ)) (options : EdgesOptions) (before after : Option (List ℕ)) (answer : Result EdgesImported EdgesFault)
-    → IfOk answer (λ told. IfSome known (λ text. edges.IsImported options text told before after))
-    → IfErr answer (λ fault. IfSome known (λ text. edges.IsRefused options text fault before after))
-    → IfSome known (λ text. IsEdgesAnswer options text before after answer)
-edges_answer None options before after answer written refused = tt
-edges_answer (Some text) options before after (Ok told) written refused = written
-edges_answer (Some text) options before after (Err fault) written refused = refused
+-- what is said of both answers to the records of a table of edges is said of the answer
+pub edges_answer : (Come : List (List (List ℕ)) → Type 0) (text : List ℕ) (options : EdgesOptions) (before after : Option (List ℕ)) (answer : Result EdgesImported EdgesFault)
+    → IfOk answer (λ told. (all : List (List (List ℕ))) → Come all → edges.AreImported options all told before after)
+    → IfErr answer (λ fault. (all : List (List (List ℕ))) → Come all → edges.AreRefused options all fault before after)
+    → Come (export_records text) → IsEdgesAnswer options text before after answer
+edges_answer Come text options before after (Ok told) written refused come = written (export_records text) come
+edges_answer Come text options before after (Err fault) written refused come = refused (export_records text) come

@@ -2,8 +2,9 @@
 
 ghost use Rattle.std.specs.Prelude.{◌<◌};
 
+use super::hint::{Hint, hint_of};
 use csv::ByteRecord;
-use mdb_edges::{EdgesFault, EdgesImported};
+use mdb_edges::{EdgesFault, EdgesImported, EdgesOptions, LineFault};
 use mdb_import::{ImportFault, Imported, RecordFault};
 use mdb_records::{ReadCause, Records};
 use mdb_saleae::SaleaeFault;
@@ -52,11 +53,17 @@ pub(crate) fn tell_of_table<R: Read + Drop, E: Write>(
     }
 }
 
-/// Tells the same of a table of edges.
-pub(crate) fn tell_of_edges<E: Write>(answer: Result<EdgesImported, EdgesFault>, err: &mut E) {
+/// Tells the same of a table of edges, of the records that the answer was met with.
+pub(crate) fn tell_of_edges<R: Read + Drop, E: Write>(
+    alloc: Global,
+    options: &EdgesOptions,
+    answer: Result<EdgesImported, EdgesFault>,
+    records: &Records<R>,
+    err: &mut E,
+) {
     match answer {
         Ok(imported) => note_edges(&imported, err),
-        Err(fault) => complain_of_edges(fault, err),
+        Err(fault) => complain_of_edges(alloc, options, fault, records, err),
     }
 }
 
@@ -178,9 +185,54 @@ fn complain_of_row<E: Write>(
     err.write_all(b"\n")
 }
 
-/// Writes one line on a fault of a table of edges. Where the line is refused, nothing more is tried.
-fn complain_of_edges<E: Write>(fault: EdgesFault, err: &mut E) {
-    let _ = writeln!(err, "mdbimport: {fault}");
+/// Writes one line on a fault of a table of edges: at a record that is refused by itself what was
+/// wanted, what stands there and the likely cause, where the reading failed its cause. The records
+/// are those that the fault was met with. Where the line is refused, nothing more is tried.
+fn complain_of_edges<R: Read + Drop, E: Write>(
+    alloc: Global,
+    options: &EdgesOptions,
+    fault: EdgesFault,
+    records: &Records<R>,
+    err: &mut E,
+) {
+    let _ = match fault {
+        EdgesFault::Form { fault: form, .. } => {
+            let hint = hint_of(options, form, records.row());
+            complain_of_edges_record(alloc, fault, hint, records.row(), err)
+        }
+        EdgesFault::Order { .. }
+        | EdgesFault::Line {
+            fault: LineFault::BadLevel,
+            ..
+        } => complain_of_edges_record(alloc, fault, None, records.row(), err),
+        EdgesFault::Read => writeln!(err, "mdbimport: {}", text_of_cause(records.cause())),
+        EdgesFault::Line { .. } | EdgesFault::Write | EdgesFault::Memory => {
+            writeln!(err, "mdbimport: {fault}")
+        }
+    };
+}
+
+/// Writes the line on a record of a table of edges that is refused. Without memory, or where no
+/// record was there, it leaves out what stands there.
+fn complain_of_edges_record<E: Write>(
+    alloc: Global,
+    fault: EdgesFault,
+    hint: Option<Hint>,
+    fields: &ByteRecord,
+    err: &mut E,
+) -> std::io::Result<()> {
+    write!(err, "mdbimport: {fault}")?;
+    if fields.len() > 0 {
+        if let Ok(found) = excerpt(alloc, fields) {
+            err.write_all(b"; found \"")?;
+            err.write_all(found.as_slice())?;
+            err.write_all(b"\"")?;
+        }
+    }
+    if let Some(hint) = hint {
+        write!(err, "; {hint}")?;
+    }
+    err.write_all(b"\n")
 }
 
 /// Writes a line for each thing that whoever recorded should know of the rows that were imported: a

@@ -4,6 +4,7 @@
 mod command_line;
 mod complaint;
 mod ended;
+mod hint;
 pub mod laws;
 mod program;
 mod refusal;

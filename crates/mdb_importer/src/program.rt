@@ -11,7 +11,7 @@ use super::complaint::{tell, tell_of_edges, tell_of_table, tell_of_trace};
 use super::ended::Ended;
 use super::refusal::Refusal;
 use clap::error::ErrorKind;
-use mdb_edges::{EdgesFault, EdgesImported, EdgesOptions, import_edges};
+use mdb_edges::{EdgesFault, EdgesImported, EdgesOptions, import_edge_records};
 use mdb_import::{ImportFault, Imported, RowsOptions, import_records, records_of};
 use mdb_saleae::{SaleaeFault, SaleaeOptions, import_table};
 use mdb_sigrok::{SigrokFault, SigrokOptions, SigrokRows, import_sigrok};
@@ -109,8 +109,9 @@ fn run_edges<R: Read + Drop, W: Write, E: Write>(
     ensures { IfSome (R.remaining reader) (λ text. IsEdgesAnswer options.now text
         (W.contents out.old) (W.contents out.new) result) }
 {
-    let answer = import_edges(alloc, options, reader, out);
-    tell_of_edges(answer, err);
+    let mut records = records_of(alloc, reader);
+    let answer = import_edge_records(alloc, options, &mut records, out);
+    tell_of_edges(alloc, options, answer, &records, err);
     answer
 }
 

@@ -1,5 +1,10 @@
+use Rattle.std.proofs.lemmas.Option.{IfSome_then}
+use Rattle.mdb_import.specs.inner.Decoded.{decoded_remaining}
+use Rattle.mdb_records.specs.ToCome.{ToCome}
 use Rattle.mdb_importer.proofs.Status.{edges_answer}
 use Rattle.mdb_importer.proofs.program.run_edges.Goals as goal
 
 pub returns : goal.returns
-returns g c = edges_answer (g.R.Read.remaining c.args.reader) c.args.options.now (g.W.Write.contents c.args.out.now) (g.W.Write.contents c.import_edges-answer.new.writer) c.import_edges-answer.result c.import_edges-answer.ensures.written c.import_edges-answer.ensures.refused
+returns g c =
+    IfSome_then _ c.records_of-records.ensures (λ text to_come.
+    edges_answer (ToCome (decoded_remaining g.R.Read.remaining) c.records_of-records.result) text c.args.options.now (g.W.Write.contents c.args.out.now) (g.W.Write.contents c.import_edge_records-answer.new.writer) c.import_edge_records-answer.result c.import_edge_records-answer.ensures.written c.import_edge_records-answer.ensures.refused to_come)
