@@ -3,7 +3,7 @@ use Rattle.std.proofs.Common.{sym, ap, subst, ◌∙◌, ◌≡◌, inl, inr, �
 use Rattle.std.proofs.Common.{[], ◌∷◌, ◌++◌, length, length-append, ◌<◌, ◌≤◌, take, drop, get_or}
 use Rattle.std.proofs.Common.{append_assoc, add-one, arith, Option, Some, None}
 use Rattle.std.proofs.lemmas.List.{take_all, take_more}
-use Rattle.std.proofs.Math.Seq.{split_at}
+use Rattle.std.proofs.Math.Seq.{split_at, take-append-add}
 use Rattle.std.specs.Bool.{OnFalse, OnTrue}
 use Rattle.std.specs.Prelude.{Bool, true, false, Result, Ok, Err, IfErr, IfOk, IsErrAnd, IsSomeAnd}
 use Rattle.mdb_words.specs.declared.event.Event.{Event}
@@ -32,7 +32,8 @@ use Rattle.mdb_follow.specs.declared.range.Range.{Range}
 use Rattle.mdb_follow.specs.declared.report.Report.{Report}
 use Rattle.mdb_follow.specs.declared.sides.Sides.{Sides}
 use Rattle.mdb_follow.specs.declared.silence.Silence.{Silence}
-use Rattle.mdb_follow.specs.Follower.{StandsFor, scope_of}
+use Rattle.mdb_follow.specs.EndedActs.{IsEndedAct}
+use Rattle.mdb_follow.specs.Follower.{HasAccepted, StandsFor, scope_of}
 use Rattle.mdb_follow.specs.inner.FollowerSteps.{HasFollowed, HasStopped}
 use Rattle.mdb_follow.specs.Ranges.{IsAccount, IsCell, IsRange}
 use Rattle.mdb_follow.specs.Sums.{AccountSums, Sums}
@@ -46,6 +47,7 @@ use Rattle.mdb_follow.specs.Machines.{machine_of}
 use Rattle.mdb_follow.specs.Offences.{NoStep}
 use Rattle.mdb_follow.specs.Sides.{AreSides}
 use Rattle.mdb_follow.specs.Silences.{asks_of}
+use Rattle.mdb_follow.specs.inner.SideSteps.{SidesStay}
 use Rattle.mdb_follow.specs.SilencesKept.{StandsForAsks, silence_in}
 use Rattle.mdb_follow.specs.SilenceSteps.{SilencesFollow}
 use Rattle.mdb_follow.proofs.Asks.{asks-go-on, asks-stay}
@@ -75,6 +77,16 @@ on-false-some true o P Q weaker h = tt
 on-false-some false (Some x) P Q weaker h = weaker x h
 on-false-some false None P Q weaker h = absurd h
 
+pub is-some-weaker : {T : Type 0} (o : Option T) (P Q : T → Type 0) → ((x : T) → P x → Q x)
+    → IsSomeAnd o P → IsSomeAnd o Q
+is-some-weaker (Some x) P Q weaker h = weaker x h
+is-some-weaker None P Q weaker h = absurd h
+
+pub by-some : {T : Type 0} (o : Option T) (P : T → Type 0) (Q : Type 0) → ((x : T) → P x → Q)
+    → IsSomeAnd o P → Q
+by-some (Some x) P Q gives h = gives x h
+by-some None P Q gives h = absurd h
+
 pub some-at : {T : Type 0} (o : Option T) (x : T) (P : T → Type 0) → o ≡ Some x → P x
     → IsSomeAnd o P
 some-at o x P is h = subst (λ o. IsSomeAnd o P) (sym is) h
@@ -88,8 +100,19 @@ pub if-err-is : {T E : Type 0} (r : Result T E) (e : E) (P : E → Type 0)
 if-err-is (Ok x) e P is h = tt
 if-err-is (Err x) e P is h = subst P (sym is) h
 
+-- a follower has accepted the events that it stands for
+pub accepted : (follower : Follower) (events : List Event) → StandsFor follower events
+    → HasAccepted follower events
+accepted follower events on = record {
+  pieces = on.pieces;
+  act_list = record { in_order = on.on_bus.in_order; whole = on.whole };
+  rows = on.rows;
+  sides = on.sides;
+  silences = on.silences;
+}
+
 -- the act list of the events
-pub list-of : (follower : Follower) (events : List Event) (on : StandsFor follower events)
+list-of : (follower : Follower) (events : List Event) (on : StandsFor follower events)
     → IsActList (scope_of follower) on.pieces events
 list-of follower events on = record { in_order = on.on_bus.in_order; whole = on.whole }
 
@@ -101,6 +124,36 @@ list-on bus events row pieces act whole goes = record {
   in_order = goes.stands.in_order;
   whole = goes.rows ∙ ap (λ rows. rows ++ row ∷ []) whole;
 }
+
+-- the act that the bus tells is the one that ends with the row
+pub ended-by : (bus : Bus) (scope : Scope) (events : List Event) (row : Event)
+    (pieces : List Piece) (act : Option Act) → events_of pieces ≡ events
+    → GoesOn bus pieces row act → link.scope_of bus ≡ scope → IsEndedAct scope events row act
+ended-by bus scope events row pieces act whole goes same_scope =
+    let grown = goes.grown in
+    record {
+      newest = grown.newest;
+      earlier = grown.earlier;
+      act_list = subst (λ s. IsActList s (grown.newest ∷ grown.earlier) (events ++ row ∷ []))
+          same_scope (subst (λ ps. IsActList (link.scope_of bus) ps (events ++ row ∷ []))
+          grown.are (list-on bus events row pieces act whole goes));
+      begun = grown.begun;
+      rows = grown.events;
+      is = grown.ends;
+    }
+
+-- one act ends with a row, or none
+pub one-ended-act : (scope : Scope) → OneActList scope → (events : List Event) (row : Event)
+    (a b : Option Act) → IsEndedAct scope events row a → IsEndedAct scope events row b → a ≡ b
+one-ended-act scope one events row a b first second =
+    let same : first.newest ≡ second.newest = heads-alike first.newest second.newest first.earlier
+    second.earlier (one (events ++ row ∷ []) (first.newest ∷ first.earlier)
+    (second.newest ∷ second.earlier) first.act_list second.act_list) in
+    sym first.is ∙ ap act_in same ∙ second.is
+  where
+    heads-alike : (newest other : Piece) (earlier more : List Piece)
+        → newest ∷ earlier ≡ other ∷ more → newest ≡ other
+    heads-alike newest other earlier more same = cc same
 
 -- each device's way of a run leads through the acts of an act list of its rows
 arrived : (scope : Scope) → OneActList scope → (rows : List Event) (pieces : List Piece) (sums : AllSums)
@@ -117,19 +170,25 @@ some-in : {State : Type 0} {code_of : State → ℕ} {machine : Machine State} {
 some-in table = record { state = table.some.0; sums = table.some.1; way = table.some.2 }
 
 -- the tables of a follower have some way of each device
-pub some-ways : (follower : Follower) (events : List Event) (on : StandsFor follower events)
-    → SomeArrive (scope_of follower).begins (acts_of on.pieces)
-some-ways follower events on device = some-in (on.sides device).table
+pub some-ways : (follower : Follower) (events : List Event) (has : HasAccepted follower events)
+    → SomeArrive (scope_of follower).begins (acts_of has.pieces)
+some-ways follower events has device = some-in (has.sides device).table
 
 -- so its rows are reached
+accepted-reached : ((scope : Scope) → Joins scope) → (follower : Follower) (events : List Event)
+    → HasAccepted follower events → IsReached (scope_of follower) events
+accepted-reached joins follower events has =
+    let some = some-ways follower events has in (
+      (λ device. (some device).sums),
+      run_of (scope_of follower) (joins (scope_of follower)) events has.pieces
+          (λ device. (some device).state) (λ device. (some device).sums) has.act_list
+          (λ device. (some device).way),
+    )
+
 pub reached-by : ((scope : Scope) → Joins scope) → (follower : Follower) (events : List Event)
     → StandsFor follower events → IsReached (scope_of follower) events
 reached-by joins follower events on =
-    let some = some-ways follower events on in (
-      (λ device. (some device).sums),
-      run_of (scope_of follower) (joins (scope_of follower)) events on.pieces (λ device. (some device).state) (λ device. (some device).sums)
-          (list-of follower events on) (λ device. (some device).way),
-    )
+    accepted-reached joins follower events (accepted follower events on)
 
 -- where a machine has no step by an act, no way of all leads over it
 stuck : (begins : Beginning) (rule : Rule) (act : Act) (before : List Act)
@@ -159,6 +218,46 @@ asks-as : (one other : Scope) (device : Device) (silence : Silence) (pieces : Li
     → StandsForAsks silence (asks_of other.begins device pieces)
 asks-as one other device silence pieces same =
     subst (λ (s : Scope). StandsForAsks silence (asks_of s.begins device pieces)) (sym same)
+
+-- The room for an act is of no matter.
+pub stands-beside : (old new : Follower) (events : List Event) → new.bus ≡ old.bus
+    → new.sides ≡ old.sides → new.silences ≡ old.silences → new.rows ≡ old.rows
+    → new.offence ≡ old.offence → StandsFor old events → StandsFor new events
+stands-beside old new events same_bus same_sides same_silences same_rows same on =
+    let begins : Beginning = (scope_of old).begins in
+    let same_scope : scope_of new ≡ scope_of old = ap link.scope_of same_bus in
+    record {
+      pieces = on.pieces;
+      on_bus = subst (λ b. link.StandsFor b on.pieces) (sym same_bus) on.on_bus;
+      whole = on.whole;
+      rows = same_rows ∙ on.rows;
+      going = same ∙ on.going;
+      sides = sides-as (scope_of old) (scope_of new) new.sides (acts_of on.pieces) same_scope
+          (subst (λ sides. AreSides begins sides (acts_of on.pieces)) (sym same_sides) on.sides);
+      silences = λ device. asks-as (scope_of old) (scope_of new) device
+          (silence_in new.silences device) on.pieces same_scope
+          (subst (λ silences. StandsForAsks (silence_in silences device)
+          (asks_of begins device on.pieces)) (sym same_silences) (on.silences device));
+    }
+
+-- A follower that has stopped has accepted still what it stood for.
+pub accepted-still : (old new : Follower) (events : List Event) → StandsFor old events
+    → scope_of new ≡ scope_of old → new.rows ≡ old.rows → SidesStay old.sides new.sides
+    → new.silences ≡ old.silences → HasAccepted new events
+accepted-still old new events on same_scope same_rows stay same_silences =
+    let begins : Beginning = (scope_of old).begins in
+    record {
+      pieces = on.pieces;
+      act_list = subst (λ s. IsActList s on.pieces events) (sym same_scope)
+          (list-of old events on);
+      rows = same_rows ∙ on.rows;
+      sides = sides-as (scope_of old) (scope_of new) new.sides (acts_of on.pieces) same_scope
+          (stay begins (acts_of on.pieces) on.sides);
+      silences = λ device. asks-as (scope_of old) (scope_of new) device
+          (silence_in new.silences device) on.pieces same_scope
+          (subst (λ silences. StandsForAsks (silence_in silences device)
+          (asks_of begins device on.pieces)) (sym same_silences) (on.silences device));
+    }
 
 -- no act ended
 pub stands-still : (old new : Follower) (bus : Bus) (events : List Event) (row : Event)
@@ -394,30 +493,29 @@ accounts-of-cells Runs cells are PaidOut = (are devices.Changer).1
 accounts-of-cells Runs cells are (Approved unit) = (are (devices.Reader unit)).0
 accounts-of-cells Runs cells are (Sold unit) = (are (devices.Reader unit)).1
 
--- what a follower reports
+-- what a follower reports of the rows that it has accepted
 pub reported : ((scope : Scope) → OneActList scope) → ((scope : Scope) → Joins scope)
     → (follower : Follower) (events : List Event)
-    (report : Report) (cells : Device → Cell) (on : StandsFor follower events)
+    (report : Report) (cells : Device → Cell) (has : HasAccepted follower events)
     → ((device : Device)
     → IsCell (ArrivesAnywhere (Arrives (machine_of (scope_of follower).begins device)
-    (acts_of on.pieces))) (cells device))
-    → report ≡ report_of (scope_of follower).begins follower.rows on.pieces (accounts_in cells)
+    (acts_of has.pieces))) (cells device))
+    → report ≡ report_of (scope_of follower).begins follower.rows has.pieces (accounts_in cells)
     → IsReport (scope_of follower) events report
-reported one joins follower events report cells on are telling =
-    let list = list-of follower events on in
-    let some = some-ways follower events on in
+reported one joins follower events report cells has are telling =
+    let scope : Scope = scope_of follower in
+    let some = some-ways follower events has in
     record {
-      reached = reached-by joins follower events on;
-      pieces = on.pieces;
-      act_list = list;
+      reached = accepted-reached joins follower events has;
+      pieces = has.pieces;
+      act_list = has.act_list;
       accounts = accounts_in cells;
-      of_runs = accounts-of-cells (Run (scope_of follower) events) cells (λ device.
-          cell-of-runs (Run (scope_of follower) events) _ _
-          (device-is (scope_of follower) (one (scope_of follower)) (joins (scope_of follower)) events on.pieces list some device)
+      of_runs = accounts-of-cells (Run scope events) cells (λ device.
+          cell-of-runs (Run scope events) _ _
+          (device-is scope (one scope) (joins scope) events has.pieces has.act_list some device)
           (cells device) (are device));
       telling = telling
-          ∙ ap (λ rows. report_of (scope_of follower).begins rows on.pieces (accounts_in cells))
-          on.rows;
+          ∙ ap (λ rows. report_of scope.begins rows has.pieces (accounts_in cells)) has.rows;
     }
 
 -- a follower has taken so many events, and met no offence
@@ -469,3 +567,15 @@ fed-refused old mid events earlier i d offence within has refused on = record {
   is = subst (λ s. IsOffence s (earlier ++ take i events) (get_or events i d) offence) has.scope
       (refused (earlier ++ take i events) (has.stands earlier on));
 }
+
+-- and those before it were accepted
+pub fed-accepted : (old mid new : Follower) (events earlier : List Event) (i : ℕ)
+    → HasFed old (take i events) i mid → new.rows ≡ mid.rows
+    → ((before : List Event) → StandsFor mid before → HasAccepted new before)
+    → StandsFor old earlier → HasAccepted new (take new.rows (earlier ++ events))
+fed-accepted old mid new events earlier i has same accepts on =
+    let rows : new.rows ≡ length earlier + i =
+    same ∙ has.rows ∙ ap (λ n. n + i) on.rows in
+    subst (HasAccepted new)
+    (sym (take-append-add earlier events i) ∙ ap (λ n. take n (earlier ++ events)) (sym rows))
+    (accepts (earlier ++ take i events) (has.stands earlier on))

@@ -6,11 +6,13 @@ use Rattle.mdb_msgs.specs.declared.command.Device.{Device}
 use Rattle.mdb_msgs.specs.declared.command.Device.TheVariants as devices
 use Rattle.mdb_msgs.specs.declared.command.ReaderUnit.TheVariants.{First, Second}
 use Rattle.mdb_bus.specs.declared.act.Act.{Act}
+use Rattle.mdb_bus.specs.declared.act.Act.TheVariants as told
 use Rattle.mdb_bus.specs.declared.fault.Rule.{Rule}
 use Rattle.mdb_bus.specs.declared.scope.Beginning.{Beginning}
 use Rattle.mdb_cash.specs.BillValues as bill_values
 use Rattle.mdb_cash.specs.ChangerValues as changer_values
-use Rattle.mdb_cash.specs.Pair.{IsActOf}
+use Rattle.mdb_cash.specs.declared.choice.Choice.TheVariants.{Plain}
+use Rattle.mdb_cash.specs.Pair.{IsActOf, IsBreak}
 use Rattle.mdb_cash.specs.inner.BillWays as bill_ways
 use Rattle.mdb_cash.specs.inner.ChangerWays as changer_ways
 use Rattle.mdb_cashless.specs.ReaderValues as reader_values
@@ -27,7 +29,8 @@ use Rattle.mdb_follow.specs.Sides.{AreSides, FactsOf, IsSideOf, SideOf, code_of,
 use Rattle.mdb_follow.specs.Sides.{stands_for}
 use Rattle.mdb_follow.specs.Tables.{ArrivesAnywhere}
 use Rattle.mdb_follow.specs.inner.SideSteps.{AreWithin, FollowsOf, IsSideWithin, IsWithin}
-use Rattle.mdb_follow.specs.inner.SideSteps.{OneFollows, SidesFollow, SidesStop, Stops}
+use Rattle.mdb_follow.specs.inner.SideSteps.{OneFollows, SidesFollow, SidesStay, SidesStop}
+use Rattle.mdb_follow.specs.inner.SideSteps.{Stops}
 use Rattle.mdb_follow.proofs.ByDevice.{Front, front-next, same_or_not}
 use Rattle.mdb_follow.proofs.Machines.{is_machine_of}
 use Rattle.mdb_follow.proofs.Ways.{table-same}
@@ -109,6 +112,49 @@ pub one-stops : {T : Type 0} (r : Result T Rule) (device which : Device) (sides 
 one-stops (Ok x) device which sides act is none its = tt
 one-stops (Err broken) device which sides act is none its =
     subst (λ d. Stops d sides act broken) (sym is) (record { rule = its; none = none })
+
+-- Where the side of the device is what it was, all are.
+pub one-stays : {T E : Type 0} (r : Result T E) (which : Device) (sides : Sides)
+    (side : SideOf which) → OnErr r (side ≡ side_in sides which)
+    → OnErr r (with_side which side sides ≡ sides)
+one-stays (Ok x) which sides side same = tt
+one-stays (Err e) devices.Changer sides side same = ap (λ s. with_side devices.Changer s sides) same
+one-stays (Err e) devices.Bill sides side same = ap (λ s. with_side devices.Bill s sides) same
+one-stays (Err e) (devices.Reader First) sides side same =
+    ap (λ s. with_side (devices.Reader First) s sides) same
+one-stays (Err e) (devices.Reader Second) sides side same =
+    ap (λ s. with_side (devices.Reader Second) s sides) same
+
+-- Sides that are what they were stand for what they stood for.
+pub same-stay : {T E : Type 0} (r : Result T E) (old new : Sides) → OnErr r (new ≡ old)
+    → OnErr r (SidesStay old new)
+same-stay (Ok x) old new same = tt
+same-stay (Err e) old new same = λ begins acts. subst (λ sides. AreSides begins sides acts) (sym same)
+
+-- By a break each side has a step.
+break-stops-none : (sides : Sides) (act : Act) (broken : Rule) → IsBreak act
+    → SidesStop sides act broken → (begins : Beginning) (acts : List Act)
+    → AreSides begins sides acts → ⊥
+break-stops-none sides (told.Ask command) broken is stops begins acts on = absurd is
+break-stops-none sides (told.Ack command) broken is stops begins acts on = absurd is
+break-stops-none sides (told.Nak command) broken is stops begins acts on = absurd is
+break-stops-none sides (told.Reply command reply) broken is stops begins acts on = absurd is
+break-stops-none sides (told.VmcAck command reply) broken is stops begins acts on = absurd is
+break-stops-none sides (told.VmcNak command reply) broken is stops begins acts on = absurd is
+break-stops-none sides (told.VmcRet command reply) broken is stops begins acts on = absurd is
+break-stops-none sides (told.Repeat command reply) broken is stops begins acts on = absurd is
+break-stops-none sides told.Foreign broken is stops begins acts on = absurd is
+break-stops-none sides (told.Break length) broken is stops begins acts on =
+    let device : Device = stops.0 in
+    let some = (on device).table.some in
+    let step = (is_machine_of begins device).breaks acts length Plain some.0 in
+    stops.1.none begins acts (on device) some.0 some.1 some.2 Plain tt step.0 step.1 step.2
+
+pub break-stay : {T : Type 0} (r : Result T Rule) (old new : Sides) (act : Act) → IsBreak act
+    → IfErr r (SidesStop old act) → OnErr r (SidesStay old new)
+break-stay (Ok x) old new act is stops = tt
+break-stay (Err broken) old new act is stops =
+    λ begins acts on. absurd (break-stops-none old act broken is stops begins acts on)
 
 -- its table is as far from 0 as that of the device
 pub within-at : (device which : Device) (limit : ℕ) (sides : Sides) → device ≡ which

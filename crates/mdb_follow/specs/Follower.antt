@@ -1,7 +1,7 @@
 -- What a follower stands for.
 use Rattle.std.specs.Prelude.{◌≡◌, ℕ, List, length, Option, None}
 use Rattle.mdb_words.specs.declared.event.Event.{Event}
-use Rattle.mdb_bus.specs.ActLists.{Piece, acts_of, events_of}
+use Rattle.mdb_bus.specs.ActLists.{IsActList, Piece, acts_of, events_of}
 use Rattle.mdb_bus.specs.declared.scope.Scope.{Scope}
 use Rattle.mdb_bus.specs.Bus as bus
 use Rattle.mdb_follow.specs.declared.follower.Follower.{Follower}
@@ -29,6 +29,17 @@ pub record StandsFor (follower : Follower) (events : List Event) : Type 0 where
   pub whole : events_of pieces ≡ events
   pub rows : follower.rows ≡ length events
   pub going : follower.offence ≡ None
+  pub sides : AreSides (scope_of follower).begins follower.sides (acts_of pieces)
+  pub silences : AllStandForAsks follower.silences
+      (λ device. asks_of (scope_of follower).begins device pieces)
+
+-- A follower has accepted events: they have an act list, each of its sides stands for their acts,
+-- and its silences are those of their asks. A follower has accepted what it stands for, and behind
+-- an offence the rows before it.
+pub record HasAccepted (follower : Follower) (events : List Event) : Type 0 where
+  pub pieces : List Piece
+  pub act_list : IsActList (scope_of follower) pieces events
+  pub rows : follower.rows ≡ length events
   pub sides : AreSides (scope_of follower).begins follower.sides (acts_of pieces)
   pub silences : AllStandForAsks follower.silences
       (λ device. asks_of (scope_of follower).begins device pieces)

@@ -4,6 +4,7 @@ pub mod ByDevice
 pub mod Cells
 pub mod Choosing
 pub mod Devices
+pub mod EndedActs
 pub mod Ends
 pub mod Follower
 pub mod LeavingOut

@@ -2,7 +2,7 @@
 
 ghost use Rattle.std.specs.Prelude.{◌≡◌, ◌<◌, ◌≤◌, ◌+◌, ◌*◌, ◌^◌, List, [], ◌∷◌, ◌++◌, ℕ, length};
 ghost use Rattle.std.specs.Prelude.{Some, None, Err, IfSome, IfOk, IfErr, IsOk, IsSome, IsSomeAnd};
-ghost use Rattle.std.specs.Prelude.{OnErr};
+ghost use Rattle.std.specs.Prelude.{OnErr, OnSome, take};
 ghost use Rattle.std.specs.Bool.{OnFalse, OnTrue};
 ghost use Rattle.std.specs.Option.{ForNone, ForSome, IfNone};
 ghost use Rattle.mdb_words.specs.declared.event.Event.{Event};
@@ -17,6 +17,7 @@ use crate::{Offence, Report, laws};
 use mdb_bus::{Act, Blame, Bus, LinkFault, Scope, laws as bus_laws};
 use mdb_msgs::{Device, DeviceSet, ReaderUnit, Setups};
 use mdb_words::{Event, Time};
+use std::mem;
 
 /// The most rows of a recording (this profile).
 pub const ROWS_MAX: u64 = 100_000_000;
@@ -24,8 +25,8 @@ pub const ROWS_MAX: u64 = 100_000_000;
 /// What all that may have happened in the rows so far comes to.
 ///
 /// It keeps the bus, and of each device what is known of it, a table of its possible states, how
-/// many amounts have no value, and what counts of its silences; no rows. After an offence nothing
-/// but the offence is of any matter.
+/// many amounts have no value, and what counts of its silences; no rows. Behind an offence it takes
+/// no row more, and of the rows before the offence all that it tells stays.
 #[derive(Drop)]
 pub struct Follower {
     bus: Bus,
@@ -42,11 +43,13 @@ pub struct Follower {
 }
 
 impl Follower {
-    ghost use Rattle.mdb_bus.specs.Bus.{GoesOn};
+    ghost use Rattle.mdb_bus.specs.Bus.{GoesOn, ended_act};
     ghost use Rattle.mdb_bus.specs.ActLists.{Piece};
+    ghost use Rattle.mdb_follow.specs.EndedActs.{IsEndedAct};
     ghost use Rattle.mdb_follow.specs.Runs.{IsReached};
     ghost use Rattle.mdb_bus.specs.Scopes.{all_joined, power_on};
-    ghost use Rattle.mdb_follow.specs.Follower.{StandsFor, offence_of, rows_of, scope_of};
+    ghost use Rattle.mdb_follow.specs.Follower.{HasAccepted, StandsFor};
+    ghost use Rattle.mdb_follow.specs.Follower.{offence_of, rows_of, scope_of};
     ghost use Rattle.mdb_follow.specs.inner.FollowerSteps.{HasFollowed, HasStopped};
     ghost use Rattle.mdb_follow.specs.Offences.{HasOffence, IsOffence};
     ghost use Rattle.mdb_follow.specs.Report.{IsReport};
@@ -113,6 +116,8 @@ impl Follower {
             → IfOk result (λ _. SalesFollowApprovals (scope_of self.old) (events ++ event ∷ [])) }
         ensures offence { (events : List Event) → StandsFor self.old events
             → IfErr result (IsOffence (scope_of self.old) events event) }
+        ensures accepted { (events : List Event) → StandsFor self.old events
+            → OnErr result (HasAccepted self.new events) }
         ensures noted { IfErr result (λ offence. offence_of self.new ≡ Some offence) }
         ensures numbered { IfErr result (λ offence. offence.row ≡ rows_of self.new + 1) }
         ensures counted { IfOk result (λ _. rows_of self.new ≡ rows_of self.old + 1) }
@@ -126,10 +131,50 @@ impl Follower {
         if let Some(offence) = self.offence {
             return Err(offence);
         }
-        if self.take(event) {
-            Ok(())
-        } else {
-            Err(self.noted())
+        match self.take(event) {
+            Some(_) => Ok(()),
+            None => Err(self.noted()),
+        }
+    }
+
+    /// Takes the next row as `feed` does, and answers the act that ends with it, if one does.
+    ///
+    /// An act is large, and moved out of the follower: where none is wanted, `feed` is quicker.
+    ///
+    /// # Errors
+    ///
+    /// As `feed`.
+    pub fn feed_act(&mut self, event: Event) -> Result<Option<Act>, Offence>
+        requires { rows_of self.old < ROWS_MAX }
+        ensures reached { (events : List Event) → StandsFor self.old events
+            → IfOk result (λ _. StandsFor self.new (events ++ event ∷ [])) }
+        ensures is_reached { (events : List Event) → StandsFor self.old events
+            → IfOk result (λ _. IsReached (scope_of self.old) (events ++ event ∷ [])) }
+        ensures sales { (events : List Event) → StandsFor self.old events
+            → IfOk result (λ _. SalesFollowApprovals (scope_of self.old) (events ++ event ∷ [])) }
+        ensures offence { (events : List Event) → StandsFor self.old events
+            → IfErr result (IsOffence (scope_of self.old) events event) }
+        ensures act { (events : List Event) → StandsFor self.old events
+            → IfOk result (IsEndedAct (scope_of self.old) events event) }
+        ensures accepted { (events : List Event) → StandsFor self.old events
+            → OnErr result (HasAccepted self.new events) }
+        ensures noted { IfErr result (λ offence. offence_of self.new ≡ Some offence) }
+        ensures numbered { IfErr result (λ offence. offence.row ≡ rows_of self.new + 1) }
+        ensures counted { IfOk result (λ _. rows_of self.new ≡ rows_of self.old + 1) }
+        ensures uncounted { OnErr result (rows_of self.new ≡ rows_of self.old) }
+        ensures repeats { IfSome (offence_of self.old) (λ offence.
+            (result ≡ Err offence) × (self.new ≡ self.old)) }
+        ensures scope { scope_of self.new ≡ scope_of self.old }
+    {
+        laws::ways_join();
+        laws::sales_follow_their_approvals();
+        if let Some(offence) = self.offence {
+            return Err(offence);
+        }
+        match self.take(event) {
+            Some(true) => Ok(Some(mem::replace(&mut self.act, Act::Foreign))),
+            Some(false) => Ok(None),
+            None => Err(self.noted()),
         }
     }
 
@@ -148,6 +193,8 @@ impl Follower {
             → IfOk result (λ _. SalesFollowApprovals (scope_of self.old) (before ++ events.now)) }
         ensures offence { (before : List Event) → StandsFor self.old before
             → IfErr result (HasOffence (scope_of self.old) before events.now) }
+        ensures accepted { (before : List Event) → StandsFor self.old before
+            → OnErr result (HasAccepted self.new (take (rows_of self.new) (before ++ events.now))) }
         ensures noted { IfErr result (λ offence. offence_of self.new ≡ Some offence) }
         ensures numbered { IfErr result (λ offence. offence.row ≡ rows_of self.new + 1) }
         ensures counted { IfOk result
@@ -165,41 +212,52 @@ impl Follower {
             return Err(offence);
         }
         for event in events {
-            if !self.take(*event) {
-                return Err(self.noted());
+            match self.take(*event) {
+                Some(_) => {}
+                None => return Err(self.noted()),
             }
         }
         Ok(())
     }
 
-    /// Takes the next row, after rows that can be. Answers whether it can be too: where it can't,
-    /// its offence is noted.
+    /// Takes the next row, after rows that can be. Answers whether an act ends with it, which is
+    /// then in `act`, or `None` where the row can't be: then its offence is noted.
     #[inline(always)]
-    fn take(&mut self, event: Event) -> bool
+    fn take(&mut self, event: Event) -> Option<bool>
         requires room { rows_of self.old < ROWS_MAX }
         requires going { offence_of self.old ≡ None }
-        ensures reached { OnTrue result ((events : List Event) → StandsFor self.old events
+        ensures reached { OnSome result ((events : List Event) → StandsFor self.old events
             → StandsFor self.new (events ++ event ∷ [])) }
-        ensures going { OnTrue result (offence_of self.new ≡ None) }
-        ensures counted { OnTrue result (rows_of self.new ≡ rows_of self.old + 1) }
-        ensures offence { OnFalse result (IsSomeAnd (offence_of self.new) (λ offence.
+        ensures act { IfSome result (λ ended. (events : List Event) → StandsFor self.old events
+            → IsEndedAct (scope_of self.old) events event (ended_act ended self.new.act)) }
+        ensures going { OnSome result (offence_of self.new ≡ None) }
+        ensures counted { OnSome result (rows_of self.new ≡ rows_of self.old + 1) }
+        ensures offence { IfNone result (IsSomeAnd (offence_of self.new) (λ offence.
             (events : List Event) → StandsFor self.old events
             → IsOffence (scope_of self.old) events event offence)) }
+        ensures accepted { IfNone result ((events : List Event) → StandsFor self.old events
+            → HasAccepted self.new events) }
         ensures scope { scope_of self.new ≡ scope_of self.old }
-        ensures uncounted { OnFalse result (rows_of self.new ≡ rows_of self.old) }
+        ensures uncounted { IfNone result (rows_of self.new ≡ rows_of self.old) }
     {
         laws::ways_join();
         bus_laws::transcripts_have_one_act_list();
         match self.bus.feed_into(event, &mut self.act) {
             Err(fault) => {
                 stop(&mut self.offence, self.rows, fault);
-                false
+                None
             }
             Ok(false) => {
                 self.rows += 1;
-                true
+                Some(false)
             }
-            Ok(true) => self.follow(event.start()),
+            Ok(true) => {
+                if self.follow(event.start()) {
+                    Some(true)
+                } else {
+                    None
+                }
+            }
         }
     }
 
@@ -212,6 +270,7 @@ impl Follower {
         ensures stopped { OnFalse result
             (IsSomeAnd (offence_of self.new) (HasStopped self.old self.old.act self.new)) }
         ensures scope { scope_of self.new ≡ scope_of self.old }
+        ensures act { self.new.act ≡ self.old.act }
     {
         match self.sides.lead(&self.act) {
             Ok(()) => {
@@ -247,34 +306,43 @@ impl Follower {
     ///
     /// # Errors
     ///
-    /// The offence of a row that cannot be.
+    /// The offence of a row that cannot be. What the rows before it tell, `report_before` answers.
     pub fn report(&self) -> Result<Report, Offence>
         ensures report { (events : List Event) → StandsFor self.now events
             → IfOk result (IsReport (scope_of self.now) events) }
         ensures answers { (events : List Event) → StandsFor self.now events → IsOk result }
         ensures offence { IfSome (offence_of self.now) (λ offence. result ≡ Err offence) }
     {
-        laws::ways_join();
-        bus_laws::transcripts_have_one_act_list();
         match self.offence {
             Some(offence) => Err(offence),
-            None => {
-                let changer = self.sides.ranges(Device::Changer);
-                let bill = self.sides.ranges(Device::Bill);
-                let first_reader = self.sides.ranges(Device::Reader(ReaderUnit::First));
-                let second_reader = self.sides.ranges(Device::Reader(ReaderUnit::Second));
-                let accounts = [
-                    changer.first,
-                    bill.first,
-                    changer.second,
-                    first_reader.first,
-                    first_reader.second,
-                    second_reader.first,
-                    second_reader.second,
-                ];
-                Ok(Report::of(self.rows, accounts, &self.sides, &self.silences))
-            }
+            None => Ok(self.report_before()),
         }
+    }
+
+    /// What the rows that were accepted tell: behind an offence those before its row, and where
+    /// none was met all rows so far, as `report` does.
+    pub fn report_before(&self) -> Report
+        ensures before { (events : List Event) → HasAccepted self.now events
+            → IsReport (scope_of self.now) events result }
+        ensures going { (events : List Event) → StandsFor self.now events
+            → IsReport (scope_of self.now) events result }
+    {
+        laws::ways_join();
+        bus_laws::transcripts_have_one_act_list();
+        let changer = self.sides.ranges(Device::Changer);
+        let bill = self.sides.ranges(Device::Bill);
+        let first_reader = self.sides.ranges(Device::Reader(ReaderUnit::First));
+        let second_reader = self.sides.ranges(Device::Reader(ReaderUnit::Second));
+        let accounts = [
+            changer.first,
+            bill.first,
+            changer.second,
+            first_reader.first,
+            first_reader.second,
+            second_reader.first,
+            second_reader.second,
+        ];
+        Report::of(self.rows, accounts, &self.sides, &self.silences)
     }
 }
 

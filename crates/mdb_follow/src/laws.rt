@@ -1,9 +1,10 @@
 //! What follows from the definitions of runs alone.
 
-ghost use Rattle.std.specs.Prelude.{◌≡◌, ◌↔◌, ◌+◌, List, [], ◌∷◌, ◌++◌, Result, Some};
+ghost use Rattle.std.specs.Prelude.{◌≡◌, ◌↔◌, ◌+◌, List, [], ◌∷◌, ◌++◌, Option, Result, Some};
 ghost use Rattle.mdb_words.specs.declared.event.Event.{Event};
 ghost use Rattle.mdb_msgs.specs.declared.command.Device.{Device};
 ghost use Rattle.mdb_msgs.specs.declared.command.Device.TheVariants as devices;
+ghost use Rattle.mdb_bus.specs.declared.act.Act.{Act};
 ghost use Rattle.mdb_bus.specs.ActLists.{ArePieces, IsActList, Piece, acts_of};
 ghost use Rattle.mdb_bus.specs.declared.scope.Beginning.{Beginning};
 ghost use Rattle.mdb_bus.specs.declared.scope.Scope.{Scope};
@@ -14,7 +15,8 @@ ghost use Rattle.mdb_bus.specs.Loss.{Loss, LossFits};
 ghost use Rattle.mdb_follow.specs.AccountNames.{sums_of};
 ghost use Rattle.mdb_follow.specs.Arrivals.{EachArrives};
 ghost use Rattle.mdb_follow.specs.Choosing.{AllFollow, Choices, choices_of};
-ghost use Rattle.mdb_follow.specs.Follower.{StandsFor, scope_of};
+ghost use Rattle.mdb_follow.specs.EndedActs.{IsEndedAct};
+ghost use Rattle.mdb_follow.specs.Follower.{HasAccepted, StandsFor, scope_of};
 ghost use Rattle.mdb_follow.specs.declared.account_name.AccountName.{AccountName};
 ghost use Rattle.mdb_follow.specs.declared.follower.Follower.{Follower};
 ghost use Rattle.mdb_follow.specs.declared.offence.Offence.{Offence};
@@ -180,6 +182,20 @@ pub fn followers_stand_for_reached_rows()
         → IsReached (scope_of follower) rows }
 {
     ways_join();
+}
+
+/// A follower has accepted the rows that it stands for.
+pub fn followers_have_accepted_what_they_stand_for()
+    ensures { (follower : Follower) (rows : List Event) → StandsFor follower rows
+        → HasAccepted follower rows }
+{}
+
+/// With a row one act ends, or none: the act list tells which.
+pub fn rows_end_one_act_or_none()
+    ensures { (scope : Scope) (rows : List Event) (row : Event) (a b : Option Act)
+        → IsEndedAct scope rows row a → IsEndedAct scope rows row b → a ≡ b }
+{
+    laws::transcripts_have_one_act_list();
 }
 
 /// In every run of rows, each sale at either reader follows its approval: before each VEND SUCCESS

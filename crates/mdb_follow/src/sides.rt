@@ -1,6 +1,6 @@
 //! The sides of a recording: each device and the controller.
 
-ghost use Rattle.std.specs.Prelude.{◌≡◌, ◌^◌, List, [], IfOk, IfErr};
+ghost use Rattle.std.specs.Prelude.{◌≡◌, ◌^◌, List, [], IfOk, IfErr, OnErr};
 ghost use Rattle.mdb_bus.specs.declared.act.Act.{Act};
 ghost use Rattle.mdb_bus.specs.declared.scope.Beginning.{Beginning};
 ghost use Rattle.mdb_follow.specs.Arrivals.{Arrives};
@@ -10,7 +10,7 @@ ghost use Rattle.mdb_follow.specs.Report.{decimals_of, unvalued_of};
 ghost use Rattle.mdb_follow.specs.Tables.{ArrivesAnywhere};
 ghost use Rattle.mdb_follow.specs.Sides.{AreSides};
 ghost use Rattle.mdb_follow.specs.inner.SideSteps.{AreWithin, IsWithin, OneFollows, SidesFollow};
-ghost use Rattle.mdb_follow.specs.inner.SideSteps.{SidesStop, Stops};
+ghost use Rattle.mdb_follow.specs.inner.SideSteps.{SidesStay, SidesStop, Stops};
 
 use crate::owner::{Owner, owner_of};
 use crate::side::{self, Side};
@@ -55,11 +55,13 @@ impl Sides {
     ///
     /// # Errors
     ///
-    /// The rule of a side that has no step by it.
+    /// The rule of a side that has no step by it. Then all stand for what they stood for.
+    // Only a break is led over more sides than one, and each has a step by it.
     pub(crate) fn lead(&mut self, act: &Act) -> Result<(), Rule>
         requires { AreWithin (2 ^ 62) self.old }
         ensures followed { IfOk result (λ _. SidesFollow self.old act.now self.new) }
         ensures stopped { IfErr result (SidesStop self.old act.now) }
+        ensures stay { OnErr result (SidesStay self.old self.new) }
     {
         match owner_of(act) {
             Owner::One(device) => self.lead_one(device, act),
@@ -89,12 +91,13 @@ impl Sides {
     ///
     /// # Errors
     ///
-    /// The rule of the device, where its side has no step by it.
+    /// The rule of the device, where its side has no step by it. Then nothing changes.
     #[inline(always)]
     fn lead_one(&mut self, device: Device, act: &Act) -> Result<(), Rule>
         requires { IsWithin device (2 ^ 62) self.old }
         ensures followed { IfOk result (λ _. OneFollows device self.old act.now self.new) }
         ensures stopped { IfErr result (Stops device self.old act.now) }
+        ensures same { OnErr result (self.new ≡ self.old) }
     {
         match device {
             Device::Changer => side::lead::<Changer, _>(&mut self.changer, act, Rule::Changer),

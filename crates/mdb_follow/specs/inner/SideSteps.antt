@@ -11,7 +11,7 @@ use Rattle.mdb_follow.specs.declared.sides.Sides.{Sides}
 use Rattle.mdb_follow.specs.Machines.{machine_of}
 use Rattle.mdb_follow.specs.Offences.{HasNoStep, rule_of}
 use Rattle.mdb_follow.specs.Report.{unvalued_of}
-use Rattle.mdb_follow.specs.Sides.{IsSide, IsSideOf, SideOf, code_of, side_in, stands_for}
+use Rattle.mdb_follow.specs.Sides.{AreSides, IsSide, IsSideOf, SideOf, code_of, side_in, stands_for}
 use Rattle.mdb_follow.specs.ByDevice.{OneGoes}
 use Rattle.mdb_follow.specs.Limits.{IsTableWithin}
 
@@ -64,3 +64,8 @@ pub record Stops (device : Device) (sides : Sides) (act : Act) (broken : Rule) :
 -- the side of some device has none
 abbrev pub SidesStop : Sides → Act → Rule → Type 0
 SidesStop sides act broken = (device : Device) × Stops device sides act broken
+
+-- sides stand for what they stood for
+abbrev pub SidesStay : Sides → Sides → Type 0
+SidesStay old new =
+    (begins : Beginning) (acts : List Act) → AreSides begins old acts → AreSides begins new acts

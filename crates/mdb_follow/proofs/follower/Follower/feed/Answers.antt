@@ -4,12 +4,12 @@ use Rattle.mdb_follow.specs.Runs.{IsReached}
 use Rattle.mdb_follow.proofs.Following.{reached-by}
 use Rattle.mdb_follow.proofs.follower.Follower.feed.Goals as goal
 
-pub returns-then-take-clause-is_reached : goal.returns-then-take-clause-is_reached
-returns-then-take-clause-is_reached c events on =
-    subst (λ s. IsReached s (events ++ c.args.event ∷ [])) c.if-take.ensures.scope
+pub returns-in-Some-take-clause-is_reached : goal.returns-in-Some-take-clause-is_reached
+returns-in-Some-take-clause-is_reached c events on =
+    subst (λ s. IsReached s (events ++ c.args.event ∷ [])) c.take.ensures.scope
     (reached-by c.ways_join.ensures c.take.new.self (events ++ c.args.event ∷ [])
-    (c.if-take.ensures.reached events on))
+    (c.in-Some-take.ensures.reached events on))
 
-pub returns-then-take-clause-sales : goal.returns-then-take-clause-sales
-returns-then-take-clause-sales c events on =
+pub returns-in-Some-take-clause-sales : goal.returns-in-Some-take-clause-sales
+returns-in-Some-take-clause-sales c events on =
     c.sales_follow_their_approvals.ensures (scope_of c.args.self.now) (events ++ c.args.event ∷ [])

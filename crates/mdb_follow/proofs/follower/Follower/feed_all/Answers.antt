@@ -3,7 +3,8 @@ use Rattle.mdb_words.specs.declared.event.Event.{Event}
 use Rattle.mdb_follow.specs.Follower.{StandsFor, scope_of}
 use Rattle.mdb_follow.specs.Runs.{IsReached}
 use Rattle.mdb_follow.specs.Offences.{IsOffence}
-use Rattle.mdb_follow.proofs.Following.{fed-all, fed-more, fed-refused, of-some, reached-by}
+use Rattle.mdb_follow.proofs.Following.{fed-accepted, fed-all, fed-more, fed-refused, of-some}
+use Rattle.mdb_follow.proofs.Following.{reached-by}
 use Rattle.mdb_follow.proofs.follower.Follower.feed_all.Goals as goal
 
 pub take-requires-clause-room : goal.take-requires-clause-room
@@ -11,8 +12,8 @@ take-requires-clause-room c =
     let rows = c.loop-event.invariant.rows in
     omega arith
 
-pub returns-then-not-take-clause-offence : goal.returns-then-not-take-clause-offence
-returns-then-not-take-clause-offence c earlier on =
+pub returns-in-None-clause-offence : goal.returns-in-None-clause-offence
+returns-in-None-clause-offence c earlier on =
     fed-refused c.args.self.now c.loop-event.self c.args.events.now earlier
     c.loop-event.event-index c.event-item.result c.noted.result
     c.loop-event-test.true c.loop-event.invariant
@@ -21,16 +22,22 @@ returns-then-not-take-clause-offence c earlier on =
     (of-some c.take.new.self.offence c.noted.result
     (λ offence. (events : List Event) → StandsFor c.loop-event.self events
     → IsOffence (scope_of c.loop-event.self) events c.event-item.result offence)
-    c.noted.ensures c.if-not-take.ensures.offence before stands))
+    c.noted.ensures c.in-None.ensures.offence before stands))
     on
+
+pub returns-in-None-clause-accepted : goal.returns-in-None-clause-accepted
+returns-in-None-clause-accepted c earlier on =
+    fed-accepted c.args.self.now c.loop-event.self c.take.new.self c.args.events.now earlier
+    c.loop-event.event-index c.loop-event.invariant c.in-None.ensures.uncounted
+    c.in-None.ensures.accepted on
 
 pub loop-event-preserved : goal.loop-event-preserved
 loop-event-preserved c =
     fed-more c.args.self.now c.loop-event.self c.take.new.self c.args.events.now
     c.loop-event.event-index c.event-item.result c.loop-event-test.true c.loop-event.invariant
-    c.if-not-take.ensures.counted c.if-not-take.ensures.going c.if-not-take.ensures.scope
+    c.in-Some-take.ensures.counted c.in-Some-take.ensures.going c.take.ensures.scope
     (λ earlier on. subst (λ e. StandsFor c.take.new.self (earlier ++ e ∷ [])) c.event-item.is
-    (c.if-not-take.ensures.reached earlier on))
+    (c.in-Some-take.ensures.reached earlier on))
 
 pub returns-clause-reached : goal.returns-clause-reached
 returns-clause-reached c earlier on =

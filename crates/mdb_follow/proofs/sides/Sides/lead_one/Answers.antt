@@ -1,7 +1,7 @@
 use Rattle.std.proofs.Common.{ap, arith, refl, ◌∙◌, ◌^◌}
 use Rattle.mdb_msgs.specs.declared.command.Device.TheVariants as devices
 use Rattle.mdb_msgs.specs.declared.command.ReaderUnit.TheVariants.{First, Second}
-use Rattle.mdb_follow.proofs.Sided.{one-follows, one-stops, within-at}
+use Rattle.mdb_follow.proofs.Sided.{one-follows, one-stays, one-stops, within-at}
 use Rattle.mdb_follow.proofs.sides.Sides.lead_one.Goals as goal
 
 pub returns-in-Changer-clause-followed : goal.returns-in-Changer-clause-followed
@@ -16,6 +16,11 @@ returns-in-Changer-clause-stopped c =
     c.args.act.now c.in-Changer.is
     c.lead.ensures.none c.lead.ensures.its
 
+pub returns-in-Changer-clause-same : goal.returns-in-Changer-clause-same
+returns-in-Changer-clause-same c =
+    one-stays c.lead.result devices.Changer c.args.self.now c.lead.new.side
+    c.lead.ensures.same
+
 pub returns-in-Bill-clause-followed : goal.returns-in-Bill-clause-followed
 returns-in-Bill-clause-followed c =
     one-follows c.lead-in-Bill.result c.args.device devices.Bill c.args.self.now
@@ -27,6 +32,11 @@ returns-in-Bill-clause-stopped c =
     one-stops c.lead-in-Bill.result c.args.device devices.Bill c.args.self.now
     c.args.act.now c.in-Bill.is
     c.lead-in-Bill.ensures.none c.lead-in-Bill.ensures.its
+
+pub returns-in-Bill-clause-same : goal.returns-in-Bill-clause-same
+returns-in-Bill-clause-same c =
+    one-stays c.lead-in-Bill.result devices.Bill c.args.self.now c.lead-in-Bill.new.side
+    c.lead-in-Bill.ensures.same
 
 pub returns-in-First-clause-followed : goal.returns-in-First-clause-followed
 returns-in-First-clause-followed c =
@@ -40,6 +50,11 @@ returns-in-First-clause-stopped c =
     c.args.act.now (c.in-Reader.is ∙ ap devices.Reader c.in-First.is)
     c.lead-in-First.ensures.none c.lead-in-First.ensures.its
 
+pub returns-in-First-clause-same : goal.returns-in-First-clause-same
+returns-in-First-clause-same c =
+    one-stays c.lead-in-First.result (devices.Reader First) c.args.self.now c.lead-in-First.new.side
+    c.lead-in-First.ensures.same
+
 pub returns-in-Second-clause-followed : goal.returns-in-Second-clause-followed
 returns-in-Second-clause-followed c =
     one-follows c.lead-in-Second.result c.args.device (devices.Reader Second) c.args.self.now
@@ -51,6 +66,11 @@ returns-in-Second-clause-stopped c =
     one-stops c.lead-in-Second.result c.args.device (devices.Reader Second) c.args.self.now
     c.args.act.now (c.in-Reader.is ∙ ap devices.Reader c.in-Second.is)
     c.lead-in-Second.ensures.none c.lead-in-Second.ensures.its
+
+pub returns-in-Second-clause-same : goal.returns-in-Second-clause-same
+returns-in-Second-clause-same c =
+    one-stays c.lead-in-Second.result (devices.Reader Second) c.args.self.now c.lead-in-Second.new.side
+    c.lead-in-Second.ensures.same
 
 pub lead-requires : goal.lead-requires
 lead-requires c = (

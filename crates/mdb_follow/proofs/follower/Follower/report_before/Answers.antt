@@ -7,20 +7,24 @@ use Rattle.mdb_follow.specs.Machines.{machine_of}
 use Rattle.mdb_follow.specs.Ranges.{IsCell}
 use Rattle.mdb_follow.specs.Tables.{ArrivesAnywhere}
 use Rattle.mdb_follow.proofs.ByDevice.{each}
-use Rattle.mdb_follow.proofs.Following.{accounts_in, reported}
-use Rattle.mdb_follow.proofs.follower.Follower.report.Goals as goal
+use Rattle.mdb_follow.proofs.Following.{accepted, accounts_in, reported}
+use Rattle.mdb_follow.proofs.follower.Follower.report_before.Goals as goal
 
-pub returns-in-None-clause-report : goal.returns-in-None-clause-report
-returns-in-None-clause-report c events on =
+pub returns-clause-before : goal.returns-clause-before
+returns-clause-before c events has =
     let cells = each (λ device. Cell) c.ranges-changer.result c.ranges-bill.result
     c.ranges-first_reader.result c.ranges-second_reader.result in
     let begins = (scope_of c.args.self.now).begins in
-    let acts = acts_of on.pieces in
+    let acts = acts_of has.pieces in
     reported c.transcripts_have_one_act_list.ensures c.ways_join.ensures c.args.self.now events
-    c.of.result cells on
+    c.of.result cells has
     (each (λ device. IsCell (ArrivesAnywhere (Arrives (machine_of begins device) acts))
     (cells device))
-    (c.ranges-changer.ensures begins acts on.sides) (c.ranges-bill.ensures begins acts on.sides)
-    (c.ranges-first_reader.ensures begins acts on.sides)
-    (c.ranges-second_reader.ensures begins acts on.sides))
-    (c.of.ensures begins on.pieces (accounts_in cells) on.sides on.silences refl)
+    (c.ranges-changer.ensures begins acts has.sides) (c.ranges-bill.ensures begins acts has.sides)
+    (c.ranges-first_reader.ensures begins acts has.sides)
+    (c.ranges-second_reader.ensures begins acts has.sides))
+    (c.of.ensures begins has.pieces (accounts_in cells) has.sides has.silences refl)
+
+pub returns-clause-going : goal.returns-clause-going
+returns-clause-going c events on =
+    returns-clause-before c events (accepted c.args.self.now events on)
