@@ -1,5 +1,7 @@
 -- What the import of an export answers, and what it writes.
-use Rattle.std.specs.Prelude.{◌≡◌, ◌⊎◌, ◌≤◌, ◌+◌, ℕ, List, [], ◌∷◌, ◌++◌, length, filter, flat_map, nat_le, min, count_by, ◌-◌, ◌^◌, Bool, true, false, IfSome, IfNone, Option, Some, None, ⊤, Result, Ok, Err}
+use Rattle.std.specs.Prelude.{◌≡◌, ◌⊎◌, ◌≤◌, ◌+◌, ℕ, List, [], ◌∷◌, ◌++◌, length, filter, flat_map}
+use Rattle.std.specs.Prelude.{nat_le, min, count_by, ◌-◌, ◌^◌, Bool, true, false, IfSome, IfNone}
+use Rattle.std.specs.Prelude.{Option, Some, None, ⊤, Result, Ok, Err}
 use Rattle.std.specs.Io.KnownBytes.{Appends}
 use Rattle.mdb_words.specs.Event.{start_of}
 use Rattle.mdb_words.specs.Row.{joined_by_commas, row_fields}

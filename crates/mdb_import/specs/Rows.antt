@@ -1,5 +1,6 @@
 -- Which records of an export stand for which events.
-use Rattle.std.specs.Prelude.{◌≡◌, ◌⊎◌, ◌<◌, ℕ, List, [], ◌∷◌, ⊤, false, if◌then◌else◌, Option, Some, None, option_map, string_bytes}
+use Rattle.std.specs.Prelude.{◌≡◌, ◌⊎◌, ◌<◌, ℕ, List, [], ◌∷◌, ⊤, false, if◌then◌else◌, Option}
+use Rattle.std.specs.Prelude.{Some, None, option_map, string_bytes}
 use Rattle.mdb_words.specs.Event.{start_of}
 use Rattle.mdb_words.specs.declared.event.Event.{Event}
 use Rattle.mdb_words.specs.declared.event.Event.TheVariants.{Word, Break}

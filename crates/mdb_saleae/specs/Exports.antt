@@ -1,12 +1,14 @@
 -- What the import of a table answers, and what it writes.
-use Rattle.std.specs.Prelude.{◌≡◌, ◌⊎◌, ◌+◌, ◌&&◌, ℕ, List, [], ◌∷◌, ◌++◌, ⊤, length, filter, not, Bool, Option, Some, None, Result, Ok, Err}
+use Rattle.std.specs.Prelude.{◌≡◌, ◌⊎◌, ◌+◌, ◌&&◌, ℕ, List, [], ◌∷◌, ◌++◌, ⊤, length, filter, not}
+use Rattle.std.specs.Prelude.{Bool, Option, Some, None, Result, Ok, Err}
 use Rattle.std.specs.List.{list_any}
 use Rattle.std.specs.Io.KnownBytes.{Appends}
 use Rattle.mdb_words.specs.Event.{start_of}
 use Rattle.mdb_words.specs.declared.event.Event.{Event}
 use Rattle.mdb_records.specs.declared.ReadFault.{ReadFault}
 use Rattle.mdb_records.specs.declared.ReadFault.TheVariants as reading
-use Rattle.mdb_import.specs.Exports.{export_records, is_controllers, is_from, is_marked, is_peripherals, is_until, rows_text, told_count}
+use Rattle.mdb_import.specs.Exports.{export_records, is_controllers, is_from, is_marked}
+use Rattle.mdb_import.specs.Exports.{is_peripherals, is_until, rows_text, told_count}
 use Rattle.mdb_import.specs.Rows.{IsAfter}
 use Rattle.mdb_import.specs.Written.{HasTaken}
 use Rattle.mdb_import.specs.declared.fault.Imported.{Imported}
@@ -16,7 +18,8 @@ use Rattle.mdb_saleae.specs.Rows.{AreEvents, AreRows, IsTableRow, last_start}
 use Rattle.mdb_saleae.specs.declared.columns.Columns.{Columns}
 use Rattle.mdb_saleae.specs.declared.fault.RowFault.{RowFault}
 use Rattle.mdb_saleae.specs.declared.fault.SaleaeFault.{SaleaeFault}
-use Rattle.mdb_saleae.specs.declared.fault.SaleaeFault.TheVariants.{NoHeader, BadHeader, BadRecord, BadRow, Read, Write, Memory}
+use Rattle.mdb_saleae.specs.declared.fault.SaleaeFault.TheVariants.{NoHeader, BadHeader, BadRecord}
+use Rattle.mdb_saleae.specs.declared.fault.SaleaeFault.TheVariants.{BadRow, Read, Write, Memory}
 use Rattle.mdb_saleae.specs.declared.options.SaleaeOptions.{SaleaeOptions}
 
 -- whether an event is in the part that was asked for

@@ -1,6 +1,7 @@
 //! The import of a table: record by record, as they are read.
 
-ghost use Rattle.std.specs.Prelude.{◌≡◌, ◌<◌, ◌≤◌, ◌+◌, ◌-◌, ◌^◌, [], List, ℕ, IfErr, IfOk, IfSome, OnOk, None, Some, length};
+ghost use Rattle.std.specs.Prelude.{◌≡◌, ◌<◌, ◌≤◌, ◌+◌, ◌-◌, ◌^◌, [], List, ℕ, IfErr, IfOk, IfSome};
+ghost use Rattle.std.specs.Prelude.{OnOk, None, Some, length};
 ghost use Rattle.csv.specs.Records.{fields_of};
 ghost use Rattle.mdb_records.specs.ToCome.{ToCome};
 ghost use Rattle.mdb_words.specs.Event.{start_of};
@@ -9,7 +10,8 @@ ghost use Rattle.mdb_import.specs.inner.Output.{Puts, begun, output};
 ghost use Rattle.mdb_import.specs.inner.Steps.{IsSaid};
 ghost use Rattle.mdb_saleae.specs.Exports.{Exports, IsExported, IsTold};
 ghost use Rattle.mdb_saleae.specs.inner.Output.{IsNotTaken};
-ghost use Rattle.mdb_saleae.specs.inner.Steps.{Begins, HasImported, IsNext, IsNoted, PutsRows, TakesOne, fault_at, part_line};
+ghost use Rattle.mdb_saleae.specs.inner.Steps.{Begins, HasImported, IsNext, IsNoted, PutsRows};
+ghost use Rattle.mdb_saleae.specs.inner.Steps.{TakesOne, fault_at, part_line};
 
 use super::columns::{Columns, read_columns};
 use super::fault::{RowFault, SaleaeFault};

@@ -1,8 +1,12 @@
 -- How the rows of an export come about, record by record. This file serves private functions and
 -- proofs: no public clause cites it.
-use Rattle.std.specs.Prelude.{◌≡◌, ◌⊎◌, ◌+◌, ◌++◌, ◌∷◌, ◌||◌, ◌-◌, ◌^◌, min, false, ℕ, List, [], length, Bool, true, IfSome, IfNone, Option, Some, None, Result, Ok, Err, if◌then◌else◌}
+use Rattle.std.specs.Prelude.{◌≡◌, ◌⊎◌, ◌+◌, ◌++◌, ◌∷◌, ◌||◌, ◌-◌, ◌^◌, min, false, ℕ, List, []}
+use Rattle.std.specs.Prelude.{length, Bool, true, IfSome, IfNone, Option, Some, None, Result, Ok}
+use Rattle.std.specs.Prelude.{Err, if◌then◌else◌}
 use Rattle.mdb_words.specs.declared.event.Event.{Event}
-use Rattle.mdb_import.specs.Exports.{IsCounted, IsExport, IsRefusedRecord, IsTold, is_before, is_behind, is_controllers, is_marked, is_peripherals, is_taken, last_start, row_line, rows_text, taken_of}
+use Rattle.mdb_import.specs.Exports.{IsCounted, IsExport, IsRefusedRecord, IsTold, is_before}
+use Rattle.mdb_import.specs.Exports.{is_behind, is_controllers, is_marked, is_peripherals, is_taken}
+use Rattle.mdb_import.specs.Exports.{last_start, row_line, rows_text, taken_of}
 use Rattle.mdb_import.specs.Refusals.{IsFault}
 use Rattle.mdb_import.specs.Part.{is_in}
 use Rattle.mdb_import.specs.Rows.{AreEvents, IsAfter, IsHeaderOf, IsRowOf, TellsTime}

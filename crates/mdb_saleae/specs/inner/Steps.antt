@@ -1,6 +1,7 @@
 -- How the rows of a table come about, record by record. This file serves private functions and
 -- proofs: no public clause cites it.
-use Rattle.std.specs.Prelude.{◌≡◌, ◌⊎◌, ◌+◌, ◌++◌, ◌∷◌, ℕ, List, [], length, Option, Some, None, Result, Ok, Err, if◌then◌else◌}
+use Rattle.std.specs.Prelude.{◌≡◌, ◌⊎◌, ◌+◌, ◌++◌, ◌∷◌, ℕ, List, [], length, Option, Some, None}
+use Rattle.std.specs.Prelude.{Result, Ok, Err, if◌then◌else◌}
 use Rattle.mdb_words.specs.declared.event.Event.{Event}
 use Rattle.mdb_records.specs.ToCome.{ToCome}
 use Rattle.mdb_records.specs.declared.Records.{Records}
@@ -10,13 +11,15 @@ use Rattle.mdb_import.specs.inner.Output.{Breaks, Output, Puts}
 use Rattle.mdb_import.specs.inner.Steps.{IsSaid, counted_more}
 use Rattle.mdb_import.specs.declared.fault.Imported.{Imported}
 use Rattle.mdb_saleae.specs.Columns.{IsColumns}
-use Rattle.mdb_saleae.specs.Exports.{IsHeaderAnswer, IsRefusedRow, IsRowsExport, IsTold, is_before, is_behind, is_taken, part_text}
+use Rattle.mdb_saleae.specs.Exports.{IsHeaderAnswer, IsRefusedRow, IsRowsExport, IsTold, is_before}
+use Rattle.mdb_saleae.specs.Exports.{is_behind, is_taken, part_text}
 use Rattle.mdb_saleae.specs.Refusals.{IsFault}
 use Rattle.mdb_saleae.specs.Rows.{AreRows, IsTableRow, last_start}
 use Rattle.mdb_saleae.specs.declared.columns.Columns.{Columns}
 use Rattle.mdb_saleae.specs.declared.fault.RowFault.{RowFault}
 use Rattle.mdb_saleae.specs.declared.fault.SaleaeFault.{SaleaeFault}
-use Rattle.mdb_saleae.specs.declared.fault.SaleaeFault.TheVariants.{BadRecord, BadRow, Write, Memory}
+use Rattle.mdb_saleae.specs.declared.fault.SaleaeFault.TheVariants.{BadRecord, BadRow, Write}
+use Rattle.mdb_saleae.specs.declared.fault.SaleaeFault.TheVariants.{Memory}
 use Rattle.mdb_saleae.specs.declared.importing.Importing.{Importing}
 use Rattle.mdb_saleae.specs.declared.options.SaleaeOptions.{SaleaeOptions}
 use Rattle.mdb_saleae.specs.declared.rows.Refusal.{Refusal}

@@ -7,27 +7,43 @@ use Rattle.mdb_saleae.proofs.importing.import_table.Goals as goal
 use Rattle.mdb_saleae.proofs.importing.import_table.Goals.{then-ne+in_ok-write_out, else-ne}
 
 pub returns-in-Err : goal.returns-in-Err
-returns-in-Err g c all to_come = no_table c.args.options.now all (g.W.Write.contents c.args.writer.now) c.in-Err.fault (c.in-Err.ensures all to_come)
+returns-in-Err g c all to_come =
+    no_table c.args.options.now all (g.W.Write.contents c.args.writer.now) c.in-Err.fault
+    (c.in-Err.ensures all to_come)
 
 pub take_all-answer-requires-clause-told : goal.take_all-answer-requires-clause-told
 take_all-answer-requires-clause-told g c = c.new-importing.ensures.told c.args.options.now
 
 pub returns-in_err-write_out : goal.returns-in_err-write_out
 returns-in_err-write_out g c all to_come =
-    let now = output (g.W.Write.contents c.take_all-answer.new.writer) c.take_all-answer.new.self.page in
+    let now = output (g.W.Write.contents c.take_all-answer.new.writer)
+    c.take_all-answer.new.self.page in
     let begins = c.in-Ok.ensures all to_come in
-    cut_short c.args.options.now all (g.W.Write.contents c.args.writer.now) (g.W.Write.contents c.write_out.new.writer) c.in_err-write_out.field-0.0 c.from_residual.result c.from_residual.ensures.1 c.in_err-write_out.ensures.refused
-    (page_broken c.args.options.now begins.0 begins.1 all c.in-Ok.columns (g.W.Write.contents c.args.writer.now) (g.W.Write.contents c.write_out.new.writer) now c.take_all-answer.result begins.2 begins.3 (c.take_all-answer.ensures begins.1 begins.4) (search rules) c.in_err-write_out.ensures.front)
+    cut_short c.args.options.now all (g.W.Write.contents c.args.writer.now)
+    (g.W.Write.contents c.write_out.new.writer) c.in_err-write_out.field-0.0
+    c.from_residual.result c.from_residual.ensures.1 c.in_err-write_out.ensures.refused
+    (page_broken c.args.options.now begins.0 begins.1 all c.in-Ok.columns
+    (g.W.Write.contents c.args.writer.now) (g.W.Write.contents c.write_out.new.writer) now
+    c.take_all-answer.result begins.2 begins.3 (c.take_all-answer.ensures begins.1 begins.4)
+    (search rules) c.in_err-write_out.ensures.front)
 
 pub returns : goal.returns
 returns g c all to_come =
-    let now = output (g.W.Write.contents c.take_all-answer.new.writer) c.take_all-answer.new.self.page in
+    let now = output (g.W.Write.contents c.take_all-answer.new.writer)
+    c.take_all-answer.new.self.page in
     let begins = c.in-Ok.ensures all to_come in
     elim c.if-ne.branch [
       | then-ne+in_ok-write_out w ↦
-          written_out c.args.options.now begins.0 begins.1 all c.in-Ok.columns (g.W.Write.contents c.args.writer.now) (g.W.Write.contents c.if-ne.writer) now c.take_all-answer.result begins.2 begins.3 (c.take_all-answer.ensures begins.1 begins.4) (search rules)
-          (subst (λ s. Appends now.held (g.W.Write.contents s) now.waiting) (sym w.writer-is) w.in_ok-write_out.ensures.written)
+          written_out c.args.options.now begins.0 begins.1 all c.in-Ok.columns
+          (g.W.Write.contents c.args.writer.now) (g.W.Write.contents c.if-ne.writer) now
+          c.take_all-answer.result begins.2 begins.3
+          (c.take_all-answer.ensures begins.1 begins.4) (search rules)
+          (subst (λ s. Appends now.held (g.W.Write.contents s) now.waiting) (sym w.writer-is)
+          w.in_ok-write_out.ensures.written)
       | else-ne w ↦
-          subst (λ s. Exports c.args.options.now all (g.W.Write.contents c.args.writer.now) (g.W.Write.contents s) c.take_all-answer.result) (sym w.writer-is)
-          (rows_broken c.args.options.now begins.0 begins.1 all c.in-Ok.columns (g.W.Write.contents c.args.writer.now) now c.take_all-answer.result begins.2 begins.3 (c.take_all-answer.ensures begins.1 begins.4) (search rules))
+          subst (λ s. Exports c.args.options.now all (g.W.Write.contents c.args.writer.now)
+          (g.W.Write.contents s) c.take_all-answer.result) (sym w.writer-is)
+          (rows_broken c.args.options.now begins.0 begins.1 all c.in-Ok.columns
+          (g.W.Write.contents c.args.writer.now) now c.take_all-answer.result begins.2 begins.3
+          (c.take_all-answer.ensures begins.1 begins.4) (search rules))
     ]
