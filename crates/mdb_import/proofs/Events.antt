@@ -18,8 +18,8 @@ use Rattle.mdb_import.specs.Refusals.{IsFieldsFault, IsNoRow, IsTimeFault}
 use Rattle.mdb_import.specs.declared.fault.RecordFault.{RecordFault}
 use Rattle.mdb_import.specs.declared.fault.RecordFault.TheVariants as fault
 use Rattle.mdb_import.specs.Exports.{last_start, row_line, rows_text, taken_of, is_taken}
-use Rattle.mdb_import.specs.Rows.{AreEvents, AreRows, IsAfter, IsExportedRow, IsHeader, IsPassed}
-use Rattle.mdb_import.specs.Rows.{TellsTime, last_with}
+use Rattle.mdb_import.specs.Rows.{AreEvents, AreEventsWith, AreRows, IsAfter, IsExportedRow}
+use Rattle.mdb_import.specs.Rows.{IsHeader, IsPassed, TellsTime, last_with}
 use Rattle.mdb_import.specs.inner.Steps.{part_line}
 use Rattle.mdb_import.proofs.Readings.{time_same}
 
@@ -127,16 +127,23 @@ rows_more options last (r ∷ done) events row event (inl are) is after =
 rows_more options last (r ∷ done) events row event (inr passed) is after =
     inr (passed.0, rows_more options last done events row event passed.1 is after)
 
-pub events_more : (options : RowsOptions) (done : List (List (List ℕ))) (events : List Event)
-    (row : List (List ℕ)) (event : Event) → AreEvents options done events
-    → IsExportedRow options row event
+-- records that stand for events, with a header or without
+pub events_of : (options : RowsOptions) (header : Bool) (records : List (List (List ℕ)))
+    (events : List Event) → AreEventsWith options header records events
+    → AreEvents options records events
+events_of options true records events are = inr are
+events_of options false records events are = inl are
+
+pub events_more : (options : RowsOptions) (header : Bool) (done : List (List (List ℕ)))
+    (events : List Event) (row : List (List ℕ)) (event : Event)
+    → AreEventsWith options header done events → IsExportedRow options row event
     → IsAfter (last_start options None events) event
-    → AreEvents options (done ++ row ∷ []) (events ++ event ∷ [])
-events_more options done events row event (inl are) is after =
-    inl (rows_more options None done events row event are is after)
-events_more options [] events row event (inr are) is after = absurd are
-events_more options (header ∷ done) events row event (inr are) is after =
-    inr (are.0, rows_more options None done events row event are.1 is after)
+    → AreEventsWith options header (done ++ row ∷ []) (events ++ event ∷ [])
+events_more options false done events row event are is after =
+    rows_more options None done events row event are is after
+events_more options true [] events row event are is after = absurd are
+events_more options true (first ∷ done) events row event are is after =
+    (are.0, rows_more options None done events row event are.1 is after)
 
 -- a record more that is passed over
 rows_passed : (options : RowsOptions) (last : Option ℕ) (done : List (List (List ℕ)))
@@ -159,15 +166,14 @@ rows_passed options last (r ∷ done) events row (inl are) is =
 rows_passed options last (r ∷ done) events row (inr passed) is =
     inr (passed.0, rows_passed options last done events row passed.1 is)
 
-pub events_passed : (options : RowsOptions) (done : List (List (List ℕ))) (events : List Event)
-    (row : List (List ℕ)) → AreEvents options done events
+pub events_passed : (options : RowsOptions) (header : Bool) (done : List (List (List ℕ)))
+    (events : List Event) (row : List (List ℕ)) → AreEventsWith options header done events
     → IsPassed options (last_start options None events) row
-    → AreEvents options (done ++ row ∷ []) events
-events_passed options done events row (inl are) is =
-    inl (rows_passed options None done events row are is)
-events_passed options [] events row (inr are) is = absurd are
-events_passed options (header ∷ done) events row (inr are) is =
-    inr (are.0, rows_passed options None done events row are.1 is)
+    → AreEventsWith options header (done ++ row ∷ []) events
+events_passed options false done events row are is = rows_passed options None done events row are is
+events_passed options true [] events row are is = absurd are
+events_passed options true (first ∷ done) events row are is =
+    (are.0, rows_passed options None done events row are.1 is)
 
 -- fields tell one time
 pub tells_same : (options : RowsOptions) (fields : List (List ℕ)) (a b : ℕ)
@@ -206,12 +212,13 @@ line_tells_none options line first separator is parts field is_bare none at tell
     none at (subst (λ f. IsTime options.unit f at) (sym (is_bare ∙ same)) tells.time)
 
 -- the first record is a header
-pub events_header : (options : RowsOptions) (done : List (List (List ℕ))) (events : List Event)
-    (header : List (List ℕ)) → length done ≡ 0 → AreEvents options done events → IsHeader header
-    → AreEvents options (done ++ header ∷ []) events
-events_header options [] events header none (inl are) is = inr (is, are)
-events_header options [] events header none (inr are) is = absurd are
-events_header options (r ∷ done) events header none are is = absurd (omega (arith, none))
+pub events_header : (options : RowsOptions) (header : Bool) (done : List (List (List ℕ)))
+    (events : List Event) (first : List (List ℕ)) → length done ≡ 0
+    → AreEventsWith options header done events → IsHeader first
+    → AreEventsWith options true (done ++ first ∷ []) events
+events_header options false [] events first none are is = (is, are)
+events_header options true [] events first none are is = absurd are
+events_header options header (r ∷ done) events first none are is = absurd (omega (arith, none))
 
 -- the time that the next row has to come after, with an event more
 pub last_more : (options : RowsOptions) (last : Option ℕ) (events : List Event) (event : Event)

@@ -16,12 +16,14 @@ use Rattle.std.specs.Prelude.{count_by}
 use Rattle.std.specs.List.{list_any}
 use Rattle.std.proofs.lemmas.List.Folds.{list_any-append}
 use Rattle.std.proofs.lemmas.List.Sums.{sum_by-append}
-use Rattle.mdb_import.specs.Exports.{IsCounted, IsTold, is_before, is_behind, is_in, is_taken}
-use Rattle.mdb_import.specs.Exports.{told_count, weight, is_controllers, is_marked, is_peripherals}
-use Rattle.mdb_import.specs.Exports.{IsExportedInPart, import_fault_of, rows_text, taken_of}
+use Rattle.mdb_import.specs.Exports.{AreRead, IsCounted, IsTold, is_before, is_behind, is_in}
+use Rattle.mdb_import.specs.Exports.{is_taken, told_count, weight, is_controllers, is_marked}
+use Rattle.mdb_import.specs.Exports.{is_peripherals, IsExportedInPart, import_fault_of, rows_text}
+use Rattle.mdb_import.specs.Exports.{last_start, taken_of}
 use Rattle.mdb_import.specs.Fields.{export_fields, line_fields}
 use Rattle.mdb_import.specs.Refusals.{IsFault}
-use Rattle.mdb_import.specs.Rows.{AreEvents, IsAfter, IsHeaderOf, IsRowOf, TellsTime, last_with}
+use Rattle.mdb_import.specs.Rows.{AreEventsWith, IsAfter, IsHeader, IsHeaderOf, IsPassed, IsRowOf}
+use Rattle.mdb_import.specs.Rows.{TellsTime, last_with}
 use Rattle.mdb_import.specs.inner.Output.{Breaks, IsNotTaken, Output, Puts, begun}
 use Rattle.mdb_import.specs.inner.Steps.{HasImported, IsInside, IsKept, IsNext, IsNoted, IsOutside}
 use Rattle.mdb_import.specs.inner.Steps.{IsRefusalFor, counted_more, PutsExport, TakesOne}
@@ -32,24 +34,23 @@ use Rattle.mdb_import.specs.declared.fault.Imported.{Imported}
 use Rattle.mdb_import.specs.declared.fault.RecordFault.{RecordFault}
 use Rattle.mdb_import.specs.declared.importing.Importing.{Importing}
 use Rattle.mdb_import.specs.declared.options.RowsOptions.{RowsOptions}
-use Rattle.mdb_import.proofs.Events.{events_header, events_more, events_passed, last_more}
-use Rattle.mdb_import.proofs.Events.{tells_same, text_more}
+use Rattle.mdb_import.proofs.Events.{events_header, events_more, events_of, events_passed}
+use Rattle.mdb_import.proofs.Events.{last_more, tells_same, text_more}
 use Rattle.mdb_import.proofs.Outputs.{break_both, put_both, put_none}
 
 -- before the first record
 pub none_imported : (options : RowsOptions) (importing : Importing) (contents : Option (List ℕ))
     (waiting : List ℕ) → importing.last ≡ None → IsTold options [] importing.tally
-    → IsCounted [] [] importing.tally → waiting ≡ []
+    → AreRead options [] [] importing.tally → waiting ≡ []
     → HasImported options importing (begun contents) (record { held = contents; waiting = waiting })
     [] []
-none_imported options importing contents waiting last told counted empty =
+none_imported options importing contents waiting last told read empty =
     let P : List ℕ → Type 0 = λ w. Puts (begun contents) (record { held = contents; waiting = w })
     [] in
     record {
-      are = inl refl;
+      read = read;
       last = last;
       told = told;
-      counted = counted;
       written = subst P (sym empty) (put_none (begun contents));
     }
 
@@ -110,6 +111,50 @@ counted_header done events row before after none counted passed is =
     let records : length (done ++ row ∷ []) ≡ length done + 1 = length-append done (row ∷ []) in
     omega (arith, none, counted, passed, header, records)
 
+-- the records are read, with a row more, one more that is passed over, or the header
+read_row : (options : RowsOptions) (done : List (List (List ℕ))) (events : List Event)
+    (row : List (List ℕ)) (event : Event) (before after : Imported)
+    → AreRead options done events before → IsRowOf options (export_fields row) event
+    → IsAfter (last_start options None events) event → IsKept before after
+    → AreRead options (done ++ row ∷ []) (events ++ event ∷ []) after
+read_row options done events row event before after read is later kept =
+    let P : Bool → Type 0 = λ h. AreEventsWith options h (done ++ row ∷ [])
+    (events ++ event ∷ []) in
+    record {
+      are = subst P (sym kept.header) (events_more options before.header done events row
+          event read.are is later);
+      counted = counted_row done events row event before after
+          read.counted kept;
+    }
+
+read_passed : (options : RowsOptions) (done : List (List (List ℕ))) (events : List Event)
+    (row : List (List ℕ)) (count : ℕ) (before after : Imported) → length done ≡ count
+    → count < 2 ^ 64 - 1 → AreRead options done events before
+    → IsPassed options (last_start options None events) row
+    → after.passed ≡ counted_more before.passed true → after.header ≡ before.header
+    → AreRead options (done ++ row ∷ []) events after
+read_passed options done events row count before after counted few read is passed header =
+    let P : Bool → Type 0 = λ h. AreEventsWith options h (done ++ row ∷ []) events in
+    record {
+      are = subst P (sym header) (events_passed options before.header done events row
+          read.are is);
+      counted = counted_passed done events row count before after counted few
+          read.counted passed header;
+    }
+
+read_header : (options : RowsOptions) (done : List (List (List ℕ))) (events : List Event)
+    (row : List (List ℕ)) (before after : Imported) → length done ≡ 0
+    → AreRead options done events before → IsHeader row → after.passed ≡ before.passed
+    → after.header ≡ true → AreRead options (done ++ row ∷ []) events after
+read_header options done events row before after none read is passed header =
+    let P : Bool → Type 0 = λ h. AreEventsWith options h (done ++ row ∷ []) events in
+    record {
+      are = subst P (sym header) (events_header options before.header done events row none
+          read.are is);
+      counted = counted_header done events row before after none read.counted passed
+          header;
+    }
+
 told_more : (options : RowsOptions) (events : List Event) (event : Event) (before after : Imported)
     → IsTold options events before → IsNoted options before after event
     → IsTold options (events ++ event ∷ []) after
@@ -142,11 +187,11 @@ added_one options old new before now later done events row event (Ok taken) has 
     let Q : List ℕ → Type 0 = λ text. Puts before later text in (
       events ++ event ∷ [],
       record {
-        are = events_more options done events row event has.are is (subst P has.last after);
+        read = read_row options done events row event old.tally new.tally has.read is
+            (subst P has.last after) noted.kept;
         last = last ∙ (ap (λ o. last_with options o event) has.last
             ∙ sym (last_more options None events event));
         told = told_more options events event old.tally new.tally has.told noted;
-        counted = counted_row done events row event old.tally new.tally has.counted noted.kept;
         written = subst Q (sym (text_more options events event))
             (put_both before now later (rows_text (taken_of options events))
             (part_line options event) has.written puts);
@@ -161,7 +206,9 @@ added_one options old new before now later done events row event (Err Write) has
     let P : Option ℕ → Type 0 = λ o. IsAfter o event in
     let Q : List ℕ → Type 0 = λ text. Breaks before later text in (
       events ++ event ∷ [],
-      events_more options done events row event has.are is (subst P has.last after),
+      events_of options old.tally.header (done ++ row ∷ []) (events ++ event ∷ [])
+          (events_more options old.tally.header done events row event has.read.are is
+          (subst P has.last after)),
       subst Q (sym (text_more options events event))
           (break_both before now later (rows_text (taken_of options events))
           (part_line options event) has.written refused),
@@ -182,12 +229,11 @@ passed_header options old new before now done events row count counted has same 
     header = (
       events,
       record {
-        are = events_header options done events row (counted ∙ none) has.are header;
+        read = read_header options done events row old.tally new.tally (counted ∙ none) has.read
+            header
+            passed is;
         last = same ∙ has.last;
         told = told;
-        counted = counted_header done events row old.tally new.tally (counted ∙ none) has.counted
-            passed
-            is;
         written = has.written;
       },
     )
@@ -250,17 +296,16 @@ passed_one options old new before now later done events row count why (Ok taken)
     let Q : Output → Type 0 = λ o. Puts before o (rows_text (taken_of options events)) in (
       events,
       record {
-        are = events_passed options done events row has.are
+        read =
+            read_passed options done events row count old.tally new.tally counted few has.read
             (record {
               at = outside.at;
               tells = outside.tells;
               outside = outside.outside;
               no_row = subst P has.last next.0;
-            });
+            }) passed header;
         last = last ∙ has.last;
         told = told_same options events old.tally new.tally has.told same;
-        counted = counted_passed done events row count old.tally new.tally counted few has.counted
-            passed header;
         written = subst Q (sym is) has.written;
       },
     )
@@ -350,7 +395,7 @@ not_taken remaining old now options first next before middle after count all row
         rest = rest;
         before = record {
           split = so_far.split ∙ ap (λ l. so_far.done ++ l) is;
-          are = so_far.has.are;
+          are = events_of options first.tally.header so_far.done so_far.events so_far.has.read.are;
           lines = refl;
         };
         counted = taken.0;
@@ -390,7 +435,7 @@ not_taken remaining old now options first next before middle after count all row
         rest = row ∷ rest;
         are = record {
           split = so_far.split ∙ ap (λ l. so_far.done ++ l) is;
-          are = so_far.has.are;
+          are = events_of options first.tally.header so_far.done so_far.events so_far.has.read.are;
           lines = refl;
         };
       },
@@ -406,7 +451,12 @@ in_part remaining now options importing before after count all so_far = record {
   done = so_far.done;
   events = so_far.events;
   rest = so_far.rest;
-  are = record { split = so_far.split; are = so_far.has.are; lines = refl };
+  are = record {
+    split = so_far.split;
+    are = events_of options importing.tally.header so_far.done
+        so_far.events so_far.has.read.are;
+    lines = refl;
+  };
 }
 
 pub not_read : {R : Type 0} (remaining : R → Option (List ℕ)) (now : Records R)
@@ -438,17 +488,10 @@ pub all_taken : {R : Type 0} (remaining : R → Option (List ℕ)) (now : Record
 all_taken remaining now options importing before after count all so_far none =
     let whole : so_far.done ≡ all =
     sym (so_far.split ∙ (ap (λ l. so_far.done ++ l) none ∙ append-nil so_far.done)) in
-    let P : List (List (List ℕ)) → Type 0 = λ l. AreEvents options l so_far.events in
-    let Q : List (List (List ℕ)) → Type 0 = λ l. IsCounted l so_far.events importing.tally in
+    let P : List (List (List ℕ)) → Type 0 = λ l. AreRead options l so_far.events importing.tally in
     inl (
       rows_text (taken_of options so_far.events),
-      (
-        so_far.events,
-        subst P whole so_far.has.are,
-        so_far.has.told,
-        subst Q whole so_far.has.counted,
-        refl,
-      ),
+      (so_far.events, subst P whole so_far.has.read, so_far.has.told, refl),
       so_far.has.written,
     )
 

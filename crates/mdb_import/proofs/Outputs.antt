@@ -13,6 +13,7 @@ use Rattle.mdb_import.specs.declared.fault.ImportFault.{ImportFault}
 use Rattle.mdb_import.specs.declared.fault.ImportFault.TheVariants.{Write}
 use Rattle.mdb_import.specs.declared.fault.Imported.{Imported}
 use Rattle.mdb_import.specs.declared.options.RowsOptions.{RowsOptions}
+use Rattle.mdb_import.proofs.Events.{events_of}
 use Rattle.mdb_import.proofs.Texts.{appended}
 
 grown_none : (a : Option (List ℕ)) → Appends a a []
@@ -120,7 +121,15 @@ pub exported_ok : (options : RowsOptions) (text : List ℕ) (before after : Opti
     → Exports options (export_records text) before after answer
     → IfOk answer (λ imported. IsExported options text before after)
 exported_ok options text before after (Ok imported) (inl written) =
-    let P : List ℕ → Type 0 = λ t. Appends before after t in
-    (taken_of options written.1.0, (written.1.0, written.1.1, refl), subst P written.1.4 written.2)
+    let P : List ℕ → Type 0 = λ t. Appends before after t in (
+      taken_of options written.1.0,
+      (
+        written.1.0,
+        events_of options imported.header (export_records text) written.1.0
+            written.1.1.are,
+        refl,
+      ),
+      subst P written.1.3 written.2,
+    )
 exported_ok options text before after (Ok imported) (inr cut) = absurd (let never = cut.0 in cc)
 exported_ok options text before after (Err fault) written = tt

@@ -4,7 +4,7 @@ use Rattle.std.specs.Prelude.{◌≡◌, ◌⊎◌, ◌+◌, ◌++◌, ◌∷◌
 use Rattle.std.specs.Prelude.{length, Bool, true, IfSome, IfNone, Option, Some, None, Result, Ok}
 use Rattle.std.specs.Prelude.{Err, if◌then◌else◌}
 use Rattle.mdb_words.specs.declared.event.Event.{Event}
-use Rattle.mdb_import.specs.Exports.{IsCounted, IsExport, IsRefusedRecord, IsTold, is_before}
+use Rattle.mdb_import.specs.Exports.{AreRead, IsExport, IsRefusedRecord, IsTold, is_before}
 use Rattle.mdb_import.specs.Exports.{is_behind, is_controllers, is_marked, is_peripherals, is_taken}
 use Rattle.mdb_import.specs.Exports.{last_start, row_line, rows_text, taken_of}
 use Rattle.mdb_import.specs.Refusals.{IsFault}
@@ -90,10 +90,9 @@ IsRefusalFor options fields done before why Memory = ⊥
 -- the records so far stand for these events, whose rows are on their way
 pub record HasImported (options : RowsOptions) (importing : Importing) (before after : Output)
     (done : List (List (List ℕ))) (events : List Event) : Type 0 where
-  pub are : AreEvents options done events
+  pub read : AreRead options done events importing.tally
   pub last : importing.last ≡ last_start options None events
   pub told : IsTold options events importing.tally
-  pub counted : IsCounted done events importing.tally
   pub written : Puts before after (rows_text (taken_of options events))
 
 -- what the taking of a record after others comes to

@@ -38,3 +38,6 @@ returns-in_err-write_out-clause-exports g c all to_come =
 
 pub take_all-answer-requires-clause-told : goal.take_all-answer-requires-clause-told
 take_all-answer-requires-clause-told g c = c.new-importing.ensures.told c.args.options.now
+
+pub take_all-answer-requires-clause-read : goal.take_all-answer-requires-clause-read
+take_all-answer-requires-clause-read g c = c.new-importing.ensures.read c.args.options.now

@@ -18,7 +18,7 @@ loop-done-init g c all to_come = record {
   counted = refl;
   to_come = to_come;
   has = none_imported c.args.options.now c.args.self.now (g.W.Write.contents c.args.writer.now)
-      c.args.self.now.page.lines.items c.requires.last c.requires.told c.requires.counted
+      c.args.self.now.page.lines.items c.requires.last c.requires.told c.requires.read
       c.requires.page;
 }
 
