@@ -1,7 +1,7 @@
 -- The import, record by record.
 use Rattle.std.proofs.Common.{arith, refl, ap, sym, subst, inl, inr, ◌∙◌, ◌≡◌, ◌+◌, ℕ, List, []}
-use Rattle.std.proofs.Common.{◌∷◌, ◌++◌, length, length-append, append_assoc, Option, Some, None}
-use Rattle.std.proofs.Common.{Result, Ok, Err, OnOk, IfErr}
+use Rattle.std.proofs.Common.{◌∷◌, ◌++◌, ◌≤◌, length, length-append, append_assoc, Option, Some}
+use Rattle.std.proofs.Common.{None, Result, Ok, Err, OnOk, IfErr}
 use Rattle.std.proofs.lemmas.List.{append-nil}
 use Rattle.mdb_records.specs.ToCome.{ToCome}
 use Rattle.mdb_records.specs.declared.ReadFault.{ReadFault}
@@ -9,15 +9,17 @@ use Rattle.mdb_records.specs.declared.ReadFault.TheVariants as reading
 use Rattle.mdb_records.specs.declared.Records.{Records}
 use Rattle.mdb_words.specs.Event.{start_of}
 use Rattle.mdb_words.specs.declared.event.Event.{Event}
+use Rattle.mdb_import.specs.Exports.{HasFailed}
 use Rattle.mdb_import.specs.Rows.{IsAfter}
+use Rattle.mdb_import.specs.declared.fault.Imported.{Imported}
 use Rattle.mdb_import.specs.inner.Output.{Breaks, Output, Puts, begun}
 use Rattle.mdb_saleae.specs.Exports.{IsExportedInPart, IsRefusedRow, IsTold, part_text}
 use Rattle.mdb_saleae.specs.Exports.{read_fault_of}
 use Rattle.mdb_saleae.specs.Refusals.{IsFault}
 use Rattle.mdb_saleae.specs.Rows.{AreRows, IsTableRow, last_start}
 use Rattle.mdb_saleae.specs.inner.Output.{IsNotTaken}
-use Rattle.mdb_saleae.specs.inner.Steps.{HasImported, IsNext, IsNoted, PutsRows, TakesOne, fault_at}
-use Rattle.mdb_saleae.specs.inner.Steps.{part_line}
+use Rattle.mdb_saleae.specs.inner.Steps.{Begins, HasFailedBehind, HasImported, IsNext, IsNoted}
+use Rattle.mdb_saleae.specs.inner.Steps.{PutsRows, TakesOne, fault_at, part_line}
 use Rattle.mdb_saleae.specs.declared.columns.Columns.{Columns}
 use Rattle.mdb_saleae.specs.declared.fault.RowFault.{RowFault}
 use Rattle.mdb_saleae.specs.declared.fault.SaleaeFault.{SaleaeFault}
@@ -133,24 +135,24 @@ refused_one options columns old before now done events row number refusal told c
 -- some of the records are imported, and the rest is to come
 pub record SoFar {R : Type 0} (remaining : R → Option (List ℕ)) (now : Records R)
     (options : SaleaeOptions) (columns : Columns) (importing : Importing) (before after : Output)
-    (number : ℕ) (all : List (List (List ℕ))) : Type 0 where
+    (count : ℕ) (all : List (List (List ℕ))) : Type 0 where
   pub done : List (List (List ℕ))
   pub events : List Event
   pub rest : List (List (List ℕ))
   pub split : all ≡ done ++ rest
-  pub counted : length done + 2 ≡ number
+  pub counted : length done + 1 ≡ count
   pub to_come : ToCome remaining now rest
   pub has : HasImported options columns importing before after done events
 
 -- a record is taken
 pub one_further : {R : Type 0} (remaining : R → Option (List ℕ)) (old now : Records R)
     (options : SaleaeOptions) (columns : Columns) (first next : Importing)
-    (before middle after : Output) (number : ℕ) (all : List (List (List ℕ))) (row : List (List ℕ))
-    (so_far : SoFar remaining old options columns first before middle number all)
+    (before middle after : Output) (count : ℕ) (all : List (List (List ℕ))) (row : List (List ℕ))
+    (so_far : SoFar remaining old options columns first before middle count all)
     → (rest : List (List (List ℕ))) → so_far.rest ≡ row ∷ rest → ToCome remaining now rest
     → (more : List Event) × HasImported options columns next before after (so_far.done ++ row ∷ [])
-    more → SoFar remaining now options columns next before after (number + 1) all
-one_further remaining old now options columns first next before middle after number all row so_far
+    more → SoFar remaining now options columns next before after (count + 1) all
+one_further remaining old now options columns first next before middle after count all row so_far
     rest is to_come taken = record {
       done = so_far.done ++ row ∷ [];
       events = taken.0;
@@ -165,17 +167,17 @@ one_further remaining old now options columns first next before middle after num
 -- a record isn't taken
 pub not_taken : {R : Type 0} (remaining : R → Option (List ℕ)) (old : Records R)
     (options : SaleaeOptions) (columns : Columns) (first next : Importing)
-    (before middle after : Output) (number : ℕ) (all : List (List (List ℕ))) (row : List (List ℕ))
-    (so_far : SoFar remaining old options columns first before middle number all)
+    (before middle after : Output) (count : ℕ) (all : List (List (List ℕ))) (row : List (List ℕ))
+    (so_far : SoFar remaining old options columns first before middle count all)
     → (rest : List (List (List ℕ))) → so_far.rest ≡ row ∷ rest → (fault : SaleaeFault)
     → TakesOne options columns next before after so_far.done so_far.events row (Err fault)
     → PutsRows options columns all before after (Err fault)
-not_taken remaining old options columns first next before middle after number all row so_far rest is
+not_taken remaining old options columns first next before middle after count all row so_far rest is
     NoHeader taken = absurd taken
-not_taken remaining old options columns first next before middle after number all row so_far rest is
+not_taken remaining old options columns first next before middle after count all row so_far rest is
     (BadHeader fault) taken = absurd taken
-not_taken remaining old options columns first next before middle after number all row so_far rest is
-    (BadRecord count fault) taken = inl (
+not_taken remaining old options columns first next before middle after count all row so_far rest is
+    (BadRecord told fault) taken = inl (
       part_text options so_far.events,
       record {
         done = so_far.done;
@@ -192,8 +194,8 @@ not_taken remaining old options columns first next before middle after number al
       },
       taken.2,
     )
-not_taken remaining old options columns first next before middle after number all row so_far rest is
-    (BadRow count at fault) taken = inl (
+not_taken remaining old options columns first next before middle after count all row so_far rest is
+    (BadRow told at fault) taken = inl (
       part_text options so_far.events,
       record {
         done = so_far.done;
@@ -210,9 +212,9 @@ not_taken remaining old options columns first next before middle after number al
       },
       taken.2,
     )
-not_taken remaining old options columns first next before middle after number all row so_far rest is
+not_taken remaining old options columns first next before middle after count all row so_far rest is
     Read taken = absurd taken
-not_taken remaining old options columns first next before middle after number all row so_far rest is
+not_taken remaining old options columns first next before middle after count all row so_far rest is
     Write taken = inr (
       refl,
       record {
@@ -233,7 +235,7 @@ not_taken remaining old options columns first next before middle after number al
         broken = taken.2;
       },
     )
-not_taken remaining old options columns first next before middle after number all row so_far rest is
+not_taken remaining old options columns first next before middle after count all row so_far rest is
     Memory taken = inl (
       part_text options so_far.events,
       record {
@@ -251,11 +253,11 @@ not_taken remaining old options columns first next before middle after number al
 
 -- no record can be read any more
 in_part : {R : Type 0} (remaining : R → Option (List ℕ)) (now : Records R) (options : SaleaeOptions)
-    (columns : Columns) (importing : Importing) (before after : Output) (number : ℕ)
+    (columns : Columns) (importing : Importing) (before after : Output) (count : ℕ)
     (all : List (List (List ℕ)))
-    (so_far : SoFar remaining now options columns importing before after number all)
+    (so_far : SoFar remaining now options columns importing before after count all)
     → IsExportedInPart options columns all (part_text options so_far.events)
-in_part remaining now options columns importing before after number all so_far = record {
+in_part remaining now options columns importing before after count all so_far = record {
   done = so_far.done;
   events = so_far.events;
   rest = so_far.rest;
@@ -264,31 +266,31 @@ in_part remaining now options columns importing before after number all so_far =
 
 pub not_read : {R : Type 0} (remaining : R → Option (List ℕ)) (now : Records R)
     (options : SaleaeOptions) (columns : Columns) (importing : Importing) (before after : Output)
-    (number : ℕ) (all : List (List (List ℕ))) (fault : ReadFault)
-    (so_far : SoFar remaining now options columns importing before after number all)
+    (count : ℕ) (all : List (List (List ℕ))) (fault : ReadFault)
+    (so_far : SoFar remaining now options columns importing before after count all)
     → PutsRows options columns all before after (Err (read_fault_of fault))
-not_read remaining now options columns importing before after number all reading.Read so_far =
+not_read remaining now options columns importing before after count all reading.Read so_far =
     inl (
       part_text options so_far.events,
       in_part remaining now options columns importing before
-          after number all so_far,
+          after count all so_far,
       so_far.has.written,
     )
-not_read remaining now options columns importing before after number all reading.Memory so_far =
+not_read remaining now options columns importing before after count all reading.Memory so_far =
     inl (
       part_text options so_far.events,
       in_part remaining now options columns importing before
-          after number all so_far,
+          after count all so_far,
       so_far.has.written,
     )
 
 -- all records are taken
 pub all_taken : {R : Type 0} (remaining : R → Option (List ℕ)) (now : Records R)
     (options : SaleaeOptions) (columns : Columns) (importing : Importing) (before after : Output)
-    (number : ℕ) (all : List (List (List ℕ)))
-    (so_far : SoFar remaining now options columns importing before after number all)
+    (count : ℕ) (all : List (List (List ℕ)))
+    (so_far : SoFar remaining now options columns importing before after count all)
     → so_far.rest ≡ [] → PutsRows options columns all before after (Ok importing.tally)
-all_taken remaining now options columns importing before after number all so_far none =
+all_taken remaining now options columns importing before after count all so_far none =
     let whole : so_far.done ≡ all =
     sym (so_far.split ∙ (ap (λ l. so_far.done ++ l) none ∙ append-nil so_far.done)) in
     let P : List (List (List ℕ)) → Type 0 = λ l. AreRows options columns None l so_far.events in
@@ -297,3 +299,62 @@ all_taken remaining now options columns importing before after number all so_far
       (so_far.events, subst P whole so_far.has.are, so_far.has.told, refl),
       so_far.has.written,
     )
+
+-- what isn't put there, or is refused, is no failed read
+pub added_unread : {T : Type 0} (r : Result T SaleaeFault) (before after : Output) (text : List ℕ)
+    → IfErr r (λ fault. IsNotTaken fault before after text) → IfErr r (λ fault. fault ≡ Read → ⊥)
+added_unread (Ok x) before after text refused = tt
+added_unread (Err fault) before after text refused =
+    λ is. subst (λ f. IsNotTaken f before after text) is refused
+
+pub told_unread : (number : ℕ) (at : Option ℕ) (fault : RowFault) (told : SaleaeFault)
+    → told ≡ fault_at number at fault → told ≡ Read → ⊥
+told_unread number None fault told is read = let bad : BadRecord number fault ≡ Read =
+    sym is ∙ read in absurd (cc bad)
+told_unread number (Some at) fault told is read = let bad : BadRow number at fault ≡ Read =
+    sym is ∙ read in absurd (cc bad)
+
+-- a fault that is told as a failed read is one
+pub read_fault : (fault : ReadFault) → read_fault_of fault ≡ Read → fault ≡ reading.Read
+read_fault reading.Read is = refl
+read_fault reading.Memory is = let bad : Memory ≡ Read = is in absurd (cc bad)
+
+-- as many records behind the header as were counted
+pub counted_all : {R : Type 0} {remaining : R → Option (List ℕ)} {now : Records R}
+    {options : SaleaeOptions} {columns : Columns} {importing : Importing} {before after : Output}
+    (count : ℕ) (all : List (List (List ℕ))) (least : ℕ)
+    → SoFar remaining now options columns importing before after count all → least + 1 ≤ count
+    → least ≤ length all
+counted_all count all least so_far most =
+    let split : length all ≡ length so_far.done + length so_far.rest =
+    ap length so_far.split ∙ length-append so_far.done so_far.rest in
+    let counted = so_far.counted in
+    omega (arith, split, counted, most)
+
+-- the number of the record behind some
+pub next_number : (done : List (List (List ℕ))) (count : ℕ) → length done + 1 ≡ count
+    → length done + 2 ≡ count + 1
+next_number done count is = omega (arith, is)
+
+-- a failed read behind the header is one of all records
+failed_behind : {R : Type 0} (remaining : R → Option (List ℕ)) (before middle after : Records R)
+    (columns : Columns) → ((all : List (List (List ℕ))) → ToCome remaining before all
+    → Begins remaining middle all (Ok columns)) → HasFailedBehind remaining middle after
+    → HasFailed remaining before after
+failed_behind remaining before middle after columns begins (inl is) = inl is
+failed_behind remaining before middle after columns begins (inr most) = inr (λ all to_come.
+    let begun_so = begins all to_come in
+    let behind = most begun_so.1 begun_so.4 in
+    let split : length all ≡ 1 + length begun_so.1 =
+    ap length begun_so.2 ∙ length-append (begun_so.0 ∷ []) begun_so.1 in
+    omega (arith, behind, split))
+
+pub answer_failed : {R : Type 0} (remaining : R → Option (List ℕ)) (before middle after : Records R)
+    (columns : Columns) (answer : Result Imported SaleaeFault)
+    → ((all : List (List (List ℕ))) → ToCome remaining before all
+    → Begins remaining middle all (Ok columns))
+    → IfErr answer (λ fault. fault ≡ Read → HasFailedBehind remaining middle after)
+    → IfErr answer (λ fault. fault ≡ Read → HasFailed remaining before after)
+answer_failed remaining before middle after columns (Ok imported) begins failed = tt
+answer_failed remaining before middle after columns (Err fault) begins failed =
+    λ is. failed_behind remaining before middle after columns begins (failed is)

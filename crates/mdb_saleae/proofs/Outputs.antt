@@ -2,7 +2,7 @@
 use Rattle.std.proofs.Common.{refl, ap, sym, subst, inl, inr, ◌∙◌, ◌≡◌, ℕ, List, [], ◌∷◌, ◌++◌}
 use Rattle.std.proofs.Common.{Option, Some, None, Result, Ok, Err, append_assoc}
 use Rattle.std.proofs.lemmas.List.{append-nil}
-use Rattle.std.specs.Prelude.{IfOk, IsErrAnd}
+use Rattle.std.specs.Prelude.{IfErr, IfOk, IsErrAnd}
 use Rattle.std.specs.Io.KnownBytes.{Appends}
 use Rattle.mdb_import.specs.Exports.{export_records}
 use Rattle.mdb_import.specs.Written.{HasTaken}
@@ -18,7 +18,7 @@ use Rattle.mdb_saleae.specs.inner.Faults.{page_fault_of}
 use Rattle.mdb_saleae.specs.inner.Steps.{PutsRows}
 use Rattle.mdb_saleae.specs.declared.columns.Columns.{Columns}
 use Rattle.mdb_saleae.specs.declared.fault.SaleaeFault.{SaleaeFault}
-use Rattle.mdb_saleae.specs.declared.fault.SaleaeFault.TheVariants.{Write}
+use Rattle.mdb_saleae.specs.declared.fault.SaleaeFault.TheVariants.{Read, Write}
 use Rattle.mdb_saleae.specs.declared.options.SaleaeOptions.{SaleaeOptions}
 
 -- two parts in turn
@@ -157,6 +157,14 @@ pub cut_short : (options : SaleaeOptions) (all : List (List (List ℕ)))
 cut_short options all before later fault (Ok showing) is write cut = absurd is
 cut_short options all before later fault (Err told) is write cut =
     inr (ap Err (is ∙ ap page_fault_of write), cut)
+
+-- and that is no failed read
+pub page_unread : (P : Type 0) (fault : ImportFault) (answer : Result Imported SaleaeFault)
+    → IsErrAnd answer (λ told. told ≡ page_fault_of fault) → fault ≡ page_fault.Write
+    → IfErr answer (λ told. told ≡ Read → P)
+page_unread P fault (Ok showing) is write = tt
+page_unread P fault (Err told) is write =
+    λ read. absurd (let bad : Write ≡ Read = sym (is ∙ ap page_fault_of write) ∙ read in cc bad)
 
 -- there are no columns
 pub no_table : (options : SaleaeOptions) (all : List (List (List ℕ))) (before : Option (List ℕ))

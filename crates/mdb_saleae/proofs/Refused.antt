@@ -42,9 +42,9 @@ name_why options columns fields name same none on is =
 no_break : (options : SaleaeOptions) (columns : Columns) (fields : List (List ℕ)) (name : List ℕ)
     (line : Line) (word : ℕ) (told : RowFault) → name ≡ cell fields columns.name
     → IsLine options name line → IsFramed columns fields true
-    → ((other : ℕ) → IsValue columns fields other → other ≡ word)
+    → IsValue columns fields word → ((other : ℕ) → IsValue columns fields other → other ≡ word)
     → IsNoBreakOf options line word told → IsNoBreak options columns fields told
-no_break options columns fields name line word told same named framed only (inl is) = (
+no_break options columns fields name line word told same named framed value only (inl is) = (
   framed,
   inl (
     is.0,
@@ -52,20 +52,35 @@ no_break options columns fields name line word told same named framed only (inl 
         (subst (IsLine options name) is.1 named),
   ),
 )
-no_break options columns fields name line word told same named framed only (inr (inl is)) =
-    (framed, inr (inl (is.0, λ value. is.1 (sym (only 0 value)))))
-no_break options columns fields name line word told same named framed only (inr (inr is)) =
-    (framed, inr (inr is))
+no_break options columns fields name line word told same named framed value only (inr (inl is)) = (
+  framed,
+  inr (inl (
+    is.0,
+    subst (λ n. IsLine options n Controller) same
+        (subst (IsLine options name) is.1 named),
+    λ none. is.2 (sym (only 0 none)),
+  )),
+)
+no_break options columns fields name line word told same named framed value only (inr (inr is)) = (
+  framed,
+  inr (inr (
+    is.0,
+    subst (λ n. IsLine options n Controller) same
+        (subst (IsLine options name) is.1 named),
+    subst (IsValue columns fields) is.2 value,
+    is.3,
+  )),
+)
 
 pub break_why : (r : Result Event RowFault) (options : SaleaeOptions) (columns : Columns)
     (fields : List (List ℕ)) (name : List ℕ) (line : Line) (word : ℕ)
     → name ≡ cell fields columns.name → IsLine options name line → IsFramed columns fields true
-    → ((other : ℕ) → IsValue columns fields other → other ≡ word)
+    → IsValue columns fields word → ((other : ℕ) → IsValue columns fields other → other ≡ word)
     → IfErr r (IsNoBreakOf options line word) → IfErr r (IsNoEvent options columns fields)
-break_why (Ok event) options columns fields name line word same named framed only is = tt
-break_why (Err told) options columns fields name line word same named framed only is =
-    inr (inr (inr (inr (no_break options columns fields name line word told same named framed only
-    is))))
+break_why (Ok event) options columns fields name line word same named framed value only is = tt
+break_why (Err told) options columns fields name line word same named framed value only is =
+    inr (inr (inr (inr (no_break options columns fields name line word told same named framed value
+    only is))))
 
 -- an event at the same time as one that isn't after a time isn't either
 pub late : (last : Option ℕ) (found event : Event) → IsSome last

@@ -96,6 +96,8 @@ pub told_more : (options : SaleaeOptions) (events : List Event) (event : Event)
     (before after : Imported) → IsTold options events before → IsNoted options before after event
     → IsTold options (events ++ event ∷ []) after
 told_more options events event before after told noted = record {
+  header = noted.kept.header ∙ told.header;
+  passed = noted.kept.passed ∙ told.passed;
   rows = count_more (is_taken options) events event before.rows after.rows told.rows noted.rows;
   before = count_more (is_before options) events event before.before after.before told.before
       noted.before;

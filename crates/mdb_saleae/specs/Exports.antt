@@ -1,6 +1,6 @@
 -- What the import of a table answers, and what it writes.
 use Rattle.std.specs.Prelude.{◌≡◌, ◌⊎◌, ◌+◌, ◌&&◌, ℕ, List, [], ◌∷◌, ◌++◌, ⊤, length, filter, not}
-use Rattle.std.specs.Prelude.{Bool, Option, Some, None, Result, Ok, Err}
+use Rattle.std.specs.Prelude.{Bool, true, Option, Some, None, Result, Ok, Err}
 use Rattle.std.specs.List.{list_any}
 use Rattle.std.specs.Io.KnownBytes.{Appends}
 use Rattle.mdb_words.specs.Event.{start_of}
@@ -41,8 +41,12 @@ abbrev pub part_text : SaleaeOptions → List Event → List ℕ
 part_text options events = rows_text (filter (is_taken options) events)
 
 -- What is told of all events: how many were written, and how many are before and after the part,
--- whether there is a marked word, and one on each line.
-pub record IsTold (options : SaleaeOptions) (events : List Event) (imported : Imported) : Type 0 where
+-- whether there is a marked word, and one on each line. A table has a header, and none of its
+-- records is passed over.
+pub record IsTold (options : SaleaeOptions) (events : List Event) (imported : Imported)
+    : Type 0 where
+  pub header : imported.header ≡ true
+  pub passed : imported.passed ≡ 0
   pub rows : imported.rows ≡ told_count (is_taken options) events
   pub before : imported.before ≡ told_count (is_before options) events
   pub after : imported.after ≡ told_count (is_behind options) events

@@ -37,4 +37,4 @@ returns-then-framed-clause-why c =
     break_why c.break_of.result c.args.options.now c.args.columns.now fields c.cell.result.now
     c.in-Some.line c.in-Ok-read_value.word c.cell.ensures c.in-Some.ensures.some
     (subst (IsFramed c.args.columns.now fields) c.if-framed.true c.in-Ok.ensures.ok)
-    c.in-Ok-read_value.ensures.only c.break_of.ensures.why
+    c.in-Ok-read_value.ensures.ok c.in-Ok-read_value.ensures.only c.break_of.ensures.why
