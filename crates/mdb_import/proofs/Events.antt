@@ -1,5 +1,8 @@
 -- Records and the events that they stand for.
-use Rattle.std.proofs.Common.{arith, refl, cond, length, append_assoc, ap, sym, subst, inl, inr, ◌∙◌, ◌≡◌, ◌≤◌, ◌↔◌, ℕ, Bool, true, false, not, List, [], ◌∷◌, ◌++◌, Option, Some, None, map, IsTrue, IsSome, IfSome, IfErr, Result, Ok, Err}
+use Rattle.std.proofs.Common.{arith, refl, cond, length, append_assoc, ap, sym, subst, inl, inr}
+use Rattle.std.proofs.Common.{◌∙◌, ◌≡◌, ◌≤◌, ◌↔◌, ℕ, Bool, true, false, not, List, [], ◌∷◌, ◌++◌}
+use Rattle.std.proofs.Common.{Option, Some, None, map, IsTrue, IsSome, IfSome, IfErr, Result, Ok}
+use Rattle.std.proofs.Common.{Err}
 use Rattle.std.proofs.Math.ListN.{length-map}
 use Rattle.std.proofs.lemmas.List.{append-nil}
 use Rattle.mdb_words.specs.Event.{start_of}
@@ -15,41 +18,62 @@ use Rattle.mdb_import.specs.Refusals.{IsFieldsFault, IsNoRow, IsTimeFault}
 use Rattle.mdb_import.specs.declared.fault.RecordFault.{RecordFault}
 use Rattle.mdb_import.specs.declared.fault.RecordFault.TheVariants as fault
 use Rattle.mdb_import.specs.Exports.{last_start, row_line, rows_text, taken_of, is_taken}
-use Rattle.mdb_import.specs.Rows.{AreEvents, AreRows, IsAfter, IsExportedRow, IsHeader, IsPassed, TellsTime, last_with}
+use Rattle.mdb_import.specs.Rows.{AreEvents, AreEventsWith, AreRows, IsAfter, IsExportedRow}
+use Rattle.mdb_import.specs.Rows.{IsHeader, IsPassed, TellsTime, last_with}
 use Rattle.mdb_import.specs.inner.Steps.{part_line}
 use Rattle.mdb_import.proofs.Readings.{time_same}
 
 -- the time of an event is its first field
-pub time_at : (options : RowsOptions) (time line value : List ℕ) (event : Event) → AreOf options time line value event → IsTime options.unit time (start_of event)
+pub time_at : (options : RowsOptions) (time line value : List ℕ) (event : Event)
+    → AreOf options time line value event → IsTime options.unit time (start_of event)
 time_at options time line value (Word at on word) are = are.0
 time_at options time line value (Break at length) are = are.0
 
 -- a line's row whose value is no word
-pub no_word : (options : RowsOptions) (time line value : List ℕ) (on : Line) → IsLine options line on → ((word : ℕ) → IsWord value word → ⊥) → (event : Event) → AreOf options time line value event → ⊥
+pub no_word : (options : RowsOptions) (time line value : List ℕ) (on : Line)
+    → IsLine options line on → ((word : ℕ) → IsWord value word → ⊥) → (event : Event)
+    → AreOf options time line value event → ⊥
 no_word options time line value on named none (Word at other word) are = none word are.2
 no_word options time line value on named none (Break at length) are = are.2 on named
 
 -- a row of no line whose value is no length
-pub no_length : (options : RowsOptions) (time line value : List ℕ) → ((on : Line) → IsLine options line on → ⊥) → ((micros : ℕ) → IsLength options.unit value micros → ⊥) → (event : Event) → AreOf options time line value event → ⊥
+pub no_length : (options : RowsOptions) (time line value : List ℕ)
+    → ((on : Line) → IsLine options line on → ⊥)
+    → ((micros : ℕ) → IsLength options.unit value micros → ⊥) → (event : Event)
+    → AreOf options time line value event → ⊥
 no_length options time line value no_line none (Word at on word) are = no_line on are.1
 no_length options time line value no_line none (Break at length) are = none length are.3
 
 -- all events of some fields start at one time
-pub start_same : (options : RowsOptions) (fields : List (List ℕ)) (one two : Event) → IsRowOf options fields one → IsRowOf options fields two → start_of one ≡ start_of two
+pub start_same : (options : RowsOptions) (fields : List (List ℕ)) (one two : Event)
+    → IsRowOf options fields one → IsRowOf options fields two → start_of one ≡ start_of two
 start_same options fields one two first second =
-    let fields_same : first.time ∷ first.line ∷ first.value ∷ [] ≡ second.time ∷ second.line ∷ second.value ∷ [] = sym first.three ∙ second.three in
+    let fields_same : first.time ∷ first.line ∷ first.value ∷ [] ≡ second.time ∷ second.line
+    ∷ second.value ∷ [] = sym first.three ∙ second.three in
     let same : first.time ≡ second.time = cc in
     time_same options.unit second.time (start_of one) (start_of two)
-    (subst (λ t. IsTime options.unit t (start_of one)) same (time_at options first.time first.line first.value one first.are))
+    (subst (λ t. IsTime options.unit t (start_of one)) same
+    (time_at options first.time first.line first.value one first.are))
     (time_at options second.time second.line second.value two second.are)
 
 -- the header's test
-pub header_is : (line first : List ℕ) (separator : ℕ) → separator ≡ separator_of line → ((others : List (List ℕ)) × (parts_of separator line ≡ first ∷ others)) → (field : List ℕ) → field ≡ bare first → (form : Bool)
+pub header_is : (line first : List ℕ) (separator : ℕ) → separator ≡ separator_of line
+    → ((others : List (List ℕ)) × (parts_of separator line ≡ first ∷ others)) → (field : List ℕ)
+    → field ≡ bare first → (form : Bool)
     → (IsTrue form ↔ IsTimeForm field) → IsTrue (not form) ↔ IsHeaderOf (line_fields line)
 header_is line first separator is parts field is_bare form tells =
-    let fields : line_fields line ≡ bare first ∷ map bare parts.0 = ap (map bare) (ap (λ s. parts_of s line) (sym is) ∙ parts.1) in (
-      λ no_form. record { first = bare first; others = map bare parts.0; some = fields; no_time = λ time. neither form no_form (tells.1 (subst IsTimeForm (sym is_bare) time)) },
-      λ header. no_longer form (λ holds. header.no_time (let both : bare first ∷ map bare parts.0 ≡ header.first ∷ header.others = sym fields ∙ header.some in let same : bare first ≡ header.first = cc in subst IsTimeForm (is_bare ∙ same) (tells.0 holds))),
+    let fields : line_fields line ≡ bare first ∷ map bare parts.0 =
+    ap (map bare) (ap (λ s. parts_of s line) (sym is) ∙ parts.1) in (
+      λ no_form. record {
+        first = bare first;
+        others = map bare parts.0;
+        some = fields;
+        no_time = λ time. neither form no_form (tells.1 (subst IsTimeForm (sym is_bare) time));
+      },
+      λ header. no_longer form (λ holds. header.no_time
+          (let both : bare first ∷ map bare parts.0 ≡ header.first ∷ header.others = sym fields
+          ∙ header.some in let same : bare first ≡ header.first = cc in
+          subst IsTimeForm (is_bare ∙ same) (tells.0 holds))),
     )
   where
     neither : (b : Bool) → not b ≡ true → b ≡ true → ⊥
@@ -61,13 +85,18 @@ header_is line first separator is parts field is_bare form tells =
     no_longer false none = refl
 
 -- the row of a line
-pub row_of : (options : RowsOptions) (line a b c : List ℕ) (separator : ℕ) → separator ≡ separator_of line → parts_of separator line ≡ a ∷ b ∷ c ∷ [] → line_fields line ≡ bare a ∷ bare b ∷ bare c ∷ []
-row_of options line a b c separator is parts = ap (map bare) (ap (λ s. parts_of s line) (sym is) ∙ parts)
+pub row_of : (options : RowsOptions) (line a b c : List ℕ) (separator : ℕ)
+    → separator ≡ separator_of line → parts_of separator line ≡ a ∷ b ∷ c ∷ []
+    → line_fields line ≡ bare a ∷ bare b ∷ bare c ∷ []
+row_of options line a b c separator is parts =
+    ap (map bare) (ap (λ s. parts_of s line) (sym is) ∙ parts)
 
 -- a row's first field has the form of a time, so it is no header
-pub row_no_header : (options : RowsOptions) (fields : List (List ℕ)) (event : Event) → IsRowOf options fields event → IsHeaderOf fields → ⊥
+pub row_no_header : (options : RowsOptions) (fields : List (List ℕ)) (event : Event)
+    → IsRowOf options fields event → IsHeaderOf fields → ⊥
 row_no_header options fields event row header =
-    let both : row.time ∷ row.line ∷ row.value ∷ [] ≡ header.first ∷ header.others = sym row.three ∙ header.some in
+    let both : row.time ∷ row.line ∷ row.value ∷ [] ≡ header.first ∷ header.others =
+    sym row.three ∙ header.some in
     let same : row.time ≡ header.first = cc in
     let time = time_at options row.time row.line row.value event row.are in
     header.no_time (subst IsTimeForm same (form time.seconds))
@@ -77,46 +106,89 @@ row_no_header options fields event row header =
     form {n} {d} (inr is) = (n, is.0, inr is.1)
 
 -- a record more
-rows_more : (options : RowsOptions) (last : Option ℕ) (done : List (List (List ℕ))) (events : List Event) (row : List (List ℕ)) (event : Event) → AreRows options last done events → IsExportedRow options row event
-    → IsAfter (last_start options last events) event → AreRows options last (done ++ row ∷ []) (events ++ event ∷ [])
+rows_more : (options : RowsOptions) (last : Option ℕ) (done : List (List (List ℕ)))
+    (events : List Event) (row : List (List ℕ)) (event : Event) → AreRows options last done events
+    → IsExportedRow options row event
+    → IsAfter (last_start options last events) event
+    → AreRows options last (done ++ row ∷ []) (events ++ event ∷ [])
 rows_more options last [] [] row event are is after = inl (event, [], refl, is, after, refl)
 rows_more options last [] (e ∷ events) row event are is after = absurd (cc)
 rows_more options last (r ∷ done) events row event (inl are) is after =
     let P : List Event → Type 0 = λ l. IsAfter (last_start options last l) event in
-    inl (are.0, are.1 ++ event ∷ [], ap (λ l. l ++ event ∷ []) are.2, are.3, are.4, rows_more options (last_with options last are.0) done are.1 row event are.5 is (subst P are.2 after))
-rows_more options last (r ∷ done) events row event (inr passed) is after = inr (passed.0, rows_more options last done events row event passed.1 is after)
+    inl (
+      are.0,
+      are.1 ++ event ∷ [],
+      ap (λ l. l ++ event ∷ []) are.2,
+      are.3,
+      are.4,
+      rows_more options (last_with options last are.0) done are.1 row event are.5 is
+          (subst P are.2 after),
+    )
+rows_more options last (r ∷ done) events row event (inr passed) is after =
+    inr (passed.0, rows_more options last done events row event passed.1 is after)
 
-pub events_more : (options : RowsOptions) (done : List (List (List ℕ))) (events : List Event) (row : List (List ℕ)) (event : Event) → AreEvents options done events → IsExportedRow options row event
-    → IsAfter (last_start options None events) event → AreEvents options (done ++ row ∷ []) (events ++ event ∷ [])
-events_more options done events row event (inl are) is after = inl (rows_more options None done events row event are is after)
-events_more options [] events row event (inr are) is after = absurd are
-events_more options (header ∷ done) events row event (inr are) is after = inr (are.0, rows_more options None done events row event are.1 is after)
+-- records that stand for events, with a header or without
+pub events_of : (options : RowsOptions) (header : Bool) (records : List (List (List ℕ)))
+    (events : List Event) → AreEventsWith options header records events
+    → AreEvents options records events
+events_of options true records events are = inr are
+events_of options false records events are = inl are
+
+pub events_more : (options : RowsOptions) (header : Bool) (done : List (List (List ℕ)))
+    (events : List Event) (row : List (List ℕ)) (event : Event)
+    → AreEventsWith options header done events → IsExportedRow options row event
+    → IsAfter (last_start options None events) event
+    → AreEventsWith options header (done ++ row ∷ []) (events ++ event ∷ [])
+events_more options false done events row event are is after =
+    rows_more options None done events row event are is after
+events_more options true [] events row event are is after = absurd are
+events_more options true (first ∷ done) events row event are is after =
+    (are.0, rows_more options None done events row event are.1 is after)
 
 -- a record more that is passed over
-rows_passed : (options : RowsOptions) (last : Option ℕ) (done : List (List (List ℕ))) (events : List Event) (row : List (List ℕ)) → AreRows options last done events → IsPassed options (last_start options last events) row
+rows_passed : (options : RowsOptions) (last : Option ℕ) (done : List (List (List ℕ)))
+    (events : List Event) (row : List (List ℕ)) → AreRows options last done events
+    → IsPassed options (last_start options last events) row
     → AreRows options last (done ++ row ∷ []) events
 rows_passed options last [] [] row are is = inr (is, refl)
 rows_passed options last [] (e ∷ events) row are is = absurd (cc)
 rows_passed options last (r ∷ done) events row (inl are) is =
     let P : List Event → Type 0 = λ l. IsPassed options (last_start options last l) row in
-    inl (are.0, are.1, are.2, are.3, are.4, rows_passed options (last_with options last are.0) done are.1 row are.5 (subst P are.2 is))
-rows_passed options last (r ∷ done) events row (inr passed) is = inr (passed.0, rows_passed options last done events row passed.1 is)
+    inl (
+      are.0,
+      are.1,
+      are.2,
+      are.3,
+      are.4,
+      rows_passed options (last_with options last are.0) done
+          are.1 row are.5 (subst P are.2 is),
+    )
+rows_passed options last (r ∷ done) events row (inr passed) is =
+    inr (passed.0, rows_passed options last done events row passed.1 is)
 
-pub events_passed : (options : RowsOptions) (done : List (List (List ℕ))) (events : List Event) (row : List (List ℕ)) → AreEvents options done events → IsPassed options (last_start options None events) row
-    → AreEvents options (done ++ row ∷ []) events
-events_passed options done events row (inl are) is = inl (rows_passed options None done events row are is)
-events_passed options [] events row (inr are) is = absurd are
-events_passed options (header ∷ done) events row (inr are) is = inr (are.0, rows_passed options None done events row are.1 is)
+pub events_passed : (options : RowsOptions) (header : Bool) (done : List (List (List ℕ)))
+    (events : List Event) (row : List (List ℕ)) → AreEventsWith options header done events
+    → IsPassed options (last_start options None events) row
+    → AreEventsWith options header (done ++ row ∷ []) events
+events_passed options false done events row are is = rows_passed options None done events row are is
+events_passed options true [] events row are is = absurd are
+events_passed options true (first ∷ done) events row are is =
+    (are.0, rows_passed options None done events row are.1 is)
 
 -- fields tell one time
-pub tells_same : (options : RowsOptions) (fields : List (List ℕ)) (a b : ℕ) → TellsTime options fields a → TellsTime options fields b → a ≡ b
+pub tells_same : (options : RowsOptions) (fields : List (List ℕ)) (a b : ℕ)
+    → TellsTime options fields a → TellsTime options fields b → a ≡ b
 tells_same options fields a b one two =
     let both : one.first ∷ one.others ≡ two.first ∷ two.others = sym one.some ∙ two.some in
     let same : one.first ≡ two.first = cc in
-    time_same options.unit two.first a b (subst (λ t. IsTime options.unit t a) same one.time) two.time
+    time_same options.unit two.first a b (subst (λ t. IsTime options.unit t a) same one.time)
+    two.time
 
 -- the time of a line is that of its first part
-pub line_tells : (options : RowsOptions) (line first : List ℕ) (separator at : ℕ) → separator ≡ separator_of line → ((others : List (List ℕ)) × (parts_of separator line ≡ first ∷ others)) → (field : List ℕ) → field ≡ bare first
+pub line_tells : (options : RowsOptions) (line first : List ℕ) (separator at : ℕ)
+    → separator ≡ separator_of line
+    → ((others : List (List ℕ)) × (parts_of separator line ≡ first ∷ others)) → (field : List ℕ)
+    → field ≡ bare first
     → IsTime options.unit field at → TellsTime options (line_fields line) at
 line_tells options line first separator at is parts field is_bare time = record {
   first = bare first;
@@ -125,27 +197,41 @@ line_tells options line first separator at is parts field is_bare time = record 
   time = subst (λ f. IsTime options.unit f at) is_bare time;
 }
 
-pub line_tells_none : (options : RowsOptions) (line first : List ℕ) (separator : ℕ) → separator ≡ separator_of line → ((others : List (List ℕ)) × (parts_of separator line ≡ first ∷ others)) → (field : List ℕ) → field ≡ bare first
-    → ((at : ℕ) → IsTime options.unit field at → ⊥) → (at : ℕ) → TellsTime options (line_fields line) at → ⊥
+pub line_tells_none : (options : RowsOptions) (line first : List ℕ) (separator : ℕ)
+    → separator ≡ separator_of line
+    → ((others : List (List ℕ)) × (parts_of separator line ≡ first ∷ others)) → (field : List ℕ)
+    → field ≡ bare first
+    → ((at : ℕ) → IsTime options.unit field at → ⊥) → (at : ℕ)
+    → TellsTime options (line_fields line) at → ⊥
 line_tells_none options line first separator is parts field is_bare none at tells =
-    let fields : line_fields line ≡ bare first ∷ map bare parts.0 = ap (map bare) (ap (λ s. parts_of s line) (sym is) ∙ parts.1) in
-    let both : bare first ∷ map bare parts.0 ≡ tells.first ∷ tells.others = sym fields ∙ tells.some in
+    let fields : line_fields line ≡ bare first ∷ map bare parts.0 =
+    ap (map bare) (ap (λ s. parts_of s line) (sym is) ∙ parts.1) in
+    let both : bare first ∷ map bare parts.0 ≡ tells.first ∷ tells.others =
+    sym fields ∙ tells.some in
     let same : bare first ≡ tells.first = cc in
     none at (subst (λ f. IsTime options.unit f at) (sym (is_bare ∙ same)) tells.time)
 
 -- the first record is a header
-pub events_header : (options : RowsOptions) (done : List (List (List ℕ))) (events : List Event) (header : List (List ℕ)) → length done ≡ 0 → AreEvents options done events → IsHeader header → AreEvents options (done ++ header ∷ []) events
-events_header options [] events header none (inl are) is = inr (is, are)
-events_header options [] events header none (inr are) is = absurd are
-events_header options (r ∷ done) events header none are is = absurd (omega (arith, none))
+pub events_header : (options : RowsOptions) (header : Bool) (done : List (List (List ℕ)))
+    (events : List Event) (first : List (List ℕ)) → length done ≡ 0
+    → AreEventsWith options header done events → IsHeader first
+    → AreEventsWith options true (done ++ first ∷ []) events
+events_header options false [] events first none are is = (is, are)
+events_header options true [] events first none are is = absurd are
+events_header options header (r ∷ done) events first none are is = absurd (omega (arith, none))
 
 -- the time that the next row has to come after, with an event more
-pub last_more : (options : RowsOptions) (last : Option ℕ) (events : List Event) (event : Event) → last_start options last (events ++ event ∷ []) ≡ last_with options (last_start options last events) event
+pub last_more : (options : RowsOptions) (last : Option ℕ) (events : List Event) (event : Event)
+    → last_start options last (events ++ event ∷ []) ≡ last_with options
+    (last_start options last events) event
 last_more options last [] event = refl
-last_more options last (e ∷ events) event = last_more options (last_with options last e) events event
+last_more options last (e ∷ events) event =
+    last_more options (last_with options last e) events event
 
 -- the rows with an event more
-pub text_more : (options : RowsOptions) (events : List Event) (event : Event) → rows_text (taken_of options (events ++ event ∷ [])) ≡ rows_text (taken_of options events) ++ part_line options event
+pub text_more : (options : RowsOptions) (events : List Event) (event : Event)
+    → rows_text (taken_of options (events ++ event ∷ [])) ≡ rows_text
+    (taken_of options events) ++ part_line options event
 text_more options [] event = one (is_taken options event)
   where
     one : (b : Bool) → rows_text (cond b (event ∷ []) []) ≡ cond b (row_line event) []
@@ -153,18 +239,26 @@ text_more options [] event = one (is_taken options event)
     one false = refl
 text_more options (e ∷ events) event = more (is_taken options e) (text_more options events event)
   where
-    more : (b : Bool) → rows_text (taken_of options (events ++ event ∷ [])) ≡ rows_text (taken_of options events) ++ part_line options event
-        → rows_text (cond b (e ∷ taken_of options (events ++ event ∷ [])) (taken_of options (events ++ event ∷ []))) ≡ rows_text (cond b (e ∷ taken_of options events) (taken_of options events)) ++ part_line options event
-    more true rest = ap (λ l. row_line e ++ l) rest ∙ sym (append_assoc (row_line e) (rows_text (taken_of options events)) (part_line options event))
+    more : (b : Bool) → rows_text (taken_of options (events ++ event ∷ [])) ≡ rows_text
+        (taken_of options events) ++ part_line options event
+        → rows_text (cond b (e ∷ taken_of options (events ++ event ∷ []))
+        (taken_of options (events ++ event ∷ []))) ≡ rows_text
+        (cond b (e ∷ taken_of options events) (taken_of options events)) ++ part_line options event
+    more true rest = ap (λ l. row_line e ++ l) rest
+        ∙ sym (append_assoc (row_line e) (rows_text (taken_of options events))
+        (part_line options event))
     more false rest = rest
 
 -- an event at the same time as one that isn't after a time isn't either
-pub late : (last : Option ℕ) (found event : Event) → IsSome last → IfSome last (λ before. start_of found ≤ before) → start_of found ≡ start_of event → IsAfter last event → ⊥
+pub late : (last : Option ℕ) (found event : Event) → IsSome last
+    → IfSome last (λ before. start_of found ≤ before) → start_of found ≡ start_of event
+    → IsAfter last event → ⊥
 late None found event some before same after = absurd (cc)
 late (Some time) found event some before same after = absurd (omega (arith, before, same, after))
 
 -- a fault of the time is one of the fields
-pub time_why : (options : RowsOptions) (time line value : List ℕ) (f : RecordFault) → IsTimeFault options.unit time f → IsFieldsFault options time line value f
+pub time_why : (options : RowsOptions) (time line value : List ℕ) (f : RecordFault)
+    → IsTimeFault options.unit time f → IsFieldsFault options time line value f
 time_why options time line value fault.FieldCount is = absurd is
 time_why options time line value fault.BadTime is = is
 time_why options time line value fault.NoUnit is = is
@@ -176,7 +270,9 @@ time_why options time line value fault.SameTime is = absurd is
 time_why options time line value fault.EarlierTime is = absurd is
 
 -- and one of the fields of a line
-pub fields_why : (options : RowsOptions) (fields : List (List ℕ)) (time line value : List ℕ) (f : RecordFault) → fields ≡ time ∷ line ∷ value ∷ [] → IsFieldsFault options time line value f → IsNoRow options fields f
+pub fields_why : (options : RowsOptions) (fields : List (List ℕ)) (time line value : List ℕ)
+    (f : RecordFault) → fields ≡ time ∷ line ∷ value ∷ [] → IsFieldsFault options time line value f
+    → IsNoRow options fields f
 fields_why options fields time line value fault.FieldCount three is = absurd is
 fields_why options fields time line value fault.BadTime three is = (time, line, value, three, is)
 fields_why options fields time line value fault.NoUnit three is = (time, line, value, three, is)
@@ -188,14 +284,24 @@ fields_why options fields time line value fault.SameTime three is = absurd is
 fields_why options fields time line value fault.EarlierTime three is = absurd is
 
 -- a line with more parts or fewer
-pub parts_why : (options : RowsOptions) (line : List ℕ) (separator : ℕ) → separator ≡ separator_of line → (length (parts_of separator line) ≡ 3 → ⊥) → length (line_fields line) ≡ 3 → ⊥
-parts_why options line separator is other three = other (ap (λ s. length (parts_of s line)) is ∙ (sym (length-map (parts_of (separator_of line) line) bare) ∙ three))
+pub parts_why : (options : RowsOptions) (line : List ℕ) (separator : ℕ)
+    → separator ≡ separator_of line → (length (parts_of separator line) ≡ 3 → ⊥)
+    → length (line_fields line) ≡ 3 → ⊥
+parts_why options line separator is other three =
+    other (ap (λ s. length (parts_of s line)) is
+    ∙ (sym (length-map (parts_of (separator_of line) line) bare) ∙ three))
 
-pub no_row_why : {T : Type 0} (r : Result T RecordFault) (options : RowsOptions) (fields : List (List ℕ)) (time line value : List ℕ) → fields ≡ time ∷ line ∷ value ∷ [] → IfErr r (IsFieldsFault options time line value) → IfErr r (IsNoRow options fields)
+pub no_row_why : {T : Type 0} (r : Result T RecordFault) (options : RowsOptions)
+    (fields : List (List ℕ)) (time line value : List ℕ) → fields ≡ time ∷ line ∷ value ∷ []
+    → IfErr r (IsFieldsFault options time line value) → IfErr r (IsNoRow options fields)
 no_row_why (Ok x) options fields time line value three is = tt
-no_row_why (Err f) options fields time line value three is = fields_why options fields time line value f three is
+no_row_why (Err f) options fields time line value three is =
+    fields_why options fields time line value f three is
 
-pub row_is : (line a b c x y z : List ℕ) (options : RowsOptions) (separator : ℕ) → separator ≡ separator_of line → parts_of separator line ≡ a ∷ b ∷ c ∷ [] → x ≡ bare a → y ≡ bare b → z ≡ bare c → line_fields line ≡ x ∷ y ∷ z ∷ []
+pub row_is : (line a b c x y z : List ℕ) (options : RowsOptions) (separator : ℕ)
+    → separator ≡ separator_of line → parts_of separator line ≡ a ∷ b ∷ c ∷ [] → x ≡ bare a
+    → y ≡ bare b → z ≡ bare c → line_fields line ≡ x ∷ y ∷ z ∷ []
 row_is line a b c x y z options separator is parts one two three =
-    let whole : line_fields line ≡ bare a ∷ bare b ∷ bare c ∷ [] = row_of options line a b c separator is parts in
+    let whole : line_fields line ≡ bare a ∷ bare b ∷ bare c ∷ [] =
+    row_of options line a b c separator is parts in
     cc

@@ -1,11 +1,14 @@
 -- The parts of a line, and fields without their padding.
-use Rattle.std.proofs.Common.{arith, refl, ap, sym, inl, inr, ◌∙◌, ◌≡◌, ◌≢◌, ◌+◌, ◌<◌, ◌≤◌, ◌-◌, ℕ, suc, Bool, true, false, ◌||◌, ◌&&◌, cond, List, [], ◌∷◌, ◌++◌, length, take, drop, get_or}
+use Rattle.std.proofs.Common.{arith, refl, ap, sym, inl, inr, ◌∙◌, ◌≡◌, ◌≢◌, ◌+◌, ◌<◌, ◌≤◌, ◌-◌, ℕ}
+use Rattle.std.proofs.Common.{suc, Bool, true, false, ◌||◌, ◌&&◌, cond, List, [], ◌∷◌, ◌++◌, length}
+use Rattle.std.proofs.Common.{take, drop, get_or}
 use Rattle.std.specs.Prelude.{◌==◌}
 use Rattle.std.specs.List.{list_all, onto_first}
 use Rattle.std.proofs.lemmas.List.{take_all, take_more, take-append-drop}
 use Rattle.std.proofs.Math.Seq.{drop-cons}
 use Rattle.std.proofs.lemmas.List.Folds.{list_any-append, list_all-append}
-use Rattle.std.proofs.lemmas.List.Splits.{slice_split-cons_no, slice_split-cons_yes, length-slice_split}
+use Rattle.std.proofs.lemmas.List.Splits.{slice_split-cons_no, slice_split-cons_yes}
+use Rattle.std.proofs.lemmas.List.Splits.{length-slice_split}
 use Rattle.std.proofs.lemmas.Bool.{eq-eqb}
 use Rattle.std.proofs.lemmas.Bool.Decides.{eqb_tells}
 use Rattle.mdb_import.specs.Fields.{begun_bare, ended_bare, has_byte, is_padding, parts_of}
@@ -19,64 +22,93 @@ either_false true b x y = absurd (cc)
 either_false false b x y = y
 
 pub differs : (x byte : ℕ) → (x ≡ byte → ⊥) → (x == byte) ≡ false
-differs x byte other = elim (eqb_tells x byte) [ inl same ↦ absurd (other same.1) | inr apart ↦ apart.0 ]
+differs x byte other = elim (eqb_tells x byte) [
+  | inl same ↦ absurd (other same.1)
+  | inr apart ↦
+      apart.0
+]
 
 pub same_byte : (byte : ℕ) → (byte == byte) ≡ true
 same_byte byte = eq-eqb byte byte refl
 
 -- a byte more that is another one
-pub lacks_more : (byte : ℕ) (xs : List ℕ) (i : ℕ) → i < length xs → has_byte byte (take i xs) ≡ false → (get_or xs i 0 ≡ byte → ⊥) → has_byte byte (take (i + 1) xs) ≡ false
+pub lacks_more : (byte : ℕ) (xs : List ℕ) (i : ℕ) → i < length xs
+    → has_byte byte (take i xs) ≡ false → (get_or xs i 0 ≡ byte → ⊥)
+    → has_byte byte (take (i + 1) xs) ≡ false
 lacks_more byte xs i below lacks other =
-    ap (has_byte byte) (take_more xs i 0 below) ∙ (list_any-append (λ c. c == byte) (take i xs) (get_or xs i 0 ∷ [])
+    ap (has_byte byte) (take_more xs i 0 below)
+    ∙ (list_any-append (λ c. c == byte) (take i xs) (get_or xs i 0 ∷ [])
     ∙ either_false _ _ lacks (either_false _ _ (differs (get_or xs i 0) byte other) refl))
 
 -- a text around the byte at a place
-pub around : (byte : ℕ) (xs : List ℕ) (i : ℕ) → i < length xs → get_or xs i 0 ≡ byte → xs ≡ take i xs ++ byte ∷ drop (i + 1) xs
+pub around : (byte : ℕ) (xs : List ℕ) (i : ℕ) → i < length xs → get_or xs i 0 ≡ byte
+    → xs ≡ take i xs ++ byte ∷ drop (i + 1) xs
 around byte xs i below is =
     let next : suc i ≡ i + 1 = omega arith in
-    sym (take-append-drop i xs) ∙ ap (λ l. take i xs ++ l) (drop-cons xs i 0 below ∙ (ap (λ c. c ∷ drop (suc i) xs) is ∙ ap (λ n. byte ∷ drop n xs) next))
+    sym (take-append-drop i xs) ∙ ap (λ l. take i xs ++ l)
+    (drop-cons xs i 0 below ∙ (ap (λ c. c ∷ drop (suc i) xs) is ∙ ap (λ n. byte ∷ drop n xs)
+    next))
 
 -- the parts of a line with no separator, and of one with a first one
-pub split_none : (byte : ℕ) (line : List ℕ) → has_byte byte line ≡ false → parts_of byte line ≡ line ∷ []
+pub split_none : (byte : ℕ) (line : List ℕ) → has_byte byte line ≡ false
+    → parts_of byte line ≡ line ∷ []
 split_none byte [] lacks = refl
 split_none byte (x ∷ xs) lacks =
     let both = both_false (x == byte) (has_byte byte xs) lacks in
     slice_split-cons_no (λ c. c == byte) x xs both.0 ∙ ap (onto_first x) (split_none byte xs both.1)
 
-pub split_at : (byte : ℕ) (line a b : List ℕ) → line ≡ a ++ byte ∷ b → has_byte byte a ≡ false → parts_of byte line ≡ a ∷ parts_of byte b
+pub split_at : (byte : ℕ) (line a b : List ℕ) → line ≡ a ++ byte ∷ b → has_byte byte a ≡ false
+    → parts_of byte line ≡ a ∷ parts_of byte b
 split_at byte line a b is lacks = ap (parts_of byte) is ∙ at_first a lacks
   where
-    at_first : (a : List ℕ) → has_byte byte a ≡ false → parts_of byte (a ++ byte ∷ b) ≡ a ∷ parts_of byte b
+    at_first : (a : List ℕ) → has_byte byte a ≡ false
+        → parts_of byte (a ++ byte ∷ b) ≡ a ∷ parts_of byte b
     at_first [] lacks = slice_split-cons_yes (λ c. c == byte) byte b (same_byte byte)
     at_first (x ∷ a) lacks =
         let both = both_false (x == byte) (has_byte byte a) lacks in
-        slice_split-cons_no (λ c. c == byte) x (a ++ byte ∷ b) both.0 ∙ ap (onto_first x) (at_first a both.1)
+        slice_split-cons_no (λ c. c == byte) x (a ++ byte ∷ b) both.0
+        ∙ ap (onto_first x) (at_first a both.1)
 
 pub some_parts : (byte : ℕ) (line : List ℕ) → 1 ≤ length (parts_of byte line)
 some_parts byte line = omega (arith, length-slice_split (λ c. c == byte) line)
 
 -- a line of three parts
-pub three : (byte : ℕ) (line a after b c : List ℕ) → line ≡ a ++ byte ∷ after → has_byte byte a ≡ false → after ≡ b ++ byte ∷ c → has_byte byte b ≡ false → has_byte byte c ≡ false
+pub three : (byte : ℕ) (line a after b c : List ℕ) → line ≡ a ++ byte ∷ after
+    → has_byte byte a ≡ false → after ≡ b ++ byte ∷ c → has_byte byte b ≡ false
+    → has_byte byte c ≡ false
     → parts_of byte line ≡ a ∷ b ∷ c ∷ []
 three byte line a after b c is lacks then_is then_lacks last =
-    split_at byte line a after is lacks ∙ ap (λ l. a ∷ l) (split_at byte after b c then_is then_lacks ∙ ap (λ l. b ∷ l) (split_none byte c last))
+    split_at byte line a after is lacks
+    ∙ ap (λ l. a ∷ l) (split_at byte after b c then_is then_lacks
+    ∙ ap (λ l. b ∷ l) (split_none byte c last))
 
 -- lines of one, two, and four or more
-pub not_one : (byte : ℕ) (line : List ℕ) → has_byte byte line ≡ false → length (parts_of byte line) ≢ 3
-not_one byte line lacks long = absurd (omega (arith, sym (ap length (split_none byte line lacks)) ∙ long))
+pub not_one : (byte : ℕ) (line : List ℕ) → has_byte byte line ≡ false
+    → length (parts_of byte line) ≢ 3
+not_one byte line lacks long =
+    absurd (omega (arith, sym (ap length (split_none byte line lacks)) ∙ long))
 
-pub not_two : (byte : ℕ) (line a after : List ℕ) → line ≡ a ++ byte ∷ after → has_byte byte a ≡ false → has_byte byte after ≡ false → length (parts_of byte line) ≢ 3
+pub not_two : (byte : ℕ) (line a after : List ℕ) → line ≡ a ++ byte ∷ after
+    → has_byte byte a ≡ false → has_byte byte after ≡ false → length (parts_of byte line) ≢ 3
 not_two byte line a after is lacks last long =
-    absurd (omega (arith, sym (ap length (split_at byte line a after is lacks ∙ ap (λ l. a ∷ l) (split_none byte after last))) ∙ long))
+    absurd (omega (
+      arith,
+      sym (ap length (split_at byte line a after is lacks
+          ∙ ap (λ l. a ∷ l) (split_none byte after last))) ∙ long,
+    ))
 
-pub not_four : (byte : ℕ) (line a after b then_after c rest : List ℕ) → line ≡ a ++ byte ∷ after → has_byte byte a ≡ false → after ≡ b ++ byte ∷ then_after → has_byte byte b ≡ false
+pub not_four : (byte : ℕ) (line a after b then_after c rest : List ℕ) → line ≡ a ++ byte ∷ after
+    → has_byte byte a ≡ false → after ≡ b ++ byte ∷ then_after → has_byte byte b ≡ false
     → then_after ≡ c ++ byte ∷ rest → has_byte byte c ≡ false → length (parts_of byte line) ≢ 3
 not_four byte line a after b then_after c rest is lacks then_is then_lacks last_is last_lacks long =
-    let parts = split_at byte line a after is lacks ∙ ap (λ l. a ∷ l) (split_at byte after b then_after then_is then_lacks ∙ ap (λ l. b ∷ l) (split_at byte then_after c rest last_is last_lacks)) in
+    let parts = split_at byte line a after is lacks
+    ∙ ap (λ l. a ∷ l) (split_at byte after b then_after then_is then_lacks
+    ∙ ap (λ l. b ∷ l) (split_at byte then_after c rest last_is last_lacks)) in
     absurd (omega (arith, sym (ap length parts) ∙ long, some_parts byte rest))
 
 -- padding at the start
-pub start_passed : (c : ℕ) (text : List ℕ) → is_padding c ≡ true → begun_bare (c ∷ text) ≡ begun_bare text
+pub start_passed : (c : ℕ) (text : List ℕ) → is_padding c ≡ true
+    → begun_bare (c ∷ text) ≡ begun_bare text
 start_passed c text is = ap (λ b. cond b (begun_bare text) (c ∷ text)) is
 
 pub start_bare : (c : ℕ) (text : List ℕ) → is_padding c ≡ false → begun_bare (c ∷ text) ≡ c ∷ text
@@ -91,26 +123,39 @@ all_with : (a b : Bool) → b ≡ true → (a && b) ≡ a
 all_with true b is = is
 all_with false b is = refl
 
-pub end_passed : (text : List ℕ) (c : ℕ) → is_padding c ≡ true → ended_bare (text ++ c ∷ []) ≡ ended_bare text
+pub end_passed : (text : List ℕ) (c : ℕ) → is_padding c ≡ true
+    → ended_bare (text ++ c ∷ []) ≡ ended_bare text
 end_passed [] c is = ap (λ b. cond (b && true) [] (c ∷ [])) is
 end_passed (x ∷ text) c is =
-    ap (λ b. cond b [] (x ∷ ended_bare (text ++ c ∷ []))) (list_all-append is_padding (x ∷ text) (c ∷ []) ∙ all_with (list_all is_padding (x ∷ text)) (is_padding c && true) (ap (λ b. b && true) is))
+    ap (λ b. cond b [] (x ∷ ended_bare (text ++ c ∷ [])))
+    (list_all-append is_padding (x ∷ text) (c ∷ []) ∙ all_with (list_all is_padding (x ∷ text))
+    (is_padding c && true) (ap (λ b. b && true) is))
     ∙ ap (λ l. cond (list_all is_padding (x ∷ text)) [] (x ∷ l)) (end_passed text c is)
 
-pub end_bare : (text : List ℕ) (c : ℕ) → is_padding c ≡ false → ended_bare (text ++ c ∷ []) ≡ text ++ c ∷ []
+pub end_bare : (text : List ℕ) (c : ℕ) → is_padding c ≡ false
+    → ended_bare (text ++ c ∷ []) ≡ text ++ c ∷ []
 end_bare [] c is = ap (λ b. cond (b && true) [] (c ∷ [])) is
 end_bare (x ∷ text) c is =
-    ap (λ b. cond b [] (x ∷ ended_bare (text ++ c ∷ []))) (list_all-append is_padding (x ∷ text) (c ∷ []) ∙ all_but (list_all is_padding (x ∷ text)) (is_padding c && true) (ap (λ b. b && true) is))
+    ap (λ b. cond b [] (x ∷ ended_bare (text ++ c ∷ [])))
+    (list_all-append is_padding (x ∷ text) (c ∷ []) ∙ all_but (list_all is_padding (x ∷ text))
+    (is_padding c && true) (ap (λ b. b && true) is))
     ∙ ap (λ l. x ∷ l) (end_bare text c is)
 
 -- a text with a last byte
-pub last_split : (xs : List ℕ) → 1 ≤ length xs → xs ≡ take (length xs - 1) xs ++ get_or xs (length xs - 1) 0 ∷ []
+pub last_split : (xs : List ℕ) → 1 ≤ length xs
+    → xs ≡ take (length xs - 1) xs ++ get_or xs (length xs - 1) 0 ∷ []
 last_split xs some =
-    let whole : take (length xs - 1 + 1) xs ≡ xs = take_all (length xs - 1 + 1) xs (omega (arith, some)) in
+    let whole : take (length xs - 1 + 1) xs ≡ xs =
+    take_all (length xs - 1 + 1) xs (omega (arith, some)) in
     sym whole ∙ take_more xs (length xs - 1) 0 (omega (arith, some))
 
-pub last_passed : (xs : List ℕ) → 1 ≤ length xs → is_padding (get_or xs (length xs - 1) 0) ≡ true → ended_bare xs ≡ ended_bare (take (length xs - 1) xs)
-last_passed xs some is = ap ended_bare (last_split xs some) ∙ end_passed (take (length xs - 1) xs) (get_or xs (length xs - 1) 0) is
+pub last_passed : (xs : List ℕ) → 1 ≤ length xs → is_padding (get_or xs (length xs - 1) 0) ≡ true
+    → ended_bare xs ≡ ended_bare (take (length xs - 1) xs)
+last_passed xs some is = ap ended_bare (last_split xs some) ∙ end_passed (take (length xs - 1) xs)
+    (get_or xs (length xs - 1) 0) is
 
-pub last_bare : (xs : List ℕ) → 1 ≤ length xs → is_padding (get_or xs (length xs - 1) 0) ≡ false → ended_bare xs ≡ xs
-last_bare xs some is = ap ended_bare (last_split xs some) ∙ (end_bare (take (length xs - 1) xs) (get_or xs (length xs - 1) 0) is ∙ sym (last_split xs some))
+pub last_bare : (xs : List ℕ) → 1 ≤ length xs → is_padding (get_or xs (length xs - 1) 0) ≡ false
+    → ended_bare xs ≡ xs
+last_bare xs some is = ap ended_bare (last_split xs some)
+    ∙ (end_bare (take (length xs - 1) xs) (get_or xs (length xs - 1) 0) is
+    ∙ sym (last_split xs some))

@@ -1,5 +1,6 @@
 -- The powers of ten.
-use Rattle.std.proofs.Common.{refl, ◌≡◌, ℕ, zero, suc, ◌^◌, ◌<◌, ◌≤◌, Bool, true, ◌&&◌, nat_eq, get_or, inl, inr, arith}
+use Rattle.std.proofs.Common.{refl, ◌≡◌, ℕ, zero, suc, ◌^◌, ◌<◌, ◌≤◌, Bool, true, ◌&&◌, nat_eq}
+use Rattle.std.proofs.Common.{get_or, inl, inr, arith}
 use Rattle.std.proofs.lemmas.Bool.{cases_eq}
 use Rattle.std.proofs.lemmas.Bool.Decides.{nat_tests}
 use Rattle.mdb_import.specs.declared.numbers.TheConstants.{POWERS}
@@ -17,7 +18,11 @@ unfolding agree_below
 agree_at f g zero h b lt = absurd (omega arith)
 agree_at f g (suc n) h b lt =
     let both = both_of (f n) (g n) (agree_below f g n) h in
-    elim (cases_eq b n) [ inl same ↦ rw same both.0 | inr other ↦ agree_at f g n both.1 b (omega arith) ]
+    elim (cases_eq b n) [
+      | inl same ↦ rw same both.0
+      | inr other ↦
+          agree_at f g n both.1 b (omega arith)
+    ]
 
 powers_agree : agree_below (λ n. get_or POWERS n 0) (λ n. 10 ^ n) 16 ≡ true
 unfolding agree_below

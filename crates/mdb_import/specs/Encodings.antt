@@ -1,5 +1,6 @@
 -- Texts in UTF-16, as the bytes that they are in UTF-8.
-use Rattle.std.specs.Prelude.{◌+◌, ◌*◌, ◌/◌, ◌%◌, ◌&&◌, ◌==◌, ℕ, Bool, true, false, List, [], ◌∷◌, ◌++◌, nat_le, nat_lt, if◌then◌else◌}
+use Rattle.std.specs.Prelude.{◌+◌, ◌*◌, ◌/◌, ◌%◌, ◌&&◌, ◌==◌, ℕ, Bool, true, false, List, [], ◌∷◌}
+use Rattle.std.specs.Prelude.{◌++◌, nat_le, nat_lt, if◌then◌else◌}
 
 -- The bytes of a code unit that stands for a sign by itself, or is a half without its other one.
 abbrev pub unit_bytes : ℕ → List ℕ

@@ -1,5 +1,7 @@
 -- What the import of an export answers, and what it writes.
-use Rattle.std.specs.Prelude.{◌≡◌, ◌⊎◌, ◌≤◌, ◌+◌, ℕ, List, [], ◌∷◌, ◌++◌, length, filter, flat_map, nat_le, min, count_by, ◌-◌, ◌^◌, Bool, true, false, IfSome, IfNone, Option, Some, None, ⊤, Result, Ok, Err}
+use Rattle.std.specs.Prelude.{◌≡◌, ◌⊎◌, ◌≤◌, ◌+◌, ℕ, List, [], ◌∷◌, ◌++◌, length, filter, flat_map}
+use Rattle.std.specs.Prelude.{nat_le, min, count_by, ◌-◌, ◌^◌, Bool, true, false, IfSome, IfNone}
+use Rattle.std.specs.Prelude.{Option, Some, None, ⊤, Result, Ok, Err}
 use Rattle.std.specs.Io.KnownBytes.{Appends}
 use Rattle.mdb_words.specs.Event.{start_of}
 use Rattle.mdb_words.specs.Row.{joined_by_commas, row_fields}
@@ -17,7 +19,8 @@ use Rattle.mdb_import.specs.Fields.{export_fields}
 use Rattle.mdb_import.specs.Refusals.{IsFault}
 use Rattle.mdb_import.specs.declared.fault.RecordFault.{RecordFault}
 pub use Rattle.mdb_import.specs.Part.{is_before, is_behind, is_from, is_in, is_taken, is_until}
-use Rattle.mdb_import.specs.Rows.{AreEvents, IsAfter, IsExportedRow, IsHeader, TellsTime, last_with}
+use Rattle.mdb_import.specs.Rows.{AreEvents, AreEventsWith, IsAfter, IsExportedRow, IsHeader}
+use Rattle.mdb_import.specs.Rows.{TellsTime, last_with}
 use Rattle.mdb_import.specs.Written.{HasTaken}
 use Rattle.mdb_import.specs.declared.options.RowsOptions.{RowsOptions}
 use Rattle.mdb_import.specs.declared.fault.ImportFault.{ImportFault}
@@ -128,6 +131,13 @@ abbrev pub IsCounted : List (List (List ℕ)) → List Event → Imported → Ty
 IsCounted records events imported =
     length records ≡ length events + imported.passed + weight imported.header
 
+-- What is told of the records is so: they have a header exactly where it is told that they have
+-- one, and so many were passed over.
+pub record AreRead (options : RowsOptions) (records : List (List (List ℕ))) (events : List Event)
+    (imported : Imported) : Type 0 where
+  pub are : AreEventsWith options imported.header records events
+  pub counted : IsCounted records events imported
+
 -- What is told of all events: how many were written, and how many are before and after the part,
 -- whether there is a marked word, and one on each line.
 pub record IsTold (options : RowsOptions) (events : List Event) (imported : Imported) : Type 0 where
@@ -142,8 +152,8 @@ pub record IsTold (options : RowsOptions) (events : List Event) (imported : Impo
 abbrev pub IsExport : RowsOptions → List (List (List ℕ)) → Result Imported ImportFault → List ℕ
     → Type 0
 IsExport options records (Ok imported) text =
-    (events : List Event) × AreEvents options records events × IsTold options events imported
-    × IsCounted records events imported × (text ≡ rows_text (taken_of options events))
+    (events : List Event) × AreRead options records events imported
+    × IsTold options events imported × (text ≡ rows_text (taken_of options events))
 IsExport options records (Err (BadRecord number own last fault)) text =
     IsExportedToFault options records number own last fault text
 IsExport options records (Err Read) text = IsExportedInPart options records text

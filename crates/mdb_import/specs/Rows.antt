@@ -1,5 +1,6 @@
 -- Which records of an export stand for which events.
-use Rattle.std.specs.Prelude.{◌≡◌, ◌⊎◌, ◌<◌, ℕ, List, [], ◌∷◌, ⊤, false, if◌then◌else◌, Option, Some, None, option_map, string_bytes}
+use Rattle.std.specs.Prelude.{◌≡◌, ◌⊎◌, ◌<◌, ℕ, List, [], ◌∷◌, ⊤, Bool, true, false, if◌then◌else◌}
+use Rattle.std.specs.Prelude.{Option, Some, None, option_map, string_bytes}
 use Rattle.mdb_words.specs.Event.{start_of}
 use Rattle.mdb_words.specs.declared.event.Event.{Event}
 use Rattle.mdb_words.specs.declared.event.Event.TheVariants.{Word, Break}
@@ -101,6 +102,11 @@ abbrev pub AreRowsAfterHeader : RowsOptions → List (List (List ℕ)) → List 
 AreRowsAfterHeader options [] events = ⊥
 AreRowsAfterHeader options (header ∷ rows) events =
     IsHeader header × AreRows options None rows events
+
+-- the records of an export that has a header or has none, and all events that they stand for
+abbrev pub AreEventsWith : RowsOptions → Bool → List (List (List ℕ)) → List Event → Type 0
+AreEventsWith options true records events = AreRowsAfterHeader options records events
+AreEventsWith options false records events = AreRows options None records events
 
 -- the records of an export, with a header or without, and all events that they stand for
 abbrev pub AreEvents : RowsOptions → List (List (List ℕ)) → List Event → Type 0

@@ -1,10 +1,12 @@
 //! A reader of text that may be in UTF-16.
 
-ghost use Rattle.std.specs.Prelude.{◌≡◌, ◌<◌, ◌≤◌, ◌∷◌, ◌++◌, ◌+◌, [], Bool, List, ℕ, None, length, option_to_list};
+ghost use Rattle.std.specs.Prelude.{◌≡◌, ◌<◌, ◌≤◌, ◌∷◌, ◌++◌, ◌+◌, [], Bool, List, ℕ, None, length};
+ghost use Rattle.std.specs.Prelude.{option_to_list};
 ghost use Rattle.std.specs.Io.{ReadsAtMost};
 ghost use Rattle.std.specs.Io.KnownBytes.{ReadConsumes};
 ghost use Rattle.arrayvec.specs.ArrayVec.{array_vec_len};
-ghost use Rattle.mdb_import.specs.Encodings.{decoded, is_pair as are_halves, sign_bytes, sign_of, unit_bytes, unit_of as unit_in, units_of, units_text};
+ghost use Rattle.mdb_import.specs.Encodings.{decoded, is_pair as are_halves, sign_bytes, sign_of};
+ghost use Rattle.mdb_import.specs.Encodings.{unit_bytes, unit_of as unit_in, units_of, units_text};
 ghost use Rattle.mdb_import.specs.inner.Decoding.{ReadsOne, decoded_of, given_by, mode_text};
 
 use arrayvec::ArrayVec;

@@ -1,9 +1,11 @@
 //! The text of a record: its line, and the fields of that.
 
-ghost use Rattle.std.specs.Prelude.{◌≡◌, ◌≢◌, ◌<◌, ◌++◌, ◌∷◌, [], List, ℕ, false, IfNone, IfSome, OnOk, Some, length};
+ghost use Rattle.std.specs.Prelude.{◌≡◌, ◌≢◌, ◌<◌, ◌++◌, ◌∷◌, [], List, ℕ, false, IfNone, IfSome};
+ghost use Rattle.std.specs.Prelude.{OnOk, Some, length};
 ghost use Rattle.csv.specs.Records.{field_at, fields_of};
 ghost use Rattle.mdb_words.specs.Row.{joined_by_commas};
-ghost use Rattle.mdb_import.specs.Fields.{begun_bare, ended_bare, has_byte, is_padding as padding, parts_of};
+ghost use Rattle.mdb_import.specs.Fields.{begun_bare, ended_bare, has_byte, is_padding as padding};
+ghost use Rattle.mdb_import.specs.Fields.{parts_of};
 ghost use Rattle.mdb_import.specs.Fields.{bare as bare_of, separator_of as separator_in};
 
 use csv::ByteRecord;

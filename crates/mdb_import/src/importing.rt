@@ -1,15 +1,18 @@
 //! The import of rows: record by record, as they are read.
 
-ghost use Rattle.std.specs.Prelude.{◌≡◌, ◌<◌, ◌-◌, ◌^◌, [], List, ℕ, IfErr, IfOk, IfSome, OnOk, None, Some, length, true};
+ghost use Rattle.std.specs.Prelude.{◌≡◌, ◌<◌, ◌-◌, ◌^◌, [], List, ℕ, IfErr, IfOk, IfSome, OnOk};
+ghost use Rattle.std.specs.Prelude.{None, Some, length, true};
 ghost use Rattle.csv.specs.Records.{fields_of};
 ghost use Rattle.mdb_records.specs.ToCome.{ToCome};
 ghost use Rattle.mdb_words.specs.Event.{start_of};
-ghost use Rattle.mdb_import.specs.Exports.{Exports, HasFailed, IsCounted, IsExported, IsTold, export_records};
+ghost use Rattle.mdb_import.specs.Exports.{AreRead, Exports, HasFailed, IsExported, IsTold};
+ghost use Rattle.mdb_import.specs.Exports.{export_records};
 ghost use Rattle.mdb_import.specs.Fields.{line_fields};
 ghost use Rattle.mdb_import.specs.inner.Decoded.{decoded_remaining};
 ghost use Rattle.mdb_import.specs.inner.Output.{IsNotTaken, Puts, begun, output};
 ghost use Rattle.mdb_import.specs.Rows.{last_with};
-ghost use Rattle.mdb_import.specs.inner.Steps.{HasImported, IsKept, IsNext, IsNoted, IsOutside, IsRefusalFor, IsSaid, PutsExport};
+ghost use Rattle.mdb_import.specs.inner.Steps.{HasImported, IsKept, IsNext, IsNoted, IsOutside};
+ghost use Rattle.mdb_import.specs.inner.Steps.{IsRefusalFor, IsSaid, PutsExport};
 ghost use Rattle.mdb_import.specs.inner.Steps.{TakesOne, TellsSame, counted_more, part_line};
 
 use super::decoded::Decoded;
@@ -102,7 +105,7 @@ impl Importing {
     fn new(alloc: Global) -> Importing
         ensures last { result.last ≡ None }
         ensures told { (options : RowsOptions) → IsTold options [] result.tally }
-        ensures counted { IsCounted [] [] result.tally }
+        ensures read { (options : RowsOptions) → AreRead options [] [] result.tally }
         ensures page { result.page.lines.items ≡ [] }
     {
         Importing {
@@ -131,7 +134,7 @@ impl Importing {
     ) -> Result<Imported, ImportFault>
         requires last { self.old.last ≡ None }
         requires told { IsTold options.now [] self.old.tally }
-        requires counted { IsCounted [] [] self.old.tally }
+        requires read { AreRead options.now [] [] self.old.tally }
         requires page { self.old.page.lines.items ≡ [] }
         ensures failed { IfErr result (λ fault. fault ≡ ImportFault.Read
             → HasFailed R.remaining records.old records.new) }

@@ -7,7 +7,8 @@ ghost use Rattle.mdb_import.specs.Numbers.{AreClock, AreDigits, IsClock, IsNeare
 use super::fields::parted;
 use mdb_words::Time;
 
-/// A number with decimals: `count / 10^places`, where `count` is below 10^30 and `places` at most 15.
+/// A number with decimals: `count / 10^places`, where `count` is below 10^30 and `places` at most
+/// 15.
 #[derive(Clone, Copy, PartialEq, Eq, Debug)]
 pub struct Number {
     /// All its digits as a whole number.

@@ -1,11 +1,13 @@
 //! The format `rows`: our own rows, as people have them.
 
-ghost use Rattle.std.specs.Prelude.{◌≡◌, ◌↔◌, ℕ, IfErr, IfNone, IfOk, IfSome, IsTrue, option_map, string_bytes};
+ghost use Rattle.std.specs.Prelude.{◌≡◌, ◌↔◌, ℕ, IfErr, IfNone, IfOk, IfSome, IsTrue, option_map};
+ghost use Rattle.std.specs.Prelude.{string_bytes};
 ghost use Rattle.mdb_words.specs.declared.event.Event.{Event};
 ghost use Rattle.mdb_words.specs.declared.word.Line.{Line};
 ghost use Rattle.mdb_import.specs.Fields.{line_fields};
 ghost use Rattle.mdb_import.specs.Refusals.{IsFieldsFault, IsNoRow};
-ghost use Rattle.mdb_import.specs.Rows.{AreOf, IsBreak, IsHeaderOf, IsLetterOf, IsLine, IsNamed, IsRowOf, TellsTime};
+ghost use Rattle.mdb_import.specs.Rows.{AreOf, IsBreak, IsHeaderOf, IsLetterOf, IsLine, IsNamed};
+ghost use Rattle.mdb_import.specs.Rows.{IsRowOf, TellsTime};
 ghost use Rattle.mdb_import.specs.Times.{IsTime};
 
 use super::fault::RecordFault;

@@ -1,6 +1,7 @@
 //! The times and lengths of time of an export.
 
-ghost use Rattle.std.specs.Prelude.{◌≡◌, ◌*◌, ◌^◌, ◌<◌, ◌≤◌, ◌↔◌, ℕ, IfErr, IfNone, IfOk, IfSome, IsTrue};
+ghost use Rattle.std.specs.Prelude.{◌≡◌, ◌*◌, ◌^◌, ◌<◌, ◌≤◌, ◌↔◌, ℕ, IfErr, IfNone, IfOk, IfSome};
+ghost use Rattle.std.specs.Prelude.{IsTrue};
 ghost use Rattle.mdb_import.specs.Numbers.{IsNearest};
 ghost use Rattle.mdb_import.specs.Refusals.{IsTimeFault};
 ghost use Rattle.mdb_import.specs.Times.{IsLength, IsTime, IsTimeForm, per_second, unit_of};

@@ -1,5 +1,6 @@
 -- Rows and what is told of them, event by event.
-use Rattle.std.proofs.Common.{arith, cond, refl, ap, sym, subst, ◌∙◌, ◌≡◌, ◌+◌, ℕ, Bool, true, false, ◌||◌, List, [], ◌∷◌, ◌++◌, append_assoc, Option, Some}
+use Rattle.std.proofs.Common.{arith, cond, refl, ap, sym, subst, ◌∙◌, ◌≡◌, ◌+◌, ℕ, Bool, true}
+use Rattle.std.proofs.Common.{false, ◌||◌, List, [], ◌∷◌, ◌++◌, append_assoc, Option, Some}
 use Rattle.std.specs.Prelude.{count_by, filter}
 use Rattle.std.specs.List.{list_any}
 use Rattle.std.proofs.lemmas.List.{append-nil}
@@ -7,7 +8,8 @@ use Rattle.std.proofs.lemmas.List.Folds.{list_any-append}
 use Rattle.std.proofs.lemmas.List.Sums.{sum_by-append}
 use Rattle.mdb_words.specs.Event.{start_of}
 use Rattle.mdb_words.specs.declared.event.Event.{Event}
-use Rattle.mdb_import.specs.Exports.{is_controllers, is_marked, is_peripherals, row_line, rows_text, told_count}
+use Rattle.mdb_import.specs.Exports.{is_controllers, is_marked, is_peripherals, row_line, rows_text}
+use Rattle.mdb_import.specs.Exports.{told_count}
 use Rattle.mdb_import.specs.Rows.{IsAfter}
 use Rattle.mdb_import.specs.inner.Steps.{counted_more}
 use Rattle.mdb_import.specs.declared.fault.Imported.{Imported}
@@ -18,21 +20,33 @@ use Rattle.mdb_saleae.specs.declared.columns.Columns.{Columns}
 use Rattle.mdb_saleae.specs.declared.options.SaleaeOptions.{SaleaeOptions}
 
 -- a record more
-pub rows_more : (options : SaleaeOptions) (columns : Columns) (last : Option ℕ) (done : List (List (List ℕ))) (events : List Event) (row : List (List ℕ)) (event : Event) → AreRows options columns last done events
-    → IsTableRow options columns row event → IsAfter (last_start last events) event → AreRows options columns last (done ++ row ∷ []) (events ++ event ∷ [])
+pub rows_more : (options : SaleaeOptions) (columns : Columns) (last : Option ℕ)
+    (done : List (List (List ℕ))) (events : List Event) (row : List (List ℕ)) (event : Event)
+    → AreRows options columns last done events
+    → IsTableRow options columns row event → IsAfter (last_start last events) event
+    → AreRows options columns last (done ++ row ∷ []) (events ++ event ∷ [])
 rows_more options columns last [] [] row event are is after = (event, [], refl, is, after, refl)
 rows_more options columns last [] (e ∷ events) row event are is after = absurd (cc)
 rows_more options columns last (r ∷ done) events row event are is after =
-    let P : List Event → Type 0 = λ l. IsAfter (last_start last l) event in
-    (are.0, are.1 ++ event ∷ [], ap (λ l. l ++ event ∷ []) are.2, are.3, are.4, rows_more options columns (Some (start_of are.0)) done are.1 row event are.5 is (subst P are.2 after))
+    let P : List Event → Type 0 = λ l. IsAfter (last_start last l) event in (
+      are.0,
+      are.1 ++ event ∷ [],
+      ap (λ l. l ++ event ∷ []) are.2,
+      are.3,
+      are.4,
+      rows_more options
+          columns (Some (start_of are.0)) done are.1 row event are.5 is (subst P are.2 after),
+    )
 
 -- when the last of some events started, with one more
-pub last_more : (last : Option ℕ) (events : List Event) (event : Event) → last_start last (events ++ event ∷ []) ≡ Some (start_of event)
+pub last_more : (last : Option ℕ) (events : List Event) (event : Event)
+    → last_start last (events ++ event ∷ []) ≡ Some (start_of event)
 last_more last [] event = refl
 last_more last (e ∷ events) event = last_more (Some (start_of e)) events event
 
 -- the rows with an event more
-pub text_more : (options : SaleaeOptions) (events : List Event) (event : Event) → part_text options (events ++ event ∷ []) ≡ part_text options events ++ part_line options event
+pub text_more : (options : SaleaeOptions) (events : List Event) (event : Event)
+    → part_text options (events ++ event ∷ []) ≡ part_text options events ++ part_line options event
 text_more options [] event = one (is_taken options event)
   where
     one : (b : Bool) → rows_text (cond b (event ∷ []) []) ≡ cond b (row_line event) []
@@ -40,14 +54,21 @@ text_more options [] event = one (is_taken options event)
     one false = refl
 text_more options (e ∷ events) event = more (is_taken options e) (text_more options events event)
   where
-    more : (b : Bool) → part_text options (events ++ event ∷ []) ≡ part_text options events ++ part_line options event
-        → rows_text (cond b (e ∷ filter (is_taken options) (events ++ event ∷ [])) (filter (is_taken options) (events ++ event ∷ []))) ≡ rows_text (cond b (e ∷ filter (is_taken options) events) (filter (is_taken options) events)) ++ part_line options event
-    more true rest = ap (λ l. row_line e ++ l) rest ∙ sym (append_assoc (row_line e) (part_text options events) (part_line options event))
+    more : (b : Bool) → part_text options (events ++ event ∷ []) ≡ part_text options
+        events ++ part_line options event
+        → rows_text (cond b (e ∷ filter (is_taken options) (events ++ event ∷ []))
+        (filter (is_taken options) (events ++ event ∷ []))) ≡ rows_text
+        (cond b (e ∷ filter (is_taken options) events)
+        (filter (is_taken options) events)) ++ part_line options event
+    more true rest = ap (λ l. row_line e ++ l) rest
+        ∙ sym (append_assoc (row_line e) (part_text options events) (part_line options event))
     more false rest = rest
 
 -- what is told with an event more
-any_more : (p : Event → Bool) (events : List Event) (event : Event) → list_any p (events ++ event ∷ []) ≡ (list_any p events || p event)
-any_more p events event = list_any-append p events (event ∷ []) ∙ ap (λ b. list_any p events || b) (or_false (p event))
+any_more : (p : Event → Bool) (events : List Event) (event : Event)
+    → list_any p (events ++ event ∷ []) ≡ (list_any p events || p event)
+any_more p events event = list_any-append p events (event ∷ []) ∙ ap (λ b. list_any p events || b)
+    (or_false (p event))
   where
     or_false : (b : Bool) → (b || false) ≡ b
     or_false true = refl
@@ -56,22 +77,36 @@ any_more p events event = list_any-append p events (event ∷ []) ∙ ap (λ b. 
 abbrev weight : Bool → ℕ
 weight b = cond b 1 0
 
-count_more : (p : Event → Bool) (events : List Event) (event : Event) (before after : ℕ) → before ≡ told_count p events → after ≡ counted_more before (p event) → after ≡ told_count p (events ++ event ∷ [])
+count_more : (p : Event → Bool) (events : List Event) (event : Event) (before after : ℕ)
+    → before ≡ told_count p events → after ≡ counted_more before (p event)
+    → after ≡ told_count p (events ++ event ∷ [])
 count_more p events event before after told noted = one (p event) refl noted
   where
     sum : count_by p (events ++ event ∷ []) ≡ count_by p events + weight (p event)
     sum = omega (arith, sum_by-append (λ e. weight (p e)) events (event ∷ []))
 
-    one : (b : Bool) → p event ≡ b → after ≡ counted_more before b → after ≡ told_count p (events ++ event ∷ [])
-    one true is noted = let is_one : weight (p event) ≡ weight true = ap weight is in omega (arith, told, noted, sum, is_one)
-    one false is noted = let is_none : weight (p event) ≡ weight false = ap weight is in omega (arith, told, noted, sum, is_none)
+    one : (b : Bool) → p event ≡ b → after ≡ counted_more before b
+        → after ≡ told_count p (events ++ event ∷ [])
+    one true is noted = let is_one : weight (p event) ≡ weight true = ap weight is in
+        omega (arith, told, noted, sum, is_one)
+    one false is noted = let is_none : weight (p event) ≡ weight false = ap weight is in
+        omega (arith, told, noted, sum, is_none)
 
-pub told_more : (options : SaleaeOptions) (events : List Event) (event : Event) (before after : Imported) → IsTold options events before → IsNoted options before after event → IsTold options (events ++ event ∷ []) after
+pub told_more : (options : SaleaeOptions) (events : List Event) (event : Event)
+    (before after : Imported) → IsTold options events before → IsNoted options before after event
+    → IsTold options (events ++ event ∷ []) after
 told_more options events event before after told noted = record {
+  header = noted.kept.header ∙ told.header;
+  passed = noted.kept.passed ∙ told.passed;
   rows = count_more (is_taken options) events event before.rows after.rows told.rows noted.rows;
-  before = count_more (is_before options) events event before.before after.before told.before noted.before;
-  after = count_more (is_behind options) events event before.after after.after told.after noted.after;
-  marked = noted.said.marked ∙ (ap (λ b. b || is_marked event) told.marked ∙ sym (any_more is_marked events event));
-  controller = noted.said.controller ∙ (ap (λ b. b || is_controllers event) told.controller ∙ sym (any_more is_controllers events event));
-  peripheral = noted.said.peripheral ∙ (ap (λ b. b || is_peripherals event) told.peripheral ∙ sym (any_more is_peripherals events event));
+  before = count_more (is_before options) events event before.before after.before told.before
+      noted.before;
+  after = count_more (is_behind options) events event before.after after.after told.after
+      noted.after;
+  marked = noted.said.marked ∙ (ap (λ b. b || is_marked event) told.marked
+      ∙ sym (any_more is_marked events event));
+  controller = noted.said.controller ∙ (ap (λ b. b || is_controllers event) told.controller
+      ∙ sym (any_more is_controllers events event));
+  peripheral = noted.said.peripheral ∙ (ap (λ b. b || is_peripherals event) told.peripheral
+      ∙ sym (any_more is_peripherals events event));
 }

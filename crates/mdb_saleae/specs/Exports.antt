@@ -1,12 +1,14 @@
 -- What the import of a table answers, and what it writes.
-use Rattle.std.specs.Prelude.{◌≡◌, ◌⊎◌, ◌+◌, ◌&&◌, ℕ, List, [], ◌∷◌, ◌++◌, ⊤, length, filter, not, Bool, Option, Some, None, Result, Ok, Err}
+use Rattle.std.specs.Prelude.{◌≡◌, ◌⊎◌, ◌+◌, ◌&&◌, ℕ, List, [], ◌∷◌, ◌++◌, ⊤, length, filter, not}
+use Rattle.std.specs.Prelude.{Bool, true, Option, Some, None, Result, Ok, Err}
 use Rattle.std.specs.List.{list_any}
 use Rattle.std.specs.Io.KnownBytes.{Appends}
 use Rattle.mdb_words.specs.Event.{start_of}
 use Rattle.mdb_words.specs.declared.event.Event.{Event}
 use Rattle.mdb_records.specs.declared.ReadFault.{ReadFault}
 use Rattle.mdb_records.specs.declared.ReadFault.TheVariants as reading
-use Rattle.mdb_import.specs.Exports.{export_records, is_controllers, is_from, is_marked, is_peripherals, is_until, rows_text, told_count}
+use Rattle.mdb_import.specs.Exports.{export_records, is_controllers, is_from, is_marked}
+use Rattle.mdb_import.specs.Exports.{is_peripherals, is_until, rows_text, told_count}
 use Rattle.mdb_import.specs.Rows.{IsAfter}
 use Rattle.mdb_import.specs.Written.{HasTaken}
 use Rattle.mdb_import.specs.declared.fault.Imported.{Imported}
@@ -16,7 +18,8 @@ use Rattle.mdb_saleae.specs.Rows.{AreEvents, AreRows, IsTableRow, last_start}
 use Rattle.mdb_saleae.specs.declared.columns.Columns.{Columns}
 use Rattle.mdb_saleae.specs.declared.fault.RowFault.{RowFault}
 use Rattle.mdb_saleae.specs.declared.fault.SaleaeFault.{SaleaeFault}
-use Rattle.mdb_saleae.specs.declared.fault.SaleaeFault.TheVariants.{NoHeader, BadHeader, BadRecord, BadRow, Read, Write, Memory}
+use Rattle.mdb_saleae.specs.declared.fault.SaleaeFault.TheVariants.{NoHeader, BadHeader, BadRecord}
+use Rattle.mdb_saleae.specs.declared.fault.SaleaeFault.TheVariants.{BadRow, Read, Write, Memory}
 use Rattle.mdb_saleae.specs.declared.options.SaleaeOptions.{SaleaeOptions}
 
 -- whether an event is in the part that was asked for
@@ -38,8 +41,12 @@ abbrev pub part_text : SaleaeOptions → List Event → List ℕ
 part_text options events = rows_text (filter (is_taken options) events)
 
 -- What is told of all events: how many were written, and how many are before and after the part,
--- whether there is a marked word, and one on each line.
-pub record IsTold (options : SaleaeOptions) (events : List Event) (imported : Imported) : Type 0 where
+-- whether there is a marked word, and one on each line. A table has a header, and none of its
+-- records is passed over.
+pub record IsTold (options : SaleaeOptions) (events : List Event) (imported : Imported)
+    : Type 0 where
+  pub header : imported.header ≡ true
+  pub passed : imported.passed ≡ 0
   pub rows : imported.rows ≡ told_count (is_taken options) events
   pub before : imported.before ≡ told_count (is_before options) events
   pub after : imported.after ≡ told_count (is_behind options) events

@@ -5,7 +5,8 @@ use Rattle.mdb_saleae.specs.declared.columns.Columns.{Columns}
 use Rattle.mdb_saleae.specs.declared.fault.RowFault.{RowFault}
 use Rattle.mdb_saleae.specs.declared.fault.RowFault.TheVariants as fault
 
--- Whether the stop bit is missing, by the texts of the columns of errors. Nothing else may be wrong.
+-- Whether the stop bit is missing, by the texts of the columns of errors. Nothing else may be
+-- wrong.
 abbrev pub TellsFrame : List ℕ → List ℕ → List ℕ → Bool → Type 0
 TellsFrame error parity framing false = (error ≡ []) × (parity ≡ []) × (framing ≡ [])
 TellsFrame error parity framing true =

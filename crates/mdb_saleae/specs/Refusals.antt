@@ -3,7 +3,7 @@ use Rattle.std.specs.Prelude.{◌≡◌, ◌≢◌, ◌⊎◌, ◌<◌, ℕ, Lis
 use Rattle.mdb_words.specs.Event.{start_of}
 use Rattle.mdb_words.specs.declared.event.Event.{Event}
 use Rattle.mdb_words.specs.declared.word.Line.{Line}
-use Rattle.mdb_words.specs.declared.word.Line.TheVariants.{Peripheral}
+use Rattle.mdb_words.specs.declared.word.Line.TheVariants.{Controller, Peripheral}
 use Rattle.mdb_saleae.specs.Cells.{cell}
 use Rattle.mdb_saleae.specs.Frames.{IsFrameFault, IsFramed}
 use Rattle.mdb_saleae.specs.Rows.{IsLine, IsTableRow, IsWordKind}
@@ -14,13 +14,16 @@ use Rattle.mdb_saleae.specs.declared.fault.RowFault.{RowFault}
 use Rattle.mdb_saleae.specs.declared.fault.RowFault.TheVariants as fault
 use Rattle.mdb_saleae.specs.declared.options.SaleaeOptions.{SaleaeOptions}
 
--- why a word without a stop bit is no break
+-- why a word without a stop bit is no break: it is a peripheral's; it is the controller's and isn't
+-- 0; or it is the controller's and 0, and the length wasn't told
 abbrev pub IsNoBreak : SaleaeOptions → Columns → List (List ℕ) → RowFault → Type 0
 IsNoBreak options columns fields told =
     IsFramed columns fields true
     × (((told ≡ fault.PeripheralFraming) × IsLine options (cell fields columns.name) Peripheral)
-    ⊎ ((told ≡ fault.Framing) × (IsValue columns fields 0 → ⊥))
-    ⊎ ((told ≡ fault.NoLength) × (options.break_length ≡ None)))
+    ⊎ ((told ≡ fault.Framing) × IsLine options (cell fields columns.name) Controller
+    × (IsValue columns fields 0 → ⊥))
+    ⊎ ((told ≡ fault.NoLength) × IsLine options (cell fields columns.name) Controller
+    × IsValue columns fields 0 × (options.break_length ≡ None)))
 
 -- why a record with a time is no row
 abbrev pub IsNoEvent : SaleaeOptions → Columns → List (List ℕ) → RowFault → Type 0

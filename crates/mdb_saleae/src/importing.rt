@@ -1,15 +1,18 @@
 //! The import of a table: record by record, as they are read.
 
-ghost use Rattle.std.specs.Prelude.{◌≡◌, ◌<◌, ◌≤◌, ◌+◌, ◌-◌, ◌^◌, [], List, ℕ, IfErr, IfOk, IfSome, OnOk, None, Some, length};
+ghost use Rattle.std.specs.Prelude.{◌≡◌, ◌<◌, ◌≤◌, ◌+◌, ◌-◌, ◌^◌, [], List, ℕ, IfErr, IfOk, IfSome};
+ghost use Rattle.std.specs.Prelude.{OnOk, None, Some, length};
 ghost use Rattle.csv.specs.Records.{fields_of};
-ghost use Rattle.mdb_records.specs.ToCome.{ToCome};
+ghost use Rattle.mdb_records.specs.ToCome.{ToCome, fault_of};
 ghost use Rattle.mdb_words.specs.Event.{start_of};
-ghost use Rattle.mdb_import.specs.Exports.{export_records};
+ghost use Rattle.mdb_import.specs.Exports.{HasFailed, export_records};
 ghost use Rattle.mdb_import.specs.inner.Output.{Puts, begun, output};
-ghost use Rattle.mdb_import.specs.inner.Steps.{IsSaid};
+ghost use Rattle.mdb_import.specs.inner.Steps.{IsKept, IsSaid};
 ghost use Rattle.mdb_saleae.specs.Exports.{Exports, IsExported, IsTold};
 ghost use Rattle.mdb_saleae.specs.inner.Output.{IsNotTaken};
-ghost use Rattle.mdb_saleae.specs.inner.Steps.{Begins, HasImported, IsNext, IsNoted, PutsRows, TakesOne, fault_at, part_line};
+ghost use Rattle.mdb_saleae.specs.inner.Steps.{Begins, HasFailedBehind, HasImported, IsNext};
+ghost use Rattle.mdb_saleae.specs.inner.Steps.{IsNoted, PutsRows};
+ghost use Rattle.mdb_saleae.specs.inner.Steps.{TakesOne, fault_at, part_line};
 
 use super::columns::{Columns, read_columns};
 use super::fault::{RowFault, SaleaeFault};
@@ -17,13 +20,10 @@ use super::options::SaleaeOptions;
 use super::rows::{Refusal, event_in};
 use csv::ByteRecord;
 use mdb_import::{Imported, Page, expect_after, records_of};
-use mdb_records::Records;
+use mdb_records::{ReadFault, Records};
 use mdb_words::{Event, Line};
 use std::alloc::Global;
 use std::io::{Read, Write};
-
-/// The number of the first record behind the header.
-const FIRST: u64 = 2;
 
 /// Imports the records that are still to come, the header first, and writes their rows as it reads.
 ///
@@ -41,8 +41,11 @@ pub fn import_table<R: Read + Drop, W: Write>(
     records: &mut Records<R>,
     writer: &mut W,
 ) -> Result<Imported, SaleaeFault>
-    ensures { (all : List (List (List ℕ))) → ToCome R.remaining records.old all
+    ensures exports { (all : List (List (List ℕ))) → ToCome R.remaining records.old all
         → Exports options.now all (W.contents writer.old) (W.contents writer.new) result }
+    // A failed read is told only where there was one.
+    ensures failed { IfErr result (λ fault. fault ≡ SaleaeFault.Read
+        → HasFailed R.remaining records.old records.new) }
 {
     let columns = match columns_of(records) {
         Ok(columns) => columns,
@@ -78,8 +81,10 @@ pub fn import_saleae<R: Read + Drop, W: Write>(
 
 /// The columns that the first of the records that are still to come names.
 fn columns_of<R: Read + Drop>(records: &mut Records<R>) -> Result<Columns, SaleaeFault>
-    ensures { (all : List (List (List ℕ))) → ToCome R.remaining records.old all
+    ensures begins { (all : List (List (List ℕ))) → ToCome R.remaining records.old all
         → Begins R.remaining records.new all result }
+    ensures failed { IfErr result (λ fault. fault ≡ SaleaeFault.Read
+        → fault_of records.new ≡ Some ReadFault.Read) }
 {
     match records.advance() {
         Ok(true) => match read_columns(records.row()) {
@@ -139,11 +144,14 @@ impl Importing {
         requires last { self.old.last ≡ None }
         requires told { IsTold options.now [] self.old.tally }
         requires page { self.old.page.lines.items ≡ [] }
-        ensures { (all : List (List (List ℕ))) → ToCome R.remaining records.old all
+        ensures failed { IfErr result (λ fault. fault ≡ SaleaeFault.Read
+            → HasFailedBehind R.remaining records.old records.new) }
+        ensures puts { (all : List (List (List ℕ))) → ToCome R.remaining records.old all
             → PutsRows options.now columns.now all (begun (W.contents writer.old))
             (output (W.contents writer.new) self.new.page) result }
     {
-        for number in FIRST..u64::MAX {
+        // The header was taken.
+        for taken in 1..u64::MAX {
             let found = match records.advance() {
                 Ok(found) => found,
                 Err(fault) => return Err(SaleaeFault::from(fault)),
@@ -151,7 +159,7 @@ impl Importing {
             if !found {
                 return Ok(self.tally);
             }
-            if let Err(fault) = self.take(options, columns, number, records.row(), writer) {
+            if let Err(fault) = self.take(options, columns, taken + 1, records.row(), writer) {
                 return Err(fault);
             }
         }
@@ -167,7 +175,8 @@ impl Importing {
         fields: &ByteRecord,
         writer: &mut W,
     ) -> Result<(), SaleaeFault>
-        ensures { (before : Output) (earlier : List (List (List ℕ))) (events : List Event)
+        ensures unread { IfErr result (λ fault. fault ≡ SaleaeFault.Read → ⊥) }
+        ensures takes { (before : Output) (earlier : List (List (List ℕ))) (events : List Event)
             → length earlier + 2 ≡ number
             → HasImported options.now columns.now self.old before
             (output (W.contents writer.old) self.old.page) earlier events
@@ -220,6 +229,7 @@ impl Importing {
         ensures counts { (self.new.tally.rows ≡ self.old.tally.rows)
             × (self.new.tally.before ≡ self.old.tally.before)
             × (self.new.tally.after ≡ self.old.tally.after) }
+        ensures kept { IsKept self.old.tally self.new.tally }
         ensures last { self.new.last ≡ self.old.last }
         ensures page { self.new.page ≡ self.old.page }
     {

@@ -1,8 +1,10 @@
 //! The words of a table.
 
-ghost use Rattle.std.specs.Prelude.{◌≡◌, ◌<◌, ◌+◌, ℕ, Bool, IfErr, IfNone, IfOk, IfSome, if◌then◌else◌};
+ghost use Rattle.std.specs.Prelude.{◌≡◌, ◌<◌, ◌+◌, ℕ, Bool, IfErr, IfNone, IfOk, IfSome};
+ghost use Rattle.std.specs.Prelude.{if◌then◌else◌};
 ghost use Rattle.csv.specs.Records.{fields_of};
-ghost use Rattle.mdb_saleae.specs.Values.{AreNoBits, IsMark, IsNoMark, IsNumberOf, IsValue, IsValueFault};
+ghost use Rattle.mdb_saleae.specs.Values.{AreNoBits, IsMark, IsNoMark, IsNumberOf, IsValue};
+ghost use Rattle.mdb_saleae.specs.Values.{IsValueFault};
 
 use super::cells::{cell, is_text};
 use super::columns::Columns;

@@ -1,6 +1,7 @@
 -- How a text is decoded, byte by byte. This file serves private functions and proofs: no public
 -- clause cites it.
-use Rattle.std.specs.Prelude.{◌++◌, ◌∷◌, ℕ, List, [], Option, Some, None, option_map, option_to_list, Result, MatchResult}
+use Rattle.std.specs.Prelude.{◌++◌, ◌∷◌, ℕ, List, [], Option, Some, None, option_map}
+use Rattle.std.specs.Prelude.{option_to_list, Result, MatchResult}
 use Rattle.std.specs.Io.KnownBytes.{Consumes, IsAtEnd, Keeps}
 use Rattle.mdb_import.specs.Encodings.{decoded, units_of, units_text}
 use Rattle.mdb_import.specs.declared.decoded.Decoding.{Decoding}

@@ -1,8 +1,12 @@
 -- How the rows of an export come about, record by record. This file serves private functions and
 -- proofs: no public clause cites it.
-use Rattle.std.specs.Prelude.{◌≡◌, ◌⊎◌, ◌+◌, ◌++◌, ◌∷◌, ◌||◌, ◌-◌, ◌^◌, min, false, ℕ, List, [], length, Bool, true, IfSome, IfNone, Option, Some, None, Result, Ok, Err, if◌then◌else◌}
+use Rattle.std.specs.Prelude.{◌≡◌, ◌⊎◌, ◌+◌, ◌++◌, ◌∷◌, ◌||◌, ◌-◌, ◌^◌, min, false, ℕ, List, []}
+use Rattle.std.specs.Prelude.{length, Bool, true, IfSome, IfNone, Option, Some, None, Result, Ok}
+use Rattle.std.specs.Prelude.{Err, if◌then◌else◌}
 use Rattle.mdb_words.specs.declared.event.Event.{Event}
-use Rattle.mdb_import.specs.Exports.{IsCounted, IsExport, IsRefusedRecord, IsTold, is_before, is_behind, is_controllers, is_marked, is_peripherals, is_taken, last_start, row_line, rows_text, taken_of}
+use Rattle.mdb_import.specs.Exports.{AreRead, IsExport, IsRefusedRecord, IsTold, is_before}
+use Rattle.mdb_import.specs.Exports.{is_behind, is_controllers, is_marked, is_peripherals, is_taken}
+use Rattle.mdb_import.specs.Exports.{last_start, row_line, rows_text, taken_of}
 use Rattle.mdb_import.specs.Refusals.{IsFault}
 use Rattle.mdb_import.specs.Part.{is_in}
 use Rattle.mdb_import.specs.Rows.{AreEvents, IsAfter, IsHeaderOf, IsRowOf, TellsTime}
@@ -86,10 +90,9 @@ IsRefusalFor options fields done before why Memory = ⊥
 -- the records so far stand for these events, whose rows are on their way
 pub record HasImported (options : RowsOptions) (importing : Importing) (before after : Output)
     (done : List (List (List ℕ))) (events : List Event) : Type 0 where
-  pub are : AreEvents options done events
+  pub read : AreRead options done events importing.tally
   pub last : importing.last ≡ last_start options None events
   pub told : IsTold options events importing.tally
-  pub counted : IsCounted done events importing.tally
   pub written : Puts before after (rows_text (taken_of options events))
 
 -- what the taking of a record after others comes to

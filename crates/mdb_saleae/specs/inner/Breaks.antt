@@ -19,5 +19,6 @@ IsBreakOf options time line value (Break at length) =
 abbrev pub IsNoBreakOf : SaleaeOptions → Line → ℕ → RowFault → Type 0
 IsNoBreakOf options line value told =
     ((told ≡ fault.PeripheralFraming) × (line ≡ Peripheral))
-    ⊎ ((told ≡ fault.Framing) × (value ≡ 0 → ⊥))
-    ⊎ ((told ≡ fault.NoLength) × (options.break_length ≡ None))
+    ⊎ ((told ≡ fault.Framing) × (line ≡ Controller) × (value ≡ 0 → ⊥))
+    ⊎ ((told ≡ fault.NoLength) × (line ≡ Controller) × (value ≡ 0)
+    × (options.break_length ≡ None))

@@ -1,22 +1,26 @@
 -- How the rows of a table come about, record by record. This file serves private functions and
 -- proofs: no public clause cites it.
-use Rattle.std.specs.Prelude.{◌≡◌, ◌⊎◌, ◌+◌, ◌++◌, ◌∷◌, ℕ, List, [], length, Option, Some, None, Result, Ok, Err, if◌then◌else◌}
+use Rattle.std.specs.Prelude.{◌≡◌, ◌⊎◌, ◌≤◌, ◌+◌, ◌-◌, ◌^◌, ◌++◌, ◌∷◌, ℕ, List, [], length, Option}
+use Rattle.std.specs.Prelude.{Some, None, Result, Ok, Err, if◌then◌else◌}
 use Rattle.mdb_words.specs.declared.event.Event.{Event}
-use Rattle.mdb_records.specs.ToCome.{ToCome}
+use Rattle.mdb_records.specs.ToCome.{ToCome, fault_of}
+use Rattle.mdb_records.specs.declared.ReadFault.TheVariants as reading
 use Rattle.mdb_records.specs.declared.Records.{Records}
 use Rattle.mdb_import.specs.Exports.{row_line}
 use Rattle.mdb_import.specs.Rows.{IsAfter}
 use Rattle.mdb_import.specs.inner.Output.{Breaks, Output, Puts}
-use Rattle.mdb_import.specs.inner.Steps.{IsSaid, counted_more}
+use Rattle.mdb_import.specs.inner.Steps.{IsKept, IsSaid, counted_more}
 use Rattle.mdb_import.specs.declared.fault.Imported.{Imported}
 use Rattle.mdb_saleae.specs.Columns.{IsColumns}
-use Rattle.mdb_saleae.specs.Exports.{IsHeaderAnswer, IsRefusedRow, IsRowsExport, IsTold, is_before, is_behind, is_taken, part_text}
+use Rattle.mdb_saleae.specs.Exports.{IsHeaderAnswer, IsRefusedRow, IsRowsExport, IsTold, is_before}
+use Rattle.mdb_saleae.specs.Exports.{is_behind, is_taken, part_text}
 use Rattle.mdb_saleae.specs.Refusals.{IsFault}
 use Rattle.mdb_saleae.specs.Rows.{AreRows, IsTableRow, last_start}
 use Rattle.mdb_saleae.specs.declared.columns.Columns.{Columns}
 use Rattle.mdb_saleae.specs.declared.fault.RowFault.{RowFault}
 use Rattle.mdb_saleae.specs.declared.fault.SaleaeFault.{SaleaeFault}
-use Rattle.mdb_saleae.specs.declared.fault.SaleaeFault.TheVariants.{BadRecord, BadRow, Write, Memory}
+use Rattle.mdb_saleae.specs.declared.fault.SaleaeFault.TheVariants.{BadRecord, BadRow, Write}
+use Rattle.mdb_saleae.specs.declared.fault.SaleaeFault.TheVariants.{Memory}
 use Rattle.mdb_saleae.specs.declared.importing.Importing.{Importing}
 use Rattle.mdb_saleae.specs.declared.options.SaleaeOptions.{SaleaeOptions}
 use Rattle.mdb_saleae.specs.declared.rows.Refusal.{Refusal}
@@ -28,6 +32,12 @@ Begins remaining now records (Ok columns) =
     (header : List (List ℕ)) × (rows : List (List (List ℕ))) × (records ≡ header ∷ rows)
     × IsColumns header columns × ToCome remaining now rows
 Begins remaining now records (Err fault) = IsHeaderAnswer records (Err fault)
+
+-- a read of the records behind a header failed after they stood so; or there are more than can be
+-- counted with the header
+abbrev pub HasFailedBehind : {R : Type 0} → (R → Option (List ℕ)) → Records R → Records R → Type 0
+HasFailedBehind remaining before after = (fault_of after ≡ Some reading.Read)
+    ⊎ ((rows : List (List (List ℕ))) → ToCome remaining before rows → 2 ^ 64 - 2 ≤ length rows)
 
 -- the event of a record that comes after a time, or why there is none
 abbrev pub IsNext : SaleaeOptions → Columns → Option ℕ → List (List ℕ) → Result Event Refusal
@@ -53,6 +63,7 @@ pub record IsNoted (options : SaleaeOptions) (old new : Imported) (event : Event
   pub before : new.before ≡ counted_more old.before (is_before options event)
   pub after : new.after ≡ counted_more old.after (is_behind options event)
   pub said : IsSaid old new event
+  pub kept : IsKept old new
 
 -- the records so far stand for these events, whose rows are on their way
 pub record HasImported (options : SaleaeOptions) (columns : Columns) (importing : Importing)

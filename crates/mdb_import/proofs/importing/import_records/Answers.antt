@@ -8,21 +8,36 @@ use Rattle.mdb_import.proofs.importing.import_records.Goals.{then-ne+in_ok-write
 
 pub returns-clause-exports : goal.returns-clause-exports
 returns-clause-exports g c all to_come =
-    let now = output (g.W.Write.contents c.take_all-answer.new.writer) c.take_all-answer.new.self.page in
+    let now = output (g.W.Write.contents c.take_all-answer.new.writer)
+    c.take_all-answer.new.self.page in
     elim c.if-ne.branch [
       | then-ne+in_ok-write_out w ↦
-          written_out c.args.options.now all (g.W.Write.contents c.args.writer.now) (g.W.Write.contents c.if-ne.writer) now c.take_all-answer.result (c.take_all-answer.ensures.puts all to_come) (search rules)
-          (subst (λ s. Appends now.held (g.W.Write.contents s) now.waiting) (sym w.writer-is) w.in_ok-write_out.ensures.written)
+          written_out c.args.options.now all (g.W.Write.contents c.args.writer.now)
+          (g.W.Write.contents c.if-ne.writer) now c.take_all-answer.result
+          (c.take_all-answer.ensures.puts all to_come) (search rules)
+          (subst (λ s. Appends now.held (g.W.Write.contents s) now.waiting) (sym w.writer-is)
+          w.in_ok-write_out.ensures.written)
       | else-ne w ↦
-          subst (λ s. Exports c.args.options.now all (g.W.Write.contents c.args.writer.now) (g.W.Write.contents s) c.take_all-answer.result) (sym w.writer-is)
-          (rows_broken c.args.options.now all (g.W.Write.contents c.args.writer.now) now c.take_all-answer.result (c.take_all-answer.ensures.puts all to_come) (search rules))
+          subst (λ s. Exports c.args.options.now all (g.W.Write.contents c.args.writer.now)
+          (g.W.Write.contents s) c.take_all-answer.result) (sym w.writer-is)
+          (rows_broken c.args.options.now all (g.W.Write.contents c.args.writer.now) now
+          c.take_all-answer.result (c.take_all-answer.ensures.puts all to_come) (search rules))
     ]
 
 pub returns-in_err-write_out-clause-exports : goal.returns-in_err-write_out-clause-exports
 returns-in_err-write_out-clause-exports g c all to_come =
-    let now = output (g.W.Write.contents c.take_all-answer.new.writer) c.take_all-answer.new.self.page in
-    cut_short c.args.options.now all (g.W.Write.contents c.args.writer.now) (g.W.Write.contents c.write_out.new.writer) c.in_err-write_out.field-0.0 c.from_residual.result c.from_residual.ensures.1 c.in_err-write_out.ensures.refused
-    (page_broken c.args.options.now all (g.W.Write.contents c.args.writer.now) (g.W.Write.contents c.write_out.new.writer) now c.take_all-answer.result (c.take_all-answer.ensures.puts all to_come) (search rules) c.in_err-write_out.ensures.front)
+    let now = output (g.W.Write.contents c.take_all-answer.new.writer)
+    c.take_all-answer.new.self.page in
+    cut_short c.args.options.now all (g.W.Write.contents c.args.writer.now)
+    (g.W.Write.contents c.write_out.new.writer) c.in_err-write_out.field-0.0
+    c.from_residual.result c.from_residual.ensures.1 c.in_err-write_out.ensures.refused
+    (page_broken c.args.options.now all (g.W.Write.contents c.args.writer.now)
+    (g.W.Write.contents c.write_out.new.writer) now c.take_all-answer.result
+    (c.take_all-answer.ensures.puts all to_come) (search rules)
+    c.in_err-write_out.ensures.front)
 
 pub take_all-answer-requires-clause-told : goal.take_all-answer-requires-clause-told
 take_all-answer-requires-clause-told g c = c.new-importing.ensures.told c.args.options.now
+
+pub take_all-answer-requires-clause-read : goal.take_all-answer-requires-clause-read
+take_all-answer-requires-clause-read g c = c.new-importing.ensures.read c.args.options.now

@@ -11,8 +11,17 @@ loop-preserved g c =
     elim c.match-write.branch [
       | in-Ok w ↦
           let n = w.in-Ok.count in
-          let now : c.match-write.rest.now ≡ take (length rest - n) (drop n rest) = ap (λ r. r.now) w.rest-is in
-          (done ++ take n rest, taken_more c.args.text.now done rest c.match-write.rest.now n parts now, appended _ _ _ done (take n rest) taken w.in-Ok.ensures.bytes)
-      | in-Err+else-ne w ↦
-          (done, parts ∙ ap (λ r. done ++ r.now) (sym w.rest-is), appended_kept _ _ _ done taken w.in-Err.ensures.bytes)
+          let now : c.match-write.rest.now ≡ take (length rest - n) (drop n rest) =
+          ap (λ r. r.now) w.rest-is in (
+            done ++ take n rest,
+            taken_more c.args.text.now done rest c.match-write.rest.now n parts
+                now,
+            appended _ _ _ done (take n rest) taken w.in-Ok.ensures.bytes,
+          )
+      | in-Err+else-ne w ↦ (
+        done,
+        parts ∙ ap (λ r. done ++ r.now) (sym w.rest-is),
+        appended_kept _ _ _ done taken
+            w.in-Err.ensures.bytes,
+      )
     ]

@@ -5,7 +5,10 @@ use Rattle.mdb_saleae.proofs.FieldsAt.{field_is, field_none}
 use Rattle.mdb_saleae.proofs.cells.cell.Goals as goal
 
 pub returns-in-Some : goal.returns-in-Some
-returns-in-Some c = c.bare.ensures ∙ ap bare (sym (field_is (fields_of c.args.fields.now) c.args.place c.in-Some.field.now (sym c.in-Some.ensures.value)))
+returns-in-Some c = c.bare.ensures
+    ∙ ap bare (sym (field_is (fields_of c.args.fields.now) c.args.place c.in-Some.field.now
+    (sym c.in-Some.ensures.value)))
 
 pub returns-in-None : goal.returns-in-None
-returns-in-None c = ap bare (sym (field_none (fields_of c.args.fields.now) c.args.place (sym c.in-None.ensures.value)))
+returns-in-None c = ap bare (sym (field_none (fields_of c.args.fields.now) c.args.place
+    (sym c.in-None.ensures.value)))

@@ -5,13 +5,25 @@ use Rattle.mdb_saleae.proofs.Refused.{break_why, name_why, no_name}
 use Rattle.mdb_saleae.proofs.rows.event_at.Goals as goal
 
 pub returns-then-not-is_word_kind-clause-why : goal.returns-then-not-is_word_kind-clause-why
-returns-then-not-is_word_kind-clause-why c = inl (refl, λ kind. absurd (let denied = c.if-not-is_word_kind.true in let holds = c.is_word_kind.ensures.1 kind in cc))
+returns-then-not-is_word_kind-clause-why c =
+    inl (
+      refl,
+      λ kind. absurd (let denied = c.if-not-is_word_kind.true in
+          let holds = c.is_word_kind.ensures.1 kind in cc),
+    )
 
 pub returns-in_default-clause-err : goal.returns-in_default-clause-err
-returns-in_default-clause-err c = no_name c.args.options.now c.args.columns.now (fields_of c.args.fields.now) c.args.at c.cell.result.now c.cell.ensures c.in_default.ensures.none
+returns-in_default-clause-err c =
+    no_name c.args.options.now c.args.columns.now (fields_of c.args.fields.now) c.args.at
+    c.cell.result.now c.cell.ensures c.in_default.ensures.none
 
 pub returns-in_default-clause-why : goal.returns-in_default-clause-why
-returns-in_default-clause-why c = inr (inl (refl, name_why c.args.options.now c.args.columns.now (fields_of c.args.fields.now) c.cell.result.now c.cell.ensures c.in_default.ensures.none))
+returns-in_default-clause-why c =
+    inr (inl (
+      refl,
+      name_why c.args.options.now c.args.columns.now (fields_of c.args.fields.now)
+          c.cell.result.now c.cell.ensures c.in_default.ensures.none,
+    ))
 
 pub returns-in-Err-clause-why : goal.returns-in-Err-clause-why
 returns-in-Err-clause-why c = inr (inr (inl c.in-Err.ensures.why))
@@ -22,5 +34,7 @@ returns-in-Err-read_value-clause-why c = inr (inr (inr (inl c.in-Err-read_value.
 pub returns-then-framed-clause-why : goal.returns-then-framed-clause-why
 returns-then-framed-clause-why c =
     let fields = fields_of c.args.fields.now in
-    break_why c.break_of.result c.args.options.now c.args.columns.now fields c.cell.result.now c.in-Some.line c.in-Ok-read_value.word c.cell.ensures c.in-Some.ensures.some
-    (subst (IsFramed c.args.columns.now fields) c.if-framed.true c.in-Ok.ensures.ok) c.in-Ok-read_value.ensures.only c.break_of.ensures.why
+    break_why c.break_of.result c.args.options.now c.args.columns.now fields c.cell.result.now
+    c.in-Some.line c.in-Ok-read_value.word c.cell.ensures c.in-Some.ensures.some
+    (subst (IsFramed c.args.columns.now fields) c.if-framed.true c.in-Ok.ensures.ok)
+    c.in-Ok-read_value.ensures.ok c.in-Ok-read_value.ensures.only c.break_of.ensures.why

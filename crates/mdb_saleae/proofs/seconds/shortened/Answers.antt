@@ -11,15 +11,20 @@ returns-in_default-clause-rest c = (pointless c.args.field.now c.in_default.ensu
 
 pub returns-then-after-le-DECIMALS-clause-short : goal.returns-then-after-le-DECIMALS-clause-short
 returns-then-after-le-DECIMALS-clause-short c =
-    (few_decimals c.args.field.now c.in-Some.before.now c.in-Some.after.now c.in-Some.ensures.some c.in-Some.ensures.first c.if-after-le-DECIMALS.true).0
+    (few_decimals c.args.field.now c.in-Some.before.now c.in-Some.after.now c.in-Some.ensures.some
+    c.in-Some.ensures.first c.if-after-le-DECIMALS.true).0
 
 pub returns-then-after-le-DECIMALS-clause-rest : goal.returns-then-after-le-DECIMALS-clause-rest
 returns-then-after-le-DECIMALS-clause-rest c =
-    (few_decimals c.args.field.now c.in-Some.before.now c.in-Some.after.now c.in-Some.ensures.some c.in-Some.ensures.first c.if-after-le-DECIMALS.true).1
+    (few_decimals c.args.field.now c.in-Some.before.now c.in-Some.after.now c.in-Some.ensures.some
+    c.in-Some.ensures.first c.if-after-le-DECIMALS.true).1
 
 pub returns-clause-short : goal.returns-clause-short
 returns-clause-short c =
-    more_short c.args.field.now c.in-Some.before.now c.in-Some.after.now (length c.in-Some.before.now + 1 + 15) c.in-Some.ensures.some c.in-Some.ensures.first (omega arith)
+    more_short c.args.field.now c.in-Some.before.now c.in-Some.after.now
+    (length c.in-Some.before.now + 1 + 15) c.in-Some.ensures.some c.in-Some.ensures.first
+    (omega arith)
 
 pub returns-clause-rest : goal.returns-clause-rest
-returns-clause-rest c = take_rest c.in-Some.after.now 15 ∙ more_rest c.args.field.now c.in-Some.before.now c.in-Some.after.now c.in-Some.ensures.some c.in-Some.ensures.first
+returns-clause-rest c = take_rest c.in-Some.after.now 15 ∙ more_rest c.args.field.now
+    c.in-Some.before.now c.in-Some.after.now c.in-Some.ensures.some c.in-Some.ensures.first

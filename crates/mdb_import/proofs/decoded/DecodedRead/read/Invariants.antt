@@ -4,4 +4,6 @@ use Rattle.mdb_import.proofs.decoded.DecodedRead.read.Given as goal
 
 -- so far nothing was given
 abbrev pub invariant-loop : goal.invariant-loop
-invariant-loop g l = Keeps (decoded_of l.initial.self.decoding (g.R.Read.remaining l.initial.self.inner)) (decoded_of l.self.decoding (g.R.Read.remaining l.self.inner))
+invariant-loop g l = Keeps (decoded_of l.initial.self.decoding
+    (g.R.Read.remaining l.initial.self.inner))
+    (decoded_of l.self.decoding (g.R.Read.remaining l.self.inner))

@@ -8,4 +8,5 @@ use Rattle.mdb_import.proofs.importing.Importing.take_all.Given as goal
 abbrev pub invariant-loop-done : goal.invariant-loop-done
 invariant-loop-done g l =
     (all : List (List (List ℕ))) → ToCome g.R.Read.remaining l.fn.records all
-    → SoFar g.R.Read.remaining l.records l.options l.self (begun (g.W.Write.contents l.fn.writer)) (output (g.W.Write.contents l.writer) l.self.page) l.done all
+    → SoFar g.R.Read.remaining l.records l.options l.self (begun (g.W.Write.contents l.fn.writer))
+    (output (g.W.Write.contents l.writer) l.self.page) l.done all

@@ -5,7 +5,9 @@ use Rattle.mdb_saleae.proofs.Imports.{SoFar}
 use Rattle.mdb_saleae.proofs.importing.Importing.take_all.Given as goal
 
 -- the records so far are imported, and the rest is to come
-abbrev pub invariant-loop-number : goal.invariant-loop-number
-invariant-loop-number g l =
+abbrev pub invariant-loop-taken : goal.invariant-loop-taken
+invariant-loop-taken g l =
     (all : List (List (List ℕ))) → ToCome g.R.Read.remaining l.fn.records all
-    → SoFar g.R.Read.remaining l.records l.options l.columns l.self (begun (g.W.Write.contents l.fn.writer)) (output (g.W.Write.contents l.writer) l.self.page) l.number all
+    → SoFar g.R.Read.remaining l.records l.options l.columns l.self
+    (begun (g.W.Write.contents l.fn.writer)) (output (g.W.Write.contents l.writer) l.self.page)
+    l.taken all
