@@ -1,10 +1,12 @@
 # Installs the programs that are built, their man pages, completions for bash and the pages of docs/.
 # For these it builds nothing: README.md says how to get the program. And it builds the page for a
-# browser, out/mdbcheck.html, which proves what that stands on (docs/page.md).
+# browser, out/mdbcheck.html, which proves what that stands on (docs/page.md); and the worked cases as
+# one file, out/vectors.jsonl (docs/library.md).
 #
 #     make install [PREFIX=/usr/local] [DESTDIR=..]
 #     make uninstall [PREFIX=/usr/local] [DESTDIR=..]
 #     make page
+#     make vectors
 
 PREFIX = /usr/local
 DESTDIR =
@@ -21,9 +23,13 @@ names = mdbcheck mdbimport
 help:
 	@echo 'make install [PREFIX=/usr/local] [DESTDIR=..] installs the built program, make uninstall takes it away'
 	@echo 'make page builds out/mdbcheck.html, the page for a browser'
+	@echo 'make vectors writes the worked cases to out/vectors.jsonl'
 
 page:
 	page/build
+
+vectors:
+	python3 tests/make_vectors.py out/vectors.jsonl
 
 # Only what is built and what has a page or completions here. The second program may be missing.
 install:
@@ -44,4 +50,4 @@ uninstall:
 	for name in $(names); do rm -f '$(bin)'/$$name '$(man)'/$$name.1 '$(completions)'/$$name || exit 1; done
 	rm -rf '$(doc)'
 
-.PHONY: help install page uninstall
+.PHONY: help install page uninstall vectors
