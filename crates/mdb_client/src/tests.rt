@@ -1,8 +1,10 @@
 //! Each function on its happy path.
 
-use crate::{Unread, Untaken, command_in, difference_of, next_command, sent_again, take_word};
+use crate::{
+    Unread, Untaken, command_in, difference_of, next_command, printed, sent_again, take_word,
+};
 use mdb_blocks::BlockFault;
-use mdb_bus::Bus;
+use mdb_bus::{Bus, Scope};
 use mdb_follow::{AccountName, Follower};
 use mdb_msgs::{ChangerCommand, Command, MsgFault};
 use mdb_words::{Event, Line};
@@ -64,4 +66,12 @@ fn messages_are_read_and_written(rt: HostRuntime) {
     assert!(rt; matches!(again, Ok(block) if block.bytes() == coin.as_slice()));
     let cut = sent_again(&poll, &[0x52, 0x52]);
     assert!(rt; matches!(cut, Err(Unread::NoMessage(MsgFault::Message))));
+}
+
+#[test]
+fn a_verdict_is_printed(rt: HostRuntime) {
+    let text = b"1000,M,108\n2200,M,009\n";
+    let wanted = b"verdict no\nrow 2\nrule Sum\nblame controller\n";
+    let said = printed(rt.alloc(), &Scope::POWER_ON, text).expect(&rt, "there is a verdict");
+    assert_eq!(rt; said.as_slice(), wanted.as_slice());
 }
