@@ -1,10 +1,13 @@
 # Installs the programs that are built, their man pages, completions for bash and the pages of docs/.
 # For these it builds nothing: README.md says how to get the program. And it builds the page for a
-# browser, out/mdbcheck.html, which proves what that stands on (docs/page.md).
+# browser, out/mdbcheck.html, and the library for C, out/c, which proves what these stand on
+# (docs/page.md, docs/library.md); and the worked cases as one file, out/vectors.jsonl.
 #
 #     make install [PREFIX=/usr/local] [DESTDIR=..]
 #     make uninstall [PREFIX=/usr/local] [DESTDIR=..]
 #     make page
+#     make c-library
+#     make vectors
 
 PREFIX = /usr/local
 DESTDIR =
@@ -21,9 +24,17 @@ names = mdbcheck mdbimport
 help:
 	@echo 'make install [PREFIX=/usr/local] [DESTDIR=..] installs the built program, make uninstall takes it away'
 	@echo 'make page builds out/mdbcheck.html, the page for a browser'
+	@echo 'make c-library builds out/c, the library for C'
+	@echo 'make vectors writes the worked cases to out/vectors.jsonl'
 
 page:
 	page/build
+
+c-library:
+	crates/mdb_c/build
+
+vectors:
+	python3 tests/make_vectors.py out/vectors.jsonl
 
 # Only what is built and what has a page or completions here. The second program may be missing.
 install:
@@ -44,4 +55,4 @@ uninstall:
 	for name in $(names); do rm -f '$(bin)'/$$name '$(man)'/$$name.1 '$(completions)'/$$name || exit 1; done
 	rm -rf '$(doc)'
 
-.PHONY: help install page uninstall
+.PHONY: help c-library install page uninstall vectors

@@ -1,0 +1,16 @@
+//! How a program calls the library: each function is one that `docs/library.md` shows, and its
+//! contract what is promised of it.
+#![tactic(auto)]
+
+mod commands;
+mod live;
+mod messages;
+mod printing;
+
+pub use commands::next_command;
+pub use live::{Untaken, difference_of, take_word};
+pub use messages::{Unread, command_in, sent_again};
+pub use printing::printed;
+
+#[cfg(test)]
+mod tests;
