@@ -1,6 +1,7 @@
 //! The answer to a transcript.
 
-ghost use Rattle.std.specs.Prelude.{◌≡◌, IfOk, string_bytes};
+ghost use Rattle.std.specs.Prelude.{◌≡◌, IfOk, Some, string_bytes};
+ghost use Rattle.serde_json.specs.Read.{read};
 ghost use Rattle.serde_json.specs.View.{view};
 ghost use Rattle.mdb_json.specs.Json.{json_text};
 ghost use Rattle.mdb_json.specs.Reports.{is_joined, offence_data, outcome_data, yes_data};
@@ -16,14 +17,16 @@ use std::alloc::{AllocError, Global};
 const VERSION: u64 = 1;
 
 /// The answer to a recording that is taken as `scope` says, as JSON on one line, without the line
-/// feed.
+/// feed. It is the text of one value, and reads as that value again.
 ///
 /// # Errors
 ///
 /// Memory was refused.
-#[tactic(auto, using(crate::proofs::Floats::of_outcome))]
+#[tactic(auto, using(crate::proofs::Depths::of_outcome, crate::proofs::Floats::of_outcome))]
 pub fn json_of(alloc: Global, scope: &Scope, outcome: &Outcome) -> Result<String, AllocError>
-    ensures { IfOk result (λ text. string_bytes text ≡ json_text scope.now outcome.now) }
+    ensures text { IfOk result (λ text. string_bytes text ≡ json_text scope.now outcome.now) }
+    ensures reads_back { IfOk result (λ text.
+        read (string_bytes text) ≡ Some (outcome_data scope.now outcome.now)) }
 {
     let value = value_of(alloc, scope, outcome)?;
     value.to_string(alloc)

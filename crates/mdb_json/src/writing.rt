@@ -1,6 +1,6 @@
 //! The answer to the records of an input, written as JSON.
 
-ghost use Rattle.std.specs.Prelude.{◌≡◌, ◌≢◌, ◌≤◌, List, ℕ, IfOk, IfErr, OnOk, Err, string_bytes};
+ghost use Rattle.std.specs.Prelude.{◌≡◌, ◌≢◌, ◌≤◌, List, ℕ, IfOk, IfErr, Err, string_bytes};
 ghost use Rattle.std.specs.Io.KnownBytes.{Appends};
 ghost use Rattle.mdb_bus.specs.Scopes.{leaving_out};
 ghost use Rattle.mdb_explain.specs.Replay.{IsReplayAnswer};
@@ -9,7 +9,6 @@ ghost use Rattle.mdb_json.specs.Json.{IsCutJson, IsCutReplayJson, json_line};
 ghost use Rattle.mdb_records.specs.ToCome.{IsOverLimit, ToCome};
 ghost use Rattle.mdb_verdict.specs.Headline.{Headline};
 ghost use Rattle.mdb_verdict.specs.Verdict.{IsAnswer, IsNoYes};
-ghost use Rattle.mdb_verdict.specs.Written.{HasTaken};
 
 use super::outcome::json_of;
 use mdb_bus::Scope;
@@ -56,7 +55,10 @@ pub fn check_json_records<R: Read + Drop, W: Write>(
 {
     verdicts_say_the_headline();
     let outcome = verdict_on(scope, records, rows_max)?;
-    write_line(alloc, scope, &outcome, writer)?;
+    let Ok(line) = line_of(alloc, scope, &outcome) else {
+        return Err(RunFault::Memory);
+    };
+    write_text(writer, line.as_bytes())?;
     Ok(outcome)
 }
 
@@ -85,28 +87,11 @@ pub fn replay_json_records<R: Read + Drop, W: Write>(
         (W.contents writer.old) (W.contents writer.new) }
 {
     let outcome = replay_outcome(alloc, without, records)?;
-    write_line(alloc, &Scope::leaving_out(without), &outcome, writer)?;
-    Ok(outcome)
-}
-
-/// Writes an answer as a line of JSON.
-fn write_line<W: Write>(
-    alloc: Global,
-    scope: &Scope,
-    outcome: &Outcome,
-    writer: &mut W,
-) -> Result<(), RunFault>
-    ensures written { IfOk result (λ _. Appends (W.contents writer.old) (W.contents writer.new)
-        (json_line scope.now outcome.now)) }
-    ensures nothing_written { IfErr result (λ fault. fault ≢ RunFault.Write
-        → writer.new ≡ writer.old) }
-    ensures cut { result ≡ Err RunFault.Write → HasTaken (W.contents writer.old)
-        (W.contents writer.new) (json_line scope.now outcome.now) }
-{
-    let Ok(line) = line_of(alloc, scope, outcome) else {
+    let Ok(line) = line_of(alloc, &Scope::leaving_out(without), &outcome) else {
         return Err(RunFault::Memory);
     };
-    write_text(writer, line.as_bytes())
+    write_text(writer, line.as_bytes())?;
+    Ok(outcome)
 }
 
 /// An answer as a line of JSON.
