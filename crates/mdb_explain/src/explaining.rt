@@ -110,6 +110,10 @@ pub fn explain_scoped<R: Read + Drop, W: Write>(
 
 /// Explains the records that are still to come, and writes the text of that. What the records tell
 /// of where the reading ended is still to be asked then.
+///
+/// # Errors
+///
+/// Those of [`explain`], where the records have their own limit of bytes.
 pub fn explain_records<R: Read + Drop, W: Write>(
     alloc: Global,
     without: DeviceSet,

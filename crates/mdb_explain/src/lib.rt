@@ -11,4 +11,4 @@ mod replaying;
 mod sheet;
 
 pub use explaining::{explain, explain_records, explain_scoped};
-pub use marked::{replay, replay_records, replay_scoped};
+pub use marked::{replay, replay_outcome, replay_records, replay_scoped};

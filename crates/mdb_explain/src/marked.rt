@@ -86,6 +86,10 @@ pub fn replay_scoped<R: Read + Drop, W: Write>(
 
 /// Replays the records that are still to come, and writes the text of what that tells. What the
 /// records tell of where the reading ended is still to be asked then.
+///
+/// # Errors
+///
+/// Those of [`replay`], where the records have their own limit of bytes.
 pub fn replay_records<R: Read + Drop, W: Write>(
     alloc: Global,
     without: DeviceSet,
@@ -103,7 +107,7 @@ pub fn replay_records<R: Read + Drop, W: Write>(
         → result ≡ Err RunFault.Write → IsCutReplay (leaving_out without) ROWS_MAX all
         (W.contents writer.old) (W.contents writer.new) }
 {
-    let outcome = outcome_of(alloc, without, records)?;
+    let outcome = replay_outcome(alloc, without, records)?;
     let Ok(text) = text_scoped(alloc, &Scope::leaving_out(without), &outcome) else {
         return Err(RunFault::Memory);
     };
@@ -111,8 +115,15 @@ pub fn replay_records<R: Read + Drop, W: Write>(
     Ok(outcome)
 }
 
-/// What the replay of the records that are still to come tells.
-fn outcome_of<R: Read + Drop>(
+/// What the replay of the records that are still to come tells. Nothing is written: this is what
+/// [`replay_records`] writes the text of. What the records tell of where the reading ended is still
+/// to be asked then.
+///
+/// # Errors
+///
+/// Those of [`replay_records`], but for `Write`; `Memory` only where the marks can't be kept or the
+/// reading was refused it.
+pub fn replay_outcome<R: Read + Drop>(
     alloc: Global,
     without: DeviceSet,
     records: &mut Records<R>,

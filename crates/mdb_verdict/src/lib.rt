@@ -21,6 +21,6 @@ pub use row::{FromRecord, field};
 pub use text::{text_of, text_scoped};
 pub use verdict::{
     BYTES_MAX, check, check_joined, check_records, check_scoped, check_scoped_within, check_within,
-    outcome_of, records_of,
+    outcome_of, records_of, verdict_on,
 };
 pub use writing::write_text;

@@ -198,6 +198,10 @@ pub fn check_scoped_within<R: Read + Drop, W: Write>(
 
 /// Checks the records that are still to come, at most so many, and writes the text of the verdict.
 /// What the records tell of where the reading ended is still to be asked then.
+///
+/// # Errors
+///
+/// Those of [`check_within`], where the records have their own limit of bytes.
 pub fn check_records<R: Read + Drop, W: Write>(
     alloc: Global,
     scope: &Scope,
@@ -242,8 +246,14 @@ pub fn records_of<R: Read + Drop>(alloc: Global, reader: R, bytes_max: u64) -> R
     Records::new(alloc, reader, bytes_max)
 }
 
-/// The verdict on the records that are still to come, at most so many.
-fn verdict_on<R: Read + Drop>(
+/// The verdict on the records that are still to come, at most so many. Nothing is written: this is
+/// what [`check_records`] writes the text of. What the records tell of where the reading ended is
+/// still to be asked then.
+///
+/// # Errors
+///
+/// Those of [`check_records`], but for `Write` and for memory that its text takes.
+pub fn verdict_on<R: Read + Drop>(
     scope: &Scope,
     records: &mut Records<R>,
     rows_max: u64,

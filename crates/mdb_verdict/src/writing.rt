@@ -11,6 +11,10 @@ use std::io::{ErrorKind, Write};
 ///
 /// `Write::write_all` does as much, but its contract says nothing of what a failing writer took. A
 /// write that was interrupted is tried again, and one that takes nothing is a failure.
+///
+/// # Errors
+///
+/// `Write` where the writer failed or took nothing, and no other.
 pub fn write_text<W: Write>(writer: &mut W, text: &[u8]) -> Result<(), RunFault>
     ensures whole { OnOk result (Appends (W.contents writer.old) (W.contents writer.new) text.now) }
     ensures front { HasTaken (W.contents writer.old) (W.contents writer.new) text.now }

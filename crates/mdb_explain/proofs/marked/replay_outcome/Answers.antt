@@ -9,7 +9,7 @@ use Rattle.mdb_verdict.specs.Ending.{HasEnded, IsStopped}
 use Rattle.mdb_explain.specs.inner.Entries.{IsEntry, IsNoEntry}
 use Rattle.mdb_explain.specs.inner.Replaying.{HasReplayed, HasStopped}
 use Rattle.mdb_explain.proofs.MarkAnswers as answers
-use Rattle.mdb_explain.proofs.marked.outcome_of.Goals as goal
+use Rattle.mdb_explain.proofs.marked.replay_outcome.Goals as goal
 
 pub returns-in_err-read_rows-clause-answer : goal.returns-in_err-read_rows-clause-answer
 returns-in_err-read_rows-clause-answer g c all to_come =

@@ -1,0 +1,15 @@
+use Rattle.std.proofs.Common.{◌∙◌, subst}
+use Rattle.mdb_verdict.specs.Written.{HasTaken}
+use Rattle.mdb_json.proofs.writing.check_json_records.Goals as goal
+
+pub returns-clause-headline : goal.returns-clause-headline
+returns-clause-headline g c all to_come = c.verdicts_say_the_headline.ensures c.args.scope.now _ all _ (c.in_ok-outcome.ensures.answer all to_come)
+
+pub returns-in_err-write_text-clause-cut : goal.returns-in_err-write_text-clause-cut
+returns-in_err-write_text-clause-cut g c all to_come refused =
+    let held = g.W.Write.contents in
+    record {
+      outcome = c.in_ok-outcome.outcome;
+      is = c.in_ok-outcome.ensures.answer all to_come;
+      taken = subst (HasTaken (held c.args.writer.now) (held c.write_text.new.writer)) (c.as_bytes.ensures.value ∙ c.in-Ok.ensures) c.write_text.ensures.front;
+    }

@@ -1,0 +1,13 @@
+use Rattle.std.proofs.Common.{◌∙◌, ap, subst}
+use Rattle.mdb_verdict.specs.Written.{HasTaken}
+use Rattle.mdb_json.specs.Json.{json_line}
+use Rattle.mdb_json.proofs.writing.replay_json_records.Goals as goal
+
+pub returns-in_err-write_text-clause-cut : goal.returns-in_err-write_text-clause-cut
+returns-in_err-write_text-clause-cut g c all to_come refused =
+    let held = g.W.Write.contents in
+    record {
+      outcome = c.in_ok-outcome.outcome;
+      is = c.in_ok-outcome.ensures.answer all to_come;
+      taken = subst (HasTaken (held c.args.writer.now) (held c.write_text.new.writer)) (c.as_bytes.ensures.value ∙ (c.in-Ok.ensures ∙ ap (λ s. json_line s c.in_ok-outcome.outcome) c.leaving_out.ensures)) c.write_text.ensures.front;
+    }

@@ -1,0 +1,111 @@
+-- An answer as a JSON value. The members of an object stand in the order of their names.
+use Rattle.std.specs.Prelude.{ℕ, Bool, true, false, Option, Some, None, codes}
+use Rattle.serde_json.specs.Data.{Data, null, boolean, number, string, object, member, no_members, unsigned}
+use Rattle.serde_json.specs.Find.{of_integer}
+use Rattle.mdb_msgs.specs.declared.command.Device.{Device}
+use Rattle.mdb_msgs.specs.declared.command.Device.TheVariants.{Changer, Bill, Reader}
+use Rattle.mdb_msgs.specs.declared.command.ReaderUnit.TheVariants.{First, Second}
+use Rattle.mdb_msgs.specs.declared.device_set.DeviceSet.{DeviceSet}
+use Rattle.mdb_msgs.specs.declared.device_set.TheConstants.DeviceSet.{NONE}
+use Rattle.mdb_msgs.specs.DeviceSets.{has}
+use Rattle.mdb_bus.specs.declared.scope.Beginning.{Beginning}
+use Rattle.mdb_bus.specs.declared.scope.Beginning.TheVariants.{PowerOn, Joined}
+use Rattle.mdb_bus.specs.declared.scope.Scope.{Scope}
+use Rattle.mdb_bus.specs.FaultWords.{blame_word, rule_word}
+use Rattle.mdb_follow.specs.declared.account_name.AccountName.{AccountName}
+use Rattle.mdb_follow.specs.declared.account_name.AccountName.TheVariants.{CoinsIn, BillsIn}
+use Rattle.mdb_follow.specs.declared.account_name.AccountName.TheVariants.{PaidOut, Approved, Sold}
+use Rattle.mdb_follow.specs.declared.goal.AccountSide.{AccountSide}
+use Rattle.mdb_follow.specs.declared.goal.AccountSide.TheVariants as sides
+use Rattle.mdb_follow.specs.declared.offence.Offence.{Offence}
+use Rattle.mdb_follow.specs.declared.range.Range.{Range}
+use Rattle.mdb_follow.specs.declared.report.Report.{Report}
+use Rattle.mdb_follow.specs.Ends.{side_range}
+use Rattle.mdb_follow.specs.Report.{account_of, device_decimals, device_silences, device_unvalued}
+use Rattle.mdb_text.specs.declared.outcome.Outcome.{Outcome}
+use Rattle.mdb_text.specs.declared.outcome.Outcome.TheVariants.{Yes, No}
+use Rattle.mdb_text.specs.Known.{known_devices}
+
+-- the least and the greatest of a sum, in the smallest unit of its device
+abbrev pub range_data : Range → Data
+range_data range = object (member (codes "greatest") (number (of_integer range.greatest))
+    (member (codes "least") (number (of_integer range.least)) no_members))
+
+-- what an account comes to on a side
+abbrev pub side_data : Report → AccountName → AccountSide → Data
+side_data report name side = range_data (side_range side (account_of name report))
+
+-- what an account comes to on each side
+abbrev pub account_data : Report → AccountName → Data
+account_data report name =
+    object (member (codes "controller") (side_data report name sides.Controller)
+    (member (codes "device") (side_data report name sides.Device)
+    (member (codes "difference") (side_data report name sides.Difference) no_members)))
+
+-- the accounts that a device keeps, by their words
+abbrev pub accounts_data : Report → Device → Data
+accounts_data report Changer = object (member (codes "coins-in") (account_data report CoinsIn)
+    (member (codes "paid-out") (account_data report PaidOut) no_members))
+accounts_data report Bill =
+    object (member (codes "bills-in") (account_data report BillsIn) no_members)
+accounts_data report (Reader First) =
+    object (member (codes "approved") (account_data report (Approved First))
+    (member (codes "sold") (account_data report (Sold First)) no_members))
+accounts_data report (Reader Second) =
+    object (member (codes "approved-2") (account_data report (Approved Second))
+    (member (codes "sold-2") (account_data report (Sold Second)) no_members))
+
+-- how many decimal places a device told of; null where it told of none
+abbrev pub places_data : Option ℕ → Data
+places_data (Some places) = number (unsigned places)
+places_data None = null
+
+-- the devices of whose set-up something is known from elsewhere
+abbrev pub known_in : Beginning → DeviceSet
+known_in PowerOn = NONE
+known_in (Joined setups) = known_devices setups
+
+-- a device: its accounts, the decimal places of their sums, whether something of its set-up is
+-- known from elsewhere, how many silences it had, how many of its amounts have no value, and
+-- whether it is left out
+abbrev pub device_data : Scope → Report → Device → Data
+device_data scope report device =
+    object (member (codes "accounts") (accounts_data report device)
+    (member (codes "decimals") (places_data (device_decimals device report))
+    (member (codes "setup") (boolean (has (known_in scope.begins) device))
+    (member (codes "silences") (number (unsigned (device_silences device report)))
+    (member (codes "unvalued") (number (unsigned (device_unvalued device report)))
+    (member (codes "without") (boolean (has scope.without device)) no_members))))))
+
+-- each device, by its word
+abbrev pub devices_data : Scope → Report → Data
+devices_data scope report = object (member (codes "bill") (device_data scope report Bill)
+    (member (codes "cashless") (device_data scope report (Reader First))
+    (member (codes "cashless-2") (device_data scope report (Reader Second))
+    (member (codes "changer") (device_data scope report Changer) no_members))))
+
+-- whether a recording begins in mid-session
+abbrev pub is_joined : Beginning → Bool
+is_joined PowerOn = false
+is_joined (Joined setups) = true
+
+-- a yes
+abbrev pub yes_data : Scope → Report → Data
+yes_data scope report = object (member (codes "devices") (devices_data scope report)
+    (member (codes "joined") (boolean (is_joined scope.begins))
+    (member (codes "rows") (number (unsigned report.rows))
+    (member (codes "verdict") (string (codes "yes"))
+    (member (codes "version") (number (unsigned 1)) no_members)))))
+
+-- a no: the row and why
+abbrev pub offence_data : Offence → Data
+offence_data offence = object (member (codes "blame") (string (blame_word offence.blame))
+    (member (codes "row") (number (unsigned offence.row))
+    (member (codes "rule") (string (rule_word offence.rule))
+    (member (codes "verdict") (string (codes "no"))
+    (member (codes "version") (number (unsigned 1)) no_members)))))
+
+-- the answer to a recording that is taken so
+abbrev pub outcome_data : Scope → Outcome → Data
+outcome_data scope (Yes report) = yes_data scope report
+outcome_data scope (No offence) = offence_data offence

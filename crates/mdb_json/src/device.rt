@@ -1,0 +1,72 @@
+//! Devices.
+
+ghost use Rattle.std.specs.Prelude.{◌≡◌, IfOk};
+ghost use Rattle.serde_json.specs.View.{view};
+ghost use Rattle.mdb_json.specs.Reports.{device_data, devices_data, known_in, places_data};
+
+use super::account::accounts;
+use mdb_bus::{Beginning, Scope};
+use mdb_follow::Report;
+use mdb_msgs::{Device, DeviceSet, ReaderUnit};
+use mdb_text::known_devices;
+use serde_json::{Value, json};
+use std::alloc::{AllocError, Global};
+
+/// What a yes tells of each device, by its word.
+pub(crate) fn devices(alloc: Global, scope: &Scope, report: &Report) -> Result<Value, AllocError>
+    ensures { IfOk result (λ value. view value ≡ devices_data scope.now report.now) }
+{
+    let changer = device(alloc, scope, report, Device::Changer)?;
+    let bill = device(alloc, scope, report, Device::Bill)?;
+    let first = device(alloc, scope, report, Device::Reader(ReaderUnit::First))?;
+    let second = device(alloc, scope, report, Device::Reader(ReaderUnit::Second))?;
+    json!(in alloc; {
+        "changer": changer,
+        "bill": bill,
+        "cashless": first,
+        "cashless-2": second
+    })
+}
+
+/// What a yes tells of a device.
+fn device(
+    alloc: Global,
+    scope: &Scope,
+    report: &Report,
+    device: Device,
+) -> Result<Value, AllocError>
+    ensures { IfOk result (λ value. view value ≡ device_data scope.now report.now device) }
+{
+    let accounts = accounts(alloc, report, device)?;
+    let decimals = places(report.device_decimals(device));
+    let is_known = known(&scope.begins).has(device);
+    let is_left_out = scope.without.has(device);
+    json!(in alloc; {
+        "accounts": accounts,
+        "decimals": decimals,
+        "silences": report.device_silences(device),
+        "unvalued": report.device_unvalued(device),
+        "setup": is_known,
+        "without": is_left_out
+    })
+}
+
+/// How many decimal places there are; null where there are none.
+fn places(places: Option<u8>) -> Value
+    ensures { view result ≡ places_data places }
+{
+    match places {
+        Some(places) => Value::from(places),
+        None => Value::Null,
+    }
+}
+
+/// The devices of whose set-up something is known from elsewhere.
+fn known(begins: &Beginning) -> DeviceSet
+    ensures { result ≡ known_in begins.now }
+{
+    match begins {
+        Beginning::PowerOn => DeviceSet::NONE,
+        Beginning::Joined(setups) => known_devices(setups),
+    }
+}

@@ -1,0 +1,104 @@
+//! The answer to the records of an input, written as JSON.
+
+ghost use Rattle.std.specs.Prelude.{◌≡◌, ◌≢◌, ◌≤◌, List, ℕ, IfOk, IfErr, Err, string_bytes};
+ghost use Rattle.std.specs.Io.KnownBytes.{Appends};
+ghost use Rattle.mdb_bus.specs.Scopes.{leaving_out};
+ghost use Rattle.mdb_explain.specs.Replay.{IsReplayAnswer};
+ghost use Rattle.mdb_follow.specs.declared.follower.TheConstants.{ROWS_MAX};
+ghost use Rattle.mdb_json.specs.Json.{IsCutJson, IsCutReplayJson, json_line};
+ghost use Rattle.mdb_records.specs.ToCome.{IsOverLimit, ToCome};
+ghost use Rattle.mdb_verdict.specs.Headline.{Headline};
+ghost use Rattle.mdb_verdict.specs.Verdict.{IsAnswer, IsNoYes};
+
+use super::outcome::json_of;
+use mdb_bus::Scope;
+use mdb_explain::replay_outcome;
+use mdb_follow::ROWS_MAX;
+use mdb_msgs::DeviceSet;
+use mdb_records::Records;
+use mdb_text::Outcome;
+use mdb_verdict::laws::verdicts_say_the_headline;
+use mdb_verdict::{RunFault, verdict_on, write_text};
+use std::alloc::{AllocError, Global};
+use std::io::{Read, Write};
+
+/// Checks the records that are still to come, at most so many, and writes the verdict as a line of
+/// JSON. What the records tell of where the reading ended is still to be asked then.
+///
+/// # Errors
+///
+/// `BadRow` for the first record that is no row, if no row before it is impossible; `TooLong` for a
+/// record past `rows_max`; `Read` where the reader failed, or for an input of more bytes than the
+/// records may have that isn't answered before; `Memory` where memory was refused. Nothing has been
+/// written then. `Write` where the writer failed: then it took a front of the line that there is,
+/// and nothing else.
+pub fn check_json_records<R: Read + Drop, W: Write>(
+    alloc: Global,
+    scope: &Scope,
+    records: &mut Records<R>,
+    writer: &mut W,
+    rows_max: u64,
+) -> Result<Outcome, RunFault>
+    requires { rows_max ≤ ROWS_MAX }
+    ensures answer { (all : List (List (List ℕ))) → ToCome R.remaining records.old all
+        → IsAnswer scope.now rows_max all result }
+    ensures headline { (all : List (List (List ℕ))) → ToCome R.remaining records.old all
+        → IfOk result (Headline scope.now rows_max all) }
+    ensures whole { IsOverLimit R.remaining records.old → IsNoYes result }
+    ensures written { IfOk result (λ outcome. Appends (W.contents writer.old)
+        (W.contents writer.new) (json_line scope.now outcome)) }
+    ensures nothing_written { IfErr result (λ fault. fault ≢ RunFault.Write
+        → writer.new ≡ writer.old) }
+    ensures cut { (all : List (List (List ℕ))) → ToCome R.remaining records.old all
+        → result ≡ Err RunFault.Write
+        → IsCutJson scope.now rows_max all (W.contents writer.old) (W.contents writer.new) }
+{
+    verdicts_say_the_headline();
+    let outcome = verdict_on(scope, records, rows_max)?;
+    let Ok(line) = line_of(alloc, scope, &outcome) else {
+        return Err(RunFault::Memory);
+    };
+    write_text(writer, line.as_bytes())?;
+    Ok(outcome)
+}
+
+/// Replays the records that are still to come, and writes what that tells as a line of JSON. What
+/// the records tell of where the reading ended is still to be asked then.
+///
+/// # Errors
+///
+/// Those of [`mdb_explain::replay`]: nothing has been written then, but at `Write`, where the
+/// writer took a front of the line that there is, and nothing else.
+pub fn replay_json_records<R: Read + Drop, W: Write>(
+    alloc: Global,
+    without: DeviceSet,
+    records: &mut Records<R>,
+    writer: &mut W,
+) -> Result<Outcome, RunFault>
+    ensures answer { (all : List (List (List ℕ))) → ToCome R.remaining records.old all
+        → IsReplayAnswer (leaving_out without) ROWS_MAX all result }
+    ensures whole { IsOverLimit R.remaining records.old → IsNoYes result }
+    ensures written { IfOk result (λ outcome. Appends (W.contents writer.old)
+        (W.contents writer.new) (json_line (leaving_out without) outcome)) }
+    ensures nothing_written { IfErr result (λ fault. fault ≢ RunFault.Write
+        → writer.new ≡ writer.old) }
+    ensures cut { (all : List (List (List ℕ))) → ToCome R.remaining records.old all
+        → result ≡ Err RunFault.Write → IsCutReplayJson (leaving_out without) ROWS_MAX all
+        (W.contents writer.old) (W.contents writer.new) }
+{
+    let outcome = replay_outcome(alloc, without, records)?;
+    let Ok(line) = line_of(alloc, &Scope::leaving_out(without), &outcome) else {
+        return Err(RunFault::Memory);
+    };
+    write_text(writer, line.as_bytes())?;
+    Ok(outcome)
+}
+
+/// An answer as a line of JSON.
+fn line_of(alloc: Global, scope: &Scope, outcome: &Outcome) -> Result<String, AllocError>
+    ensures { IfOk result (λ line. string_bytes line ≡ json_line scope.now outcome.now) }
+{
+    let mut line = json_of(alloc, scope, outcome)?;
+    line.push_str("\n")?;
+    Ok(line)
+}
