@@ -1,6 +1,1 @@
-pub mod OneShowing
-pub mod PageEnds
-pub mod SameFault
-pub mod ShowSteps
-pub mod ShowTexts
-pub mod Showings
+pub mod JsonLines

@@ -191,14 +191,22 @@ fn push_rows(text: &mut Vec<u8>, first: u64, last: u64) -> Result<(), AllocError
     push_decimal(text, last)
 }
 
-/// Appends the bytes of a block.
+/// Appends the bytes of a block, as a member.
 fn push_hex(text: &mut Vec<u8>, bytes: &[u8]) -> Result<(), AllocError>
     ensures { OnOk result (text.new.items ≡ text.old.items ++ bytes_json bytes.now) }
 {
     text.extend_from_slice(b",\"bytes\":\"")?;
-    if let Some((byte, bytes)) = bytes.split_first() {
-        text.extend_from_slice(&[hex_digit(*byte / 16), hex_digit(*byte % 16)])?;
-        push_bytes(text, bytes)?;
-    }
+    push_spaced(text, bytes)?;
     text.extend_from_slice(b"\"")
+}
+
+/// Appends bytes, one blank apart.
+fn push_spaced(text: &mut Vec<u8>, bytes: &[u8]) -> Result<(), AllocError>
+    ensures { OnOk result (text.new.items ≡ text.old.items ++ hex_text bytes.now) }
+{
+    let Some((first, others)) = bytes.split_first() else {
+        return Ok(());
+    };
+    text.extend_from_slice(&[hex_digit(*first / 16), hex_digit(*first % 16)])?;
+    push_bytes(text, others)
 }
