@@ -16,17 +16,23 @@ pub(crate) trait Form: Drop {
     ghost lines: { LineForm };
 
     /// Appends the line of an act, which has these rows, from the first to the last.
-    fn push_act(text: &mut Vec<u8>, first: u64, last: u64, act: &Act) -> Result<(), AllocError>
+    fn push_act(
+        &self,
+        text: &mut Vec<u8>,
+        first: u64,
+        last: u64,
+        act: &Act,
+    ) -> Result<(), AllocError>
         requires { NamesAReply act.now }
         ensures { OnOk result
             (text.new.items ≡ text.old.items ++ lines.act first last act.now) };
 
     /// Appends the line of a tail that was cut.
-    fn push_cut(text: &mut Vec<u8>, first: u64, last: u64) -> Result<(), AllocError>
+    fn push_cut(&self, text: &mut Vec<u8>, first: u64, last: u64) -> Result<(), AllocError>
         ensures { OnOk result (text.new.items ≡ text.old.items ++ lines.cut first last) };
 
     /// Appends the line of a row that cannot be.
-    fn push_fault(text: &mut Vec<u8>, row: u64, fault: LinkFault) -> Result<(), AllocError>
+    fn push_fault(&self, text: &mut Vec<u8>, row: u64, fault: LinkFault) -> Result<(), AllocError>
         ensures { OnOk result (text.new.items ≡ text.old.items ++ lines.fault row fault) };
 }
 
@@ -39,15 +45,21 @@ impl Form for TextForm {
 
     ghost lines = { text_lines };
 
-    fn push_act(text: &mut Vec<u8>, first: u64, last: u64, act: &Act) -> Result<(), AllocError> {
+    fn push_act(
+        &self,
+        text: &mut Vec<u8>,
+        first: u64,
+        last: u64,
+        act: &Act,
+    ) -> Result<(), AllocError> {
         show_text::push_act_line(text, first, last, act)
     }
 
-    fn push_cut(text: &mut Vec<u8>, first: u64, last: u64) -> Result<(), AllocError> {
+    fn push_cut(&self, text: &mut Vec<u8>, first: u64, last: u64) -> Result<(), AllocError> {
         show_text::push_cut_line(text, first, last)
     }
 
-    fn push_fault(text: &mut Vec<u8>, row: u64, fault: LinkFault) -> Result<(), AllocError> {
+    fn push_fault(&self, text: &mut Vec<u8>, row: u64, fault: LinkFault) -> Result<(), AllocError> {
         show_text::push_fault_line(text, row, fault)
     }
 }
@@ -61,15 +73,21 @@ impl Form for JsonForm {
 
     ghost lines = { json_lines };
 
-    fn push_act(text: &mut Vec<u8>, first: u64, last: u64, act: &Act) -> Result<(), AllocError> {
+    fn push_act(
+        &self,
+        text: &mut Vec<u8>,
+        first: u64,
+        last: u64,
+        act: &Act,
+    ) -> Result<(), AllocError> {
         show_json::push_act_line(text, first, last, act)
     }
 
-    fn push_cut(text: &mut Vec<u8>, first: u64, last: u64) -> Result<(), AllocError> {
+    fn push_cut(&self, text: &mut Vec<u8>, first: u64, last: u64) -> Result<(), AllocError> {
         show_json::push_cut_line(text, first, last)
     }
 
-    fn push_fault(text: &mut Vec<u8>, row: u64, fault: LinkFault) -> Result<(), AllocError> {
+    fn push_fault(&self, text: &mut Vec<u8>, row: u64, fault: LinkFault) -> Result<(), AllocError> {
         show_json::push_fault_line(text, row, fault)
     }
 }
@@ -77,6 +95,7 @@ impl Form for JsonForm {
 /// Appends the lines of the act that the next row ends: that of the act, and before it that of the
 /// tail that a break cuts. Of the `rows` rows before it the first `shown` have their lines.
 pub(crate) fn push_ended<F: Form>(
+    form: &F,
     text: &mut Vec<u8>,
     shown: u64,
     rows: u64,
@@ -90,16 +109,17 @@ pub(crate) fn push_ended<F: Form>(
 {
     match act {
         Act::Break(_) => {
-            push_tail::<F>(text, shown, rows)?;
-            F::push_act(text, rows + 1, rows + 1, act)
+            push_tail(form, text, shown, rows)?;
+            form.push_act(text, rows + 1, rows + 1, act)
         }
-        _ => F::push_act(text, shown + 1, rows + 1, act),
+        _ => form.push_act(text, shown + 1, rows + 1, act),
     }
 }
 
 /// Appends the line of the tail, if there is one: of so many rows the first `shown` have their
 /// lines.
 pub(crate) fn push_tail<F: Form>(
+    form: &F,
     text: &mut Vec<u8>,
     shown: u64,
     rows: u64,
@@ -108,7 +128,7 @@ pub(crate) fn push_tail<F: Form>(
     ensures { OnOk result (text.new.items ≡ text.old.items ++ cut_text F.lines shown rows) }
 {
     if shown < rows {
-        F::push_cut(text, shown + 1, rows)?;
+        form.push_cut(text, shown + 1, rows)?;
     }
     Ok(())
 }

@@ -40,6 +40,7 @@ impl Page {
     /// Adds the lines of the act that the next row ends, as `push_ended` says.
     pub(crate) fn add_ended<F: Form, W: Write>(
         &mut self,
+        form: &F,
         writer: &mut W,
         shown: u64,
         rows: u64,
@@ -55,7 +56,7 @@ impl Page {
             (ended_text F.lines shown rows act.now)) }
     {
         self.next.clear();
-        match push_ended::<F>(&mut self.next, shown, rows, act) {
+        match push_ended(form, &mut self.next, shown, rows, act) {
             Ok(()) => self.add(writer),
             Err(_) => Err(RunFault::Memory),
         }
@@ -64,6 +65,7 @@ impl Page {
     /// Adds the line of a tail, as `push_tail` says.
     pub(crate) fn add_cut<F: Form, W: Write>(
         &mut self,
+        form: &F,
         writer: &mut W,
         shown: u64,
         rows: u64,
@@ -76,7 +78,7 @@ impl Page {
             (cut_text F.lines shown rows)) }
     {
         self.next.clear();
-        match push_tail::<F>(&mut self.next, shown, rows) {
+        match push_tail(form, &mut self.next, shown, rows) {
             Ok(()) => self.add(writer),
             Err(_) => Err(RunFault::Memory),
         }
@@ -85,6 +87,7 @@ impl Page {
     /// Adds the line of a row that cannot be.
     pub(crate) fn add_fault<F: Form, W: Write>(
         &mut self,
+        form: &F,
         writer: &mut W,
         row: u64,
         fault: LinkFault,
@@ -96,7 +99,7 @@ impl Page {
             (F.lines.fault row fault)) }
     {
         self.next.clear();
-        match F::push_fault(&mut self.next, row, fault) {
+        match form.push_fault(&mut self.next, row, fault) {
             Ok(()) => self.add(writer),
             Err(_) => Err(RunFault::Memory),
         }

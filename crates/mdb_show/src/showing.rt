@@ -167,8 +167,8 @@ fn show_rows<F: Form, R: Read + Drop, W: Write>(
     if let Some(stop) = read_rows(records, &mut Batch::new(), showing, writer, ROWS_MAX)? {
         return Ok(Some(stop?));
     }
-    let Showing { lines, page, .. } = showing;
-    page.add_cut::<F, W>(writer, lines.shown, lines.rows)?;
+    let Showing { lines, page, form } = showing;
+    page.add_cut(form, writer, lines.shown, lines.rows)?;
     Ok(None)
 }
 
@@ -177,7 +177,6 @@ fn show_rows<F: Form, R: Read + Drop, W: Write>(
 struct Showing<F: Drop> {
     lines: Lines,
     page: Page,
-    /// The form of the lines.
     form: F,
 }
 
@@ -230,7 +229,7 @@ impl<F: Form, W: Write> TakeRows<W> for Showing<F> {
 
     fn take_all(&mut self, writer: &mut W, rows: &[Event]) -> Option<Result<LinkFault, RunFault>> {
         self.lines
-            .add_all::<F, W>(rows, &mut self.page, writer)
+            .add_all(&self.form, rows, &mut self.page, writer)
             .transpose()
     }
 
@@ -274,6 +273,7 @@ impl Lines {
     /// too, and is answered: of those after it nothing is said.
     fn add_all<F: Form, W: Write>(
         &mut self,
+        form: &F,
         events: &[Event],
         page: &mut Page,
         writer: &mut W,
@@ -293,12 +293,12 @@ impl Lines {
             let ended = match self.bus.feed_into(*event, &mut self.act) {
                 Ok(ended) => ended,
                 Err(fault) => {
-                    page.add_fault::<F, W>(writer, self.rows + 1, fault)?;
+                    page.add_fault(form, writer, self.rows + 1, fault)?;
                     return Ok(Some(fault));
                 }
             };
             if ended {
-                page.add_ended::<F, W>(writer, self.shown, self.rows, &self.act)?;
+                page.add_ended(form, writer, self.shown, self.rows, &self.act)?;
                 self.shown = self.rows + 1;
             }
             self.rows += 1;
