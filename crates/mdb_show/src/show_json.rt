@@ -6,10 +6,10 @@ ghost use Rattle.mdb_bus.specs.Acts.{IsReply, NamesAReply};
 ghost use Rattle.mdb_blocks.specs.Block.{block_of};
 ghost use Rattle.mdb_msgs.specs.Replies.{reply_bytes};
 ghost use Rattle.mdb_show.specs.ShowJson.{hex_text};
-ghost use Rattle.mdb_show.specs.inner.JsonLines.{act_json, block_json, bytes_json, deed_json, device_json, fault_json, head_json, rows_json, rows_only_json};
+ghost use Rattle.mdb_show.specs.inner.JsonLines.{act_json, blame_json, block_json, bytes_json, deed_json, device_json, fault_json, head_json, rows_json, rows_only_json, rule_json};
 
 use super::show_text::{push_bytes, push_decimal};
-use mdb_bus::{Act, LinkFault};
+use mdb_bus::{Act, Blame, LinkFault, Rule};
 use mdb_msgs::{Command, Reply, write_command, write_reply};
 use mdb_text::hex_digit;
 use std::alloc::AllocError;
@@ -47,14 +47,37 @@ pub(crate) fn push_fault_line(
     ensures { OnOk result
         (text.new.items ≡ text.old.items ++ (fault_json row fault ++ codes "}\n")) }
 {
+    push_fault(text, row, fault)?;
+    text.extend_from_slice(b"}\n")
+}
+
+/// Appends a row that cannot be, without the end of its object.
+fn push_fault(text: &mut Vec<u8>, row: u64, fault: LinkFault) -> Result<(), AllocError>
+    ensures { OnOk result (text.new.items ≡ text.old.items ++ fault_json row fault) }
+{
     push_head(text, b"fault")?;
-    text.extend_from_slice(b",\"blame\":\"")?;
-    text.extend_from_slice(fault.blame.word().as_bytes())?;
-    text.extend_from_slice(b"\",\"row\":")?;
+    push_blame(text, fault.blame)?;
+    text.extend_from_slice(b",\"row\":")?;
     push_decimal(text, row)?;
+    push_rule(text, fault.rule)
+}
+
+/// Appends who is to blame.
+fn push_blame(text: &mut Vec<u8>, blame: Blame) -> Result<(), AllocError>
+    ensures { OnOk result (text.new.items ≡ text.old.items ++ blame_json blame) }
+{
+    text.extend_from_slice(b",\"blame\":\"")?;
+    text.extend_from_slice(blame.word().as_bytes())?;
+    text.extend_from_slice(b"\"")
+}
+
+/// Appends the rule that is broken.
+fn push_rule(text: &mut Vec<u8>, rule: Rule) -> Result<(), AllocError>
+    ensures { OnOk result (text.new.items ≡ text.old.items ++ rule_json rule) }
+{
     text.extend_from_slice(b",\"rule\":\"")?;
-    text.extend_from_slice(fault.rule.word().as_bytes())?;
-    text.extend_from_slice(b"\"}\n")
+    text.extend_from_slice(rule.word().as_bytes())?;
+    text.extend_from_slice(b"\"")
 }
 
 /// Appends an act, without the end of its object.

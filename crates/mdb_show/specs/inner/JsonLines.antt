@@ -10,7 +10,9 @@ use Rattle.mdb_msgs.specs.Devices.{device_word}
 use Rattle.mdb_msgs.specs.Replies.{reply_bytes}
 use Rattle.mdb_bus.specs.declared.act.Act.{Act}
 use Rattle.mdb_bus.specs.declared.act.Act.TheVariants as acts
+use Rattle.mdb_bus.specs.declared.fault.Blame.{Blame}
 use Rattle.mdb_bus.specs.declared.fault.LinkFault.{LinkFault}
+use Rattle.mdb_bus.specs.declared.fault.Rule.{Rule}
 use Rattle.mdb_bus.specs.FaultWords.{blame_word, rule_word}
 use Rattle.mdb_show.specs.ShowJson.{hex_text}
 
@@ -60,8 +62,15 @@ act_json first last acts.Foreign = rows_only_json (codes "foreign") first last
 act_json first last (acts.Break length) =
     rows_only_json (codes "break") first last ++ codes ",\"length\":" ++ decimal length
 
+-- who is to blame
+abbrev pub blame_json : Blame → List ℕ
+blame_json whom = codes ",\"blame\":\"" ++ blame_word whom ++ codes "\""
+
+-- the rule that is broken
+abbrev pub rule_json : Rule → List ℕ
+rule_json broken = codes ",\"rule\":\"" ++ rule_word broken ++ codes "\""
+
 -- a row that cannot be
 abbrev pub fault_json : ℕ → LinkFault → List ℕ
-fault_json row fault = head_json (codes "fault") ++ codes ",\"blame\":\"" ++ blame_word fault.blame
-    ++ codes "\",\"row\":" ++ decimal row ++ codes ",\"rule\":\"" ++ rule_word fault.rule
-    ++ codes "\""
+fault_json row fault = head_json (codes "fault") ++ blame_json fault.blame ++ codes ",\"row\":"
+    ++ decimal row ++ rule_json fault.rule
