@@ -6,7 +6,7 @@ ghost use Rattle.mdb_follow.specs.declared.follower.TheConstants.{ROWS_MAX};
 ghost use Rattle.mdb_show.specs.Lines.{LineForm};
 ghost use Rattle.mdb_show.specs.inner.ShowSteps.{cut_text, ended_text};
 
-use super::{show_json, show_text};
+use super::{json_text, show_text};
 use mdb_bus::{Act, LinkFault};
 use std::alloc::AllocError;
 
@@ -80,15 +80,15 @@ impl Form for JsonForm {
         last: u64,
         act: &Act,
     ) -> Result<(), AllocError> {
-        show_json::push_act_line(text, first, last, act)
+        json_text::push_act_line(text, first, last, act)
     }
 
     fn push_cut(&self, text: &mut Vec<u8>, first: u64, last: u64) -> Result<(), AllocError> {
-        show_json::push_cut_line(text, first, last)
+        json_text::push_cut_line(text, first, last)
     }
 
     fn push_fault(&self, text: &mut Vec<u8>, row: u64, fault: LinkFault) -> Result<(), AllocError> {
-        show_json::push_fault_line(text, row, fault)
+        json_text::push_fault_line(text, row, fault)
     }
 }
 

@@ -2,9 +2,9 @@
 #![tactic(auto)]
 
 mod form;
+mod json_text;
 pub mod laws;
 mod page;
-mod show_json;
 mod show_text;
 mod showing;
 

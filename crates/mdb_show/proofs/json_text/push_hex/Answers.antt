@@ -3,7 +3,7 @@ use Rattle.std.specs.Prelude.{codes}
 use Rattle.mdb_show.specs.ShowJson.{hex_text}
 use Rattle.mdb_show.proofs.JsonLines.{hex_member, then_put}
 use Rattle.mdb_show.proofs.ShowTexts.{had_more}
-use Rattle.mdb_show.proofs.show_json.push_hex.Goals as goal
+use Rattle.mdb_show.proofs.json_text.push_hex.Goals as goal
 
 pub returns : goal.returns
 returns c =

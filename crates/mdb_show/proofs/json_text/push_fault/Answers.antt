@@ -3,7 +3,7 @@ use Rattle.std.specs.Prelude.{codes}
 use Rattle.std.specs.Fmt.{decimal}
 use Rattle.mdb_show.specs.inner.JsonLines.{blame_json, head_json, rule_json}
 use Rattle.mdb_show.proofs.JsonLines.{put_last, then_put}
-use Rattle.mdb_show.proofs.show_json.push_fault.Goals as goal
+use Rattle.mdb_show.proofs.json_text.push_fault.Goals as goal
 
 pub returns : goal.returns
 returns c =

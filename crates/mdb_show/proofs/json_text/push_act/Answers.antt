@@ -1,7 +1,7 @@
 use Rattle.std.proofs.Common.{ap, sym}
 use Rattle.mdb_show.specs.inner.JsonLines.{act_json}
 use Rattle.mdb_show.proofs.JsonLines.{put_as}
-use Rattle.mdb_show.proofs.show_json.push_act.Goals as goal
+use Rattle.mdb_show.proofs.json_text.push_act.Goals as goal
 
 pub returns-in-Reply : goal.returns-in-Reply
 returns-in-Reply c = put_as c.push_reply.result _ _ _ _ (ap (λ act. act_json c.args.first c.args.last act) (sym c.in-Reply.is)) c.push_reply.ensures

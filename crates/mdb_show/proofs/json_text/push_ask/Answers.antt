@@ -2,7 +2,7 @@ use Rattle.std.proofs.Common.{ap, ◌∙◌}
 use Rattle.std.specs.Prelude.{codes}
 use Rattle.mdb_show.specs.inner.JsonLines.{block_json}
 use Rattle.mdb_show.proofs.JsonLines.{put_as}
-use Rattle.mdb_show.proofs.show_json.push_ask.Goals as goal
+use Rattle.mdb_show.proofs.json_text.push_ask.Goals as goal
 
 pub returns : goal.returns
 returns c =
