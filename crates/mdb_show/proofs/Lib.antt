@@ -1,3 +1,4 @@
+pub mod JsonLines
 pub mod OneShowing
 pub mod PageEnds
 pub mod SameFault

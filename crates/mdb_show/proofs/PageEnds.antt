@@ -4,7 +4,7 @@ use Rattle.std.proofs.lemmas.List.{append-nil}
 use Rattle.std.specs.Prelude.{IsErrAnd}
 use Rattle.std.specs.Io.KnownBytes.{Appends}
 use Rattle.mdb_bus.specs.declared.fault.LinkFault.{LinkFault}
-use Rattle.mdb_show.specs.Show.{IsCutShort, IsShowing, Shows}
+use Rattle.mdb_show.specs.Show.{IsCutShortIn, IsShowingIn, ShowsIn}
 use Rattle.mdb_verdict.specs.Output.{Output, begun}
 use Rattle.mdb_show.specs.inner.ShowSteps.{PutsShowing}
 use Rattle.mdb_verdict.specs.Written.{HasTaken}
@@ -12,19 +12,20 @@ use Rattle.mdb_verdict.specs.declared.fault.RunFault.{RunFault}
 use Rattle.mdb_verdict.specs.declared.fault.RunFault.TheVariants.{Write}
 use Rattle.mdb_text.proofs.Texts.{appended}
 use Rattle.mdb_bus.specs.declared.scope.Scope.{Scope}
+use Rattle.mdb_show.specs.Lines.{LineForm}
 
 -- The page is written out at last.
-pub written_out : (scope : Scope) (all : List (List (List ℕ))) (before later : Option (List ℕ)) (now : Output) (answer : Result (Option LinkFault) RunFault)
-    → PutsShowing scope all (begun before) now answer → (answer ≡ Err Write → ⊥) → Appends now.held later now.waiting → Shows scope all before later answer
-written_out scope all before later now answer (inl showing) not written =
+pub written_out : (form : LineForm) (scope : Scope) (all : List (List (List ℕ))) (before later : Option (List ℕ)) (now : Output) (answer : Result (Option LinkFault) RunFault)
+    → PutsShowing form scope all (begun before) now answer → (answer ≡ Err Write → ⊥) → Appends now.held later now.waiting → ShowsIn form scope all before later answer
+written_out form scope all before later now answer (inl showing) not written =
     let P : List ℕ → Type 0 = λ text. Appends before later text in
     inl (showing.0, showing.1, subst P (sym showing.2.parts) (appended before now.held later showing.2.taken now.waiting showing.2.grown written))
-written_out scope all before later now answer (inr broken) not written = absurd (not broken.0)
+written_out form scope all before later now answer (inr broken) not written = absurd (not broken.0)
 
 -- the writer fails at the page
-pub page_broken : (scope : Scope) (all : List (List (List ℕ))) (before later : Option (List ℕ)) (now : Output) (answer : Result (Option LinkFault) RunFault)
-    → PutsShowing scope all (begun before) now answer → (answer ≡ Err Write → ⊥) → HasTaken now.held later now.waiting → IsCutShort scope all before later
-page_broken scope all before later now answer (inl showing) not taken = record {
+pub page_broken : (form : LineForm) (scope : Scope) (all : List (List (List ℕ))) (before later : Option (List ℕ)) (now : Output) (answer : Result (Option LinkFault) RunFault)
+    → PutsShowing form scope all (begun before) now answer → (answer ≡ Err Write → ⊥) → HasTaken now.held later now.waiting → IsCutShortIn form scope all before later
+page_broken form scope all before later now answer (inl showing) not taken = record {
   answer = answer;
   text = showing.0;
   showing = showing.1;
@@ -35,19 +36,19 @@ page_broken scope all before later now answer (inl showing) not taken = record {
     grown = appended before now.held later showing.2.taken taken.front showing.2.grown taken.grown;
   };
 }
-page_broken scope all before later now answer (inr broken) not taken = absurd (not broken.0)
+page_broken form scope all before later now answer (inr broken) not taken = absurd (not broken.0)
 
 -- it has failed before
-pub rows_broken : (scope : Scope) (all : List (List (List ℕ))) (before : Option (List ℕ)) (now : Output) (answer : Result (Option LinkFault) RunFault)
-    → PutsShowing scope all (begun before) now answer → answer ≡ Err Write → Shows scope all before now.held answer
-rows_broken scope all before now answer (inl showing) is =
-    let P : Result (Option LinkFault) RunFault → Type 0 = λ a. IsShowing scope all a showing.0 in
+pub rows_broken : (form : LineForm) (scope : Scope) (all : List (List (List ℕ))) (before : Option (List ℕ)) (now : Output) (answer : Result (Option LinkFault) RunFault)
+    → PutsShowing form scope all (begun before) now answer → answer ≡ Err Write → ShowsIn form scope all before now.held answer
+rows_broken form scope all before now answer (inl showing) is =
+    let P : Result (Option LinkFault) RunFault → Type 0 = λ a. IsShowingIn form scope all a showing.0 in
     absurd (subst P is showing.1)
-rows_broken scope all before now answer (inr broken) is =
+rows_broken form scope all before now answer (inr broken) is =
     inr (is, record { answer = broken.1.answer; text = broken.1.text; showing = broken.1.showing; taken = broken.1.broken })
 
 -- That is the answer then, handed on by `?`.
-pub cut_short : (scope : Scope) (all : List (List (List ℕ))) (before later : Option (List ℕ)) (fault : RunFault) (answer : Result (Option LinkFault) RunFault) → IsErrAnd answer (λ told. told ≡ fault)
-    → fault ≡ Write → IsCutShort scope all before later → Shows scope all before later answer
-cut_short scope all before later fault (Ok showing) is write cut = absurd is
-cut_short scope all before later fault (Err told) is write cut = inr (ap Err (is ∙ write), cut)
+pub cut_short : (form : LineForm) (scope : Scope) (all : List (List (List ℕ))) (before later : Option (List ℕ)) (fault : RunFault) (answer : Result (Option LinkFault) RunFault) → IsErrAnd answer (λ told. told ≡ fault)
+    → fault ≡ Write → IsCutShortIn form scope all before later → ShowsIn form scope all before later answer
+cut_short form scope all before later fault (Ok showing) is write cut = absurd is
+cut_short form scope all before later fault (Err told) is write cut = inr (ap Err (is ∙ write), cut)

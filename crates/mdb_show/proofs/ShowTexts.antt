@@ -11,7 +11,8 @@ use Rattle.mdb_bus.specs.declared.act.Act.TheVariants as acts
 use Rattle.mdb_bus.specs.ActLists.{Piece, Whole, AskTail, ReplyTail, RepeatTail, Position, Quiet, InAsk, Asked, InReply, Replied, Returned, InRepeat, InForeign, ArePieces, BlockMayCome, IsTail, MayCome, MayStand, act_in, events_of, piece_events}
 use Rattle.mdb_bus.specs.Bus.{Grown}
 use Rattle.mdb_show.specs.inner.ShowSteps.{cut_text, ended_text}
-use Rattle.mdb_show.specs.ShowText.{act_text, bytes_text, closed_pieces, piece_line, piece_text, rows_line, show_text}
+use Rattle.mdb_show.specs.Lines.{LineForm, closed_pieces, lines_of, piece_line}
+use Rattle.mdb_show.specs.ShowText.{bytes_text}
 use Rattle.mdb_bus.specs.declared.scope.Scope.{Scope}
 
 -- one byte more
@@ -124,50 +125,50 @@ goes_on_closed scope pieces longer row grown order = with_from grown.from
     with_from (inr old) = after ∙ sym (ap closed_pieces old.3 ∙ closed_tail old.0 grown.earlier old.1)
 
 -- lines of rows in all
-cut_none : (n m : ℕ) → n ≡ m → cut_text n m ≡ []
-cut_none n m same = off (nat_lt n m) refl
+cut_none : (form : LineForm) (n m : ℕ) → n ≡ m → cut_text form n m ≡ []
+cut_none form n m same = off (nat_lt n m) refl
   where
-    off : (b : Bool) → nat_lt n m ≡ b → cut_text n m ≡ []
+    off : (b : Bool) → nat_lt n m ≡ b → cut_text form n m ≡ []
     off true is = absurd (omega (arith, ltb-true n m is, same))
     off false is = cc
 
-cut_some : (n m : ℕ) → n < m → cut_text n m ≡ rows_line (n + 1) m (codes "cut")
-cut_some n m below = on (nat_lt n m) refl
+cut_some : (form : LineForm) (n m : ℕ) → n < m → cut_text form n m ≡ form.cut (n + 1) m
+cut_some form n m below = on (nat_lt n m) refl
   where
-    on : (b : Bool) → nat_lt n m ≡ b → cut_text n m ≡ rows_line (n + 1) m (codes "cut")
+    on : (b : Bool) → nat_lt n m ≡ b → cut_text form n m ≡ form.cut (n + 1) m
     on false is = absurd (omega (arith, ltb-false n m is, below))
     on true is = cc
 
-tail_said : (piece : Piece) → IsTail piece → piece_text piece ≡ codes "cut"
-tail_said (Whole act events) is = absurd is
-tail_said (AskTail bytes events) is = refl
-tail_said (ReplyTail command bytes events) is = refl
-tail_said (RepeatTail command reply words events) is = refl
+tail_said : (form : LineForm) (piece : Piece) (n : ℕ) → IsTail piece → piece_line form n piece ≡ form.cut (n + 1) (n + length (piece_events piece))
+tail_said form (Whole act events) n is = absurd is
+tail_said form (AskTail bytes events) n is = refl
+tail_said form (ReplyTail command bytes events) n is = refl
+tail_said form (RepeatTail command reply words events) n is = refl
 
 -- a tail has rows
 some_events : (scope : Scope) (pieces : List Piece) (piece : Piece) → MayStand scope pieces piece → 0 < length (piece_events piece)
 some_events scope pieces piece stands = let begins : piece_events piece ≡ stands.first ∷ stands.others = stands.begins in omega (arith, ap length begins)
 
-with_tail : (scope : Scope) (piece : Piece) (pieces : List Piece) → IsTail piece → MayStand scope pieces piece
-    → show_text (piece ∷ pieces) ≡ show_text pieces ++ cut_text (length (events_of pieces)) (length (events_of (piece ∷ pieces)))
-with_tail scope piece pieces is stands =
+with_tail : (form : LineForm) (scope : Scope) (piece : Piece) (pieces : List Piece) → IsTail piece → MayStand scope pieces piece
+    → lines_of form (piece ∷ pieces) ≡ lines_of form pieces ++ cut_text form (length (events_of pieces)) (length (events_of (piece ∷ pieces)))
+with_tail form scope piece pieces is stands =
     let n : ℕ = length (events_of pieces) in
     let m : ℕ = length (piece_events piece) in
     let counted : length (events_of (piece ∷ pieces)) ≡ n + m = length-append (events_of pieces) (piece_events piece) in
-    let said : piece_line n piece ≡ rows_line (n + 1) (n + m) (codes "cut") = ap (λ said. rows_line (n + 1) (n + m) said) (tail_said piece is) in
-    let cut : cut_text n (n + m) ≡ rows_line (n + 1) (n + m) (codes "cut") = cut_some n (n + m) (omega (arith, some_events scope pieces piece stands)) in
-    ap (λ l. show_text pieces ++ l) (said ∙ (sym cut ∙ ap (λ k. cut_text n k) (sym counted)))
+    let said : piece_line form n piece ≡ form.cut (n + 1) (n + m) = tail_said form piece n is in
+    let cut : cut_text form n (n + m) ≡ form.cut (n + 1) (n + m) = cut_some form n (n + m) (omega (arith, some_events scope pieces piece stands)) in
+    ap (λ l. lines_of form pieces ++ l) (said ∙ (sym cut ∙ ap (λ k. cut_text form n k) (sym counted)))
 
 -- the lines of all pieces are those of the closed ones, and that of a tail
-pub all_shown : (scope : Scope) (pieces : List Piece) → ArePieces scope pieces
-    → show_text pieces ≡ show_text (closed_pieces pieces) ++ cut_text (length (events_of (closed_pieces pieces))) (length (events_of pieces))
-all_shown scope [] order = sym (append-nil _) ∙ ap (λ l. show_text [] ++ l) (sym (cut_none 0 0 refl))
-all_shown scope (Whole act events ∷ pieces) order =
+pub all_shown : (form : LineForm) (scope : Scope) (pieces : List Piece) → ArePieces scope pieces
+    → lines_of form pieces ≡ lines_of form (closed_pieces pieces) ++ cut_text form (length (events_of (closed_pieces pieces))) (length (events_of pieces))
+all_shown form scope [] order = sym (append-nil _) ∙ ap (λ l. lines_of form [] ++ l) (sym (cut_none form 0 0 refl))
+all_shown form scope (Whole act events ∷ pieces) order =
     let n : ℕ = length (events_of (Whole act events ∷ pieces)) in
-    sym (append-nil (show_text (Whole act events ∷ pieces))) ∙ ap (λ l. show_text (Whole act events ∷ pieces) ++ l) (sym (cut_none n n refl))
-all_shown scope (AskTail bytes events ∷ pieces) order = with_tail scope (AskTail bytes events) pieces tt order.1
-all_shown scope (ReplyTail command bytes events ∷ pieces) order = with_tail scope (ReplyTail command bytes events) pieces tt order.1
-all_shown scope (RepeatTail command reply words events ∷ pieces) order = with_tail scope (RepeatTail command reply words events) pieces tt order.1
+    sym (append-nil (lines_of form (Whole act events ∷ pieces))) ∙ ap (λ l. lines_of form (Whole act events ∷ pieces) ++ l) (sym (cut_none form n n refl))
+all_shown form scope (AskTail bytes events ∷ pieces) order = with_tail form scope (AskTail bytes events) pieces tt order.1
+all_shown form scope (ReplyTail command bytes events ∷ pieces) order = with_tail form scope (ReplyTail command bytes events) pieces tt order.1
+all_shown form scope (RepeatTail command reply words events ∷ pieces) order = with_tail form scope (RepeatTail command reply words events) pieces tt order.1
 
 -- an act is a break or not
 break_or_not : (act : Act) → IsBreakAct act ⊎ (IsBreakAct act → ⊥)
@@ -182,29 +183,29 @@ break_or_not (acts.Repeat command reply) = inr (λ is. is)
 break_or_not acts.Foreign = inr (λ is. is)
 break_or_not (acts.Break length) = inl tt
 
-ended_break : (shown rows : ℕ) (act : Act) → IsBreakAct act → ended_text shown rows act ≡ cut_text shown rows ++ rows_line (rows + 1) (rows + 1) (act_text act)
-ended_break shown rows (acts.Ask command) is = absurd is
-ended_break shown rows (acts.Ack command) is = absurd is
-ended_break shown rows (acts.Nak command) is = absurd is
-ended_break shown rows (acts.Reply command reply) is = absurd is
-ended_break shown rows (acts.VmcAck command reply) is = absurd is
-ended_break shown rows (acts.VmcNak command reply) is = absurd is
-ended_break shown rows (acts.VmcRet command reply) is = absurd is
-ended_break shown rows (acts.Repeat command reply) is = absurd is
-ended_break shown rows acts.Foreign is = absurd is
-ended_break shown rows (acts.Break length) is = refl
+ended_break : (form : LineForm) (shown rows : ℕ) (act : Act) → IsBreakAct act → ended_text form shown rows act ≡ cut_text form shown rows ++ form.act (rows + 1) (rows + 1) act
+ended_break form shown rows (acts.Ask command) is = absurd is
+ended_break form shown rows (acts.Ack command) is = absurd is
+ended_break form shown rows (acts.Nak command) is = absurd is
+ended_break form shown rows (acts.Reply command reply) is = absurd is
+ended_break form shown rows (acts.VmcAck command reply) is = absurd is
+ended_break form shown rows (acts.VmcNak command reply) is = absurd is
+ended_break form shown rows (acts.VmcRet command reply) is = absurd is
+ended_break form shown rows (acts.Repeat command reply) is = absurd is
+ended_break form shown rows acts.Foreign is = absurd is
+ended_break form shown rows (acts.Break length) is = refl
 
-ended_other : (shown rows : ℕ) (act : Act) → (IsBreakAct act → ⊥) → ended_text shown rows act ≡ rows_line (shown + 1) (rows + 1) (act_text act)
-ended_other shown rows (acts.Ask command) not = refl
-ended_other shown rows (acts.Ack command) not = refl
-ended_other shown rows (acts.Nak command) not = refl
-ended_other shown rows (acts.Reply command reply) not = refl
-ended_other shown rows (acts.VmcAck command reply) not = refl
-ended_other shown rows (acts.VmcNak command reply) not = refl
-ended_other shown rows (acts.VmcRet command reply) not = refl
-ended_other shown rows (acts.Repeat command reply) not = refl
-ended_other shown rows acts.Foreign not = refl
-ended_other shown rows (acts.Break length) not = absurd (not tt)
+ended_other : (form : LineForm) (shown rows : ℕ) (act : Act) → (IsBreakAct act → ⊥) → ended_text form shown rows act ≡ form.act (shown + 1) (rows + 1) act
+ended_other form shown rows (acts.Ask command) not = refl
+ended_other form shown rows (acts.Ack command) not = refl
+ended_other form shown rows (acts.Nak command) not = refl
+ended_other form shown rows (acts.Reply command reply) not = refl
+ended_other form shown rows (acts.VmcAck command reply) not = refl
+ended_other form shown rows (acts.VmcNak command reply) not = refl
+ended_other form shown rows (acts.VmcRet command reply) not = refl
+ended_other form shown rows (acts.Repeat command reply) not = refl
+ended_other form shown rows acts.Foreign not = refl
+ended_other form shown rows (acts.Break length) not = absurd (not tt)
 
 -- a whole piece with its act
 pub whole_of : (piece : Piece) (act : Act) → act_in piece ≡ Some act → piece ≡ Whole act (piece_events piece)
@@ -226,17 +227,17 @@ break_short scope acts.Foreign events pieces order is = absurd is
 break_short scope (acts.Break len) events pieces order is = ap length order.0.said.1
 
 -- the line of a piece with its rows
-whole_line : (act : Act) (events : List Event) (pieces : List Piece) (n last : ℕ) → length (events_of pieces) ≡ n → n + length events ≡ last
-    → show_text (Whole act events ∷ pieces) ≡ show_text pieces ++ rows_line (n + 1) last (act_text act)
-whole_line act events pieces n last counted end =
-    ap (λ k. show_text pieces ++ rows_line (k + 1) (k + length events) (act_text act)) counted
-    ∙ ap (λ k. show_text pieces ++ rows_line (n + 1) k (act_text act)) end
+whole_line : (form : LineForm) (act : Act) (events : List Event) (pieces : List Piece) (n last : ℕ) → length (events_of pieces) ≡ n → n + length events ≡ last
+    → lines_of form (Whole act events ∷ pieces) ≡ lines_of form pieces ++ form.act (n + 1) last act
+whole_line form act events pieces n last counted end =
+    ap (λ k. lines_of form pieces ++ form.act (k + 1) (k + length events) act) counted
+    ∙ ap (λ k. lines_of form pieces ++ form.act (n + 1) k act) end
 
 -- a row that ends an act adds the lines of that act
-pub ends_act : (scope : Scope) (pieces longer : List Piece) (row : Event) (act : Act) (shown rows : ℕ) → Grown pieces row (Some act) longer → ArePieces scope pieces → ArePieces scope longer
+pub ends_act : (form : LineForm) (scope : Scope) (pieces longer : List Piece) (row : Event) (act : Act) (shown rows : ℕ) → Grown pieces row (Some act) longer → ArePieces scope pieces → ArePieces scope longer
     → length (events_of (closed_pieces pieces)) ≡ shown → length (events_of pieces) ≡ rows
-    → (closed_pieces longer ≡ longer) × (show_text longer ≡ show_text (closed_pieces pieces) ++ ended_text shown rows act)
-ends_act scope pieces longer row act shown rows grown before order closed counted = (stays, with_from grown.from)
+    → (closed_pieces longer ≡ longer) × (lines_of form longer ≡ lines_of form (closed_pieces pieces) ++ ended_text form shown rows act)
+ends_act form scope pieces longer row act shown rows grown before order closed counted = (stays, with_from grown.from)
   where
     events : List Event
     events = piece_events grown.newest
@@ -253,22 +254,22 @@ ends_act scope pieces longer row act shown rows grown before order closed counte
     long : length events ≡ length grown.begun + 1
     long = ap length grown.events ∙ length-append grown.begun (row ∷ [])
 
-    lines : (n last : ℕ) → length (events_of grown.earlier) ≡ n → n + length events ≡ last → show_text longer ≡ show_text grown.earlier ++ rows_line (n + 1) last (act_text act)
-    lines n last first end = ap show_text are ∙ whole_line act events grown.earlier n last first end
+    lines : (n last : ℕ) → length (events_of grown.earlier) ≡ n → n + length events ≡ last → lines_of form longer ≡ lines_of form grown.earlier ++ form.act (n + 1) last act
+    lines n last first end = ap (lines_of form) are ∙ whole_line form act events grown.earlier n last first end
 
     -- the act is a piece of this row alone
-    alone : grown.begun ≡ [] → pieces ≡ grown.earlier → IsBreakAct act ⊎ (IsBreakAct act → ⊥) → show_text longer ≡ show_text (closed_pieces pieces) ++ ended_text shown rows act
+    alone : grown.begun ≡ [] → pieces ≡ grown.earlier → IsBreakAct act ⊎ (IsBreakAct act → ⊥) → lines_of form longer ≡ lines_of form (closed_pieces pieces) ++ ended_text form shown rows act
     alone none same (inl is) =
         let none_long : length grown.begun ≡ 0 = ap length none in
         let here : length (events_of grown.earlier) ≡ rows = ap (λ l. length (events_of l)) (sym same) ∙ counted in
-        let this : show_text longer ≡ show_text grown.earlier ++ rows_line (rows + 1) (rows + 1) (act_text act) = lines rows (rows + 1) here (omega (arith, long, none_long)) in
-        let all : show_text pieces ≡ show_text (closed_pieces pieces) ++ cut_text shown rows =
-        all_shown scope pieces before ∙ (ap (λ n. show_text (closed_pieces pieces) ++ cut_text n (length (events_of pieces))) closed
-        ∙ ap (λ n. show_text (closed_pieces pieces) ++ cut_text shown n) counted) in
-        this ∙ (ap (λ l. show_text l ++ rows_line (rows + 1) (rows + 1) (act_text act)) (sym same)
-        ∙ (ap (λ l. l ++ rows_line (rows + 1) (rows + 1) (act_text act)) all
-        ∙ (append_assoc (show_text (closed_pieces pieces)) (cut_text shown rows) _
-        ∙ ap (λ l. show_text (closed_pieces pieces) ++ l) (sym (ended_break shown rows act is)))))
+        let this : lines_of form longer ≡ lines_of form grown.earlier ++ form.act (rows + 1) (rows + 1) act = lines rows (rows + 1) here (omega (arith, long, none_long)) in
+        let all : lines_of form pieces ≡ lines_of form (closed_pieces pieces) ++ cut_text form shown rows =
+        all_shown form scope pieces before ∙ (ap (λ n. lines_of form (closed_pieces pieces) ++ cut_text form n (length (events_of pieces))) closed
+        ∙ ap (λ n. lines_of form (closed_pieces pieces) ++ cut_text form shown n) counted) in
+        this ∙ (ap (λ l. lines_of form l ++ form.act (rows + 1) (rows + 1) act) (sym same)
+        ∙ (ap (λ l. l ++ form.act (rows + 1) (rows + 1) act) all
+        ∙ (append_assoc (lines_of form (closed_pieces pieces)) (cut_text form shown rows) _
+        ∙ ap (λ l. lines_of form (closed_pieces pieces) ++ l) (sym (ended_break form shown rows act is)))))
     alone none same (inr not) =
         let none_long : length grown.begun ≡ 0 = ap length none in
         let shut : closed_pieces pieces ≡ pieces = ap closed_pieces same ∙ (on_closed scope grown.earlier (Whole act events) ordered.1 not ∙ sym same) in
@@ -276,12 +277,12 @@ ends_act scope pieces longer row act shown rows grown before order closed counte
         let earlier : grown.earlier ≡ closed_pieces pieces = sym same ∙ sym shut in
         let here : length (events_of grown.earlier) ≡ shown = ap (λ l. length (events_of l)) earlier ∙ closed in
         lines shown (rows + 1) here (omega (arith, long, none_long, both))
-        ∙ (ap (λ l. show_text l ++ rows_line (shown + 1) (rows + 1) (act_text act)) earlier
-        ∙ ap (λ l. show_text (closed_pieces pieces) ++ l) (sym (ended_other shown rows act not)))
+        ∙ (ap (λ l. lines_of form l ++ form.act (shown + 1) (rows + 1) act) earlier
+        ∙ ap (λ l. lines_of form (closed_pieces pieces) ++ l) (sym (ended_other form shown rows act not)))
 
     -- the act is what a tail has become
     of_tail : (tail : Piece) → IsTail tail → piece_events tail ≡ grown.begun → pieces ≡ tail ∷ grown.earlier → IsBreakAct act ⊎ (IsBreakAct act → ⊥)
-        → show_text longer ≡ show_text (closed_pieces pieces) ++ ended_text shown rows act
+        → lines_of form longer ≡ lines_of form (closed_pieces pieces) ++ ended_text form shown rows act
     of_tail tail is said same (inl broken) =
         let tail_order : ArePieces scope (tail ∷ grown.earlier) = subst (ArePieces scope) same before in
         let said_long : length (piece_events tail) ≡ length grown.begun = ap length said in
@@ -293,10 +294,10 @@ ends_act scope pieces longer row act shown rows grown before order closed counte
         let all : length (events_of grown.earlier ++ piece_events tail) ≡ rows = ap (λ l. length (events_of l)) (sym same) ∙ counted in
         let split : length (events_of grown.earlier ++ piece_events tail) ≡ length (events_of grown.earlier) + length (piece_events tail) = length-append (events_of grown.earlier) (piece_events tail) in
         lines shown (rows + 1) here (omega (arith, long, said_long, all, split, here))
-        ∙ (ap (λ l. show_text l ++ rows_line (shown + 1) (rows + 1) (act_text act)) earlier
-        ∙ ap (λ l. show_text (closed_pieces pieces) ++ l) (sym (ended_other shown rows act not)))
+        ∙ (ap (λ l. lines_of form l ++ form.act (shown + 1) (rows + 1) act) earlier
+        ∙ ap (λ l. lines_of form (closed_pieces pieces) ++ l) (sym (ended_other form shown rows act not)))
 
     with_from : ((grown.begun ≡ []) × (pieces ≡ grown.earlier)) ⊎ ((tail : Piece) × IsTail tail × (piece_events tail ≡ grown.begun) × (pieces ≡ tail ∷ grown.earlier))
-        → show_text longer ≡ show_text (closed_pieces pieces) ++ ended_text shown rows act
+        → lines_of form longer ≡ lines_of form (closed_pieces pieces) ++ ended_text form shown rows act
     with_from (inl new) = alone new.0 new.1 (break_or_not act)
     with_from (inr old) = of_tail old.0 old.1 old.2 old.3 (break_or_not act)

@@ -13,10 +13,10 @@ use Rattle.mdb_verdict.specs.declared.fault.RunFault.TheVariants.{BadRow, TooLon
 use Rattle.mdb_show.specs.declared.page.Page.{Page}
 use Rattle.mdb_show.specs.declared.showing.Lines.{Lines}
 use Rattle.mdb_verdict.specs.Ending.{AreRead, HasEnded, HasTaken, IsStopped, IsTakenWhole}
-use Rattle.mdb_show.specs.Show.{AreShown, IsShowing, IsShownInPart, IsShownToFault, IsShownWhole}
+use Rattle.mdb_show.specs.Show.{AreShown, IsShowingIn, IsShownInPartIn, IsShownToFaultIn, IsShownWholeIn}
 use Rattle.mdb_verdict.specs.Output.{Output, Puts, begun}
 use Rattle.mdb_show.specs.inner.ShowSteps.{HasAdded, HasShown, HasStopped, IsAdded, IsAddedInPart, IsAddedToFault, IsNotTaken, LeadInto, PutsShowing, cut_text, output}
-use Rattle.mdb_show.specs.ShowText.{closed_pieces, show_text}
+use Rattle.mdb_show.specs.Lines.{LineForm, closed_pieces, lines_of}
 use Rattle.mdb_verdict.specs.Verdict.{AreRows}
 use Rattle.mdb_verdict.proofs.Outputs.{break_both, put_both, put_none}
 use Rattle.mdb_verdict.proofs.Rows.{IsReadBefore, IsReadUpTo, are_rows, read_before, read_up_to}
@@ -24,9 +24,9 @@ use Rattle.mdb_show.proofs.ShowTexts.{all_shown}
 use Rattle.mdb_bus.specs.declared.scope.Scope.{Scope}
 
 -- before the first row
-pub begins : (scope : Scope) (lines : Lines) (page : Page) → scope_of lines.bus ≡ scope → StandsFor lines.bus [] → lines.rows ≡ 0 → lines.shown ≡ 0 → page.lines.items ≡ []
-    → (contents : Option (List ℕ)) → HasShown scope lines (begun contents) (output contents page) []
-begins scope lines page is stands no_rows none empty contents =
+pub begins : (form : LineForm) (scope : Scope) (lines : Lines) (page : Page) → scope_of lines.bus ≡ scope → StandsFor lines.bus [] → lines.rows ≡ 0 → lines.shown ≡ 0 → page.lines.items ≡ []
+    → (contents : Option (List ℕ)) → HasShown form scope lines (begun contents) (output contents page) []
+begins form scope lines page is stands no_rows none empty contents =
     let P : List ℕ → Type 0 = λ waiting. Puts (begun contents) (record { held = contents; waiting = waiting }) [] in
     record {
       in_scope = is;
@@ -40,100 +40,100 @@ begins scope lines page is stands no_rows none empty contents =
     }
 
 -- The lines of rows are added, or they end at one of them.
-pub added : (scope : Scope) (lines : Lines) (before after : Output) (earlier rows : List Event) (answer : Result (Option LinkFault) RunFault) (stop : Option (Result LinkFault RunFault)) → stop ≡ result_transpose answer
-    → HasAdded scope lines before after earlier rows answer → HasTaken (HasShown scope lines before after) (HasStopped scope lines before after) earlier rows stop
-added scope lines before after earlier rows (Ok None) stop is adds =
-    let P : Option (Result LinkFault RunFault) → Type 0 = λ s. HasTaken (HasShown scope lines before after) (HasStopped scope lines before after) earlier rows s in
+pub added : (form : LineForm) (scope : Scope) (lines : Lines) (before after : Output) (earlier rows : List Event) (answer : Result (Option LinkFault) RunFault) (stop : Option (Result LinkFault RunFault)) → stop ≡ result_transpose answer
+    → HasAdded form scope lines before after earlier rows answer → HasTaken (HasShown form scope lines before after) (HasStopped form scope lines before after) earlier rows stop
+added form scope lines before after earlier rows (Ok None) stop is adds =
+    let P : Option (Result LinkFault RunFault) → Type 0 = λ s. HasTaken (HasShown form scope lines before after) (HasStopped form scope lines before after) earlier rows s in
     subst P (sym is) adds
-added scope lines before after earlier rows (Ok (Some fault)) stop is adds =
-    let P : Option (Result LinkFault RunFault) → Type 0 = λ s. HasTaken (HasShown scope lines before after) (HasStopped scope lines before after) earlier rows s in
+added form scope lines before after earlier rows (Ok (Some fault)) stop is adds =
+    let P : Option (Result LinkFault RunFault) → Type 0 = λ s. HasTaken (HasShown form scope lines before after) (HasStopped form scope lines before after) earlier rows s in
     subst P (sym is) adds
-added scope lines before after earlier rows (Err fault) stop is adds =
-    let P : Option (Result LinkFault RunFault) → Type 0 = λ s. HasTaken (HasShown scope lines before after) (HasStopped scope lines before after) earlier rows s in
+added form scope lines before after earlier rows (Err fault) stop is adds =
+    let P : Option (Result LinkFault RunFault) → Type 0 = λ s. HasTaken (HasShown form scope lines before after) (HasStopped form scope lines before after) earlier rows s in
     subst P (sym is) adds
 
 -- the pieces of the rows that were read
-shown_of : (scope : Scope) (all : List (List (List ℕ))) (rows : List Event) (rest : List (List (List ℕ))) (lines : Lines) (before now : Output) (has : HasShown scope lines before now rows) → AreRead IsRow all rows rest
+shown_of : (form : LineForm) (scope : Scope) (all : List (List (List ℕ))) (rows : List Event) (rest : List (List (List ℕ))) (lines : Lines) (before now : Output) (has : HasShown form scope lines before now rows) → AreRead IsRow all rows rest
     → AreShown scope all has.pieces rest
-shown_of scope all rows rest lines before now has read =
+shown_of form scope all rows rest lines before now has read =
     let P : List Event → Type 0 = λ l. AreRows read.done l in
     record { done = read.done; split = read.split; told = subst P (sym has.are) (are_rows read.done rows read.told); in_order = subst (λ s. ArePieces s has.pieces) has.in_scope has.stands.in_order }
 
 -- so many rows
-count_of : (scope : Scope) (rows : List Event) (lines : Lines) (before now : Output) (has : HasShown scope lines before now rows) → length (events_of has.pieces) ≡ length rows
-count_of scope rows lines before now has = ap length has.are
+count_of : (form : LineForm) (scope : Scope) (rows : List Event) (lines : Lines) (before now : Output) (has : HasShown form scope lines before now rows) → length (events_of has.pieces) ≡ length rows
+count_of form scope rows lines before now has = ap length has.are
 
 -- all records are shown, with the line of a tail
-whole_showing : (scope : Scope) (all : List (List (List ℕ))) (lines : Lines) (before now : Output) (ended : IsTakenWhole IsRow (HasShown scope lines before now) ROWS_MAX all)
-    → IsShownWhole scope all (show_text (closed_pieces ended.has.pieces) ++ cut_text lines.shown lines.rows)
-whole_showing scope all lines before now ended =
-    let has : HasShown scope lines before now ended.rows = ended.has in
+whole_showing : (form : LineForm) (scope : Scope) (all : List (List (List ℕ))) (lines : Lines) (before now : Output) (ended : IsTakenWhole IsRow (HasShown form scope lines before now) ROWS_MAX all)
+    → IsShownWholeIn form scope all (lines_of form (closed_pieces ended.has.pieces) ++ cut_text form lines.shown lines.rows)
+whole_showing form scope all lines before now ended =
+    let has : HasShown form scope lines before now ended.rows = ended.has in
     let counted : length (events_of has.pieces) ≡ lines.rows = ap length has.are ∙ has.counted in
-    let text : show_text has.pieces ≡ show_text (closed_pieces has.pieces) ++ cut_text lines.shown lines.rows =
-    all_shown (scope_of lines.bus) has.pieces has.stands.in_order
-    ∙ (ap (λ n. show_text (closed_pieces has.pieces) ++ cut_text n (length (events_of has.pieces))) has.closed ∙ ap (λ n. show_text (closed_pieces has.pieces) ++ cut_text lines.shown n) counted) in
+    let text : lines_of form has.pieces ≡ lines_of form (closed_pieces has.pieces) ++ cut_text form lines.shown lines.rows =
+    all_shown form (scope_of lines.bus) has.pieces has.stands.in_order
+    ∙ (ap (λ n. lines_of form (closed_pieces has.pieces) ++ cut_text form n (length (events_of has.pieces))) has.closed ∙ ap (λ n. lines_of form (closed_pieces has.pieces) ++ cut_text form lines.shown n) counted) in
     record {
       pieces = has.pieces;
-      shown = shown_of scope all ended.rows [] lines before now has ended.read;
-      few = omega (arith, count_of scope ended.rows lines before now has, ended.few);
+      shown = shown_of form scope all ended.rows [] lines before now has ended.read;
+      few = omega (arith, count_of form scope ended.rows lines before now has, ended.few);
       lines = sym text;
     }
 
 -- the text ends
-pub whole : (scope : Scope) (all : List (List (List ℕ))) (lines : Lines) (before now later : Output) → IsTakenWhole IsRow (HasShown scope lines before now) ROWS_MAX all → Puts now later (cut_text lines.shown lines.rows)
-    → PutsShowing scope all before later (Ok None)
-whole scope all lines before now later ended cut =
-    let lines_text : List ℕ = show_text (closed_pieces ended.has.pieces) in
+pub whole : (form : LineForm) (scope : Scope) (all : List (List (List ℕ))) (lines : Lines) (before now later : Output) → IsTakenWhole IsRow (HasShown form scope lines before now) ROWS_MAX all → Puts now later (cut_text form lines.shown lines.rows)
+    → PutsShowing form scope all before later (Ok None)
+whole form scope all lines before now later ended cut =
+    let lines_text : List ℕ = lines_of form (closed_pieces ended.has.pieces) in
     inl (
-      lines_text ++ cut_text lines.shown lines.rows,
-      whole_showing scope all lines before now ended,
-      put_both before now later lines_text (cut_text lines.shown lines.rows) ended.has.written cut,
+      lines_text ++ cut_text form lines.shown lines.rows,
+      whole_showing form scope all lines before now ended,
+      put_both before now later lines_text (cut_text form lines.shown lines.rows) ended.has.written cut,
     )
 
 -- the line of a tail isn't put there
-untaken : (scope : Scope) (all : List (List (List ℕ))) (lines : Lines) (before now later : Output) → IsTakenWhole IsRow (HasShown scope lines before now) ROWS_MAX all
-    → (fault : RunFault) → IsNotTaken fault now later (cut_text lines.shown lines.rows) → PutsShowing scope all before later (Err fault)
-untaken scope all lines before now later ended (BadRow row fault) not_taken = absurd not_taken
-untaken scope all lines before now later ended TooLong not_taken = absurd not_taken
-untaken scope all lines before now later ended Read not_taken = absurd not_taken
-untaken scope all lines before now later ended Write not_taken =
-    let text : List ℕ = show_text (closed_pieces ended.has.pieces) in
+untaken : (form : LineForm) (scope : Scope) (all : List (List (List ℕ))) (lines : Lines) (before now later : Output) → IsTakenWhole IsRow (HasShown form scope lines before now) ROWS_MAX all
+    → (fault : RunFault) → IsNotTaken fault now later (cut_text form lines.shown lines.rows) → PutsShowing form scope all before later (Err fault)
+untaken form scope all lines before now later ended (BadRow row fault) not_taken = absurd not_taken
+untaken form scope all lines before now later ended TooLong not_taken = absurd not_taken
+untaken form scope all lines before now later ended Read not_taken = absurd not_taken
+untaken form scope all lines before now later ended Write not_taken =
+    let text : List ℕ = lines_of form (closed_pieces ended.has.pieces) in
     inr (
       refl,
       record {
         answer = Ok None;
-        text = text ++ cut_text lines.shown lines.rows;
-        showing = whole_showing scope all lines before now ended;
-        broken = break_both before now later text (cut_text lines.shown lines.rows) ended.has.written not_taken;
+        text = text ++ cut_text form lines.shown lines.rows;
+        showing = whole_showing form scope all lines before now ended;
+        broken = break_both before now later text (cut_text form lines.shown lines.rows) ended.has.written not_taken;
       },
     )
-untaken scope all lines before now later ended (Mark row) not_taken = absurd not_taken
-untaken scope all lines before now later ended Memory not_taken =
-    let P : Output → Type 0 = λ bytes. PutsShowing scope all before bytes (Err Memory) in
-    let shown : AreShown scope all ended.has.pieces [] = shown_of scope all ended.rows [] lines before now ended.has ended.read in
+untaken form scope all lines before now later ended (Mark row) not_taken = absurd not_taken
+untaken form scope all lines before now later ended Memory not_taken =
+    let P : Output → Type 0 = λ bytes. PutsShowing form scope all before bytes (Err Memory) in
+    let shown : AreShown scope all ended.has.pieces [] = shown_of form scope all ended.rows [] lines before now ended.has ended.read in
     subst P (sym not_taken)
-    (inl (show_text (closed_pieces ended.has.pieces), record { pieces = ended.has.pieces; rest = []; shown = shown; lines = refl }, ended.has.written))
+    (inl (lines_of form (closed_pieces ended.has.pieces), record { pieces = ended.has.pieces; rest = []; shown = shown; lines = refl }, ended.has.written))
 
-pub cut_refused : (scope : Scope) (all : List (List (List ℕ))) (lines : Lines) (before now later : Output) → IsTakenWhole IsRow (HasShown scope lines before now) ROWS_MAX all
-    → (fault : RunFault) → IsNotTaken fault now later (cut_text lines.shown lines.rows)
-    → (answer : Result (Option LinkFault) RunFault) → IsErrAnd answer (λ told. told ≡ fault) → PutsShowing scope all before later answer
-cut_refused scope all lines before now later ended fault not_taken (Ok showing) told_is = absurd told_is
-cut_refused scope all lines before now later ended fault not_taken (Err told) told_is =
-    let P : RunFault → Type 0 = λ f. PutsShowing scope all before later (Err f) in
-    subst P (sym told_is) (untaken scope all lines before now later ended fault not_taken)
+pub cut_refused : (form : LineForm) (scope : Scope) (all : List (List (List ℕ))) (lines : Lines) (before now later : Output) → IsTakenWhole IsRow (HasShown form scope lines before now) ROWS_MAX all
+    → (fault : RunFault) → IsNotTaken fault now later (cut_text form lines.shown lines.rows)
+    → (answer : Result (Option LinkFault) RunFault) → IsErrAnd answer (λ told. told ≡ fault) → PutsShowing form scope all before later answer
+cut_refused form scope all lines before now later ended fault not_taken (Ok showing) told_is = absurd told_is
+cut_refused form scope all lines before now later ended fault not_taken (Err told) told_is =
+    let P : RunFault → Type 0 = λ f. PutsShowing form scope all before later (Err f) in
+    subst P (sym told_is) (untaken form scope all lines before now later ended fault not_taken)
 
 -- a record isn't taken, or can't be read
-refused_by : (scope : Scope) (all : List (List (List ℕ))) (lines : Lines) (before now : Output) (fault : RunFault)
-    → HasEnded IsRow IsRefusal (HasShown scope lines before now) (HasStopped scope lines before now) ROWS_MAX all (Err fault) → PutsShowing scope all before now (Err fault)
-refused_by scope all lines before now (BadRow row fault) ended =
-    let has : HasShown scope lines before now ended.rows = ended.has in
-    let counted : length (events_of has.pieces) ≡ length ended.rows = count_of scope ended.rows lines before now has in inl (
-      show_text (closed_pieces has.pieces),
+refused_by : (form : LineForm) (scope : Scope) (all : List (List (List ℕ))) (lines : Lines) (before now : Output) (fault : RunFault)
+    → HasEnded IsRow IsRefusal (HasShown form scope lines before now) (HasStopped form scope lines before now) ROWS_MAX all (Err fault) → PutsShowing form scope all before now (Err fault)
+refused_by form scope all lines before now (BadRow row fault) ended =
+    let has : HasShown form scope lines before now ended.rows = ended.has in
+    let counted : length (events_of has.pieces) ≡ length ended.rows = count_of form scope ended.rows lines before now has in inl (
+      lines_of form (closed_pieces has.pieces),
       record {
         pieces = has.pieces;
         fields = ended.fields;
         rest = ended.rest;
-        shown = shown_of scope all ended.rows (ended.fields ∷ ended.rest) lines before now has ended.read;
+        shown = shown_of form scope all ended.rows (ended.fields ∷ ended.rest) lines before now has ended.read;
         few = omega (arith, counted, ended.few);
         number = omega (arith, counted, ended.number);
         refused = ended.refused;
@@ -141,42 +141,42 @@ refused_by scope all lines before now (BadRow row fault) ended =
       },
       has.written,
     )
-refused_by scope all lines before now TooLong ended =
-    let has : HasShown scope lines before now ended.rows = ended.has in inl (
-      show_text (closed_pieces has.pieces),
+refused_by form scope all lines before now TooLong ended =
+    let has : HasShown form scope lines before now ended.rows = ended.has in inl (
+      lines_of form (closed_pieces has.pieces),
       record {
         pieces = has.pieces;
         fields = ended.fields;
         rest = ended.rest;
-        shown = shown_of scope all ended.rows (ended.fields ∷ ended.rest) lines before now has ended.read;
-        full = count_of scope ended.rows lines before now has ∙ ended.full;
+        shown = shown_of form scope all ended.rows (ended.fields ∷ ended.rest) lines before now has ended.read;
+        full = count_of form scope ended.rows lines before now has ∙ ended.full;
         lines = refl;
       },
       has.written,
     )
-refused_by scope all lines before now Read ended =
-    let shown : AreShown scope all ended.has.pieces ended.rest = shown_of scope all ended.rows ended.rest lines before now ended.has ended.read in
-    inl (show_text (closed_pieces ended.has.pieces), record { pieces = ended.has.pieces; rest = ended.rest; shown = shown; lines = refl }, ended.has.written)
-refused_by scope all lines before now (Mark row) ended = absurd ended
-refused_by scope all lines before now Memory ended =
-    let shown : AreShown scope all ended.has.pieces ended.rest = shown_of scope all ended.rows ended.rest lines before now ended.has ended.read in
-    inl (show_text (closed_pieces ended.has.pieces), record { pieces = ended.has.pieces; rest = ended.rest; shown = shown; lines = refl }, ended.has.written)
-refused_by scope all lines before now Write ended = absurd ended
+refused_by form scope all lines before now Read ended =
+    let shown : AreShown scope all ended.has.pieces ended.rest = shown_of form scope all ended.rows ended.rest lines before now ended.has ended.read in
+    inl (lines_of form (closed_pieces ended.has.pieces), record { pieces = ended.has.pieces; rest = ended.rest; shown = shown; lines = refl }, ended.has.written)
+refused_by form scope all lines before now (Mark row) ended = absurd ended
+refused_by form scope all lines before now Memory ended =
+    let shown : AreShown scope all ended.has.pieces ended.rest = shown_of form scope all ended.rows ended.rest lines before now ended.has ended.read in
+    inl (lines_of form (closed_pieces ended.has.pieces), record { pieces = ended.has.pieces; rest = ended.rest; shown = shown; lines = refl }, ended.has.written)
+refused_by form scope all lines before now Write ended = absurd ended
 
-pub refused : (scope : Scope) (all : List (List (List ℕ))) (lines : Lines) (before now : Output) (fault : RunFault)
-    → HasEnded IsRow IsRefusal (HasShown scope lines before now) (HasStopped scope lines before now) ROWS_MAX all (Err fault)
-    → (answer : Result (Option LinkFault) RunFault) → IsErrAnd answer (λ told. told ≡ fault) → PutsShowing scope all before now answer
-refused scope all lines before now fault ended (Ok showing) told_is = absurd told_is
-refused scope all lines before now fault ended (Err told) told_is =
-    let P : RunFault → Type 0 = λ f. PutsShowing scope all before now (Err f) in
-    subst P (sym told_is) (refused_by scope all lines before now fault ended)
+pub refused : (form : LineForm) (scope : Scope) (all : List (List (List ℕ))) (lines : Lines) (before now : Output) (fault : RunFault)
+    → HasEnded IsRow IsRefusal (HasShown form scope lines before now) (HasStopped form scope lines before now) ROWS_MAX all (Err fault)
+    → (answer : Result (Option LinkFault) RunFault) → IsErrAnd answer (λ told. told ≡ fault) → PutsShowing form scope all before now answer
+refused form scope all lines before now fault ended (Ok showing) told_is = absurd told_is
+refused form scope all lines before now fault ended (Err told) told_is =
+    let P : RunFault → Type 0 = λ f. PutsShowing form scope all before now (Err f) in
+    subst P (sym told_is) (refused_by form scope all lines before now fault ended)
 
 -- Where they end at one of the later rows.
 
 -- the pieces up to a row that breaks a rule of the link, and its text, are of the records
-fault_showing : (scope : Scope) (all : List (List (List ℕ))) (earlier later : List Event) (rest : List (List (List ℕ))) → AreRead IsRow all (earlier ++ later) rest → length (earlier ++ later) ≤ ROWS_MAX
-    → (fault : LinkFault) (text : List ℕ) → IsAddedToFault scope earlier later fault text → IsShownToFault scope all fault text
-fault_showing scope all earlier later rest read few fault text added =
+fault_showing : (form : LineForm) (scope : Scope) (all : List (List (List ℕ))) (earlier later : List Event) (rest : List (List (List ℕ))) → AreRead IsRow all (earlier ++ later) rest → length (earlier ++ later) ≤ ROWS_MAX
+    → (fault : LinkFault) (text : List ℕ) → IsAddedToFault form scope earlier later fault text → IsShownToFaultIn form scope all fault text
+fault_showing form scope all earlier later rest read few fault text added =
     let lead : LeadInto scope earlier later added.pieces = added.lead in
     let parts : earlier ++ later ≡ (earlier ++ lead.front) ++ added.row ∷ added.after =
     ap (λ l. earlier ++ l) (lead.parts ∙ ap (λ l. lead.front ++ l) added.next) ∙ sym (append_assoc earlier lead.front (added.row ∷ added.after)) in
@@ -197,8 +197,8 @@ fault_showing scope all earlier later rest read few fault text added =
     }
 
 -- and so are those of some of the rows
-part_showing : (scope : Scope) (all : List (List (List ℕ))) (earlier later : List Event) (rest : List (List (List ℕ))) → AreRead IsRow all (earlier ++ later) rest → (text : List ℕ) → IsAddedInPart scope earlier later text → IsShownInPart scope all text
-part_showing scope all earlier later rest read text added =
+part_showing : (form : LineForm) (scope : Scope) (all : List (List (List ℕ))) (earlier later : List Event) (rest : List (List (List ℕ))) → AreRead IsRow all (earlier ++ later) rest → (text : List ℕ) → IsAddedInPart form scope earlier later text → IsShownInPartIn form scope all text
+part_showing form scope all earlier later rest read text added =
     let lead : LeadInto scope earlier later added.pieces = added.lead in
     let parts : earlier ++ later ≡ (earlier ++ lead.front) ++ lead.rest = ap (λ l. earlier ++ l) lead.parts ∙ sym (append_assoc earlier lead.front lead.rest) in
     let P : List Event → Type 0 = λ l. AreRead IsRow all l rest in
@@ -212,35 +212,35 @@ part_showing scope all earlier later rest read text added =
     }
 
 -- a text that these rows may come to is one of the records
-showing_of : (scope : Scope) (all : List (List (List ℕ))) (earlier later : List Event) (rest : List (List (List ℕ))) → AreRead IsRow all (earlier ++ later) rest → length (earlier ++ later) ≤ ROWS_MAX
-    → (text : List ℕ) → IsAdded scope earlier later text → (answer : Result (Option LinkFault) RunFault) × IsShowing scope all answer text
-showing_of scope all earlier later rest read few text (inl part) = (Err Memory, part_showing scope all earlier later rest read text part)
-showing_of scope all earlier later rest read few text (inr to_fault) = (Ok (Some to_fault.0), fault_showing scope all earlier later rest read few to_fault.0 text to_fault.1)
+showing_of : (form : LineForm) (scope : Scope) (all : List (List (List ℕ))) (earlier later : List Event) (rest : List (List (List ℕ))) → AreRead IsRow all (earlier ++ later) rest → length (earlier ++ later) ≤ ROWS_MAX
+    → (text : List ℕ) → IsAdded form scope earlier later text → (answer : Result (Option LinkFault) RunFault) × IsShowingIn form scope all answer text
+showing_of form scope all earlier later rest read few text (inl part) = (Err Memory, part_showing form scope all earlier later rest read text part)
+showing_of form scope all earlier later rest read few text (inr to_fault) = (Ok (Some to_fault.0), fault_showing form scope all earlier later rest read few to_fault.0 text to_fault.1)
 
 -- a row breaks a rule of the link
-pub at_fault : (scope : Scope) (all : List (List (List ℕ))) (lines : Lines) (before after : Output) (fault : LinkFault)
-    → IsStopped IsRow (λ earlier later. HasStopped scope lines before after earlier later (Ok fault)) ROWS_MAX all → PutsShowing scope all before after (Ok (Some fault))
-at_fault scope all lines before after fault ended =
-    let added : (text : List ℕ) × IsAddedToFault scope ended.earlier ended.later fault text × Puts before after text = ended.stops in
-    inl (added.0, fault_showing scope all ended.earlier ended.later ended.rest ended.read ended.few fault added.0 added.1, added.2)
+pub at_fault : (form : LineForm) (scope : Scope) (all : List (List (List ℕ))) (lines : Lines) (before after : Output) (fault : LinkFault)
+    → IsStopped IsRow (λ earlier later. HasStopped form scope lines before after earlier later (Ok fault)) ROWS_MAX all → PutsShowing form scope all before after (Ok (Some fault))
+at_fault form scope all lines before after fault ended =
+    let added : (text : List ℕ) × IsAddedToFault form scope ended.earlier ended.later fault text × Puts before after text = ended.stops in
+    inl (added.0, fault_showing form scope all ended.earlier ended.later ended.rest ended.read ended.few fault added.0 added.1, added.2)
 
 -- a line isn't taken
-untaken_by : (scope : Scope) (all : List (List (List ℕ))) (lines : Lines) (before after : Output) (fault : RunFault)
-    → IsStopped IsRow (λ earlier later. HasStopped scope lines before after earlier later (Err fault)) ROWS_MAX all → PutsShowing scope all before after (Err fault)
-untaken_by scope all lines before after (BadRow row fault) ended = absurd ended.stops
-untaken_by scope all lines before after TooLong ended = absurd ended.stops
-untaken_by scope all lines before after Read ended = absurd ended.stops
-untaken_by scope all lines before after Write ended =
-    let would : (answer : Result (Option LinkFault) RunFault) × IsShowing scope all answer ended.stops.0 = showing_of scope all ended.earlier ended.later ended.rest ended.read ended.few ended.stops.0 ended.stops.1 in
+untaken_by : (form : LineForm) (scope : Scope) (all : List (List (List ℕ))) (lines : Lines) (before after : Output) (fault : RunFault)
+    → IsStopped IsRow (λ earlier later. HasStopped form scope lines before after earlier later (Err fault)) ROWS_MAX all → PutsShowing form scope all before after (Err fault)
+untaken_by form scope all lines before after (BadRow row fault) ended = absurd ended.stops
+untaken_by form scope all lines before after TooLong ended = absurd ended.stops
+untaken_by form scope all lines before after Read ended = absurd ended.stops
+untaken_by form scope all lines before after Write ended =
+    let would : (answer : Result (Option LinkFault) RunFault) × IsShowingIn form scope all answer ended.stops.0 = showing_of form scope all ended.earlier ended.later ended.rest ended.read ended.few ended.stops.0 ended.stops.1 in
     inr (refl, record { answer = would.0; text = ended.stops.0; showing = would.1; broken = ended.stops.2 })
-untaken_by scope all lines before after (Mark row) ended = absurd ended.stops
-untaken_by scope all lines before after Memory ended =
-    inl (ended.stops.0, part_showing scope all ended.earlier ended.later ended.rest ended.read ended.stops.0 ended.stops.1, ended.stops.2)
+untaken_by form scope all lines before after (Mark row) ended = absurd ended.stops
+untaken_by form scope all lines before after Memory ended =
+    inl (ended.stops.0, part_showing form scope all ended.earlier ended.later ended.rest ended.read ended.stops.0 ended.stops.1, ended.stops.2)
 
-pub line_untaken : (scope : Scope) (all : List (List (List ℕ))) (lines : Lines) (before after : Output) (fault : RunFault)
-    → IsStopped IsRow (λ earlier later. HasStopped scope lines before after earlier later (Err fault)) ROWS_MAX all
-    → (answer : Result (Option LinkFault) RunFault) → IsErrAnd answer (λ told. told ≡ fault) → PutsShowing scope all before after answer
-line_untaken scope all lines before after fault ended (Ok showing) is = absurd is
-line_untaken scope all lines before after fault ended (Err told) is =
-    let P : RunFault → Type 0 = λ f. PutsShowing scope all before after (Err f) in
-    subst P (sym is) (untaken_by scope all lines before after fault ended)
+pub line_untaken : (form : LineForm) (scope : Scope) (all : List (List (List ℕ))) (lines : Lines) (before after : Output) (fault : RunFault)
+    → IsStopped IsRow (λ earlier later. HasStopped form scope lines before after earlier later (Err fault)) ROWS_MAX all
+    → (answer : Result (Option LinkFault) RunFault) → IsErrAnd answer (λ told. told ≡ fault) → PutsShowing form scope all before after answer
+line_untaken form scope all lines before after fault ended (Ok showing) is = absurd is
+line_untaken form scope all lines before after fault ended (Err told) is =
+    let P : RunFault → Type 0 = λ f. PutsShowing form scope all before after (Err f) in
+    subst P (sym is) (untaken_by form scope all lines before after fault ended)

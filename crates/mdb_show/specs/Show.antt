@@ -1,4 +1,4 @@
--- What `show` answers to the records of a text, and what it writes of them.
+-- What `show` answers to the records of a text, and what it writes of them, in whatever form.
 use Rattle.std.specs.Prelude.{◌≡◌, ◌⊎◌, ◌+◌, ◌<◌, ◌≤◌, ℕ, List, [], ◌∷◌, ◌++◌, length, ⊤, Option, Some, None, Result, Ok, Err}
 use Rattle.std.specs.Io.KnownBytes.{Appends}
 use Rattle.mdb_words.specs.declared.event.Event.{Event}
@@ -10,7 +10,9 @@ use Rattle.mdb_bus.specs.LinkFaults.{IsLinkFault}
 use Rattle.mdb_follow.specs.declared.follower.TheConstants.{ROWS_MAX}
 use Rattle.mdb_verdict.specs.declared.fault.RunFault.{RunFault}
 use Rattle.mdb_verdict.specs.declared.fault.RunFault.TheVariants.{BadRow, TooLong, Read, Write, Memory, Mark}
-use Rattle.mdb_show.specs.ShowText.{closed_pieces, fault_line, show_text}
+use Rattle.mdb_show.specs.Lines.{LineForm, closed_pieces, lines_of}
+use Rattle.mdb_show.specs.ShowJson.{json_lines}
+use Rattle.mdb_show.specs.ShowText.{text_lines}
 use Rattle.mdb_verdict.specs.Verdict.{AreRows}
 use Rattle.mdb_verdict.specs.Written.{HasTaken}
 use Rattle.mdb_bus.specs.declared.scope.Scope.{Scope}
@@ -24,16 +26,17 @@ pub record AreShown (scope : Scope) (records : List (List (List ℕ))) (pieces :
   pub in_order : ArePieces scope pieces
 
 -- All records are rows of an act list. Its lines are the text, that of a tail at its end too.
-pub record IsShownWhole (scope : Scope) (records : List (List (List ℕ))) (text : List ℕ) : Type 0 where
+pub record IsShownWholeIn (form : LineForm) (scope : Scope)
+    (records : List (List (List ℕ))) (text : List ℕ) : Type 0 where
   pub pieces : List Piece
   pub shown : AreShown scope records pieces []
   pub few : length (events_of pieces) ≤ ROWS_MAX
-  pub lines : text ≡ show_text pieces
+  pub lines : text ≡ lines_of form pieces
 
 -- A record is a row that breaks a rule of the link, after rows of an act list. The text is the
 -- lines of these, without one for a tail that is still open, and the line of the fault.
-pub record IsShownToFault (scope : Scope) (records : List (List (List ℕ))) (fault : LinkFault)
-    (text : List ℕ) : Type 0 where
+pub record IsShownToFaultIn (form : LineForm) (scope : Scope)
+    (records : List (List (List ℕ))) (fault : LinkFault) (text : List ℕ) : Type 0 where
   pub pieces : List Piece
   pub fields : List (List ℕ)
   pub rest : List (List (List ℕ))
@@ -42,13 +45,13 @@ pub record IsShownToFault (scope : Scope) (records : List (List (List ℕ))) (fa
   pub row : Event
   pub row_told : IsRow fields row
   pub is : IsLinkFault scope pieces row fault.rule fault.blame
-  pub lines : text ≡ show_text (closed_pieces pieces)
-      ++ fault_line (length (events_of pieces) + 1) fault
+  pub lines : text ≡ lines_of form (closed_pieces pieces)
+      ++ form.fault (length (events_of pieces) + 1) fault
 
 -- A record is no row, after rows of an act list. The text is the lines of these, without one for a
 -- tail that is still open.
-pub record IsShownToBadRow (scope : Scope) (records : List (List (List ℕ))) (row : ℕ) (fault : RowFault)
-    (text : List ℕ) : Type 0 where
+pub record IsShownToBadRowIn (form : LineForm) (scope : Scope)
+    (records : List (List (List ℕ))) (row : ℕ) (fault : RowFault) (text : List ℕ) : Type 0 where
   pub pieces : List Piece
   pub fields : List (List ℕ)
   pub rest : List (List (List ℕ))
@@ -56,53 +59,58 @@ pub record IsShownToBadRow (scope : Scope) (records : List (List (List ℕ))) (r
   pub few : length (events_of pieces) < ROWS_MAX
   pub number : row ≡ length (events_of pieces) + 1
   pub refused : IsRefusal fields fault
-  pub lines : text ≡ show_text (closed_pieces pieces)
+  pub lines : text ≡ lines_of form (closed_pieces pieces)
 
 -- There is a record after as many rows as there may be, which are of an act list. The text is the
 -- lines of these, without one for a tail that is still open.
-pub record IsShownTooLong (scope : Scope) (records : List (List (List ℕ))) (text : List ℕ) : Type 0 where
+pub record IsShownTooLongIn (form : LineForm) (scope : Scope)
+    (records : List (List (List ℕ))) (text : List ℕ) : Type 0 where
   pub pieces : List Piece
   pub fields : List (List ℕ)
   pub rest : List (List (List ℕ))
   pub shown : AreShown scope records pieces (fields ∷ rest)
   pub full : length (events_of pieces) ≡ ROWS_MAX
-  pub lines : text ≡ show_text (closed_pieces pieces)
+  pub lines : text ≡ lines_of form (closed_pieces pieces)
 
 -- Some first records are rows of an act list. The text is the lines of these, without one for a
 -- tail that is still open.
-pub record IsShownInPart (scope : Scope) (records : List (List (List ℕ))) (text : List ℕ) : Type 0 where
+pub record IsShownInPartIn (form : LineForm) (scope : Scope)
+    (records : List (List (List ℕ))) (text : List ℕ) : Type 0 where
   pub pieces : List Piece
   pub rest : List (List (List ℕ))
   pub shown : AreShown scope records pieces rest
-  pub lines : text ≡ show_text (closed_pieces pieces)
+  pub lines : text ≡ lines_of form (closed_pieces pieces)
 
 -- The answer to the records of a text, and the text that is written of them. A refused read or
 -- memory may come after any row. That the writer failed is none of these answers.
-abbrev pub IsShowing : Scope → List (List (List ℕ)) → Result (Option LinkFault) RunFault → List ℕ → Type 0
-IsShowing scope records (Ok None) text = IsShownWhole scope records text
-IsShowing scope records (Ok (Some fault)) text = IsShownToFault scope records fault text
-IsShowing scope records (Err (BadRow row fault)) text = IsShownToBadRow scope records row fault text
-IsShowing scope records (Err TooLong) text = IsShownTooLong scope records text
-IsShowing scope records (Err Read) text = IsShownInPart scope records text
-IsShowing scope records (Err Memory) text = IsShownInPart scope records text
-IsShowing scope records (Err Write) text = ⊥
-IsShowing scope records (Err (Mark row)) text = ⊥
+abbrev pub IsShowingIn : LineForm → Scope → List (List (List ℕ))
+    → Result (Option LinkFault) RunFault → List ℕ → Type 0
+IsShowingIn form scope records (Ok None) text = IsShownWholeIn form scope records text
+IsShowingIn form scope records (Ok (Some fault)) text =
+    IsShownToFaultIn form scope records fault text
+IsShowingIn form scope records (Err (BadRow row fault)) text =
+    IsShownToBadRowIn form scope records row fault text
+IsShowingIn form scope records (Err TooLong) text = IsShownTooLongIn form scope records text
+IsShowingIn form scope records (Err Read) text = IsShownInPartIn form scope records text
+IsShowingIn form scope records (Err Memory) text = IsShownInPartIn form scope records text
+IsShowingIn form scope records (Err Write) text = ⊥
+IsShowingIn form scope records (Err (Mark row)) text = ⊥
 
 -- The writer took a front of a text that is written of the records, with whatever answer.
-pub record IsCutShort (scope : Scope) (records : List (List (List ℕ))) (before after : Option (List ℕ))
-    : Type 0 where
+pub record IsCutShortIn (form : LineForm) (scope : Scope)
+    (records : List (List (List ℕ))) (before after : Option (List ℕ)) : Type 0 where
   pub answer : Result (Option LinkFault) RunFault
   pub text : List ℕ
-  pub showing : IsShowing scope records answer text
+  pub showing : IsShowingIn form scope records answer text
   pub taken : HasTaken before after text
 
 -- The same of the bytes that a writer held before and after. It took the text of the answer; or the
 -- answer is that it failed, and it took a front of a text.
-abbrev pub Shows : Scope → List (List (List ℕ)) → Option (List ℕ) → Option (List ℕ)
+abbrev pub ShowsIn : LineForm → Scope → List (List (List ℕ)) → Option (List ℕ) → Option (List ℕ)
     → Result (Option LinkFault) RunFault → Type 0
-Shows scope records before after answer =
-    ((text : List ℕ) × IsShowing scope records answer text × Appends before after text)
-    ⊎ ((answer ≡ Err Write) × IsCutShort scope records before after)
+ShowsIn form scope records before after answer =
+    ((text : List ℕ) × IsShowingIn form scope records answer text × Appends before after text)
+    ⊎ ((answer ≡ Err Write) × IsCutShortIn form scope records before after)
 
 -- an answer that the records themselves have: every one but a refused read, write or memory
 abbrev pub IsOwnShowing : Result (Option LinkFault) RunFault → Type 0
@@ -113,3 +121,28 @@ IsOwnShowing (Err Read) = ⊥
 IsOwnShowing (Err Write) = ⊥
 IsOwnShowing (Err Memory) = ⊥
 IsOwnShowing (Err (Mark row)) = ⊤
+
+-- the same of the lines as text
+
+abbrev pub IsShownWhole : Scope → List (List (List ℕ)) → List ℕ → Type 0
+IsShownWhole = IsShownWholeIn text_lines
+
+abbrev pub IsShownToFault : Scope → List (List (List ℕ)) → LinkFault → List ℕ → Type 0
+IsShownToFault = IsShownToFaultIn text_lines
+
+abbrev pub IsShowing : Scope → List (List (List ℕ)) → Result (Option LinkFault) RunFault
+    → List ℕ → Type 0
+IsShowing = IsShowingIn text_lines
+
+abbrev pub IsCutShort : Scope → List (List (List ℕ)) → Option (List ℕ) → Option (List ℕ)
+    → Type 0
+IsCutShort = IsCutShortIn text_lines
+
+abbrev pub Shows : Scope → List (List (List ℕ)) → Option (List ℕ) → Option (List ℕ)
+    → Result (Option LinkFault) RunFault → Type 0
+Shows = ShowsIn text_lines
+
+-- the same of the lines as JSON
+abbrev pub ShowsJson : Scope → List (List (List ℕ)) → Option (List ℕ) → Option (List ℕ)
+    → Result (Option LinkFault) RunFault → Type 0
+ShowsJson = ShowsIn json_lines

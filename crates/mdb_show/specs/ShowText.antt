@@ -1,6 +1,6 @@
--- The lines that `show` writes of a transcript: one for each act, each tail and the fault (this
--- profile).
-use Rattle.std.specs.Prelude.{◌+◌, ◌/◌, ◌%◌, ℕ, true, List, [], ◌∷◌, ◌++◌, length, codes}
+-- The lines that `show` writes of a transcript, as text: one for each act, each tail and the fault
+-- (this profile).
+use Rattle.std.specs.Prelude.{◌/◌, ◌%◌, ℕ, true, List, [], ◌∷◌, ◌++◌, codes}
 use Rattle.std.specs.Fmt.{decimal, digit_glyph}
 use Rattle.mdb_blocks.specs.Block.{block_of}
 use Rattle.mdb_msgs.specs.declared.command.Command.{Command}
@@ -11,7 +11,8 @@ use Rattle.mdb_bus.specs.declared.act.Act.{Act}
 use Rattle.mdb_bus.specs.declared.act.Act.TheVariants as acts
 use Rattle.mdb_bus.specs.declared.fault.LinkFault.{LinkFault}
 use Rattle.mdb_bus.specs.FaultWords.{blame_word, rule_word}
-use Rattle.mdb_bus.specs.ActLists.{Piece, Whole, AskTail, ReplyTail, RepeatTail, events_of, piece_events}
+use Rattle.mdb_bus.specs.ActLists.{Piece}
+use Rattle.mdb_show.specs.Lines.{LineForm, lines_of}
 use Rattle.mdb_text.specs.Text.{line}
 
 -- the bytes of a block, each as a space and two hexadecimal digits
@@ -40,13 +41,6 @@ act_text (acts.Repeat command reply) =
 act_text acts.Foreign = codes "foreign"
 act_text (acts.Break length) = codes "break " ++ decimal length
 
--- what a piece is: an act, or a tail that was cut
-abbrev pub piece_text : Piece → List ℕ
-piece_text (Whole act events) = act_text act
-piece_text (AskTail bytes events) = codes "cut"
-piece_text (ReplyTail command bytes events) = codes "cut"
-piece_text (RepeatTail command reply words events) = codes "cut"
-
 -- the rows that a line tells of, from the first to the last
 abbrev pub rows_text : ℕ → ℕ → List ℕ
 rows_text first last = decimal first ++ codes "-" ++ decimal last ++ codes " "
@@ -55,27 +49,20 @@ rows_text first last = decimal first ++ codes "-" ++ decimal last ++ codes " "
 abbrev pub rows_line : ℕ → ℕ → List ℕ → List ℕ
 rows_line first last words = line (rows_text first last ++ words)
 
--- the line of a piece that has so many rows before it
-abbrev pub piece_line : ℕ → Piece → List ℕ
-piece_line before piece =
-    rows_line (before + 1) (before + length (piece_events piece)) (piece_text piece)
-
--- the lines of pieces, the oldest first
-abbrev pub show_text : List Piece → List ℕ
-show_text [] = []
-show_text (piece ∷ pieces) = show_text pieces ++ piece_line (length (events_of pieces)) piece
-
--- the pieces without a tail at their end, which is still open: a break may cut it, but an act may
--- come of it too
-abbrev pub closed_pieces : List Piece → List Piece
-closed_pieces [] = []
-closed_pieces (Whole act events ∷ pieces) = Whole act events ∷ pieces
-closed_pieces (AskTail bytes events ∷ pieces) = pieces
-closed_pieces (ReplyTail command bytes events ∷ pieces) = pieces
-closed_pieces (RepeatTail command reply words events ∷ pieces) = pieces
-
 -- the line of a row that cannot be
 abbrev pub fault_line : ℕ → LinkFault → List ℕ
 fault_line row fault =
     line (codes "fault " ++ decimal row ++ codes " " ++ rule_word fault.rule ++ codes " "
     ++ blame_word fault.blame)
+
+-- the lines of `show`
+abbrev pub text_lines : LineForm
+text_lines = record {
+  act = λ first last act. rows_line first last (act_text act);
+  cut = λ first last. rows_line first last (codes "cut");
+  fault = fault_line;
+}
+
+-- the lines of pieces, the oldest first
+abbrev pub show_text : List Piece → List ℕ
+show_text = lines_of text_lines

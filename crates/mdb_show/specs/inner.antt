@@ -1,1 +1,2 @@
+pub mod JsonLines
 pub mod ShowSteps

@@ -4,12 +4,11 @@ ghost use Rattle.std.specs.Prelude.{◌≡◌, ◌<◌, ◌≤◌, [], OnOk, IfE
 ghost use Rattle.std.specs.Io.KnownBytes.{Appends};
 ghost use Rattle.mdb_bus.specs.Acts.{NamesAReply};
 ghost use Rattle.mdb_follow.specs.declared.follower.TheConstants.{ROWS_MAX};
-ghost use Rattle.mdb_show.specs.ShowText.{fault_line};
 ghost use Rattle.mdb_verdict.specs.Output.{Puts};
 ghost use Rattle.mdb_show.specs.inner.ShowSteps.{IsNotTaken, cut_text, ended_text, output};
 ghost use Rattle.mdb_verdict.specs.Written.{HasTaken};
 
-use super::show_text::{push_cut, push_ended, push_fault};
+use super::form::{Form, push_ended, push_tail};
 use mdb_bus::{Act, LinkFault};
 use mdb_verdict::{RunFault, write_text};
 use std::alloc::Global;
@@ -39,8 +38,9 @@ impl Page {
     }
 
     /// Adds the lines of the act that the next row ends, as `push_ended` says.
-    pub(crate) fn add_ended<W: Write>(
+    pub(crate) fn add_ended<F: Form, W: Write>(
         &mut self,
+        form: &F,
         writer: &mut W,
         shown: u64,
         rows: u64,
@@ -50,54 +50,56 @@ impl Page {
         requires shown { shown ≤ rows }
         requires rows { rows < ROWS_MAX }
         ensures added { OnOk result (Puts (output (W.contents writer.old) self.old)
-            (output (W.contents writer.new) self.new) (ended_text shown rows act.now)) }
+            (output (W.contents writer.new) self.new) (ended_text F.lines shown rows act.now)) }
         ensures refused { IfErr result (λ refusal. IsNotTaken refusal
             (output (W.contents writer.old) self.old) (output (W.contents writer.new) self.new)
-            (ended_text shown rows act.now)) }
+            (ended_text F.lines shown rows act.now)) }
     {
         self.next.clear();
-        match push_ended(&mut self.next, shown, rows, act) {
+        match push_ended(form, &mut self.next, shown, rows, act) {
             Ok(()) => self.add(writer),
             Err(_) => Err(RunFault::Memory),
         }
     }
 
-    /// Adds the line of a tail, as `push_cut` says.
-    pub(crate) fn add_cut<W: Write>(
+    /// Adds the line of a tail, as `push_tail` says.
+    pub(crate) fn add_cut<F: Form, W: Write>(
         &mut self,
+        form: &F,
         writer: &mut W,
         shown: u64,
         rows: u64,
     ) -> Result<(), RunFault>
         requires { rows ≤ ROWS_MAX }
         ensures added { OnOk result (Puts (output (W.contents writer.old) self.old)
-            (output (W.contents writer.new) self.new) (cut_text shown rows)) }
+            (output (W.contents writer.new) self.new) (cut_text F.lines shown rows)) }
         ensures refused { IfErr result (λ refusal. IsNotTaken refusal
             (output (W.contents writer.old) self.old) (output (W.contents writer.new) self.new)
-            (cut_text shown rows)) }
+            (cut_text F.lines shown rows)) }
     {
         self.next.clear();
-        match push_cut(&mut self.next, shown, rows) {
+        match push_tail(form, &mut self.next, shown, rows) {
             Ok(()) => self.add(writer),
             Err(_) => Err(RunFault::Memory),
         }
     }
 
     /// Adds the line of a row that cannot be.
-    pub(crate) fn add_fault<W: Write>(
+    pub(crate) fn add_fault<F: Form, W: Write>(
         &mut self,
+        form: &F,
         writer: &mut W,
         row: u64,
         fault: LinkFault,
     ) -> Result<(), RunFault>
         ensures added { OnOk result (Puts (output (W.contents writer.old) self.old)
-            (output (W.contents writer.new) self.new) (fault_line row fault)) }
+            (output (W.contents writer.new) self.new) (F.lines.fault row fault)) }
         ensures refused { IfErr result (λ refusal. IsNotTaken refusal
             (output (W.contents writer.old) self.old) (output (W.contents writer.new) self.new)
-            (fault_line row fault)) }
+            (F.lines.fault row fault)) }
     {
         self.next.clear();
-        match push_fault(&mut self.next, row, fault) {
+        match form.push_fault(&mut self.next, row, fault) {
             Ok(()) => self.add(writer),
             Err(_) => Err(RunFault::Memory),
         }

@@ -1,56 +1,32 @@
-//! The lines of `show`.
+//! The lines of `show`, as text.
 
-ghost use Rattle.std.specs.Prelude.{◌≡◌, ◌+◌, ◌<◌, ◌≤◌, ◌∷◌, [], ◌++◌, OnOk, true};
+ghost use Rattle.std.specs.Prelude.{◌≡◌, ◌∷◌, [], ◌++◌, OnOk, codes, true};
 ghost use Rattle.std.specs.Fmt.{decimal, digit_glyph};
 ghost use Rattle.mdb_bus.specs.Acts.{IsReply, NamesAReply};
 ghost use Rattle.mdb_blocks.specs.Block.{block_of};
-ghost use Rattle.mdb_follow.specs.declared.follower.TheConstants.{ROWS_MAX};
 ghost use Rattle.mdb_msgs.specs.Replies.{reply_bytes};
 ghost use Rattle.mdb_show.specs.ShowText.{act_text, bytes_text, deed_text, fault_line, rows_line, rows_text};
-ghost use Rattle.mdb_show.specs.inner.ShowSteps.{cut_text, ended_text};
 
 use mdb_bus::{Act, LinkFault};
 use mdb_msgs::{Command, Reply, write_command, write_reply};
 use mdb_text::hex_digit;
 use std::alloc::AllocError;
 
-/// Appends the lines of the act that the next row ends: that of the act, and before it that of the
-/// tail that a break cuts. Of the `rows` rows before it the first `shown` have their lines.
-pub(crate) fn push_ended(
-    text: &mut Vec<u8>,
-    shown: u64,
-    rows: u64,
-    act: &Act,
-) -> Result<(), AllocError>
-    requires reply { NamesAReply act.now }
-    requires shown { shown ≤ rows }
-    requires rows { rows < ROWS_MAX }
-    ensures { OnOk result (text.new.items ≡ text.old.items ++ ended_text shown rows act.now) }
+/// Appends the line of a tail that was cut.
+pub(crate) fn push_cut_line(text: &mut Vec<u8>, first: u64, last: u64) -> Result<(), AllocError>
+    ensures { OnOk result
+        (text.new.items ≡ text.old.items ++ rows_line first last (codes "cut")) }
 {
-    match act {
-        Act::Break(_) => {
-            push_cut(text, shown, rows)?;
-            push_act_line(text, rows + 1, rows + 1, act)
-        }
-        _ => push_act_line(text, shown + 1, rows + 1, act),
-    }
-}
-
-/// Appends the line of the tail, if there is one: of so many rows the first `shown` have their
-/// lines.
-pub(crate) fn push_cut(text: &mut Vec<u8>, shown: u64, rows: u64) -> Result<(), AllocError>
-    requires { rows ≤ ROWS_MAX }
-    ensures { OnOk result (text.new.items ≡ text.old.items ++ cut_text shown rows) }
-{
-    if shown < rows {
-        push_rows(text, shown + 1, rows)?;
-        text.extend_from_slice(b"cut\n")?;
-    }
-    Ok(())
+    push_rows(text, first, last)?;
+    text.extend_from_slice(b"cut\n")
 }
 
 /// Appends the line of a row that cannot be.
-pub(crate) fn push_fault(text: &mut Vec<u8>, row: u64, fault: LinkFault) -> Result<(), AllocError>
+pub(crate) fn push_fault_line(
+    text: &mut Vec<u8>,
+    row: u64,
+    fault: LinkFault,
+) -> Result<(), AllocError>
     ensures { OnOk result (text.new.items ≡ text.old.items ++ fault_line row fault) }
 {
     text.extend_from_slice(b"fault ")?;
@@ -63,7 +39,12 @@ pub(crate) fn push_fault(text: &mut Vec<u8>, row: u64, fault: LinkFault) -> Resu
 }
 
 /// Appends the line of an act.
-fn push_act_line(text: &mut Vec<u8>, first: u64, last: u64, act: &Act) -> Result<(), AllocError>
+pub(crate) fn push_act_line(
+    text: &mut Vec<u8>,
+    first: u64,
+    last: u64,
+    act: &Act,
+) -> Result<(), AllocError>
     requires { NamesAReply act.now }
     ensures { OnOk result
         (text.new.items ≡ text.old.items ++ rows_line first last (act_text act.now)) }
@@ -146,7 +127,7 @@ fn push_deed(text: &mut Vec<u8>, deed: &[u8], command: &Command) -> Result<(), A
 }
 
 /// Appends the bytes of a block.
-fn push_bytes(text: &mut Vec<u8>, bytes: &[u8]) -> Result<(), AllocError>
+pub(crate) fn push_bytes(text: &mut Vec<u8>, bytes: &[u8]) -> Result<(), AllocError>
     ensures { OnOk result (text.new.items ≡ text.old.items ++ bytes_text bytes.now) }
 {
     for byte in bytes {
@@ -156,7 +137,7 @@ fn push_bytes(text: &mut Vec<u8>, bytes: &[u8]) -> Result<(), AllocError>
 }
 
 /// Appends a number in decimal, without leading zeros: two digits at a time.
-fn push_decimal(text: &mut Vec<u8>, number: u64) -> Result<(), AllocError>
+pub(crate) fn push_decimal(text: &mut Vec<u8>, number: u64) -> Result<(), AllocError>
     ensures { OnOk result (text.new.items ≡ text.old.items ++ decimal number) }
 {
     let ones = b'0' + (number % 10) as u8;

@@ -8,10 +8,11 @@ ghost use Rattle.mdb_verdict.specs.declared.verdict.TheConstants.{BYTES_MAX};
 ghost use Rattle.mdb_bus.specs.Bus.{scope_of};
 ghost use Rattle.mdb_bus.specs.declared.scope.Scope.{Scope};
 ghost use Rattle.mdb_bus.specs.Scopes.{power_on};
-ghost use Rattle.mdb_show.specs.Show.{Shows};
+ghost use Rattle.mdb_show.specs.Show.{Shows, ShowsIn, ShowsJson};
 ghost use Rattle.mdb_verdict.specs.Output.{begun};
 ghost use Rattle.mdb_show.specs.inner.ShowSteps.{HasShown, IsShownAs, PutsShowing, output};
 
+use super::form::{Form, JsonForm, TextForm};
 use super::page::Page;
 use mdb_bus::{Act, Bus, LinkFault, Scope, laws};
 use mdb_follow::ROWS_MAX;
@@ -74,6 +75,28 @@ pub fn show_scoped<R: Read + Drop, W: Write>(
     show_records(alloc, scope, &mut records, writer)
 }
 
+/// Does as [`show_scoped`] does, with each line as a JSON object, for programs: what it tells is in
+/// members, which stand in the order of their names.
+///
+/// # Errors
+///
+/// Those of `show`.
+pub fn show_json<R: Read + Drop, W: Write>(
+    alloc: Global,
+    scope: &Scope,
+    reader: R,
+    writer: &mut W,
+) -> Result<Option<LinkFault>, RunFault>
+    ensures shows { IfSome (R.remaining reader) (λ text.
+        ShowsJson scope.now (records default_config (strip_bom text)) (W.contents writer.old)
+        (W.contents writer.new) result) }
+    ensures whole { IfSome (R.remaining reader) (λ text.
+        BYTES_MAX < length text → result ≢ Ok None) }
+{
+    let mut records = records_of(alloc, reader, BYTES_MAX);
+    show_json_records(alloc, scope, &mut records, writer)
+}
+
 /// Shows the records that are still to come. What they tell of where the reading ended is still to
 /// be asked then.
 pub fn show_records<R: Read + Drop, W: Write>(
@@ -86,7 +109,37 @@ pub fn show_records<R: Read + Drop, W: Write>(
         → Shows scope.now all (W.contents writer.old) (W.contents writer.new) result }
     ensures whole { IsOverLimit R.remaining records.old → result ≢ Ok None }
 {
-    let mut showing = Showing::new(alloc, scope);
+    show_in(alloc, scope, TextForm, records, writer)
+}
+
+/// Shows the records that are still to come, as [`show_json`] does. What they tell of where the
+/// reading ended is still to be asked then.
+pub fn show_json_records<R: Read + Drop, W: Write>(
+    alloc: Global,
+    scope: &Scope,
+    records: &mut Records<R>,
+    writer: &mut W,
+) -> Result<Option<LinkFault>, RunFault>
+    ensures shows { (all : List (List (List ℕ))) → ToCome R.remaining records.old all
+        → ShowsJson scope.now all (W.contents writer.old) (W.contents writer.new) result }
+    ensures whole { IsOverLimit R.remaining records.old → result ≢ Ok None }
+{
+    show_in(alloc, scope, JsonForm, records, writer)
+}
+
+/// Shows the records that are still to come, in a form.
+fn show_in<F: Form, R: Read + Drop, W: Write>(
+    alloc: Global,
+    scope: &Scope,
+    form: F,
+    records: &mut Records<R>,
+    writer: &mut W,
+) -> Result<Option<LinkFault>, RunFault>
+    ensures shows { (all : List (List (List ℕ))) → ToCome R.remaining records.old all
+        → ShowsIn F.lines scope.now all (W.contents writer.old) (W.contents writer.new) result }
+    ensures whole { IsOverLimit R.remaining records.old → result ≢ Ok None }
+{
+    let mut showing = Showing::new(alloc, scope, form);
     let answer = show_rows(records, &mut showing, writer);
     if answer != Err(RunFault::Write) {
         showing.page.write_out(writer)?;
@@ -95,15 +148,15 @@ pub fn show_records<R: Read + Drop, W: Write>(
 }
 
 /// Shows the records that are still to come, after none.
-fn show_rows<R: Read + Drop, W: Write>(
+fn show_rows<F: Form, R: Read + Drop, W: Write>(
     records: &mut Records<R>,
-    showing: &mut Showing,
+    showing: &mut Showing<F>,
     writer: &mut W,
 ) -> Result<Option<LinkFault>, RunFault>
-    requires { HasShown (scope_of showing.old.lines.bus) showing.old.lines (begun (W.contents writer.old))
-        (output (W.contents writer.old) showing.old.page) [] }
+    requires { HasShown F.lines (scope_of showing.old.lines.bus) showing.old.lines
+        (begun (W.contents writer.old)) (output (W.contents writer.old) showing.old.page) [] }
     ensures shows { (all : List (List (List ℕ))) → ToCome R.remaining records.old all
-        → PutsShowing (scope_of showing.old.lines.bus) all (begun (W.contents writer.old))
+        → PutsShowing F.lines (scope_of showing.old.lines.bus) all (begun (W.contents writer.old))
         (output (W.contents writer.new) showing.new.page) result }
     ensures whole { IsOverLimit R.remaining records.old → result ≢ Ok None }
     ensures heard { IfErr result (λ fault. fault ≡ RunFault.Read
@@ -114,38 +167,41 @@ fn show_rows<R: Read + Drop, W: Write>(
     if let Some(stop) = read_rows(records, &mut Batch::new(), showing, writer, ROWS_MAX)? {
         return Ok(Some(stop?));
     }
-    let Showing { lines, page } = showing;
-    page.add_cut(writer, lines.shown, lines.rows)?;
+    let Showing { lines, page, form } = showing;
+    page.add_cut(form, writer, lines.shown, lines.rows)?;
     Ok(None)
 }
 
 /// Rows that are shown: how far their lines have come, and those that wait for the writer.
 #[derive(Drop)]
-struct Showing {
+struct Showing<F: Drop> {
     lines: Lines,
     page: Page,
+    form: F,
 }
 
-impl Showing {
+impl<F: Form> Showing<F> {
     ghost use Rattle.std.specs.Prelude.{[], Option};
     ghost use Rattle.mdb_verdict.specs.Output.{begun};
     ghost use Rattle.mdb_show.specs.inner.ShowSteps.{HasShown, output};
 
     /// Before the first row.
-    fn new(alloc: Global, scope: &Scope) -> Showing
+    fn new(alloc: Global, scope: &Scope, form: F) -> Showing<F>
         ensures shown { (contents : Option (List ℕ))
-            → HasShown scope.now result.lines (begun contents) (output contents result.page) [] }
+            → HasShown F.lines scope.now result.lines (begun contents)
+            (output contents result.page) [] }
         ensures scope { scope_of result.lines.bus ≡ scope.now }
     {
         Showing {
             lines: Lines::new(scope),
             page: Page::new(alloc),
+            form,
         }
     }
 }
 
 /// It stops at the first row that breaks a rule of the link, or where a line can't be added.
-impl<W: Write> TakeRows<W> for Showing {
+impl<F: Form, W: Write> TakeRows<W> for Showing<F> {
     ghost use Rattle.std.proofs.Common.{sym};
     ghost use Rattle.mdb_follow.specs.declared.follower.TheConstants.{ROWS_MAX};
     ghost use Rattle.mdb_verdict.specs.Output.{begun};
@@ -161,18 +217,20 @@ impl<W: Write> TakeRows<W> for Showing {
 
     ghost scope = { λ showing. scope_of showing.lines.bus };
 
-    ghost has = { λ showing before after rows. HasShown (scope_of showing.lines.bus) showing.lines
-        (begun (W.contents before)) (output (W.contents after) showing.page) rows };
+    ghost has = { λ showing before after rows. HasShown F.lines (scope_of showing.lines.bus)
+        showing.lines (begun (W.contents before)) (output (W.contents after) showing.page) rows };
 
-    ghost stops = { λ showing before after. HasStopped (scope_of showing.lines.bus) showing.lines
-        (begun (W.contents before)) (output (W.contents after) showing.page) };
+    ghost stops = { λ showing before after. HasStopped F.lines (scope_of showing.lines.bus)
+        showing.lines (begun (W.contents before)) (output (W.contents after) showing.page) };
 
     fn rows_taken(&self) -> u64 {
         self.lines.rows
     }
 
     fn take_all(&mut self, writer: &mut W, rows: &[Event]) -> Option<Result<LinkFault, RunFault>> {
-        self.lines.add_all(rows, &mut self.page, writer).transpose()
+        self.lines
+            .add_all(&self.form, rows, &mut self.page, writer)
+            .transpose()
     }
 
     ghost counts = { λ showing before after rows has. sym has.counted };
@@ -213,8 +271,9 @@ impl Lines {
 
     /// Adds the lines of the next rows. The first of them that breaks a rule of the link has a line
     /// too, and is answered: of those after it nothing is said.
-    fn add_all<W: Write>(
+    fn add_all<F: Form, W: Write>(
         &mut self,
+        form: &F,
         events: &[Event],
         page: &mut Page,
         writer: &mut W,
@@ -223,9 +282,9 @@ impl Lines {
         requires few { self.old.shown ≤ self.old.rows }
         requires room { self.old.rows + length events.now ≤ ROWS_MAX }
         ensures added { (before : Output) (earlier : List Event)
-            → HasShown (scope_of self.old.bus) self.old before
+            → HasShown F.lines (scope_of self.old.bus) self.old before
             (output (W.contents writer.old) page.old) earlier
-            → HasAdded (scope_of self.old.bus) self.new before
+            → HasAdded F.lines (scope_of self.old.bus) self.new before
             (output (W.contents writer.new) page.new) earlier events.now result }
         ensures scope { scope_of self.new.bus ≡ scope_of self.old.bus }
     {
@@ -234,12 +293,12 @@ impl Lines {
             let ended = match self.bus.feed_into(*event, &mut self.act) {
                 Ok(ended) => ended,
                 Err(fault) => {
-                    page.add_fault(writer, self.rows + 1, fault)?;
+                    page.add_fault(form, writer, self.rows + 1, fault)?;
                     return Ok(Some(fault));
                 }
             };
             if ended {
-                page.add_ended(writer, self.shown, self.rows, &self.act)?;
+                page.add_ended(form, writer, self.shown, self.rows, &self.act)?;
                 self.shown = self.rows + 1;
             }
             self.rows += 1;

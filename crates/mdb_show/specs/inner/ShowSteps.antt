@@ -1,5 +1,5 @@
--- How the lines of `show` come about, row by row. This file serves private functions and proofs: no
--- public clause cites it.
+-- How the lines of `show` come about, row by row, in whatever form. This file serves private
+-- functions and proofs: no public clause cites it.
 use Rattle.std.specs.Prelude.{◌≡◌, ◌⊎◌, ◌+◌, ◌≤◌, ℕ, List, [], ◌∷◌, ◌++◌, length, ⊤, codes, Option, Some, None, Result, Ok, Err, if◌then◌else◌, nat_lt}
 use Rattle.std.specs.Io.KnownBytes.{Appends}
 use Rattle.mdb_words.specs.declared.event.Event.{Event}
@@ -16,21 +16,21 @@ use Rattle.mdb_verdict.specs.declared.fault.RunFault.{RunFault}
 use Rattle.mdb_verdict.specs.declared.fault.RunFault.TheVariants.{BadRow, TooLong, Read, Write, Memory, Mark}
 use Rattle.mdb_show.specs.declared.page.Page.{Page}
 use Rattle.mdb_show.specs.declared.showing.Lines.{Lines}
-use Rattle.mdb_show.specs.Show.{IsShowing}
+use Rattle.mdb_show.specs.Show.{IsShowingIn}
 use Rattle.mdb_verdict.specs.Output.{Breaks, Output, Puts}
-use Rattle.mdb_show.specs.ShowText.{act_text, closed_pieces, fault_line, rows_line, show_text}
+use Rattle.mdb_show.specs.Lines.{LineForm, closed_pieces, lines_of}
 use Rattle.mdb_bus.specs.declared.scope.Scope.{Scope}
 
 -- the line of a tail, if there is one: of `rows` rows only the first `shown` are in pieces that are
 -- closed
-abbrev pub cut_text : ℕ → ℕ → List ℕ
-cut_text shown rows = if nat_lt shown rows then rows_line (shown + 1) rows (codes "cut") else []
+abbrev pub cut_text : LineForm → ℕ → ℕ → List ℕ
+cut_text form shown rows = if nat_lt shown rows then form.cut (shown + 1) rows else []
 
 -- the lines of the act that the next row ends: before it that of the tail that a break cuts
-abbrev pub ended_text : ℕ → ℕ → Act → List ℕ
-ended_text shown rows (acts.Break length) =
-    cut_text shown rows ++ rows_line (rows + 1) (rows + 1) (act_text (acts.Break length))
-ended_text shown rows act = rows_line (shown + 1) (rows + 1) (act_text act)
+abbrev pub ended_text : LineForm → ℕ → ℕ → Act → List ℕ
+ended_text form shown rows (acts.Break length) =
+    cut_text form shown rows ++ form.act (rows + 1) (rows + 1) (acts.Break length)
+ended_text form shown rows act = form.act (shown + 1) (rows + 1) act
 
 -- what is on its way to a writer with a page
 abbrev pub output : Option (List ℕ) → Page → Output
@@ -51,7 +51,8 @@ HasPieces bus = (pieces : List Piece) × StandsFor bus pieces
 
 -- The rows so far are those of pieces for which the bus stands. The lines of the closed ones, which
 -- have the first `shown` rows, are on their way.
-pub record HasShown (scope : Scope) (lines : Lines) (before after : Output) (rows : List Event) : Type 0 where
+pub record HasShown (form : LineForm) (scope : Scope) (lines : Lines)
+    (before after : Output) (rows : List Event) : Type 0 where
   pub in_scope : scope_of lines.bus ≡ scope
   pub pieces : List Piece
   pub stands : StandsFor lines.bus pieces
@@ -59,7 +60,7 @@ pub record HasShown (scope : Scope) (lines : Lines) (before after : Output) (row
   pub counted : length rows ≡ lines.rows
   pub closed : length (events_of (closed_pieces pieces)) ≡ lines.shown
   pub few : lines.shown ≤ lines.rows
-  pub written : Puts before after (show_text (closed_pieces pieces))
+  pub written : Puts before after (lines_of form (closed_pieces pieces))
 
 -- pieces of earlier rows and of the first of some rows
 pub record LeadInto (scope : Scope) (earlier rows : List Event) (pieces : List Piece) : Type 0 where
@@ -70,66 +71,69 @@ pub record LeadInto (scope : Scope) (earlier rows : List Event) (pieces : List P
   pub in_order : ArePieces scope pieces
 
 -- The text is the lines of the closed pieces of earlier rows and of the first of some rows.
-pub record IsAddedInPart (scope : Scope) (earlier rows : List Event) (text : List ℕ) : Type 0 where
+pub record IsAddedInPart (form : LineForm) (scope : Scope) (earlier rows : List Event)
+    (text : List ℕ) : Type 0 where
   pub pieces : List Piece
   pub lead : LeadInto scope earlier rows pieces
-  pub lines : text ≡ show_text (closed_pieces pieces)
+  pub lines : text ≡ lines_of form (closed_pieces pieces)
 
 -- One of some rows breaks a rule of the link. The text is the lines of the closed pieces before it,
 -- and its own.
-pub record IsAddedToFault (scope : Scope) (earlier rows : List Event) (fault : LinkFault)
-    (text : List ℕ) : Type 0 where
+pub record IsAddedToFault (form : LineForm) (scope : Scope) (earlier rows : List Event)
+    (fault : LinkFault) (text : List ℕ) : Type 0 where
   pub pieces : List Piece
   pub row : Event
   pub after : List Event
   pub lead : LeadInto scope earlier rows pieces
   pub next : lead.rest ≡ row ∷ after
   pub is : IsLinkFault scope pieces row fault.rule fault.blame
-  pub lines : text ≡ show_text (closed_pieces pieces)
-      ++ fault_line (length (events_of pieces) + 1) fault
+  pub lines : text ≡ lines_of form (closed_pieces pieces)
+      ++ form.fault (length (events_of pieces) + 1) fault
 
 -- a text that the adding of the lines of some rows may come to
-abbrev pub IsAdded : Scope → List Event → List Event → List ℕ → Type 0
-IsAdded scope earlier rows text =
-    IsAddedInPart scope earlier rows text
-    ⊎ ((fault : LinkFault) × IsAddedToFault scope earlier rows fault text)
+abbrev pub IsAdded : LineForm → Scope → List Event → List Event → List ℕ → Type 0
+IsAdded form scope earlier rows text =
+    IsAddedInPart form scope earlier rows text
+    ⊎ ((fault : LinkFault) × IsAddedToFault form scope earlier rows fault text)
 
 -- what the adding of the lines of some rows after earlier ones comes to
-abbrev pub HasAdded : Scope → Lines → Output → Output → List Event → List Event
+abbrev pub HasAdded : LineForm → Scope → Lines → Output → Output → List Event → List Event
     → Result (Option LinkFault) RunFault → Type 0
-HasAdded scope lines before after earlier rows (Ok None) = HasShown scope lines before after (earlier ++ rows)
-HasAdded scope lines before after earlier rows (Ok (Some fault)) =
-    (text : List ℕ) × IsAddedToFault scope earlier rows fault text × Puts before after text
-HasAdded scope lines before after earlier rows (Err (BadRow row fault)) = ⊥
-HasAdded scope lines before after earlier rows (Err TooLong) = ⊥
-HasAdded scope lines before after earlier rows (Err Read) = ⊥
-HasAdded scope lines before after earlier rows (Err Write) =
-    (text : List ℕ) × IsAdded scope earlier rows text × Breaks before after text
-HasAdded scope lines before after earlier rows (Err Memory) =
-    (text : List ℕ) × IsAddedInPart scope earlier rows text × Puts before after text
-HasAdded scope lines before after earlier rows (Err (Mark row)) = ⊥
+HasAdded form scope lines before after earlier rows (Ok None) =
+    HasShown form scope lines before after (earlier ++ rows)
+HasAdded form scope lines before after earlier rows (Ok (Some fault)) =
+    (text : List ℕ) × IsAddedToFault form scope earlier rows fault text × Puts before after text
+HasAdded form scope lines before after earlier rows (Err (BadRow row fault)) = ⊥
+HasAdded form scope lines before after earlier rows (Err TooLong) = ⊥
+HasAdded form scope lines before after earlier rows (Err Read) = ⊥
+HasAdded form scope lines before after earlier rows (Err Write) =
+    (text : List ℕ) × IsAdded form scope earlier rows text × Breaks before after text
+HasAdded form scope lines before after earlier rows (Err Memory) =
+    (text : List ℕ) × IsAddedInPart form scope earlier rows text × Puts before after text
+HasAdded form scope lines before after earlier rows (Err (Mark row)) = ⊥
 
 -- the same where one of the rows was stopped at
-abbrev pub HasStopped : Scope → Lines → Output → Output → List Event → List Event
+abbrev pub HasStopped : LineForm → Scope → Lines → Output → Output → List Event → List Event
     → Result LinkFault RunFault → Type 0
-HasStopped scope lines before after earlier rows (Ok fault) =
-    HasAdded scope lines before after earlier rows (Ok (Some fault))
-HasStopped scope lines before after earlier rows (Err fault) =
-    HasAdded scope lines before after earlier rows (Err fault)
+HasStopped form scope lines before after earlier rows (Ok fault) =
+    HasAdded form scope lines before after earlier rows (Ok (Some fault))
+HasStopped form scope lines before after earlier rows (Err fault) =
+    HasAdded form scope lines before after earlier rows (Err fault)
 
 -- The writer failed with a front of a text that is written of the records.
-pub record IsBroken (scope : Scope) (records : List (List (List ℕ))) (before after : Output) : Type 0 where
+pub record IsBroken (form : LineForm) (scope : Scope) (records : List (List (List ℕ)))
+    (before after : Output) : Type 0 where
   pub answer : Result (Option LinkFault) RunFault
   pub text : List ℕ
-  pub showing : IsShowing scope records answer text
+  pub showing : IsShowingIn form scope records answer text
   pub broken : Breaks before after text
 
--- what `Shows` says, where some of the text may still be on its way
-abbrev pub PutsShowing : Scope → List (List (List ℕ)) → Output → Output
+-- what `ShowsIn` says, where some of the text may still be on its way
+abbrev pub PutsShowing : LineForm → Scope → List (List (List ℕ)) → Output → Output
     → Result (Option LinkFault) RunFault → Type 0
-PutsShowing scope records before after answer =
-    ((text : List ℕ) × IsShowing scope records answer text × Puts before after text)
-    ⊎ ((answer ≡ Err Write) × IsBroken scope records before after)
+PutsShowing form scope records before after answer =
+    ((text : List ℕ) × IsShowingIn form scope records answer text × Puts before after text)
+    ⊎ ((answer ≡ Err Write) × IsBroken form scope records before after)
 
 -- a fault of reading that was met is the answer, or that of a row or a line before it is
 abbrev pub IsShownAs : ReadFault → Result (Option LinkFault) RunFault → Type 0

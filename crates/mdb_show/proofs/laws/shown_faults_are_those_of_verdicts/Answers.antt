@@ -2,7 +2,7 @@ use Rattle.mdb_show.proofs.SameFault.{same_fault}
 use Rattle.mdb_show.proofs.laws.shown_faults_are_those_of_verdicts.Goals as goal
 
 pub returns : goal.returns
-returns c scope = same_fault scope (record {
+returns c form scope = same_fault form scope (record {
   fronts = c.fronts_of_act_lists_have_act_lists.ensures scope;
   one_list = c.transcripts_have_one_act_list.ensures scope;
   one_fault = c.rows_have_one_fault.ensures scope;

@@ -2,16 +2,16 @@ use Rattle.std.proofs.Common.{refl, subst, sym, ◌≡◌, ◌≤◌, length}
 use Rattle.mdb_bus.specs.ActLists.{events_of}
 use Rattle.mdb_bus.specs.LeavingOut.{leave_out}
 use Rattle.mdb_follow.specs.declared.follower.TheConstants.{ROWS_MAX}
-use Rattle.mdb_show.specs.ShowText.{show_text}
+use Rattle.mdb_show.specs.Lines.{lines_of}
 use Rattle.mdb_verdict.specs.Verdict.{AreRows}
 use Rattle.mdb_show.proofs.laws.whole_texts_are_shown_whole_without_further_devices.Goals as goal
 
 pub returns : goal.returns
-returns c less more records text leaves is =
+returns c form less more records text leaves is =
     let left = leave_out more is.pieces in
     let rows : events_of left ≡ events_of is.pieces =
     c.pieces_stay_in_order_without_further_devices.ensures.rows more is.pieces in (
-      show_text left,
+      lines_of form left,
       record {
         pieces = left;
         shown = record {

@@ -16,9 +16,9 @@ returns-in_err-stop-clause-shows g c all to_come =
     let scope = scope_of lines.bus in
     let before = begun (g.W.Write.contents c.args.writer.now) in
     let now = output (g.W.Write.contents c.read_rows.new.out) c.read_rows.new.taker.page in
-    let Ended : Result (Option (Result LinkFault RunFault)) RunFault → Type 0 = λ r. HasEnded IsRow IsRefusal (HasShown scope lines before now) (HasStopped scope lines before now) ROWS_MAX all r in
-    subst (λ s. PutsShowing s all before now c.from_residual.result) c.read_rows.ensures.same_scope
-    (showings.refused scope all lines before now c.in_err-stop.field-0.0 (subst Ended c.in_err-stop.was (c.read_rows.ensures.ended all to_come)) c.from_residual.result c.from_residual.ensures.1)
+    let Ended : Result (Option (Result LinkFault RunFault)) RunFault → Type 0 = λ r. HasEnded IsRow IsRefusal (HasShown g.F.Form.lines scope lines before now) (HasStopped g.F.Form.lines scope lines before now) ROWS_MAX all r in
+    subst (λ s. PutsShowing g.F.Form.lines s all before now c.from_residual.result) c.read_rows.ensures.same_scope
+    (showings.refused g.F.Form.lines scope all lines before now c.in_err-stop.field-0.0 (subst Ended c.in_err-stop.was (c.read_rows.ensures.ended all to_come)) c.from_residual.result c.from_residual.ensures.1)
 
 pub returns-in_err-stop-2-clause-shows : goal.returns-in_err-stop-2-clause-shows
 returns-in_err-stop-2-clause-shows g c all to_come =
@@ -26,10 +26,10 @@ returns-in_err-stop-2-clause-shows g c all to_come =
     let scope = scope_of lines.bus in
     let before = begun (g.W.Write.contents c.args.writer.now) in
     let now = output (g.W.Write.contents c.read_rows.new.out) c.read_rows.new.taker.page in
-    let Ended : Option (Result LinkFault RunFault) → Type 0 = λ stop. HasEnded IsRow IsRefusal (HasShown scope lines before now) (HasStopped scope lines before now) ROWS_MAX all (Ok stop) in
-    let Stopped : Result LinkFault RunFault → Type 0 = λ stop. IsStopped IsRow (λ earlier later. HasStopped scope lines before now earlier later stop) ROWS_MAX all in
-    subst (λ s. PutsShowing s all before now c.from_residual-in_err-stop-2.result) c.read_rows.ensures.same_scope
-    (showings.line_untaken scope all lines before now c.in_err-stop-2.field-0.0 (subst Stopped c.in_err-stop-2.was (subst Ended c.in-Some.is (c.in_ok-stop.ensures.ended all to_come)))
+    let Ended : Option (Result LinkFault RunFault) → Type 0 = λ stop. HasEnded IsRow IsRefusal (HasShown g.F.Form.lines scope lines before now) (HasStopped g.F.Form.lines scope lines before now) ROWS_MAX all (Ok stop) in
+    let Stopped : Result LinkFault RunFault → Type 0 = λ stop. IsStopped IsRow (λ earlier later. HasStopped g.F.Form.lines scope lines before now earlier later stop) ROWS_MAX all in
+    subst (λ s. PutsShowing g.F.Form.lines s all before now c.from_residual-in_err-stop-2.result) c.read_rows.ensures.same_scope
+    (showings.line_untaken g.F.Form.lines scope all lines before now c.in_err-stop-2.field-0.0 (subst Stopped c.in_err-stop-2.was (subst Ended c.in-Some.is (c.in_ok-stop.ensures.ended all to_come)))
     c.from_residual-in_err-stop-2.result c.from_residual-in_err-stop-2.ensures.1)
 
 pub returns-in-Some-clause-shows : goal.returns-in-Some-clause-shows
@@ -38,10 +38,10 @@ returns-in-Some-clause-shows g c all to_come =
     let scope = scope_of lines.bus in
     let before = begun (g.W.Write.contents c.args.writer.now) in
     let now = output (g.W.Write.contents c.read_rows.new.out) c.read_rows.new.taker.page in
-    let Ended : Option (Result LinkFault RunFault) → Type 0 = λ stop. HasEnded IsRow IsRefusal (HasShown scope lines before now) (HasStopped scope lines before now) ROWS_MAX all (Ok stop) in
-    let Stopped : Result LinkFault RunFault → Type 0 = λ stop. IsStopped IsRow (λ earlier later. HasStopped scope lines before now earlier later stop) ROWS_MAX all in
-    subst (λ s. PutsShowing s all before now (Ok (Some c.in_ok-stop-2.field-0))) c.read_rows.ensures.same_scope
-    (showings.at_fault scope all lines before now c.in_ok-stop-2.field-0 (subst Stopped c.in_ok-stop-2.was (subst Ended c.in-Some.is (c.in_ok-stop.ensures.ended all to_come))))
+    let Ended : Option (Result LinkFault RunFault) → Type 0 = λ stop. HasEnded IsRow IsRefusal (HasShown g.F.Form.lines scope lines before now) (HasStopped g.F.Form.lines scope lines before now) ROWS_MAX all (Ok stop) in
+    let Stopped : Result LinkFault RunFault → Type 0 = λ stop. IsStopped IsRow (λ earlier later. HasStopped g.F.Form.lines scope lines before now earlier later stop) ROWS_MAX all in
+    subst (λ s. PutsShowing g.F.Form.lines s all before now (Ok (Some c.in_ok-stop-2.field-0))) c.read_rows.ensures.same_scope
+    (showings.at_fault g.F.Form.lines scope all lines before now c.in_ok-stop-2.field-0 (subst Stopped c.in_ok-stop-2.was (subst Ended c.in-Some.is (c.in_ok-stop.ensures.ended all to_come))))
 
 pub returns-in_err-add_cut-clause-shows : goal.returns-in_err-add_cut-clause-shows
 returns-in_err-add_cut-clause-shows g c all to_come =
@@ -49,9 +49,9 @@ returns-in_err-add_cut-clause-shows g c all to_come =
     let scope = scope_of lines.bus in
     let before = begun (g.W.Write.contents c.args.writer.now) in
     let now = output (g.W.Write.contents c.read_rows.new.out) c.read_rows.new.taker.page in
-    let Ended : Option (Result LinkFault RunFault) → Type 0 = λ stop. HasEnded IsRow IsRefusal (HasShown scope lines before now) (HasStopped scope lines before now) ROWS_MAX all (Ok stop) in
-    subst (λ s. PutsShowing s all before (output (g.W.Write.contents c.add_cut.new.writer) c.add_cut.new.self) c.from_residual-in_err-add_cut.result) c.read_rows.ensures.same_scope
-    (showings.cut_refused scope all lines before now (output (g.W.Write.contents c.add_cut.new.writer) c.add_cut.new.self) (subst Ended c.in_default.is (c.in_ok-stop.ensures.ended all to_come))
+    let Ended : Option (Result LinkFault RunFault) → Type 0 = λ stop. HasEnded IsRow IsRefusal (HasShown g.F.Form.lines scope lines before now) (HasStopped g.F.Form.lines scope lines before now) ROWS_MAX all (Ok stop) in
+    subst (λ s. PutsShowing g.F.Form.lines s all before (output (g.W.Write.contents c.add_cut.new.writer) c.add_cut.new.self) c.from_residual-in_err-add_cut.result) c.read_rows.ensures.same_scope
+    (showings.cut_refused g.F.Form.lines scope all lines before now (output (g.W.Write.contents c.add_cut.new.writer) c.add_cut.new.self) (subst Ended c.in_default.is (c.in_ok-stop.ensures.ended all to_come))
     c.in_err-add_cut.field-0.0 c.in_err-add_cut.ensures.refused c.from_residual-in_err-add_cut.result c.from_residual-in_err-add_cut.ensures.1)
 
 pub returns-clause-shows : goal.returns-clause-shows
@@ -60,6 +60,6 @@ returns-clause-shows g c all to_come =
     let scope = scope_of lines.bus in
     let before = begun (g.W.Write.contents c.args.writer.now) in
     let now = output (g.W.Write.contents c.read_rows.new.out) c.read_rows.new.taker.page in
-    let Ended : Option (Result LinkFault RunFault) → Type 0 = λ stop. HasEnded IsRow IsRefusal (HasShown scope lines before now) (HasStopped scope lines before now) ROWS_MAX all (Ok stop) in
-    subst (λ s. PutsShowing s all before (output (g.W.Write.contents c.add_cut.new.writer) c.add_cut.new.self) (Ok None)) c.read_rows.ensures.same_scope
-    (showings.whole scope all lines before now (output (g.W.Write.contents c.add_cut.new.writer) c.add_cut.new.self) (subst Ended c.in_default.is (c.in_ok-stop.ensures.ended all to_come)) c.in_ok-add_cut.ensures.added)
+    let Ended : Option (Result LinkFault RunFault) → Type 0 = λ stop. HasEnded IsRow IsRefusal (HasShown g.F.Form.lines scope lines before now) (HasStopped g.F.Form.lines scope lines before now) ROWS_MAX all (Ok stop) in
+    subst (λ s. PutsShowing g.F.Form.lines s all before (output (g.W.Write.contents c.add_cut.new.writer) c.add_cut.new.self) (Ok None)) c.read_rows.ensures.same_scope
+    (showings.whole g.F.Form.lines scope all lines before now (output (g.W.Write.contents c.add_cut.new.writer) c.add_cut.new.self) (subst Ended c.in_default.is (c.in_ok-stop.ensures.ended all to_come)) c.in_ok-add_cut.ensures.added)
