@@ -254,6 +254,7 @@ function showVerdict(it) {
     inner.push(h("p", { class: "word" }, "Yes: all of this can have been said"));
     inner.push(h("p", {}, `All ${number(r.rows)} rows are possible together. This doesn't say that the money is honest: it says that an honest explanation of the recording exists.`));
     if (r.rows === "0") inner.push(h("p", {}, h("strong", {}, "There is no row in this file."), " An empty recording is possible too."));
+    else if (isUnfollowed(it)) inner.push(h("p", {}, h("strong", {}, "Nothing was followed:"), " no command to a device that is checked stands in this recording, so each sum is 0 and nobody could be blamed. Most likely the two lines are exchanged (M has to be the controller's, S the peripherals'), or the mode bits are lost."));
     const differ = Object.entries(r.accounts).filter(([, a]) => a.difference[0] > 0n || a.difference[1] < 0n);
     if (differ.length) inner.push(h("p", {}, h("strong", {}, `The books differ, whatever was lost on the way: ${differ.map(([n]) => small(ACCOUNTS[n].title)).join(", ")}.`)));
   } else if (it.answer === ANSWERS.NO) {
@@ -281,6 +282,12 @@ function showVerdict(it) {
     inner.push(h("p", {}, "The bytes of a --setup are no answer of their device to SETUP."));
   }
   card.replaceChildren(...inner, name);
+}
+
+// Whether no act that is listed is one of a device that is followed.
+function isUnfollowed(it) {
+  for (let i = 0; i < it.listed; i++) if (it.list.device(i)) return false;
+  return true;
 }
 
 function leaveOut(it) {
