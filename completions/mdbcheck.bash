@@ -43,8 +43,8 @@ _mdbcheck() {
     else
         case $command in
             '') words='check show explain replay' ;;
-            check) words='--joined --setup --without' ;;
-            show | replay) words='--without' ;;
+            check) words='--joined --json --setup --without' ;;
+            show | replay) words='--json --without' ;;
             explain)
                 case $goals in
                     0) words=$accounts ;;

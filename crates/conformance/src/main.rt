@@ -12,7 +12,7 @@ use std::io::Write;
 use std::{fs, io};
 
 /// The files of cases, one for each subject.
-static FILES: [&str; 20] = [
+static FILES: [&str; 21] = [
     "rows.cases",
     "times.cases",
     "commands.cases",
@@ -31,6 +31,7 @@ static FILES: [&str; 20] = [
     "explain.cases",
     "without.cases",
     "joined.cases",
+    "json.cases",
     "worked.cases",
     "least.cases",
 ];

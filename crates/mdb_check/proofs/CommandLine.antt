@@ -30,10 +30,11 @@ use Rattle.mdb_follow.specs.AccountNames.{account_word}
 use Rattle.mdb_follow.specs.declared.goal.Goal.{Goal}
 use Rattle.mdb_text.specs.Accounts.{side_word}
 use Rattle.mdb_explain.specs.Explain.{bound_word, goal_words}
-use Rattle.mdb_check.specs.inner.CommandLine.{AreDevices, AreOptionsOf, AsksFor, AsksForGoal, AsksToCheck, AsksToShow, IsOwnRefusal, IsRefusalBy, check_app, explain_app, mdbcheck, replay_app, show_app, values_of}
+use Rattle.mdb_check.specs.inner.CommandLine.{AreDevices, AreOptionsOf, AsksFor, AsksForGoal, AsksInForm, AsksToCheck, AsksToShow, IsOwnRefusal, IsRefusalBy, check_app, explain_app, form_of, mdbcheck, replay_app, show_app, values_of}
 use Rattle.mdb_check.specs.Program.{AreGoalAndOptions, AreOptions, Asked, IsFromPowerOn, IsJoined, NamesCheck, NamesExplain, NamesReplay, NamesShow, NamesTask}
 use Rattle.mdb_check.specs.declared.command_line.Task.{Task}
 use Rattle.mdb_check.specs.declared.command_line.Task.TheVariants.{Check, Show, Explain, Replay}
+use Rattle.mdb_check.specs.declared.form.Form.{Form}
 use Rattle.mdb_check.specs.declared.refusal.Refusal.{Refusal}
 use Rattle.mdb_check.specs.declared.refusal.Refusal.TheVariants.{Words, Setup}
 use Rattle.mdb_check.proofs.Devices.{one_set}
@@ -45,7 +46,7 @@ use Rattle.mdb_check.proofs.Options.{AreUses, HasOptions, TakesNoWord, Uses, fin
 use Rattle.mdb_check.proofs.Refusals.{IsOneOf, TakesNothing, after_dashes, both_pass, is_dashes, is_met, none_or_one, one_of_both, one_of_more}
 use Rattle.mdb_check.proofs.KnownSetups.{are_texts, one_setups}
 use Rattle.mdb_check.proofs.TaskGoals.{goal_back, goal_names_apart, goal_used, one_goal, plain_goal}
-use Rattle.mdb_check.proofs.TaskOptions.{AreSetupTexts, AskFor, check_back, check_flags, check_names, check_used, show_alone, show_names, show_used, show_wider}
+use Rattle.mdb_check.proofs.TaskOptions.{AreSetupTexts, AskFor, check_back, check_flags, check_names, check_used, show_alone, show_flags, show_names, show_used, show_wider}
 
 -- `clap` says what it does with the command
 is_simple_here : is_simple mdbcheck ≡ true
@@ -86,33 +87,36 @@ replay_task = built_leaf (inherited whole.top replay_app.top)
 abbrev task : Text → Shape
 task name = if bytes_eq name (codes "check") then check_task else (if bytes_eq name (codes "show") then show_task else (if bytes_eq name (codes "explain") then explain_task else replay_task))
 
--- `--joined` is no option with a value
+-- `--joined` and `--json` are no options with a value
 apart_names : (name : Text) → IsOneOf name check_flags → IsOneOf name check_names → ⊥
 apart_names name (inl joined) (inl setup) = let bad : codes "joined" ≡ codes "setup" = joined ∙ sym setup in cc bad
 apart_names name (inl joined) (inr (inl without)) = let bad : codes "joined" ≡ codes "without" = joined ∙ sym without in cc bad
 apart_names name (inl joined) (inr (inr none)) = none
-apart_names name (inr none) also = none
+apart_names name (inr (inl json)) (inl setup) = let bad : codes "json" ≡ codes "setup" = json ∙ sym setup in cc bad
+apart_names name (inr (inl json)) (inr (inl without)) = let bad : codes "json" ≡ codes "without" = json ∙ sym without in cc bad
+apart_names name (inr (inl json)) (inr (inr none)) = none
+apart_names name (inr (inr none)) also = none
 
-no_flag : (name : Text) → IsOneOf name [] → IsOneOf name show_names → ⊥
-no_flag name none also = none
+apart_in_show : (name : Text) → IsOneOf name show_flags → IsOneOf name show_names → ⊥
+apart_in_show name flag option = apart_names name (inr flag) (inr option)
 
 check_has : HasOptions check_task check_names check_flags
 check_has = has_options check_task check_names check_flags apart_names
 
-show_has : HasOptions show_task show_names []
-show_has = has_options show_task show_names [] no_flag
+show_has : HasOptions show_task show_names show_flags
+show_has = has_options show_task show_names show_flags apart_in_show
 
-replay_has : HasOptions replay_task show_names []
-replay_has = has_options replay_task show_names [] no_flag
+replay_has : HasOptions replay_task show_names show_flags
+replay_has = has_options replay_task show_names show_flags apart_in_show
 
 check_bare : TakesNoWord check_task
 check_bare = takes_no_word check_task check_names check_flags
 
 show_bare : TakesNoWord show_task
-show_bare = takes_no_word show_task show_names []
+show_bare = takes_no_word show_task show_names show_flags
 
 replay_bare : TakesNoWord replay_task
-replay_bare = takes_no_word replay_task show_names []
+replay_bare = takes_no_word replay_task show_names show_flags
 
 -- `explain` has an option, and the words of a goal
 explain_has : HasOptions explain_task without_name []
@@ -328,18 +332,18 @@ record ShowUses (rest : List Text) (uses : Uses) : Type 0 where
   no_fault : Level (codes "show") rest ≡ []
   found : rows_after show_task.rules [] rest ≡ found_after uses []
 
-show_uses : (rest : List Text) (uses : Uses) → AreUses show_names [] rest uses → ShowUses rest uses
+show_uses : (rest : List Text) (uses : Uses) → AreUses show_names show_flags rest uses → ShowUses rest uses
 show_uses rest uses are =
-    let finds = finds_uses show_task show_names [] show_has show_bare rest uses are in
+    let finds = finds_uses show_task show_names show_flags show_has show_bare rest uses are in
     record { no_fault = finds.0; found = finds.1 }
 
 record ReplayUses (rest : List Text) (uses : Uses) : Type 0 where
   no_fault : Level (codes "replay") rest ≡ []
   found : rows_after replay_task.rules [] rest ≡ found_after uses []
 
-replay_uses : (rest : List Text) (uses : Uses) → AreUses show_names [] rest uses → ReplayUses rest uses
+replay_uses : (rest : List Text) (uses : Uses) → AreUses show_names show_flags rest uses → ReplayUses rest uses
 replay_uses rest uses are =
-    let finds = finds_uses replay_task show_names [] replay_has replay_bare rest uses are in
+    let finds = finds_uses replay_task show_names show_flags replay_has replay_bare rest uses are in
     record { no_fault = finds.0; found = finds.1 }
 
 -- what the words of `explain` come to: the only fault is that one of a goal is wanting
@@ -366,6 +370,7 @@ module _ (found : List Row) (uses : Uses) (is : found ≡ found_after uses []) w
       let Are : List Text → Type 0 = λ all. AreDevices all asked.left_out in
       record {
         joined = used_found (codes "joined") ∙ ask.joined;
+        form = ask.form ∙ ap form_of (sym (used_found (codes "json")));
         setups = chosen_found (codes "setup") ∙ ask.setups;
         devices = subst Are (sym (chosen_found (codes "without"))) ask.devices;
       }
@@ -375,66 +380,69 @@ module _ (found : List Row) (uses : Uses) (is : found ≡ found_after uses []) w
       let Are : List Text → Type 0 = λ all. AreDevices all asked.left_out in
       record {
         joined = sym (used_found (codes "joined")) ∙ of.joined;
+        form = of.form ∙ ap form_of (used_found (codes "json"));
         setups = sym (chosen_found (codes "setup")) ∙ of.setups;
         devices = subst Are (chosen_found (codes "without")) of.devices;
       }
 
 -- the same is asked for
-same_asked : (joined also : Bool) (setups too : List Text) (left_out : DeviceSet) → joined ≡ also → setups ≡ too
-    → ◌≡◌ {A = Asked} (record { joined = joined; setups = setups; left_out = left_out }) (record { joined = also; setups = too; left_out = left_out })
-same_asked joined also setups too left_out same_joined same_setups =
-    let At : Bool → List Text → Asked = λ j s. record { joined = j; setups = s; left_out = left_out } in
-    ap₂ At same_joined same_setups
+same_asked : (joined also : Bool) (form other : Form) (setups too : List Text) (left_out : DeviceSet) → joined ≡ also → form ≡ other → setups ≡ too
+    → ◌≡◌ {A = Asked} (record { joined = joined; form = form; setups = setups; left_out = left_out }) (record { joined = also; form = other; setups = too; left_out = left_out })
+same_asked joined also form other setups too left_out same_joined same_form same_setups =
+    let At : Bool → Form → List Text → Asked = λ j f s. record { joined = j; form = f; setups = s; left_out = left_out } in
+    (λ i. At (same_joined i) (same_form i) (same_setups i))
 
 -- uses that ask for this are options, where the values of `--setup` may be
 options_are : (rest : List Text) (uses : Uses) (asked : Asked) → AreUses check_names check_flags rest uses → AskFor uses asked → AreSetupTexts asked.setups → AreOptions rest asked
 options_are rest uses asked are ask texts =
-    subst (AreOptions rest) (same_asked (is_used (codes "joined") uses) asked.joined (chosen (codes "setup") uses) asked.setups asked.left_out ask.joined ask.setups)
+    subst (AreOptions rest)
+    (same_asked (is_used (codes "joined") uses) asked.joined (form_of (is_used (codes "json") uses)) asked.form (chosen (codes "setup") uses) asked.setups asked.left_out ask.joined (sym ask.form) ask.setups)
     (check_back rest uses are asked.left_out ask.devices (subst AreSetupTexts (sym ask.setups) texts))
+
+-- those of `show` and `replay` are options that ask for no recording in mid-session
+show_options : (rest : List Text) (uses : Uses) (found : List Row) (left_out : DeviceSet) (form : Form) → AreUses show_names show_flags rest uses → found ≡ found_after uses []
+    → AreDevices (values_of (codes "without") found) left_out → AsksInForm found form → AreOptions rest (record { joined = false; form = form; setups = []; left_out = left_out })
+show_options rest uses found left_out form are is devices in_form =
+    let alone = show_alone rest uses are in
+    let Are : List Text → Type 0 = λ all. AreDevices all left_out in
+    let asked : Asked = record { joined = false; form = form; setups = []; left_out = left_out } in
+    let ask : AskFor uses asked = record {
+      joined = alone.joined;
+      form = in_form ∙ ap form_of (used_found found uses is (codes "json"));
+      setups = alone.setups;
+      devices = subst Are (chosen_found found uses is (codes "without")) devices;
+    } in
+    options_are rest uses asked (show_wider rest uses are) ask tt
 
 texts_of : (asked : Asked) (scope : Scope) → IsFromPowerOn asked scope ⊎ IsJoined asked scope → AreSetupTexts asked.setups
 texts_of asked scope (inl from) = subst AreSetupTexts (sym from.no_setups) tt
 texts_of asked scope (inr joined) = are_texts asked.left_out nothing_known asked.setups joined.setups joined.told
 
--- where the options ask for a recording that is taken so, the words name the task with it
-pub names_check : (words : List Text) (found : List Row) (scope : Scope) → Takes words (codes "check") found → AsksToCheck found scope → NamesCheck words scope
-names_check words found scope takes (asked, of, taken) =
+-- where the options ask for a recording that is taken so and for this form, the words name the task with them
+pub names_check : (words : List Text) (found : List Row) (scope : Scope) (form : Form) → Takes words (codes "check") found → AsksToCheck found scope → AsksInForm found form → NamesCheck words scope form
+names_check words found scope form takes (asked, of, taken) in_form =
     let (uses, are) = takes_uses check_task check_names check_flags check_has check_bare takes.rest takes.no_fault in
     let finds = check_uses takes.rest uses are in
     let ask = found_ask found uses (takes.rows ∙ finds.found) asked of in
-    (asked, (takes.program, takes.rest, takes.are, options_are takes.rest uses asked are ask (texts_of asked scope taken)), taken)
+    (asked, (takes.program, takes.rest, takes.are, options_are takes.rest uses asked are ask (texts_of asked scope taken)), in_form ∙ sym of.form, taken)
 
-pub names_show : (words : List Text) (found : List Row) (scope : Scope) → Takes words (codes "show") found → AsksToShow found scope → NamesShow words scope
-names_show words found scope takes (left_out, devices, is) =
-    let (uses, are) = takes_uses show_task show_names [] show_has show_bare takes.rest takes.no_fault in
-    let finds = show_uses takes.rest uses are in
-    let alone = show_alone takes.rest uses are in
-    let Are : List Text → Type 0 = λ all. AreDevices all left_out in
-    let asked : Asked = record { joined = false; setups = []; left_out = left_out } in
-    let ask : AskFor uses asked = record {
-      joined = alone.joined;
-      setups = alone.setups;
-      devices = subst Are (chosen_found found uses (takes.rows ∙ finds.found) (codes "without")) devices;
-    } in (
-      asked,
-      (takes.program, takes.rest, takes.are, options_are takes.rest uses asked (show_wider takes.rest uses are) ask tt),
+pub names_show : (words : List Text) (found : List Row) (scope : Scope) (form : Form) → Takes words (codes "show") found → AsksToShow found scope → AsksInForm found form → NamesShow words scope form
+names_show words found scope form takes (left_out, devices, is) in_form =
+    let (uses, are) = takes_uses show_task show_names show_flags show_has show_bare takes.rest takes.no_fault in
+    let finds = show_uses takes.rest uses are in (
+      record { joined = false; form = form; setups = []; left_out = left_out },
+      (takes.program, takes.rest, takes.are, show_options takes.rest uses found left_out form are (takes.rows ∙ finds.found) devices in_form),
+      refl,
       record { not_joined = refl; no_setups = refl; is = is },
     )
 
-pub names_replay : (words : List Text) (found : List Row) (scope : Scope) → Takes words (codes "replay") found → AsksToShow found scope → NamesReplay words scope
-names_replay words found scope takes (left_out, devices, is) =
-    let (uses, are) = takes_uses replay_task show_names [] replay_has replay_bare takes.rest takes.no_fault in
-    let finds = replay_uses takes.rest uses are in
-    let alone = show_alone takes.rest uses are in
-    let Are : List Text → Type 0 = λ all. AreDevices all left_out in
-    let asked : Asked = record { joined = false; setups = []; left_out = left_out } in
-    let ask : AskFor uses asked = record {
-      joined = alone.joined;
-      setups = alone.setups;
-      devices = subst Are (chosen_found found uses (takes.rows ∙ finds.found) (codes "without")) devices;
-    } in (
-      asked,
-      (takes.program, takes.rest, takes.are, options_are takes.rest uses asked (show_wider takes.rest uses are) ask tt),
+pub names_replay : (words : List Text) (found : List Row) (scope : Scope) (form : Form) → Takes words (codes "replay") found → AsksToShow found scope → AsksInForm found form → NamesReplay words scope form
+names_replay words found scope form takes (left_out, devices, is) in_form =
+    let (uses, are) = takes_uses replay_task show_names show_flags replay_has replay_bare takes.rest takes.no_fault in
+    let finds = replay_uses takes.rest uses are in (
+      record { joined = false; form = form; setups = []; left_out = left_out },
+      (takes.program, takes.rest, takes.are, show_options takes.rest uses found left_out form are (takes.rows ∙ finds.found) devices in_form),
+      refl,
       record { not_joined = refl; no_setups = refl; is = is },
     )
 
@@ -508,19 +516,22 @@ pub one_asked : (words : List Text) (a b : Asked) → AreOptions words a → Are
 one_asked words a b is_a is_b =
     let of_a = (check_finds words a is_a).found in
     let of_b = (check_finds words b is_b).found in
-    let At : Bool → List Text → DeviceSet → Asked = λ joined setups left_out. record { joined = joined; setups = setups; left_out = left_out } in
-    ap₂ (λ joined setups. At joined setups a.left_out) (sym of_a.joined ∙ of_b.joined) (sym of_a.setups ∙ of_b.setups)
-    ∙ ap (At b.joined b.setups) (one_set _ a.left_out b.left_out of_a.devices of_b.devices)
+    let At : Bool → Form → List Text → DeviceSet → Asked = λ joined form setups left_out. record { joined = joined; form = form; setups = setups; left_out = left_out } in
+    let same_joined = sym of_a.joined ∙ of_b.joined in
+    let same_form = of_a.form ∙ sym of_b.form in
+    let same_setups = sym of_a.setups ∙ of_b.setups in
+    let same_devices = one_set _ a.left_out b.left_out of_a.devices of_b.devices in
+    (λ i. At (same_joined i) (same_form i) (same_setups i) (same_devices i))
 
 -- the words of a task have no fault
 pub no_fault : (words : List Text) (task : Task) → AsksFor words task → fault_of mdbcheck words ≡ []
-no_fault words (Check scope) (asked, (program, rest, are, options), taken) =
+no_fault words (Check scope form) (asked, (program, rest, are, options), in_form, taken) =
     ap (fault_of mdbcheck) are ∙ (check_in rest).whole_fault program ∙ (check_finds rest asked options).no_fault
-no_fault words (Show scope) (asked, (program, rest, are, options), taken) =
+no_fault words (Show scope form) (asked, (program, rest, are, options), in_form, taken) =
     ap (fault_of mdbcheck) are ∙ (show_in rest).whole_fault program ∙ (show_finds rest asked options taken.not_joined taken.no_setups).no_fault
 no_fault words (Explain goal without) (program, rest, left_out, are, options, is) =
     ap (fault_of mdbcheck) are ∙ (explain_in rest).whole_fault program ∙ (explain_finds rest goal left_out options).no_fault
-no_fault words (Replay without) (asked, (program, rest, are, options), taken) =
+no_fault words (Replay without form) (asked, (program, rest, are, options), in_form, taken) =
     ap (fault_of mdbcheck) are ∙ (replay_in rest).whole_fault program ∙ (replay_finds rest asked options taken.not_joined taken.no_setups).no_fault
 
 -- so they are refused for want of memory, if at all
@@ -572,35 +583,35 @@ not_explain_replay words program other rest more are too = let bad : codes "expl
 
 -- where they ask for a task, its options were found
 pub check_asked : (words : List Text) (found : List Row) → Takes words (codes "check") found → (task : Task) → AsksFor words task → (scope : Scope) × AsksToCheck found scope
-check_asked words found takes (Check scope) (asked, (program, rest, are, options), taken) =
+check_asked words found takes (Check scope form) (asked, (program, rest, are, options), in_form, taken) =
     let same = rest_same words (codes "check") (codes "check") takes.program program takes.rest rest takes.are are in
     let Of : List Row → Type 0 = λ rows. AreOptionsOf rows asked in
     let finds = check_finds rest asked options in
     (scope, (asked, subst Of (sym (takes.rows ∙ ap (rows_after check_task.rules []) same)) finds.found, taken))
-check_asked words found takes (Show scope) (asked, (program, rest, are, options), taken) =
+check_asked words found takes (Show scope form) (asked, (program, rest, are, options), in_form, taken) =
     absurd (not_both words takes.program program takes.rest rest takes.are are)
 check_asked words found takes (Explain goal without) (program, rest, left_out, are, options, is) =
     absurd (not_check_explain words takes.program program takes.rest rest takes.are are)
-check_asked words found takes (Replay without) (asked, (program, rest, are, options), taken) =
+check_asked words found takes (Replay without form) (asked, (program, rest, are, options), in_form, taken) =
     absurd (not_check_replay words takes.program program takes.rest rest takes.are are)
 
 pub show_asked : (words : List Text) (found : List Row) → Takes words (codes "show") found → (task : Task) → AsksFor words task → (scope : Scope) × AsksToShow found scope
-show_asked words found takes (Check scope) (asked, (program, rest, are, options), taken) =
+show_asked words found takes (Check scope form) (asked, (program, rest, are, options), in_form, taken) =
     absurd (not_both words program takes.program rest takes.rest are takes.are)
-show_asked words found takes (Show scope) (asked, (program, rest, are, options), taken) =
+show_asked words found takes (Show scope form) (asked, (program, rest, are, options), in_form, taken) =
     let same = rest_same words (codes "show") (codes "show") takes.program program takes.rest rest takes.are are in
     let Of : List Row → Type 0 = λ rows. AreDevices (values_of (codes "without") rows) asked.left_out in
     let finds = show_finds rest asked options taken.not_joined taken.no_setups in
     (scope, (asked.left_out, subst Of (sym (takes.rows ∙ ap (rows_after show_task.rules []) same)) finds.found.devices, taken.is))
 show_asked words found takes (Explain goal without) (program, rest, left_out, are, options, is) =
     absurd (not_show_explain words takes.program program takes.rest rest takes.are are)
-show_asked words found takes (Replay without) (asked, (program, rest, are, options), taken) =
+show_asked words found takes (Replay without form) (asked, (program, rest, are, options), in_form, taken) =
     absurd (not_show_replay words takes.program program takes.rest rest takes.are are)
 
 pub explain_asked : (words : List Text) (found : List Row) → Takes words (codes "explain") found → (task : Task) → AsksFor words task → ((goal : Goal) × AsksForGoal found goal) × ((scope : Scope) × AsksToShow found scope)
-explain_asked words found takes (Check scope) (asked, (program, rest, are, options), taken) =
+explain_asked words found takes (Check scope form) (asked, (program, rest, are, options), in_form, taken) =
     absurd (not_check_explain words program takes.program rest takes.rest are takes.are)
-explain_asked words found takes (Show scope) (asked, (program, rest, are, options), taken) =
+explain_asked words found takes (Show scope form) (asked, (program, rest, are, options), in_form, taken) =
     absurd (not_show_explain words program takes.program rest takes.rest are takes.are)
 explain_asked words found takes (Explain goal without) (program, rest, left_out, are, options, is) =
     let same = rest_same words (codes "explain") (codes "explain") takes.program program takes.rest rest takes.are are in
@@ -609,17 +620,17 @@ explain_asked words found takes (Explain goal without) (program, rest, left_out,
       (goal, subst (λ all. AsksForGoal all goal) rows finds.words),
       (leaving_out without, (left_out, subst (λ all. AreDevices (values_of (codes "without") all) left_out) rows finds.devices, is)),
     )
-explain_asked words found takes (Replay without) (asked, (program, rest, are, options), taken) =
+explain_asked words found takes (Replay without form) (asked, (program, rest, are, options), in_form, taken) =
     absurd (not_explain_replay words takes.program program takes.rest rest takes.are are)
 
 pub replay_asked : (words : List Text) (found : List Row) → Takes words (codes "replay") found → (task : Task) → AsksFor words task → (scope : Scope) × AsksToShow found scope
-replay_asked words found takes (Check scope) (asked, (program, rest, are, options), taken) =
+replay_asked words found takes (Check scope form) (asked, (program, rest, are, options), in_form, taken) =
     absurd (not_check_replay words program takes.program rest takes.rest are takes.are)
-replay_asked words found takes (Show scope) (asked, (program, rest, are, options), taken) =
+replay_asked words found takes (Show scope form) (asked, (program, rest, are, options), in_form, taken) =
     absurd (not_show_replay words program takes.program rest takes.rest are takes.are)
 replay_asked words found takes (Explain goal without) (program, rest, left_out, are, options, is) =
     absurd (not_explain_replay words program takes.program rest takes.rest are takes.are)
-replay_asked words found takes (Replay without) (asked, (program, rest, are, options), taken) =
+replay_asked words found takes (Replay without form) (asked, (program, rest, are, options), in_form, taken) =
     let same = rest_same words (codes "replay") (codes "replay") takes.program program takes.rest rest takes.are are in
     let Of : List Row → Type 0 = λ rows. AreDevices (values_of (codes "without") rows) asked.left_out in
     let finds = replay_finds rest asked options taken.not_joined taken.no_setups in
@@ -640,31 +651,41 @@ asked_same words name a b (program, rest, are, options) (other, more, too, also)
     let same = rest_same words name name program other rest more are too in
     one_asked rest a b options (subst (λ all. AreOptions all b) (sym same) also)
 
-pub one_check : (one_reply : BlockHasOneReply) (words : List Text) (a b : Scope) → NamesCheck words a → NamesCheck words b → a ≡ b
-one_check one_reply words a b (asked, names, taken) (also, names_too, taken_too) =
-    let same = asked_same words (codes "check") asked also names names_too in
-    one_scope one_reply asked a b taken (subst (λ k. IsFromPowerOn k b ⊎ IsJoined k b) (sym same) taken_too)
+-- in one form
+one_form : (asked also : Asked) (form other : Form) → asked ≡ also → form ≡ asked.form → other ≡ also.form → form ≡ other
+one_form asked also form other same in_form in_form_too = in_form ∙ ap (λ (k : Asked). k.form) same ∙ sym in_form_too
 
-pub one_show : (words : List Text) (a b : Scope) → NamesShow words a → NamesShow words b → a ≡ b
-one_show words a b (asked, names, taken) (also, names_too, taken_too) =
-    let same = asked_same words (codes "show") asked also names names_too in
-    taken.is ∙ ap (λ (k : Asked). leaving_out k.left_out) same ∙ sym taken_too.is
+pub one_check : (one_reply : BlockHasOneReply) (words : List Text) (a b : Scope) (form other : Form) → NamesCheck words a form → NamesCheck words b other → (a ≡ b) × (form ≡ other)
+one_check one_reply words a b form other (asked, names, in_form, taken) (also, names_too, in_form_too, taken_too) =
+    let same = asked_same words (codes "check") asked also names names_too in (
+      one_scope one_reply asked a b taken (subst (λ k. IsFromPowerOn k b ⊎ IsJoined k b) (sym same) taken_too),
+      one_form asked also form other same in_form in_form_too,
+    )
 
-pub not_check_and_show : (words : List Text) (a b : Scope) → NamesCheck words a → NamesShow words b → ⊥
-not_check_and_show words a b (asked, (program, rest, are, options), taken) (also, (other, more, too, options_too), taken_too) =
+pub one_show : (words : List Text) (a b : Scope) (form other : Form) → NamesShow words a form → NamesShow words b other → (a ≡ b) × (form ≡ other)
+one_show words a b form other (asked, names, in_form, taken) (also, names_too, in_form_too, taken_too) =
+    let same = asked_same words (codes "show") asked also names names_too in (
+      taken.is ∙ ap (λ (k : Asked). leaving_out k.left_out) same ∙ sym taken_too.is,
+      one_form asked also form other same in_form in_form_too,
+    )
+
+pub one_replay : (words : List Text) (a b : Scope) (form other : Form) → NamesReplay words a form → NamesReplay words b other → (a ≡ b) × (form ≡ other)
+one_replay words a b form other (asked, names, in_form, taken) (also, names_too, in_form_too, taken_too) =
+    let same = asked_same words (codes "replay") asked also names names_too in (
+      taken.is ∙ ap (λ (k : Asked). leaving_out k.left_out) same ∙ sym taken_too.is,
+      one_form asked also form other same in_form in_form_too,
+    )
+
+pub not_check_and_show : (words : List Text) (a b : Scope) (form other : Form) → NamesCheck words a form → NamesShow words b other → ⊥
+not_check_and_show words a b form of_show (asked, (program, rest, are, options), in_form, taken) (also, (other, more, too, options_too), in_form_too, taken_too) =
     not_both words program other rest more are too
 
-pub one_replay : (words : List Text) (a b : Scope) → NamesReplay words a → NamesReplay words b → a ≡ b
-one_replay words a b (asked, names, taken) (also, names_too, taken_too) =
-    let same = asked_same words (codes "replay") asked also names names_too in
-    taken.is ∙ ap (λ (k : Asked). leaving_out k.left_out) same ∙ sym taken_too.is
-
-pub not_check_and_replay : (words : List Text) (a b : Scope) → NamesCheck words a → NamesReplay words b → ⊥
-not_check_and_replay words a b (asked, (program, rest, are, options), taken) (also, (other, more, too, options_too), taken_too) =
+pub not_check_and_replay : (words : List Text) (a b : Scope) (form other : Form) → NamesCheck words a form → NamesReplay words b other → ⊥
+not_check_and_replay words a b form of_replay (asked, (program, rest, are, options), in_form, taken) (also, (other, more, too, options_too), in_form_too, taken_too) =
     not_check_replay words program other rest more are too
 
-pub not_show_and_replay : (words : List Text) (a b : Scope) → NamesShow words a → NamesReplay words b → ⊥
-not_show_and_replay words a b (asked, (program, rest, are, options), taken) (also, (other, more, too, options_too), taken_too) =
+pub not_show_and_replay : (words : List Text) (a b : Scope) (form other : Form) → NamesShow words a form → NamesReplay words b other → ⊥
+not_show_and_replay words a b form of_replay (asked, (program, rest, are, options), in_form, taken) (also, (other, more, too, options_too), in_form_too, taken_too) =
     not_show_replay words program other rest more are too
 
 pub one_explain : (words : List Text) (a b : Goal) (s t : Scope) → NamesExplain words a s → NamesExplain words b t → (a ≡ b) × (s ≡ t)
@@ -676,10 +697,10 @@ one_explain words a b s t (program, rest, left_out, are, options, is) (other, mo
       is ∙ ap leaving_out (one_set _ left_out left_too of_a.devices of_b.devices) ∙ sym is_too,
     )
 
-pub explain_only : (words : List Text) (goal : Goal) (a b : Scope) → NamesExplain words goal a → NamesCheck words b ⊎ NamesShow words b ⊎ NamesReplay words b → ⊥
-explain_only words goal a b (program, rest, left_out, are, options, is) (inl (asked, (other, more, too, options_too), taken)) =
+pub explain_only : (words : List Text) (goal : Goal) (a b : Scope) (form : Form) → NamesExplain words goal a → NamesCheck words b form ⊎ NamesShow words b form ⊎ NamesReplay words b form → ⊥
+explain_only words goal a b form (program, rest, left_out, are, options, is) (inl (asked, (other, more, too, options_too), in_form, taken)) =
     not_check_explain words other program more rest too are
-explain_only words goal a b (program, rest, left_out, are, options, is) (inr (inl (asked, (other, more, too, options_too), taken))) =
+explain_only words goal a b form (program, rest, left_out, are, options, is) (inr (inl (asked, (other, more, too, options_too), in_form, taken))) =
     not_show_explain words other program more rest too are
-explain_only words goal a b (program, rest, left_out, are, options, is) (inr (inr (asked, (other, more, too, options_too), taken))) =
+explain_only words goal a b form (program, rest, left_out, are, options, is) (inr (inr (asked, (other, more, too, options_too), in_form, taken))) =
     not_explain_replay words program other rest more are too

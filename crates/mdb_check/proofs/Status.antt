@@ -11,42 +11,41 @@ use Rattle.mdb_text.specs.declared.outcome.Outcome.TheVariants.{Yes, No}
 use Rattle.mdb_verdict.specs.declared.fault.RunFault.{RunFault}
 use Rattle.mdb_verdict.specs.declared.fault.RunFault.TheVariants.{Write}
 use Rattle.mdb_explain.specs.Explain.{IsCutExplanation, IsExplainedIn}
-use Rattle.mdb_check.specs.Program.{Says, SaysChecked, SaysExplained, SaysReplayed, SaysShown, refused, show_status_of, status_of}
-use Rattle.mdb_explain.specs.Replay.{IsCutReplay, IsReplayAnswer}
-use Rattle.mdb_show.specs.Show.{Shows}
-use Rattle.mdb_text.specs.Text.{report_text}
-use Rattle.mdb_verdict.specs.CutReport.{IsCutReport}
+use Rattle.mdb_check.specs.declared.form.Form.{Form}
+use Rattle.mdb_check.specs.Program.{IsCutAnswer, IsCutReplayAnswer, Says, SaysChecked, SaysExplained, SaysReplayed, SaysShown, answer_text, lines_in, refused, show_status_of, status_of}
+use Rattle.mdb_explain.specs.Replay.{IsReplayAnswer}
+use Rattle.mdb_show.specs.Show.{ShowsIn}
 use Rattle.mdb_verdict.specs.Verdict.{IsAnswer, IsNoYes}
 use Rattle.mdb_verdict.specs.Written.{HasTaken}
 use Rattle.mdb_bus.specs.declared.scope.Scope.{Scope}
 
-says_checked : (scope : Scope) {W : Type 0} (contents : W → Option (List ℕ)) (all : List (List (List ℕ))) (old new : W) (answer : Result Outcome RunFault)
+says_checked : (scope : Scope) (form : Form) {W : Type 0} (contents : W → Option (List ℕ)) (all : List (List (List ℕ))) (old new : W) (answer : Result Outcome RunFault)
     → IsAnswer scope ROWS_MAX all answer
-    → IfOk answer (λ outcome. Appends (contents old) (contents new) (report_text scope outcome))
-    → IfErr answer (λ fault. fault ≢ Write → new ≡ old) → (answer ≡ Err Write → IsCutReport scope ROWS_MAX all (contents old) (contents new))
-    → SaysChecked scope all (contents old) (contents new) (status_of answer)
-says_checked scope contents all old new (Ok (Yes report)) is written kept cut =
+    → IfOk answer (λ outcome. Appends (contents old) (contents new) (answer_text form scope outcome))
+    → IfErr answer (λ fault. fault ≢ Write → new ≡ old) → (answer ≡ Err Write → IsCutAnswer form scope all (contents old) (contents new))
+    → SaysChecked scope form all (contents old) (contents new) (status_of answer)
+says_checked scope form contents all old new (Ok (Yes report)) is written kept cut =
     record { possible = λ e. (report, is, written); impossible = λ e. absurd (omega (arith, e)); unanswered = λ e. absurd (omega (arith, e)) }
-says_checked scope contents all old new (Ok (No offence)) is written kept cut =
+says_checked scope form contents all old new (Ok (No offence)) is written kept cut =
     record { possible = λ e. absurd (omega (arith, e)); impossible = λ e. (offence, is, written); unanswered = λ e. absurd (omega (arith, e)) }
-says_checked scope contents all old new (Err Write) is written kept cut =
+says_checked scope form contents all old new (Err Write) is written kept cut =
     record { possible = λ e. absurd (omega (arith, e)); impossible = λ e. absurd (omega (arith, e)); unanswered = λ e. inr (cut refl) }
-says_checked scope contents all old new (Err fault) is written kept cut =
+says_checked scope form contents all old new (Err fault) is written kept cut =
     record { possible = λ e. absurd (omega (arith, e)); impossible = λ e. absurd (omega (arith, e)); unanswered = λ e. inl (ap contents (kept (λ same. absurd (cc)))) }
 
 -- the same of a replay
-says_replayed : (scope : Scope) {W : Type 0} (contents : W → Option (List ℕ)) (all : List (List (List ℕ))) (old new : W) (answer : Result Outcome RunFault)
+says_replayed : (scope : Scope) (form : Form) {W : Type 0} (contents : W → Option (List ℕ)) (all : List (List (List ℕ))) (old new : W) (answer : Result Outcome RunFault)
     → IsReplayAnswer scope ROWS_MAX all answer
-    → IfOk answer (λ outcome. Appends (contents old) (contents new) (report_text scope outcome))
-    → IfErr answer (λ fault. fault ≢ Write → new ≡ old) → (answer ≡ Err Write → IsCutReplay scope ROWS_MAX all (contents old) (contents new))
-    → SaysReplayed scope all (contents old) (contents new) (status_of answer)
-says_replayed scope contents all old new (Ok (Yes report)) is written kept cut =
+    → IfOk answer (λ outcome. Appends (contents old) (contents new) (answer_text form scope outcome))
+    → IfErr answer (λ fault. fault ≢ Write → new ≡ old) → (answer ≡ Err Write → IsCutReplayAnswer form scope all (contents old) (contents new))
+    → SaysReplayed scope form all (contents old) (contents new) (status_of answer)
+says_replayed scope form contents all old new (Ok (Yes report)) is written kept cut =
     record { possible = λ e. (report, is, written); impossible = λ e. absurd (omega (arith, e)); unanswered = λ e. absurd (omega (arith, e)) }
-says_replayed scope contents all old new (Ok (No offence)) is written kept cut =
+says_replayed scope form contents all old new (Ok (No offence)) is written kept cut =
     record { possible = λ e. absurd (omega (arith, e)); impossible = λ e. (offence, is, written); unanswered = λ e. absurd (omega (arith, e)) }
-says_replayed scope contents all old new (Err Write) is written kept cut =
+says_replayed scope form contents all old new (Err Write) is written kept cut =
     record { possible = λ e. absurd (omega (arith, e)); impossible = λ e. absurd (omega (arith, e)); unanswered = λ e. inr (cut refl) }
-says_replayed scope contents all old new (Err fault) is written kept cut =
+says_replayed scope form contents all old new (Err fault) is written kept cut =
     record { possible = λ e. absurd (omega (arith, e)); impossible = λ e. absurd (omega (arith, e)); unanswered = λ e. inl (ap contents (kept (λ same. absurd (cc)))) }
 
 -- the same of an explanation
@@ -69,19 +68,19 @@ says_explained scope goal contents all old new (Err fault) is written kept cut =
 taken_whole : (before after : Option (List ℕ)) (text : List ℕ) → Appends before after text → HasTaken before after text
 taken_whole before after text written = record { front = text; rest = []; parts = sym (append-nil text); grown = written }
 
-says_shown : (scope : Scope) (all : List (List (List ℕ))) (before after : Option (List ℕ)) (answer : Result (Option LinkFault) RunFault) → Shows scope all before after answer → SaysShown scope all before after (show_status_of answer)
-says_shown scope all before after (Ok None) (inl shows) =
+says_shown : (scope : Scope) (form : Form) (all : List (List (List ℕ))) (before after : Option (List ℕ)) (answer : Result (Option LinkFault) RunFault) → ShowsIn (lines_in form) scope all before after answer → SaysShown scope form all before after (show_status_of answer)
+says_shown scope form all before after (Ok None) (inl shows) =
     record { whole = λ e. shows; to_fault = λ e. absurd (omega (arith, e)); unanswered = λ e. absurd (omega (arith, e)) }
-says_shown scope all before after (Ok (Some fault)) (inl shows) =
+says_shown scope form all before after (Ok (Some fault)) (inl shows) =
     record { whole = λ e. absurd (omega (arith, e)); to_fault = λ e. (fault, shows.0, shows.1, shows.2); unanswered = λ e. absurd (omega (arith, e)) }
-says_shown scope all before after (Ok showing) (inr cut) = absurd (cc (cut.0))
-says_shown scope all before after (Err fault) (inl shows) =
+says_shown scope form all before after (Ok showing) (inr cut) = absurd (cc (cut.0))
+says_shown scope form all before after (Err fault) (inl shows) =
     record {
       whole = λ e. absurd (omega (arith, e));
       to_fault = λ e. absurd (omega (arith, e));
       unanswered = λ e. record { answer = Err fault; text = shows.0; showing = shows.1; taken = taken_whole before after shows.0 shows.2 };
     }
-says_shown scope all before after (Err fault) (inr cut) =
+says_shown scope form all before after (Err fault) (inr cut) =
     record { whole = λ e. absurd (omega (arith, e)); to_fault = λ e. absurd (omega (arith, e)); unanswered = λ e. cut.1 }
 
 -- a text that isn't one of a yes has another status, and so has one that isn't shown whole
@@ -102,32 +101,32 @@ too_long None limit status over other = tt
 too_long (Some text) limit status over other = λ long. other (over long)
 
 -- what the status of a checked text says
-pub checked_says : (scope : Scope) {W : Type 0} (contents : W → Option (List ℕ)) (known : Option (List ℕ)) (old new : W) (answer : Result Outcome RunFault) (status : ℕ)
+pub checked_says : (scope : Scope) (form : Form) {W : Type 0} (contents : W → Option (List ℕ)) (known : Option (List ℕ)) (old new : W) (answer : Result Outcome RunFault) (status : ℕ)
     → IfSome known (λ text. IsAnswer scope ROWS_MAX (records default_config (strip_bom text)) answer)
-    → IfOk answer (λ outcome. Appends (contents old) (contents new) (report_text scope outcome))
+    → IfOk answer (λ outcome. Appends (contents old) (contents new) (answer_text form scope outcome))
     → IfErr answer (λ fault. fault ≢ Write → new ≡ old)
-    → IfSome known (λ text. answer ≡ Err Write → IsCutReport scope ROWS_MAX (records default_config (strip_bom text)) (contents old) (contents new))
+    → IfSome known (λ text. answer ≡ Err Write → IsCutAnswer form scope (records default_config (strip_bom text)) (contents old) (contents new))
     → status ≡ status_of answer
-    → IfSome known (λ text. SaysChecked scope (records default_config (strip_bom text)) (contents old) (contents new) status)
-checked_says scope contents None old new answer status is written kept cut same = tt
-checked_says scope contents (Some text) old new answer status is written kept cut same =
+    → IfSome known (λ text. SaysChecked scope form (records default_config (strip_bom text)) (contents old) (contents new) status)
+checked_says scope form contents None old new answer status is written kept cut same = tt
+checked_says scope form contents (Some text) old new answer status is written kept cut same =
     let all : List (List (List ℕ)) = records default_config (strip_bom text) in
-    let P : ℕ → Type 0 = λ n. SaysChecked scope all (contents old) (contents new) n in
-    subst P (sym same) (says_checked scope contents all old new answer is written kept cut)
+    let P : ℕ → Type 0 = λ n. SaysChecked scope form all (contents old) (contents new) n in
+    subst P (sym same) (says_checked scope form contents all old new answer is written kept cut)
 
 -- what the status of a replayed input says
-pub replayed_says : (scope : Scope) {W : Type 0} (contents : W → Option (List ℕ)) (known : Option (List ℕ)) (old new : W) (answer : Result Outcome RunFault) (status : ℕ)
+pub replayed_says : (scope : Scope) (form : Form) {W : Type 0} (contents : W → Option (List ℕ)) (known : Option (List ℕ)) (old new : W) (answer : Result Outcome RunFault) (status : ℕ)
     → IfSome known (λ text. IsReplayAnswer scope ROWS_MAX (records default_config (strip_bom text)) answer)
-    → IfOk answer (λ outcome. Appends (contents old) (contents new) (report_text scope outcome))
+    → IfOk answer (λ outcome. Appends (contents old) (contents new) (answer_text form scope outcome))
     → IfErr answer (λ fault. fault ≢ Write → new ≡ old)
-    → IfSome known (λ text. answer ≡ Err Write → IsCutReplay scope ROWS_MAX (records default_config (strip_bom text)) (contents old) (contents new))
+    → IfSome known (λ text. answer ≡ Err Write → IsCutReplayAnswer form scope (records default_config (strip_bom text)) (contents old) (contents new))
     → status ≡ status_of answer
-    → IfSome known (λ text. SaysReplayed scope (records default_config (strip_bom text)) (contents old) (contents new) status)
-replayed_says scope contents None old new answer status is written kept cut same = tt
-replayed_says scope contents (Some text) old new answer status is written kept cut same =
+    → IfSome known (λ text. SaysReplayed scope form (records default_config (strip_bom text)) (contents old) (contents new) status)
+replayed_says scope form contents None old new answer status is written kept cut same = tt
+replayed_says scope form contents (Some text) old new answer status is written kept cut same =
     let all : List (List (List ℕ)) = records default_config (strip_bom text) in
-    let P : ℕ → Type 0 = λ n. SaysReplayed scope all (contents old) (contents new) n in
-    subst P (sym same) (says_replayed scope contents all old new answer is written kept cut)
+    let P : ℕ → Type 0 = λ n. SaysReplayed scope form all (contents old) (contents new) n in
+    subst P (sym same) (says_replayed scope form contents all old new answer is written kept cut)
 
 -- what the status of an explained text says
 pub explained_says : (scope : Scope) (goal : Goal) {W : Type 0} (contents : W → Option (List ℕ)) (known : Option (List ℕ)) (old new : W) (answer : Result Outcome RunFault) (status : ℕ)
@@ -144,15 +143,15 @@ explained_says scope goal contents (Some text) old new answer status is written 
     subst P (sym same) (says_explained scope goal contents all old new answer is written kept cut)
 
 -- what the status of a text that was shown says
-pub shown_says : (scope : Scope) (known : Option (List ℕ)) (before after : Option (List ℕ)) (answer : Result (Option LinkFault) RunFault) (status : ℕ)
-    → IfSome known (λ text. Shows scope (records default_config (strip_bom text)) before after answer)
+pub shown_says : (scope : Scope) (form : Form) (known : Option (List ℕ)) (before after : Option (List ℕ)) (answer : Result (Option LinkFault) RunFault) (status : ℕ)
+    → IfSome known (λ text. ShowsIn (lines_in form) scope (records default_config (strip_bom text)) before after answer)
     → status ≡ show_status_of answer
-    → IfSome known (λ text. SaysShown scope (records default_config (strip_bom text)) before after status)
-shown_says scope None before after answer status shows same = tt
-shown_says scope (Some text) before after answer status shows same =
+    → IfSome known (λ text. SaysShown scope form (records default_config (strip_bom text)) before after status)
+shown_says scope form None before after answer status shows same = tt
+shown_says scope form (Some text) before after answer status shows same =
     let all : List (List (List ℕ)) = records default_config (strip_bom text) in
-    let P : ℕ → Type 0 = λ n. SaysShown scope all before after n in
-    subst P (sym same) (says_shown scope all before after answer shows)
+    let P : ℕ → Type 0 = λ n. SaysShown scope form all before after n in
+    subst P (sym same) (says_shown scope form all before after answer shows)
 
 -- what the status of a refused command line says
 pub refused_says : (known : Option (List ℕ)) (words : List (List ℕ)) (before after : Option (List ℕ)) (status : ℕ) → status ≡ 2 → after ≡ before

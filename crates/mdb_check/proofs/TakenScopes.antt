@@ -7,7 +7,7 @@ use Rattle.mdb_msgs.specs.declared.setups.Setups.{Setups}
 use Rattle.mdb_msgs.specs.Setups.{nothing_known}
 use Rattle.mdb_bus.specs.declared.scope.Scope.{Scope}
 use Rattle.mdb_bus.specs.Scopes.{leaving_out, joined as in_mid_session}
-use Rattle.mdb_check.specs.inner.CommandLine.{AreDevices, AsksToCheck, values_of}
+use Rattle.mdb_check.specs.inner.CommandLine.{AreDevices, AsksToCheck, form_of, values_of}
 use Rattle.mdb_check.specs.Program.{AreSetups}
 use Rattle.mdb_check.proofs.Devices.{one_set}
 
@@ -26,15 +26,15 @@ module _ (found : List Row) (words : List (Bor Text)) (left_out : DeviceSet) (ar
   pub joined_asked : (setups : Setups) (scope : Scope) → has_row (codes "joined") found ≡ true → AreSetups left_out nothing_known (map (λ v. v.now) words) setups → scope ≡ in_mid_session setups left_out
       → AsksToCheck found scope
   joined_asked setups scope joined told is = (
-    record { joined = true; setups = values_of (codes "setup") found; left_out = left_out },
-    record { joined = joined; setups = refl; devices = devices },
+    record { joined = true; form = form_of (has_row (codes "json") found); setups = values_of (codes "setup") found; left_out = left_out },
+    record { joined = joined; form = refl; setups = refl; devices = devices },
     inr (record { joined = refl; setups = setups; told = subst (λ values. AreSetups left_out nothing_known values setups) are told; is = is }),
   )
 
   pub power_on_asked : (scope : Scope) → has_row (codes "joined") found ≡ false → words ≡ [] → scope ≡ leaving_out left_out → AsksToCheck found scope
   power_on_asked scope joined none is = (
-    record { joined = false; setups = []; left_out = left_out },
-    record { joined = joined; setups = sym are ∙ ap (map (λ v. v.now)) none; devices = devices },
+    record { joined = false; form = form_of (has_row (codes "json") found); setups = []; left_out = left_out },
+    record { joined = joined; form = refl; setups = sym are ∙ ap (map (λ v. v.now)) none; devices = devices },
     inl (record { not_joined = refl; no_setups = refl; is = is }),
   )
 

@@ -8,22 +8,25 @@ use Rattle.mdb_msgs.specs.declared.command.ReaderUnit.TheVariants.{First, Second
 use Rattle.mdb_msgs.specs.declared.device_set.DeviceSet.{DeviceSet}
 use Rattle.mdb_msgs.specs.Devices.{device_word}
 use Rattle.mdb_show.specs.ShowText.{bytes_text}
-use Rattle.mdb_check.specs.inner.CommandLine.{AreDevices}
-use Rattle.mdb_check.specs.Program.{AreOptions, Asked, asked_joined, asked_setup, asked_without, setup_text}
+use Rattle.mdb_check.specs.inner.CommandLine.{AreDevices, form_of}
+use Rattle.mdb_check.specs.Program.{AreOptions, Asked, asked_joined, asked_json, asked_setup, asked_without, setup_text}
 use Rattle.mdb_check.specs.Program as named
 use Rattle.mdb_check.proofs.Found.{chosen, is_used}
 use Rattle.mdb_check.proofs.LongWords.{long_is}
 use Rattle.mdb_check.proofs.Options.{AreUses, IsPlain, Uses, alone, apart, dashes, in_one, nothing}
 
--- their names: those of `check`, with a value and without one, and that of `show`
+-- their names: those of `check` and those of `show`, each with a value and without one
 abbrev pub check_names : List Text
 check_names = codes "setup" ∷ codes "without" ∷ []
 
 abbrev pub check_flags : List Text
-check_flags = codes "joined" ∷ []
+check_flags = codes "joined" ∷ codes "json" ∷ []
 
 abbrev pub show_names : List Text
 show_names = codes "without" ∷ []
+
+abbrev pub show_flags : List Text
+show_flags = codes "json" ∷ []
 
 -- each value is one that `--setup` may have
 abbrev pub AreSetupTexts : List Text → Type 0
@@ -33,6 +36,7 @@ AreSetupTexts (text ∷ more) = ((device : Device) × (bytes : List ℕ) × (tex
 -- these uses of options ask for this
 pub record AskFor (uses : Uses) (asked : Asked) : Type 0 where
   pub joined : is_used (codes "joined") uses ≡ asked.joined
+  pub form : asked.form ≡ form_of (is_used (codes "json") uses)
   pub setups : chosen (codes "setup") uses ≡ asked.setups
   pub devices : AreDevices (chosen (codes "without") uses) asked.left_out
 
@@ -70,14 +74,21 @@ pub record UsesOf (names flags words : List Text) (asked : Asked) : Type 0 where
   pub ask : AskFor uses asked
 
 pub check_used : (words : List Text) (asked : Asked) → AreOptions words asked → UsesOf check_names check_flags words asked
-check_used words asked named.end = record { uses = []; are = nothing; ask = record { joined = refl; setups = refl; devices = refl } }
-check_used words asked named.dashes = record { uses = []; are = dashes; ask = record { joined = refl; setups = refl; devices = refl } }
+check_used words asked named.end = record { uses = []; are = nothing; ask = record { joined = refl; form = refl; setups = refl; devices = refl } }
+check_used words asked named.dashes = record { uses = []; are = dashes; ask = record { joined = refl; form = refl; setups = refl; devices = refl } }
 check_used words asked (named.joined {more = rest} {asked = others} options) =
     let of = check_used rest others options in
     record {
       uses = (codes "joined", []) ∷ of.uses;
       are = alone refl (inl refl) of.are;
-      ask = record { joined = refl; setups = of.ask.setups; devices = of.ask.devices };
+      ask = record { joined = refl; form = of.ask.form; setups = of.ask.setups; devices = of.ask.devices };
+    }
+check_used words asked (named.json {more = rest} {asked = others} options) =
+    let of = check_used rest others options in
+    record {
+      uses = (codes "json", []) ∷ of.uses;
+      are = alone refl (inr (inl refl)) of.are;
+      ask = record { joined = of.ask.joined; form = refl; setups = of.ask.setups; devices = of.ask.devices };
     }
 check_used words asked (named.setup device bytes {more = rest} {asked = others} options) =
     let of = check_used rest others options in
@@ -85,7 +96,7 @@ check_used words asked (named.setup device bytes {more = rest} {asked = others} 
     record {
       uses = (codes "setup", text ∷ []) ∷ of.uses;
       are = apart refl (inl refl) (plain_word device (bytes_text bytes)) of.are;
-      ask = record { joined = of.ask.joined; setups = ap (λ all. text ∷ all) of.ask.setups; devices = of.ask.devices };
+      ask = record { joined = of.ask.joined; form = of.ask.form; setups = ap (λ all. text ∷ all) of.ask.setups; devices = of.ask.devices };
     }
 check_used words asked (named.setup_in_one device bytes {more = rest} {asked = others} options) =
     let of = check_used rest others options in
@@ -93,28 +104,35 @@ check_used words asked (named.setup_in_one device bytes {more = rest} {asked = o
     record {
       uses = (codes "setup", text ∷ []) ∷ of.uses;
       are = in_one (long_setup device (bytes_text bytes)) (inl refl) of.are;
-      ask = record { joined = of.ask.joined; setups = ap (λ all. text ∷ all) of.ask.setups; devices = of.ask.devices };
+      ask = record { joined = of.ask.joined; form = of.ask.form; setups = ap (λ all. text ∷ all) of.ask.setups; devices = of.ask.devices };
     }
 check_used words asked (named.without device {more = rest} {asked = others} options) =
     let of = check_used rest others options in
     record {
       uses = (codes "without", device_word device ∷ []) ∷ of.uses;
       are = apart refl (inr (inl refl)) (plain_device device) of.are;
-      ask = record { joined = of.ask.joined; setups = of.ask.setups; devices = (device, others.left_out, refl, of.ask.devices, refl) };
+      ask = record { joined = of.ask.joined; form = of.ask.form; setups = of.ask.setups; devices = (device, others.left_out, refl, of.ask.devices, refl) };
     }
 check_used words asked (named.without_in_one device {more = rest} {asked = others} options) =
     let of = check_used rest others options in
     record {
       uses = (codes "without", device_word device ∷ []) ∷ of.uses;
       are = in_one (long_without device) (inr (inl refl)) of.are;
-      ask = record { joined = of.ask.joined; setups = of.ask.setups; devices = (device, others.left_out, refl, of.ask.devices, refl) };
+      ask = record { joined = of.ask.joined; form = of.ask.form; setups = of.ask.setups; devices = (device, others.left_out, refl, of.ask.devices, refl) };
     }
 
--- those of `show` ask for neither
-pub show_used : (words : List Text) (asked : Asked) → AreOptions words asked → asked.joined ≡ false → asked.setups ≡ [] → UsesOf show_names [] words asked
-show_used words asked named.end no_joined no_setups = record { uses = []; are = nothing; ask = record { joined = refl; setups = refl; devices = refl } }
-show_used words asked named.dashes no_joined no_setups = record { uses = []; are = dashes; ask = record { joined = refl; setups = refl; devices = refl } }
+-- those of `show` ask for no recording in mid-session
+pub show_used : (words : List Text) (asked : Asked) → AreOptions words asked → asked.joined ≡ false → asked.setups ≡ [] → UsesOf show_names show_flags words asked
+show_used words asked named.end no_joined no_setups = record { uses = []; are = nothing; ask = record { joined = refl; form = refl; setups = refl; devices = refl } }
+show_used words asked named.dashes no_joined no_setups = record { uses = []; are = dashes; ask = record { joined = refl; form = refl; setups = refl; devices = refl } }
 show_used words asked (named.joined options) no_joined no_setups = absurd (cc no_joined)
+show_used words asked (named.json {more = rest} {asked = others} options) no_joined no_setups =
+    let of = show_used rest others options no_joined no_setups in
+    record {
+      uses = (codes "json", []) ∷ of.uses;
+      are = alone refl (inl refl) of.are;
+      ask = record { joined = of.ask.joined; form = refl; setups = of.ask.setups; devices = of.ask.devices };
+    }
 show_used words asked (named.setup device bytes options) no_joined no_setups = absurd (cc no_setups)
 show_used words asked (named.setup_in_one device bytes options) no_joined no_setups = absurd (cc no_setups)
 show_used words asked (named.without device {more = rest} {asked = others} options) no_joined no_setups =
@@ -122,21 +140,21 @@ show_used words asked (named.without device {more = rest} {asked = others} optio
     record {
       uses = (codes "without", device_word device ∷ []) ∷ of.uses;
       are = apart refl (inl refl) (plain_device device) of.are;
-      ask = record { joined = of.ask.joined; setups = of.ask.setups; devices = (device, others.left_out, refl, of.ask.devices, refl) };
+      ask = record { joined = of.ask.joined; form = of.ask.form; setups = of.ask.setups; devices = (device, others.left_out, refl, of.ask.devices, refl) };
     }
 show_used words asked (named.without_in_one device {more = rest} {asked = others} options) no_joined no_setups =
     let of = show_used rest others options no_joined no_setups in
     record {
       uses = (codes "without", device_word device ∷ []) ∷ of.uses;
       are = in_one (long_without device) (inl refl) of.are;
-      ask = record { joined = of.ask.joined; setups = of.ask.setups; devices = (device, others.left_out, refl, of.ask.devices, refl) };
+      ask = record { joined = of.ask.joined; form = of.ask.form; setups = of.ask.setups; devices = (device, others.left_out, refl, of.ask.devices, refl) };
     }
 
 -- ---- and back
 
 -- uses of options ask for this, where the values of `--without` leave out these devices
 abbrev asked_by : Uses → DeviceSet → Asked
-asked_by uses left_out = record { joined = is_used (codes "joined") uses; setups = chosen (codes "setup") uses; left_out = left_out }
+asked_by uses left_out = record { joined = is_used (codes "joined") uses; form = form_of (is_used (codes "json") uses); setups = chosen (codes "setup") uses; left_out = left_out }
 
 -- the word of an option with its value, or alone
 setup_words : (word value : Text) (rest : List Text) (asked : Asked) → (device : Device) (bytes : List ℕ) → value ≡ setup_text device bytes → word ≡ codes "--setup" → AreOptions rest asked
@@ -191,6 +209,12 @@ module _ (rest : List Text) (more : Uses) (back : Back rest more) where
       subst Here is (λ left_out devices texts.
       subst (λ w. AreOptions (w ∷ rest) (asked_joined (asked_by more left_out))) (sym is_word) (named.joined (back left_out devices texts)))
 
+  json_more : (word name : Text) → codes "json" ≡ name → word ≡ codes "--json" → Back (word ∷ rest) ((name, []) ∷ more)
+  json_more word name is is_word =
+      let Here : Text → Type 0 = λ n. Back (word ∷ rest) ((n, []) ∷ more) in
+      subst Here is (λ left_out devices texts.
+      subst (λ w. AreOptions (w ∷ rest) (asked_json (asked_by more left_out))) (sym is_word) (named.json (back left_out devices texts)))
+
 pub check_back : (words : List Text) (uses : Uses) → AreUses check_names check_flags words uses → Back words uses
 check_back words uses nothing = λ left_out devices texts. subst (λ set. AreOptions [] (asked_by [] set)) (sym devices) named.end
 check_back words uses dashes = λ left_out devices texts. subst (λ set. AreOptions (codes "--" ∷ []) (asked_by [] set)) (sym devices) named.dashes
@@ -215,17 +239,20 @@ check_back words uses (in_one long (inr (inr none)) are) = absurd none
 check_back words uses (alone {word = word} {name = name} {rest = rest} {uses = more} long (inl is) are) =
     let is_word : word ≡ codes "--joined" = long_is word name None long ∙ ap (λ n. codes "--" ++ n) (sym is) in
     joined_more rest more (check_back rest more are) word name is is_word
-check_back words uses (alone long (inr none) are) = absurd none
+check_back words uses (alone {word = word} {name = name} {rest = rest} {uses = more} long (inr (inl is)) are) =
+    let is_word : word ≡ codes "--json" = long_is word name None long ∙ ap (λ n. codes "--" ++ n) (sym is) in
+    json_more rest more (check_back rest more are) word name is is_word
+check_back words uses (alone long (inr (inr none)) are) = absurd none
 
--- the uses of the option of `show` are uses of those of `check`, of which there are no others
-pub show_wider : (words : List Text) (uses : Uses) → AreUses show_names [] words uses → AreUses check_names check_flags words uses
+-- the uses of the options of `show` are uses of those of `check`
+pub show_wider : (words : List Text) (uses : Uses) → AreUses show_names show_flags words uses → AreUses check_names check_flags words uses
 show_wider words uses nothing = nothing
 show_wider words uses dashes = dashes
 show_wider words uses (apart {rest = rest} {uses = more} long known plain are) = apart long (inr known) plain (show_wider rest more are)
 show_wider words uses (in_one {rest = rest} {uses = more} long known are) = in_one long (inr known) (show_wider rest more are)
-show_wider words uses (alone long none are) = absurd none
+show_wider words uses (alone {rest = rest} {uses = more} long known are) = alone long (inr known) (show_wider rest more are)
 
--- what uses of `--without` have of other options
+-- what uses of `--without` and `--json` have of other options
 pub record Neither (uses : Uses) : Type 0 where
   pub joined : is_used (codes "joined") uses ≡ false
   pub setups : chosen (codes "setup") uses ≡ []
@@ -235,11 +262,17 @@ without_alone name value more is neither =
     let Here : Text → Type 0 = λ n. Neither ((n, value ∷ []) ∷ more) in
     subst Here is (record { joined = neither.joined; setups = neither.setups })
 
-pub show_alone : (words : List Text) (uses : Uses) → AreUses show_names [] words uses → Neither uses
+json_alone : (name : Text) (more : Uses) → codes "json" ≡ name → Neither more → Neither ((name, []) ∷ more)
+json_alone name more is neither =
+    let Here : Text → Type 0 = λ n. Neither ((n, []) ∷ more) in
+    subst Here is (record { joined = neither.joined; setups = neither.setups })
+
+pub show_alone : (words : List Text) (uses : Uses) → AreUses show_names show_flags words uses → Neither uses
 show_alone words uses nothing = record { joined = refl; setups = refl }
 show_alone words uses dashes = record { joined = refl; setups = refl }
 show_alone words uses (apart {name = name} {value = value} {rest = rest} {uses = more} long (inl is) plain are) = without_alone name value more is (show_alone rest more are)
 show_alone words uses (apart long (inr none) plain are) = absurd none
 show_alone words uses (in_one {name = name} {value = value} {rest = rest} {uses = more} long (inl is) are) = without_alone name value more is (show_alone rest more are)
 show_alone words uses (in_one long (inr none) are) = absurd none
-show_alone words uses (alone long none are) = absurd none
+show_alone words uses (alone {name = name} {rest = rest} {uses = more} long (inl is) are) = json_alone name more is (show_alone rest more are)
+show_alone words uses (alone long (inr none) are) = absurd none

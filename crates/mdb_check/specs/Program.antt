@@ -18,16 +18,21 @@ use Rattle.mdb_explain.specs.Explain.{IsCutExplanation, IsExplainedIn, goal_word
 use Rattle.mdb_text.specs.Known.{known_devices}
 use Rattle.mdb_check.specs.SetupData.{IsSetupOf}
 use Rattle.mdb_explain.specs.Replay.{IsCutReplay, IsReplayed, StopsAt}
-use Rattle.mdb_show.specs.Show.{IsCutShort, IsShownToFault, IsShownWhole}
-use Rattle.mdb_show.specs.ShowText.{bytes_text}
+use Rattle.mdb_show.specs.Lines.{LineForm}
+use Rattle.mdb_show.specs.Show.{IsCutShortIn, IsShownToFaultIn, IsShownWholeIn}
+use Rattle.mdb_show.specs.ShowJson.{json_lines}
+use Rattle.mdb_show.specs.ShowText.{bytes_text, text_lines}
 use Rattle.mdb_text.specs.Text.{report_text}
 use Rattle.mdb_verdict.specs.CutReport.{IsCutReport}
 use Rattle.mdb_verdict.specs.Verdict.{IsImpossible, IsPossible}
 use Rattle.mdb_text.specs.declared.outcome.Outcome.{Outcome}
 use Rattle.mdb_text.specs.declared.outcome.Outcome.TheVariants.{Yes, No}
 use Rattle.mdb_verdict.specs.declared.fault.RunFault.{RunFault}
+use Rattle.mdb_json.specs.Json.{IsCutJson, IsCutReplayJson, json_line}
 use Rattle.mdb_bus.specs.declared.scope.Scope.{Scope}
 use Rattle.mdb_bus.specs.Scopes.{leaving_out, joined as in_mid_session}
+use Rattle.mdb_check.specs.declared.form.Form.{Form}
+use Rattle.mdb_check.specs.declared.form.Form.TheVariants.{Text, Json}
 
 -- the word of a device, and bytes as `show` writes them behind it
 abbrev pub setup_text : Device → List ℕ → List ℕ
@@ -37,16 +42,21 @@ setup_text device bytes = device_word device ++ bytes_text bytes
 pub record Asked : Type 0 where
   -- whether there is `--joined`
   pub joined : Bool
+  -- the form of what is written: JSON where there is `--json`, else text
+  pub form : Form
   -- the values of `--setup`, in their order
   pub setups : List (List ℕ)
   -- the devices that are left out
   pub left_out : DeviceSet
 
 abbrev pub nothing_asked : Asked
-nothing_asked = record { joined = false; setups = []; left_out = NONE }
+nothing_asked = record { joined = false; form = Text; setups = []; left_out = NONE }
 
 abbrev pub asked_joined : Asked → Asked
 asked_joined asked = record asked { joined = true }
+
+abbrev pub asked_json : Asked → Asked
+asked_json asked = record asked { form = Json }
 
 abbrev pub asked_setup : List ℕ → Asked → Asked
 asked_setup text asked = record asked { setups = text ∷ asked.setups }
@@ -54,15 +64,17 @@ asked_setup text asked = record asked { setups = text ∷ asked.setups }
 abbrev pub asked_without : Device → Asked → Asked
 asked_without device asked = record asked { left_out = with_device asked.left_out device }
 
--- These words are the options of a task, which ask for this: `--joined`, `--setup` and a device's
--- word with bytes, `--without` and a device's word. A value stands in the word after its option, or
--- in one word with it and `=` between them. Each may stand again; a device is left out once then.
--- At the end may stand `--`, where the options of a command end.
+-- These words are the options of a task, which ask for this: `--joined`, `--json`, `--setup` and a
+-- device's word with bytes, `--without` and a device's word. A value stands in the word after its
+-- option, or in one word with it and `=` between them. Each may stand again; a device is left out
+-- once then. At the end may stand `--`, where the options of a command end.
 pub data AreOptions : List (List ℕ) → Asked → Type 0 where
   end : AreOptions [] nothing_asked
   dashes : AreOptions (codes "--" ∷ []) nothing_asked
   joined : {more : List (List ℕ)} {asked : Asked} → AreOptions more asked
       → AreOptions (codes "--joined" ∷ more) (asked_joined asked)
+  json : {more : List (List ℕ)} {asked : Asked} → AreOptions more asked
+      → AreOptions (codes "--json" ∷ more) (asked_json asked)
   setup : (device : Device) (bytes : List ℕ) {more : List (List ℕ)} {asked : Asked}
       → AreOptions more asked
       → AreOptions (codes "--setup" ∷ setup_text device bytes ∷ more)
@@ -114,20 +126,20 @@ pub record IsJoined (asked : Asked) (scope : Scope) : Type 0 where
   pub told : AreSetups asked.left_out nothing_known asked.setups setups
   pub is : scope ≡ in_mid_session setups asked.left_out
 
--- the words name `check`, of a recording that is taken so
-abbrev pub NamesCheck : List (List ℕ) → Scope → Type 0
-NamesCheck words scope = (asked : Asked) × NamesTask words (codes "check") asked
-    × (IsFromPowerOn asked scope ⊎ IsJoined asked scope)
+-- the words name `check`, of a recording that is taken so, with an answer in this form
+abbrev pub NamesCheck : List (List ℕ) → Scope → Form → Type 0
+NamesCheck words scope form = (asked : Asked) × NamesTask words (codes "check") asked
+    × (form ≡ asked.form) × (IsFromPowerOn asked scope ⊎ IsJoined asked scope)
 
 -- they name `show`, which shows no recording from mid-session on
-abbrev pub NamesShow : List (List ℕ) → Scope → Type 0
-NamesShow words scope = (asked : Asked) × NamesTask words (codes "show") asked
-    × IsFromPowerOn asked scope
+abbrev pub NamesShow : List (List ℕ) → Scope → Form → Type 0
+NamesShow words scope form = (asked : Asked) × NamesTask words (codes "show") asked
+    × (form ≡ asked.form) × IsFromPowerOn asked scope
 
 -- they name `replay`, which replays no recording from mid-session on
-abbrev pub NamesReplay : List (List ℕ) → Scope → Type 0
-NamesReplay words scope = (asked : Asked) × NamesTask words (codes "replay") asked
-    × IsFromPowerOn asked scope
+abbrev pub NamesReplay : List (List ℕ) → Scope → Form → Type 0
+NamesReplay words scope form = (asked : Asked) × NamesTask words (codes "replay") asked
+    × (form ≡ asked.form) × IsFromPowerOn asked scope
 
 -- These words are those of a goal, in their order, and with them the option `--without`, which
 -- leaves out these devices: before, between and after them. After `--` no option stands.
@@ -146,7 +158,7 @@ pub data AreGoalAndOptions : List (List ℕ) → List (List ℕ) → DeviceSet �
       → AreGoalAndOptions ((codes "--without=" ++ device_word device) ∷ more) goal
       (with_device left_out device)
 
--- the words name `explain` with a goal, of a recording that is taken so
+-- the words name `explain` with a goal, of a recording that is taken so; it writes text alone
 abbrev pub NamesExplain : List (List ℕ) → Goal → Scope → Type 0
 NamesExplain words goal scope = (program : List ℕ) × (rest : List (List ℕ))
     × (left_out : DeviceSet) × (words ≡ program ∷ codes "explain" ∷ rest)
@@ -155,28 +167,54 @@ NamesExplain words goal scope = (program : List ℕ) × (rest : List (List ℕ))
 -- they name one of the tasks
 abbrev pub NameATask : List (List ℕ) → Type 0
 NameATask words = (scope : Scope)
-    × (NamesCheck words scope ⊎ NamesShow words scope
-    ⊎ ((goal : Goal) × NamesExplain words goal scope) ⊎ NamesReplay words scope)
+    × (((form : Form) × NamesCheck words scope form) ⊎ ((form : Form) × NamesShow words scope form)
+    ⊎ ((goal : Goal) × NamesExplain words goal scope)
+    ⊎ ((form : Form) × NamesReplay words scope form))
+
+-- what is written of an answer: its text, or its line of JSON
+abbrev pub answer_text : Form → Scope → Outcome → List ℕ
+answer_text Text scope outcome = report_text scope outcome
+answer_text Json scope outcome = json_line scope outcome
+
+-- the records have a verdict, and the writer took a front of that
+abbrev pub IsCutAnswer : Form → Scope → List (List (List ℕ)) → Option (List ℕ) → Option (List ℕ)
+    → Type 0
+IsCutAnswer Text scope records before after = IsCutReport scope ROWS_MAX records before after
+IsCutAnswer Json scope records before after = IsCutJson scope ROWS_MAX records before after
+
+-- the same of a replay
+abbrev pub IsCutReplayAnswer : Form → Scope → List (List (List ℕ)) → Option (List ℕ)
+    → Option (List ℕ) → Type 0
+IsCutReplayAnswer Text scope records before after =
+    IsCutReplay scope ROWS_MAX records before after
+IsCutReplayAnswer Json scope records before after =
+    IsCutReplayJson scope ROWS_MAX records before after
+
+-- the lines that are written of what is shown: those of the text, or objects of JSON
+abbrev pub lines_in : Form → LineForm
+lines_in Text = text_lines
+lines_in Json = json_lines
 
 -- What the statuses of `check` say of the records of a text, and of the bytes that the writer held
--- before and after. At 2 nothing was written, or the writer failed, and took a front of the text of
--- the verdict that there is.
-pub record SaysChecked (scope : Scope) (records : List (List (List ℕ))) (before after : Option (List ℕ))
-    (status : ℕ) : Type 0 where
+-- before and after. At 2 nothing was written, or the writer failed, and took a front of what is
+-- written of the verdict that there is.
+pub record SaysChecked (scope : Scope) (form : Form) (records : List (List (List ℕ)))
+    (before after : Option (List ℕ)) (status : ℕ) : Type 0 where
   pub possible : status ≡ 0 → (report : Report) × IsPossible scope ROWS_MAX records report
-      × Appends before after (report_text scope (Yes report))
+      × Appends before after (answer_text form scope (Yes report))
   pub impossible : status ≡ 1 → (offence : Offence) × IsImpossible scope ROWS_MAX records offence
-      × Appends before after (report_text scope (No offence))
-  pub unanswered : status ≡ 2 → (after ≡ before) ⊎ IsCutReport scope ROWS_MAX records before after
+      × Appends before after (answer_text form scope (No offence))
+  pub unanswered : status ≡ 2 → (after ≡ before) ⊎ IsCutAnswer form scope records before after
 
 -- The same of `show`. At 2 a front of a text was written that the records are shown with: its lines
 -- up to the fault, or fewer, where the writer failed.
-pub record SaysShown (scope : Scope) (records : List (List (List ℕ))) (before after : Option (List ℕ))
-    (status : ℕ) : Type 0 where
-  pub whole : status ≡ 0 → (text : List ℕ) × IsShownWhole scope records text × Appends before after text
+pub record SaysShown (scope : Scope) (form : Form) (records : List (List (List ℕ)))
+    (before after : Option (List ℕ)) (status : ℕ) : Type 0 where
+  pub whole : status ≡ 0 → (text : List ℕ) × IsShownWholeIn (lines_in form) scope records text
+      × Appends before after text
   pub to_fault : status ≡ 1 → (fault : LinkFault) × (text : List ℕ)
-      × IsShownToFault scope records fault text × Appends before after text
-  pub unanswered : status ≡ 2 → IsCutShort scope records before after
+      × IsShownToFaultIn (lines_in form) scope records fault text × Appends before after text
+  pub unanswered : status ≡ 2 → IsCutShortIn (lines_in form) scope records before after
 
 -- What the statuses of `explain` say, as those of `check` do: at 0 an explanation was written.
 pub record SaysExplained (scope : Scope) (goal : Goal) (records : List (List (List ℕ)))
@@ -189,29 +227,32 @@ pub record SaysExplained (scope : Scope) (goal : Goal) (records : List (List (Li
       → (after ≡ before) ⊎ IsCutExplanation scope ROWS_MAX goal records before after
 
 -- What the statuses of `replay` say of the records of an input, as those of `check` do.
-pub record SaysReplayed (scope : Scope) (records : List (List (List ℕ)))
+pub record SaysReplayed (scope : Scope) (form : Form) (records : List (List (List ℕ)))
     (before after : Option (List ℕ)) (status : ℕ) : Type 0 where
   pub possible : status ≡ 0 → (report : Report) × IsReplayed scope ROWS_MAX records report
-      × Appends before after (report_text scope (Yes report))
+      × Appends before after (answer_text form scope (Yes report))
   pub impossible : status ≡ 1 → (offence : Offence) × StopsAt scope ROWS_MAX records (Ok offence)
-      × Appends before after (report_text scope (No offence))
-  pub unanswered : status ≡ 2 → (after ≡ before) ⊎ IsCutReplay scope ROWS_MAX records before after
+      × Appends before after (answer_text form scope (No offence))
+  pub unanswered : status ≡ 2
+      → (after ≡ before) ⊎ IsCutReplayAnswer form scope records before after
 
 -- What the status of the program says: what it says of the task that the words name, of a recording
--- that is taken as they ask, or that the words were refused, with nothing written. Words that name
+-- that is taken as they ask and in the form that they ask for, or that the words were refused, with
+-- nothing written. Words that name
 -- no task always are. (That others are for want of memory alone is a promise of a private function,
 -- `task_of`.)
 pub data Says (words : List (List ℕ)) (records : List (List (List ℕ)))
     (before after : Option (List ℕ)) (status : ℕ) : Type 0 where
-  checked : (scope : Scope) → NamesCheck words scope
-      → SaysChecked scope records before after status → Says words records before after status
-  shown : (scope : Scope) → NamesShow words scope
-      → SaysShown scope records before after status → Says words records before after status
+  checked : (scope : Scope) (form : Form) → NamesCheck words scope form
+      → SaysChecked scope form records before after status → Says words records before after status
+  shown : (scope : Scope) (form : Form) → NamesShow words scope form
+      → SaysShown scope form records before after status → Says words records before after status
   explained : (scope : Scope) (goal : Goal) → NamesExplain words goal scope
       → SaysExplained scope goal records before after status
       → Says words records before after status
-  replayed : (scope : Scope) → NamesReplay words scope
-      → SaysReplayed scope records before after status → Says words records before after status
+  replayed : (scope : Scope) (form : Form) → NamesReplay words scope form
+      → SaysReplayed scope form records before after status
+      → Says words records before after status
   refused : status ≡ 2 → after ≡ before → Says words records before after status
 
 -- The rest serves private functions: the status for an answer of `check`, `explain` or `replay`, and

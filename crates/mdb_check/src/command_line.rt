@@ -7,7 +7,7 @@ ghost use Rattle.clap.specs.Words.{with_rule};
 ghost use Rattle.clap.specs.declared.builder.command.Command.TheViews.{out-Command as fields_of};
 ghost use Rattle.mdb_msgs.specs.declared.device_set.DeviceSet.{DeviceSet};
 ghost use Rattle.mdb_bus.specs.declared.scope.Scope.{Scope};
-ghost use Rattle.mdb_check.specs.inner.CommandLine.{AreDevices, AsksFor, AsksForGoal};
+ghost use Rattle.mdb_check.specs.inner.CommandLine.{AreDevices, AsksFor, AsksForGoal, AsksInForm};
 ghost use Rattle.mdb_check.specs.inner.CommandLine.{AsksToCheck, AsksToShow, Fails, IsOwnRefusal};
 ghost use Rattle.mdb_check.specs.inner.CommandLine.{check_app, explain_app, flag_rule, mdbcheck};
 ghost use Rattle.mdb_check.specs.inner.CommandLine.{option_rule, replay_app, show_app, values_of};
@@ -16,6 +16,7 @@ ghost use Rattle.mdb_follow.specs.declared.goal.Goal.{Goal};
 ghost use Rattle.mdb_bus.specs.Scopes.{leaving_out};
 ghost use Rattle.mdb_check.specs.inner.SetupReading.{no_memory};
 
+use super::form::Form;
 use super::goal_words::goal_of;
 use super::refusal::{Refusal, SetupFault};
 use super::setup_value::setups_of;
@@ -28,10 +29,10 @@ use std::alloc::{AllocError, Global};
 
 /// The line that says how the program is called.
 pub(crate) const USAGE: &str = "usage: mdbcheck check [--joined] [--setup 'DEVICE BYTES'].. \
-[--without DEVICE].. | show [--without DEVICE].. | explain ACCOUNT SIDE BOUND \
-[--without DEVICE].. | replay [--without DEVICE].. < TRANSCRIPT; DEVICE is changer, bill, \
-cashless or cashless-2; ACCOUNT is coins-in, bills-in, paid-out, approved, sold, approved-2 or \
-sold-2; SIDE is device, controller or difference; BOUND is least or greatest";
+[--without DEVICE].. [--json] | show [--without DEVICE].. [--json] | explain ACCOUNT SIDE BOUND \
+[--without DEVICE].. | replay [--without DEVICE].. [--json] < TRANSCRIPT; DEVICE is changer, \
+bill, cashless or cashless-2; ACCOUNT is coins-in, bills-in, paid-out, approved, sold, approved-2 \
+or sold-2; SIDE is device, controller or difference; BOUND is least or greatest";
 
 /// The program's version.
 pub(crate) const VERSION: &str = "0.1.0";
@@ -44,6 +45,9 @@ const SETUP: &str = "setup";
 
 /// The option that leaves out a device.
 const WITHOUT: &str = "without";
+
+/// The option that asks for JSON in the place of text.
+const JSON: &str = "json";
 
 /// The word that names the account of a goal.
 const ACCOUNT: &str = "ACCOUNT";
@@ -59,14 +63,14 @@ const BOUND: &str = "BOUND";
 pub(crate) enum Task {
     /// `check`: the verdict on the transcript that the reader gives, of a recording that is taken
     /// so.
-    Check(Scope),
+    Check(Scope, Form),
     /// `show`: its acts.
-    Show(Scope),
+    Show(Scope, Form),
     /// `explain`: its rows, with the marks of a run that comes to this goal. These devices are left
     /// out.
     Explain(Goal, DeviceSet),
     /// `replay`: what its run with the marks before it tells. These devices are left out.
-    Replay(DeviceSet),
+    Replay(DeviceSet, Form),
 }
 
 /// What the words ask for, as `clap` reads them. Those that it refuses are no task's, unless memory
@@ -82,10 +86,10 @@ pub(crate) fn task_of(alloc: Global, words: &[String]) -> Result<Task, Refusal>
         Err(error) => return Err(Refusal::Words(error.kind())),
     };
     match matches.subcommand() {
-        Some(("check", own)) => Ok(Task::Check(scope_of_check(alloc, own)?)),
-        Some(("show", own)) => Ok(Task::Show(scope_of_show(own)?)),
+        Some(("check", own)) => Ok(Task::Check(scope_of_check(alloc, own)?, form_asked(own))),
+        Some(("show", own)) => Ok(Task::Show(scope_of_show(own)?, form_asked(own))),
         Some(("explain", own)) => Ok(Task::Explain(goal_of_explain(own)?, left_out_of(own)?)),
-        Some(("replay", own)) => Ok(Task::Replay(left_out_of(own)?)),
+        Some(("replay", own)) => Ok(Task::Replay(left_out_of(own)?, form_asked(own))),
         _ => unreachable!(),
     }
 }
@@ -129,16 +133,18 @@ fn check_command<'a>(alloc: Global) -> Result<Command<'a>, AllocError>
     let bare = Command::new(alloc, "check");
     let with_setup = add_option(alloc, bare, SETUP)?;
     let with_both = add_option(alloc, with_setup, WITHOUT)?;
-    add_flag(alloc, with_both, JOINED)
+    let with_joined = add_flag(alloc, with_both, JOINED)?;
+    add_flag(alloc, with_joined, JSON)
 }
 
-/// The task `show` with its option.
+/// The task `show` with its options.
 fn show_command<'a>(alloc: Global) -> Result<Command<'a>, AllocError>
     ensures app { IfOk result (λ command. app_of command ≡ show_app) }
     ensures local { IfOk result (λ command. (fields_of command).has_globals ≡ false) }
 {
     let bare = Command::new(alloc, "show");
-    add_option(alloc, bare, WITHOUT)
+    let with_option = add_option(alloc, bare, WITHOUT)?;
+    add_flag(alloc, with_option, JSON)
 }
 
 /// The task `explain` with its option and the words of a goal.
@@ -153,13 +159,14 @@ fn explain_command<'a>(alloc: Global) -> Result<Command<'a>, AllocError>
     add_word(alloc, with_side, BOUND)
 }
 
-/// The task `replay` with its option.
+/// The task `replay` with its options.
 fn replay_command<'a>(alloc: Global) -> Result<Command<'a>, AllocError>
     ensures app { IfOk result (λ command. app_of command ≡ replay_app) }
     ensures local { IfOk result (λ command. (fields_of command).has_globals ≡ false) }
 {
     let bare = Command::new(alloc, "replay");
-    add_option(alloc, bare, WITHOUT)
+    let with_option = add_option(alloc, bare, WITHOUT)?;
+    add_flag(alloc, with_option, JSON)
 }
 
 /// A task with an option more, which has a value, and may stand again.
@@ -231,6 +238,17 @@ fn scope_of_show(found: &ArgMatches<'_>) -> Result<Scope, Refusal>
 {
     let without = left_out_by(found).ok_or(Refusal::Words(ErrorKind::InvalidValue))?;
     Ok(Scope::leaving_out(without))
+}
+
+/// The form that the options of `check`, `show` or `replay` ask for.
+fn form_asked(found: &ArgMatches<'_>) -> Form
+    ensures { AsksInForm (rows_of (found_of found.now)) result }
+{
+    if found.contains_id(JSON) {
+        Form::Json
+    } else {
+        Form::Text
+    }
 }
 
 /// The goal that the words of `explain` name.

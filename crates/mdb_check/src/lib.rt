@@ -8,6 +8,7 @@
 
 mod command_line;
 mod complaint;
+mod form;
 mod goal_words;
 pub mod laws;
 mod program;

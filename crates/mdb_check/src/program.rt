@@ -1,22 +1,31 @@
 //! The program over its words.
 
-ghost use Rattle.std.specs.Prelude.{◌≡◌, ◌≢◌, ◌<◌, ◌⊎◌, IfSome, length, map, string_bytes};
-ghost use Rattle.mdb_check.specs.Program.{NameATask, Says, SaysChecked, SaysExplained, SaysReplayed, SaysShown, show_status_of, status_of};
+ghost use Rattle.std.specs.Prelude.{◌≡◌, ◌≢◌, ◌<◌, ◌⊎◌, ℕ, List, None, Ok, Err};
+ghost use Rattle.std.specs.Prelude.{IfErr, IfOk, IfSome, length, map, string_bytes};
+ghost use Rattle.std.specs.Io.KnownBytes.{Appends};
+ghost use Rattle.mdb_check.specs.Program.{IsCutAnswer, IsCutReplayAnswer, NameATask, Says};
+ghost use Rattle.mdb_check.specs.Program.{SaysChecked, SaysExplained, SaysReplayed, SaysShown};
+ghost use Rattle.mdb_check.specs.Program.{answer_text, lines_in, show_status_of, status_of};
+ghost use Rattle.mdb_show.specs.Show.{ShowsIn};
 ghost use Rattle.mdb_bus.specs.Scopes.{leaving_out};
 ghost use Rattle.mdb_verdict.specs.declared.verdict.TheConstants.{BYTES_MAX};
+ghost use Rattle.mdb_verdict.specs.Verdict.{IsAnswer, IsNoYes};
+ghost use Rattle.mdb_explain.specs.Replay.{IsReplayAnswer};
 ghost use Rattle.mdb_records.specs.ToCome.{IsOverLimit, ToCome, limit_of};
 ghost use Rattle.csv.specs.Reading.{default_config, records, strip_bom};
 
 use super::command_line::{Task, USAGE, VERSION, task_of};
 use super::complaint::{Wanted, complain};
+use super::form::Form;
 use super::refusal::Refusal;
 use clap::error::ErrorKind;
 use mdb_bus::{LinkFault, Scope};
 use mdb_explain::{explain_records, replay_records};
 use mdb_follow::{Goal, ROWS_MAX};
+use mdb_json::{check_json_records, replay_json_records};
 use mdb_msgs::DeviceSet;
 use mdb_records::Records;
-use mdb_show::show_records;
+use mdb_show::{show_json_records, show_records};
 use mdb_text::Outcome;
 use mdb_verdict::{BYTES_MAX, RunFault, check_records, records_of};
 use std::alloc::Global;
@@ -30,6 +39,10 @@ const IMPOSSIBLE: u8 = 1;
 
 /// The status where there is no verdict, and the acts aren't shown to the end.
 const NO_VERDICT: u8 = 2;
+
+/// Why the options of a recording in mid-session are refused of any task but `check`.
+const CHECK_ALONE: &str = "--joined and --setup go with check alone: show, explain and replay take \
+recordings from power-on";
 
 /// Runs the program over its words, the program's name first, and answers its exit status.
 ///
@@ -54,6 +67,9 @@ const NO_VERDICT: u8 = 2;
 /// And 2: there is no such answer, for the fault that the task met, or because the words
 /// aren't a command of the program, which goes for those that ask for help or for the version too.
 /// One line on `err` says so; where `err` refuses the line, the status is the same.
+///
+/// With `--json`, `check` and `replay` write their report as one line of JSON, and `show` a line of
+/// JSON for each act.
 pub fn run<R: Read + Drop, W: Write, E: Write>(
     alloc: Global,
     words: Vec<String>,
@@ -72,11 +88,11 @@ pub fn run<R: Read + Drop, W: Write, E: Write>(
     ensures silent { result < 2 → err.new ≡ err.old }
 {
     match task_of(alloc, words.as_slice()) {
-        Ok(Task::Check(scope)) => run_check(alloc, &scope, reader, out, err),
-        Ok(Task::Show(scope)) => run_show(alloc, &scope, reader, out, err),
+        Ok(Task::Check(scope, form)) => run_check(alloc, &scope, form, reader, out, err),
+        Ok(Task::Show(scope, form)) => run_show(alloc, &scope, form, reader, out, err),
         Ok(Task::Explain(goal, without)) => { run_explain(alloc, without, &goal, reader, out, err) }
-        Ok(Task::Replay(without)) => run_replay(alloc, without, reader, out, err),
-        Err(refusal) => refuse(refusal, err),
+        Ok(Task::Replay(without, form)) => run_replay(alloc, without, form, reader, out, err),
+        Err(refusal) => refuse(refusal, words.as_slice(), err),
     }
 }
 
@@ -84,12 +100,13 @@ pub fn run<R: Read + Drop, W: Write, E: Write>(
 fn run_check<R: Read + Drop, W: Write, E: Write>(
     alloc: Global,
     scope: &Scope,
+    form: Form,
     reader: R,
     out: &mut W,
     err: &mut E,
 ) -> u8
     ensures status { result < 3 }
-    ensures says { IfSome (R.remaining reader) (λ text. SaysChecked scope.now
+    ensures says { IfSome (R.remaining reader) (λ text. SaysChecked scope.now form
         (records default_config (strip_bom text)) (W.contents out.old) (W.contents out.new)
         result) }
     ensures whole { IfSome (R.remaining reader) (λ text. BYTES_MAX < length text
@@ -97,7 +114,7 @@ fn run_check<R: Read + Drop, W: Write, E: Write>(
     ensures silent { result < 2 → err.new ≡ err.old }
 {
     let mut records = input_of(alloc, reader);
-    let answer = check_records(alloc, scope, &mut records, out, ROWS_MAX);
+    let answer = check_in(alloc, scope, form, &mut records, out);
     finish_check(alloc, answer, Wanted::Row, &records, err)
 }
 
@@ -105,12 +122,13 @@ fn run_check<R: Read + Drop, W: Write, E: Write>(
 fn run_show<R: Read + Drop, W: Write, E: Write>(
     alloc: Global,
     scope: &Scope,
+    form: Form,
     reader: R,
     out: &mut W,
     err: &mut E,
 ) -> u8
     ensures status { result < 3 }
-    ensures says { IfSome (R.remaining reader) (λ text. SaysShown scope.now
+    ensures says { IfSome (R.remaining reader) (λ text. SaysShown scope.now form
         (records default_config (strip_bom text)) (W.contents out.old) (W.contents out.new)
         result) }
     ensures whole { IfSome (R.remaining reader) (λ text. BYTES_MAX < length text
@@ -118,7 +136,7 @@ fn run_show<R: Read + Drop, W: Write, E: Write>(
     ensures silent { result < 2 → err.new ≡ err.old }
 {
     let mut records = input_of(alloc, reader);
-    let answer = show_records(alloc, scope, &mut records, out);
+    let answer = show_in(alloc, scope, form, &mut records, out);
     finish_show(alloc, answer, &records, err)
 }
 
@@ -126,12 +144,13 @@ fn run_show<R: Read + Drop, W: Write, E: Write>(
 fn run_replay<R: Read + Drop, W: Write, E: Write>(
     alloc: Global,
     without: DeviceSet,
+    form: Form,
     reader: R,
     out: &mut W,
     err: &mut E,
 ) -> u8
     ensures status { result < 3 }
-    ensures says { IfSome (R.remaining reader) (λ text. SaysReplayed (leaving_out without)
+    ensures says { IfSome (R.remaining reader) (λ text. SaysReplayed (leaving_out without) form
         (records default_config (strip_bom text)) (W.contents out.old) (W.contents out.new)
         result) }
     ensures whole { IfSome (R.remaining reader) (λ text. BYTES_MAX < length text
@@ -139,7 +158,7 @@ fn run_replay<R: Read + Drop, W: Write, E: Write>(
     ensures silent { result < 2 → err.new ≡ err.old }
 {
     let mut records = input_of(alloc, reader);
-    let answer = replay_records(alloc, without, &mut records, out);
+    let answer = replay_in(alloc, without, form, &mut records, out);
     finish_check(alloc, answer, Wanted::MarkOrRow, &records, err)
 }
 
@@ -163,6 +182,75 @@ fn run_explain<R: Read + Drop, W: Write, E: Write>(
     let mut records = input_of(alloc, reader);
     let answer = explain_records(alloc, without, &mut records, out, goal);
     finish_check(alloc, answer, Wanted::Row, &records, err)
+}
+
+/// Checks the records that are still to come, and writes the answer in this form.
+fn check_in<R: Read + Drop, W: Write>(
+    alloc: Global,
+    scope: &Scope,
+    form: Form,
+    records: &mut Records<R>,
+    out: &mut W,
+) -> Result<Outcome, RunFault>
+    ensures answer { (all : List (List (List ℕ))) → ToCome R.remaining records.old all
+        → IsAnswer scope.now ROWS_MAX all result }
+    ensures whole { IsOverLimit R.remaining records.old → IsNoYes result }
+    ensures written { IfOk result (λ outcome. Appends (W.contents out.old) (W.contents out.new)
+        (answer_text form scope.now outcome)) }
+    ensures nothing_written { IfErr result (λ fault. fault ≢ RunFault.Write
+        → out.new ≡ out.old) }
+    ensures cut { (all : List (List (List ℕ))) → ToCome R.remaining records.old all
+        → result ≡ Err RunFault.Write
+        → IsCutAnswer form scope.now all (W.contents out.old) (W.contents out.new) }
+{
+    match form {
+        Form::Text => check_records(alloc, scope, records, out, ROWS_MAX),
+        Form::Json => check_json_records(alloc, scope, records, out, ROWS_MAX),
+    }
+}
+
+/// Replays the records that are still to come, and writes the answer in this form.
+fn replay_in<R: Read + Drop, W: Write>(
+    alloc: Global,
+    without: DeviceSet,
+    form: Form,
+    records: &mut Records<R>,
+    out: &mut W,
+) -> Result<Outcome, RunFault>
+    ensures answer { (all : List (List (List ℕ))) → ToCome R.remaining records.old all
+        → IsReplayAnswer (leaving_out without) ROWS_MAX all result }
+    ensures whole { IsOverLimit R.remaining records.old → IsNoYes result }
+    ensures written { IfOk result (λ outcome. Appends (W.contents out.old) (W.contents out.new)
+        (answer_text form (leaving_out without) outcome)) }
+    ensures nothing_written { IfErr result (λ fault. fault ≢ RunFault.Write
+        → out.new ≡ out.old) }
+    ensures cut { (all : List (List (List ℕ))) → ToCome R.remaining records.old all
+        → result ≡ Err RunFault.Write
+        → IsCutReplayAnswer form (leaving_out without) all (W.contents out.old)
+        (W.contents out.new) }
+{
+    match form {
+        Form::Text => replay_records(alloc, without, records, out),
+        Form::Json => replay_json_records(alloc, without, records, out),
+    }
+}
+
+/// Shows the records that are still to come in this form.
+fn show_in<R: Read + Drop, W: Write>(
+    alloc: Global,
+    scope: &Scope,
+    form: Form,
+    records: &mut Records<R>,
+    out: &mut W,
+) -> Result<Option<LinkFault>, RunFault>
+    ensures shows { (all : List (List (List ℕ))) → ToCome R.remaining records.old all
+        → ShowsIn (lines_in form) scope.now all (W.contents out.old) (W.contents out.new) result }
+    ensures whole { IsOverLimit R.remaining records.old → result ≢ Ok None }
+{
+    match form {
+        Form::Text => show_records(alloc, scope, records, out),
+        Form::Json => show_json_records(alloc, scope, records, out),
+    }
 }
 
 /// The records of the text that the reader has left, of which at most [`BYTES_MAX`] bytes are read.
@@ -217,11 +305,14 @@ fn finish_show<R: Read + Drop, E: Write>(
     }
 }
 
-/// Tells why a command line is refused.
-fn refuse<E: Write>(refusal: Refusal, err: &mut E) -> u8
+/// Tells why a command line with these words is refused.
+fn refuse<E: Write>(refusal: Refusal, words: &[String], err: &mut E) -> u8
     ensures { result ≡ NO_VERDICT }
 {
     match refusal {
+        Refusal::Words(ErrorKind::UnknownArgument) if has_option_of_check(words) => {
+            let _ = writeln!(err, "mdbcheck: {CHECK_ALONE}; {USAGE}");
+        }
         Refusal::Words(kind) => refuse_words(kind, err),
         Refusal::Setup(fault) => {
             let _ = writeln!(err, "mdbcheck: {fault}; {USAGE}");
@@ -240,4 +331,21 @@ fn refuse_words<E: Write>(kind: ErrorKind, err: &mut E) {
         ErrorKind::DisplayVersion => writeln!(err, "mdbcheck {VERSION}"),
         kind => writeln!(err, "mdbcheck: {kind}; {USAGE}"),
     };
+}
+
+/// Whether the words ask for a task other than `check`, and have an option that `check` alone has.
+fn has_option_of_check(words: &[String]) -> bool {
+    let Some(task) = words.get(1) else {
+        return false;
+    };
+    if !matches!(task.as_str(), "show" | "explain" | "replay") {
+        return false;
+    }
+    for word in words {
+        let word = word.as_str();
+        if word == "--joined" || word == "--setup" || word.starts_with("--setup=") {
+            return true;
+        }
+    }
+    false
 }

@@ -63,10 +63,10 @@ setup changer cashless\nwithout bill\n";
 
 /// What is told of a command line that asks for help.
 const USAGE: &[u8] = b"usage: mdbcheck check [--joined] [--setup 'DEVICE BYTES'].. \
-[--without DEVICE].. | show [--without DEVICE].. | explain ACCOUNT SIDE BOUND \
-[--without DEVICE].. | replay [--without DEVICE].. < TRANSCRIPT; DEVICE is changer, bill, \
-cashless or cashless-2; ACCOUNT is coins-in, bills-in, paid-out, approved, sold, approved-2 or \
-sold-2; SIDE is device, controller or difference; BOUND is least or greatest\n";
+[--without DEVICE].. [--json] | show [--without DEVICE].. [--json] | explain ACCOUNT SIDE BOUND \
+[--without DEVICE].. | replay [--without DEVICE].. [--json] < TRANSCRIPT; DEVICE is changer, \
+bill, cashless or cashless-2; ACCOUNT is coins-in, bills-in, paid-out, approved, sold, approved-2 \
+or sold-2; SIDE is device, controller or difference; BOUND is least or greatest\n";
 
 /// What is told of one that asks for the version.
 const VERSION: &[u8] = b"mdbcheck 0.1.0\n";
@@ -276,6 +276,13 @@ const UNKNOWN: &str = "unrecognized subcommand";
 /// Why one with a word or a flag too many is.
 const UNEXPECTED: &str = "unexpected argument found";
 
+/// Why one is with an option of recordings in mid-session, of a task that takes none.
+const CHECK_ALONE: &str = "--joined and --setup go with check alone: show, explain and replay take \
+recordings from power-on";
+
+/// Why one is with a value of an option that has none.
+const NO_VALUE: &str = "unexpected value for an argument found";
+
 /// Why one is that lacks a word of a goal.
 const MISSING: &str = "one or more required arguments were not provided";
 
@@ -283,7 +290,7 @@ const MISSING: &str = "one or more required arguments were not provided";
 const INVALID: &str = "one of the values isn't valid for an argument";
 
 /// Command lines that are refused, and why. `~` stands for a blank within a word.
-static REFUSED: [(&str, &str); 98] = [
+static REFUSED: [(&str, &str); 111] = [
     ("", NO_COMMAND),
     ("mdbcheck", NO_COMMAND),
     ("mdbcheck frobnicate", UNKNOWN),
@@ -316,7 +323,7 @@ static REFUSED: [(&str, &str); 98] = [
         "mdbcheck check --joined --setup changer~02~00~01~05~02~00~07~01~02~05~19 --without hopper",
         INVALID,
     ),
-    ("mdbcheck show --joined", UNEXPECTED),
+    ("mdbcheck show --joined", CHECK_ALONE),
     ("mdbcheck Explain coins-in device least", UNKNOWN),
     ("mdbcheck explain", MISSING),
     ("mdbcheck explain --", MISSING),
@@ -336,7 +343,7 @@ static REFUSED: [(&str, &str); 98] = [
     ("mdbcheck explain -- coins-in device least --", UNEXPECTED),
     (
         "mdbcheck explain coins-in device least --joined",
-        UNEXPECTED,
+        CHECK_ALONE,
     ),
     ("mdbcheck explain coins-in -x device least", UNEXPECTED),
     (
@@ -364,20 +371,33 @@ static REFUSED: [(&str, &str); 98] = [
     ),
     ("mdbcheck Replay", UNKNOWN),
     ("mdbcheck replay extra", UNEXPECTED),
-    ("mdbcheck replay --joined", UNEXPECTED),
+    ("mdbcheck replay --joined", CHECK_ALONE),
     (
         "mdbcheck replay --setup changer~02~00~01~05~02~00~07~01~02~05~19",
-        UNEXPECTED,
+        CHECK_ALONE,
     ),
     ("mdbcheck replay --without", INVALID),
     ("mdbcheck replay --without hopper", INVALID),
     (
         "mdbcheck show --setup changer~02~00~01~05~02~00~07~01~02~05~19",
-        UNEXPECTED,
+        CHECK_ALONE,
     ),
+    ("mdbcheck show --without bill --setup=changer", CHECK_ALONE),
+    ("mdbcheck show --joint", UNEXPECTED),
     ("mdbcheck --joined check", UNEXPECTED),
+    ("mdbcheck --joined show", UNEXPECTED),
     ("mdbcheck check -joined", UNEXPECTED),
     ("mdbcheck check --joined yes", UNEXPECTED),
+    ("mdbcheck --json check", UNEXPECTED),
+    ("mdbcheck check -json", UNEXPECTED),
+    ("mdbcheck check --JSON", UNEXPECTED),
+    ("mdbcheck check --json yes", UNEXPECTED),
+    ("mdbcheck check --json=yes", NO_VALUE),
+    ("mdbcheck show --json=", NO_VALUE),
+    ("mdbcheck check -- --json", UNEXPECTED),
+    ("mdbcheck explain coins-in device least --json", UNEXPECTED),
+    ("mdbcheck show --json --without", INVALID),
+    ("mdbcheck replay --without --json", INVALID),
     ("mdbcheck check --joined -- --setup", UNEXPECTED),
     (
         "mdbcheck check --setup=changer~02~00~01~05~02~00~07~01~02~05~19",
@@ -513,7 +533,7 @@ fn command_lines_are_refused_for_a_reason(rt: HostRuntime) {
 }
 
 /// Command lines with options and words that the program knows.
-static KNOWN: [&str; 22] = [
+static KNOWN: [&str; 26] = [
     "mdbcheck check --",
     "mdbcheck show --",
     "mdbcheck check --without changer",
@@ -530,6 +550,10 @@ static KNOWN: [&str; 22] = [
     "mdbcheck check --setup=bill~01~00~01~00~64~02~00~C8~00~00~FF~00~01~05~35 --joined --",
     "mdbcheck check --without bill --joined --setup cashless-2~01~01~00~01~01~02~05~00~0B --setup=changer~02~00~01~05~02~00~07~01~02~05~19 --setup cashless~01~01~00~01~01~02~05~00~0B",
     "mdbcheck check --joined --setup changer~02~00~01~05~02~00~07~11",
+    "mdbcheck check --json",
+    "mdbcheck check --json --joined --json --without=bill --",
+    "mdbcheck show --json --without cashless --json",
+    "mdbcheck replay --without bill --json",
     "mdbcheck explain coins-in device least",
     "mdbcheck explain --without bill paid-out controller greatest",
     "mdbcheck explain approved --without=changer difference --without bill least --",

@@ -1,6 +1,7 @@
 -- The command line of the program, as `clap` takes it. This file serves private functions: no
 -- public clause cites it.
-use Rattle.std.specs.Prelude.{◌≡◌, ◌⊎◌, ℕ, List, [], ◌∷◌, MatchResult, Result, Some, codes, true, ⊤}
+use Rattle.std.specs.Prelude.{◌≡◌, ◌⊎◌, ℕ, Bool, List, [], ◌∷◌, MatchResult, Result, Some, codes}
+use Rattle.std.specs.Prelude.{false, true, ⊤}
 use Rattle.std.specs.Prelude.{unwrap_or}
 use Rattle.clap.specs.Kinds.{or_else}
 use Rattle.clap.specs.Words.{App, IsAmong, Kinds, Row, Rule, all_of, new_app, new_rule}
@@ -21,6 +22,8 @@ use Rattle.mdb_text.specs.Accounts.{side_word}
 use Rattle.mdb_explain.specs.Explain.{bound_word}
 use Rattle.mdb_check.specs.Program.{Asked, IsFromPowerOn, IsJoined, NamesCheck, NamesExplain}
 use Rattle.mdb_check.specs.Program.{NamesReplay, NamesShow}
+use Rattle.mdb_check.specs.declared.form.Form.{Form}
+use Rattle.mdb_check.specs.declared.form.Form.TheVariants.{Text, Json}
 use Rattle.mdb_check.specs.declared.refusal.Refusal.{Refusal}
 use Rattle.mdb_check.specs.declared.refusal.Refusal.TheVariants.{Words, Setup}
 use Rattle.mdb_check.specs.declared.command_line.Task.{Task}
@@ -47,11 +50,13 @@ word_rule name = record (new_rule name) { required = true }
 
 -- a task with these options, and these words
 abbrev pub check_app : App
-check_app = with_rule (with_rule (with_rule (new_app (codes "check")) (option_rule (codes "setup")))
-    (option_rule (codes "without"))) (flag_rule (codes "joined"))
+check_app = with_rule (with_rule (with_rule (with_rule (new_app (codes "check"))
+    (option_rule (codes "setup"))) (option_rule (codes "without"))) (flag_rule (codes "joined")))
+    (flag_rule (codes "json"))
 
 abbrev pub show_app : App
-show_app = with_rule (new_app (codes "show")) (option_rule (codes "without"))
+show_app = with_rule (with_rule (new_app (codes "show")) (option_rule (codes "without")))
+    (flag_rule (codes "json"))
 
 abbrev pub explain_app : App
 explain_app = with_rule (with_rule (with_rule (with_rule (new_app (codes "explain"))
@@ -59,7 +64,8 @@ explain_app = with_rule (with_rule (with_rule (with_rule (new_app (codes "explai
     (word_rule (codes "BOUND"))
 
 abbrev pub replay_app : App
-replay_app = with_rule (new_app (codes "replay")) (option_rule (codes "without"))
+replay_app = with_rule (with_rule (new_app (codes "replay")) (option_rule (codes "without")))
+    (flag_rule (codes "json"))
 
 -- a command `mdbcheck` that has a version, and needs a subcommand
 abbrev pub bare_mdbcheck : App
@@ -87,9 +93,19 @@ AreDevices (word ∷ rest) devices = (device : Device) × (others : DeviceSet)
 abbrev pub values_of : List ℕ → List Row → List (List ℕ)
 values_of option found = unwrap_or (all_of option found) []
 
+-- the form that is asked for, by whether there is `--json`
+abbrev pub form_of : Bool → Form
+form_of true = Json
+form_of false = Text
+
+-- what was found are options that ask for this form
+abbrev pub AsksInForm : List Row → Form → Type 0
+AsksInForm found form = form ≡ form_of (has_row (codes "json") found)
+
 -- What was found are options that ask for this.
 pub record AreOptionsOf (found : List Row) (asked : Asked) : Type 0 where
   pub joined : has_row (codes "joined") found ≡ asked.joined
+  pub form : AsksInForm found asked.form
   pub setups : values_of (codes "setup") found ≡ asked.setups
   pub devices : AreDevices (values_of (codes "without") found) asked.left_out
 
@@ -98,7 +114,7 @@ abbrev pub AsksToCheck : List Row → Scope → Type 0
 AsksToCheck found scope = (asked : Asked) × AreOptionsOf found asked
     × (IsFromPowerOn asked scope ⊎ IsJoined asked scope)
 
--- they are options of `show`, `explain` or `replay`, which have but one
+-- they are options of `show`, `explain` or `replay`
 abbrev pub AsksToShow : List Row → Scope → Type 0
 AsksToShow found scope = (left_out : DeviceSet)
     × AreDevices (values_of (codes "without") found) left_out × (scope ≡ leaving_out left_out)
@@ -111,10 +127,10 @@ pub record AsksForGoal (found : List Row) (goal : Goal) : Type 0 where
 
 -- the words ask for the task
 abbrev pub AsksFor : List (List ℕ) → Task → Type 0
-AsksFor words (Check scope) = NamesCheck words scope
-AsksFor words (Show scope) = NamesShow words scope
+AsksFor words (Check scope form) = NamesCheck words scope form
+AsksFor words (Show scope form) = NamesShow words scope form
 AsksFor words (Explain goal without) = NamesExplain words goal (leaving_out without)
-AsksFor words (Replay without) = NamesReplay words (leaving_out without)
+AsksFor words (Replay without form) = NamesReplay words (leaving_out without) form
 
 -- a refusal for a value that isn't one of its option, or for want of memory
 abbrev pub IsOwnRefusal : Refusal → Type 0

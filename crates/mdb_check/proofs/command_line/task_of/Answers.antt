@@ -39,7 +39,7 @@ returns-in-Some-check-default-clause-asked c =
     let found = subst (λ name. Takes words name (rows_of (found_of c.in-Some-check-default.own.now))) c.in-Some-check-default.is-check
     (takes words c.in-Ok.matches c.in-Ok.ensures.found c.in-Ok.ensures.faults c.subcommand.result c.subcommand.ensures.name c.subcommand.ensures.rows
     c.in-Some-check-default.field-0-0 c.in-Some-check-default.own c.in-Some-check-default.is) in
-    names_check words _ _ found c.in_ok-scope_of_check-in-Some-check-default.ensures.asked
+    names_check words _ _ _ found c.in_ok-scope_of_check-in-Some-check-default.ensures.asked c.form_asked.ensures
 
 -- what `clap` found where a value isn't one of its option
 pub returns-in_err-scope_of_show-in-Some-show-default-clause-refused : goal.returns-in_err-scope_of_show-in-Some-show-default-clause-refused
@@ -64,7 +64,7 @@ returns-in-Some-show-default-clause-asked c =
     let found = subst (λ name. Takes words name (rows_of (found_of c.in-Some-show-default.own.now))) c.in-Some-show-default.is-show
     (takes words c.in-Ok.matches c.in-Ok.ensures.found c.in-Ok.ensures.faults c.subcommand.result c.subcommand.ensures.name c.subcommand.ensures.rows
     c.in-Some-show-default.field-0-0 c.in-Some-show-default.own c.in-Some-show-default.is) in
-    names_show words _ _ found c.in_ok-scope_of_show-in-Some-show-default.ensures.asked
+    names_show words _ _ _ found c.in_ok-scope_of_show-in-Some-show-default.ensures.asked c.form_asked-in-Some-show-default.ensures
 
 -- what `clap` found where its words are no goal's
 pub returns-in_err-goal_of_explain-in-Some-explain-default-clause-refused : goal.returns-in_err-goal_of_explain-in-Some-explain-default-clause-refused
@@ -131,7 +131,7 @@ returns-in-Some-replay-default-clause-asked c =
     let found = subst (λ name. Takes words name (rows_of (found_of c.in-Some-replay-default.own.now))) c.in-Some-replay-default.is-replay
     (takes words c.in-Ok.matches c.in-Ok.ensures.found c.in-Ok.ensures.faults c.subcommand.result c.subcommand.ensures.name c.subcommand.ensures.rows
     c.in-Some-replay-default.field-0-0 c.in-Some-replay-default.own c.in-Some-replay-default.is) in
-    names_replay words _ _ found c.in_ok-left_out_of-in-Some-replay-default.ensures.asked
+    names_replay words _ _ _ found c.in_ok-left_out_of-in-Some-replay-default.ensures.asked c.form_asked-in-Some-replay-default.ensures
 
 pub unreachable-requires : goal.unreachable-requires
 unreachable-requires c =

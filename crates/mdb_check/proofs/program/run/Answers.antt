@@ -16,34 +16,34 @@ asked read given found task same is asks =
     subst (AsksFor (map string_bytes given)) is (subst Words same asks)
 
 name_a_task : (words : List (List ℕ)) (task : Task) → AsksFor words task → NameATask words
-name_a_task words (Check scope) asks = (scope, inl asks)
-name_a_task words (Show scope) asks = (scope, inr (inl asks))
+name_a_task words (Check scope form) asks = (scope, inl (form, asks))
+name_a_task words (Show scope form) asks = (scope, inr (inl (form, asks)))
 name_a_task words (Explain goal without) asks = (leaving_out without, inr (inr (inl (goal, asks))))
-name_a_task words (Replay without) asks = (leaving_out without, inr (inr (inr asks)))
+name_a_task words (Replay without form) asks = (leaving_out without, inr (inr (inr (form, asks))))
 
 pub returns-in-Ok-Check-clause-says : goal.returns-in-Ok-Check-clause-says
 returns-in-Ok-Check-clause-says g c =
-    let asks = asked _ _ _ (Check c.in-Ok-Check.scope) c.as_slice.ensures.value c.in-Ok-Check.field-0-is c.in-Ok-Check.ensures.asked in
-    IfSome_then _ c.run_check.ensures.says (λ text says. checked c.in-Ok-Check.scope asks says)
+    let asks = asked _ _ _ (Check c.in-Ok-Check.scope c.in-Ok-Check.form) c.as_slice.ensures.value c.in-Ok-Check.field-0-is c.in-Ok-Check.ensures.asked in
+    IfSome_then _ c.run_check.ensures.says (λ text says. checked c.in-Ok-Check.scope c.in-Ok-Check.form asks says)
 
 pub returns-in-Ok-Check-clause-named : goal.returns-in-Ok-Check-clause-named
-returns-in-Ok-Check-clause-named g c = inl (name_a_task _ (Check c.in-Ok-Check.scope) (asked _ _ _ (Check c.in-Ok-Check.scope) c.as_slice.ensures.value c.in-Ok-Check.field-0-is c.in-Ok-Check.ensures.asked))
+returns-in-Ok-Check-clause-named g c = inl (name_a_task _ (Check c.in-Ok-Check.scope c.in-Ok-Check.form) (asked _ _ _ (Check c.in-Ok-Check.scope c.in-Ok-Check.form) c.as_slice.ensures.value c.in-Ok-Check.field-0-is c.in-Ok-Check.ensures.asked))
 
 pub returns-in-Ok-Show-clause-says : goal.returns-in-Ok-Show-clause-says
 returns-in-Ok-Show-clause-says g c =
-    let asks = asked _ _ _ (Show c.in-Ok-Show.scope) c.as_slice.ensures.value c.in-Ok-Show.field-0-is c.in-Ok-Show.ensures.asked in
-    IfSome_then _ c.run_show.ensures.says (λ text says. shown c.in-Ok-Show.scope asks says)
+    let asks = asked _ _ _ (Show c.in-Ok-Show.scope c.in-Ok-Show.form) c.as_slice.ensures.value c.in-Ok-Show.field-0-is c.in-Ok-Show.ensures.asked in
+    IfSome_then _ c.run_show.ensures.says (λ text says. shown c.in-Ok-Show.scope c.in-Ok-Show.form asks says)
 
 pub returns-in-Ok-Show-clause-named : goal.returns-in-Ok-Show-clause-named
-returns-in-Ok-Show-clause-named g c = inl (name_a_task _ (Show c.in-Ok-Show.scope) (asked _ _ _ (Show c.in-Ok-Show.scope) c.as_slice.ensures.value c.in-Ok-Show.field-0-is c.in-Ok-Show.ensures.asked))
+returns-in-Ok-Show-clause-named g c = inl (name_a_task _ (Show c.in-Ok-Show.scope c.in-Ok-Show.form) (asked _ _ _ (Show c.in-Ok-Show.scope c.in-Ok-Show.form) c.as_slice.ensures.value c.in-Ok-Show.field-0-is c.in-Ok-Show.ensures.asked))
 
 pub returns-in-Ok-Replay-clause-says : goal.returns-in-Ok-Replay-clause-says
 returns-in-Ok-Replay-clause-says g c =
-    let asks = asked _ _ _ (Replay c.in-Ok-Replay.without) c.as_slice.ensures.value c.in-Ok-Replay.field-0-is c.in-Ok-Replay.ensures.asked in
-    IfSome_then _ c.run_replay.ensures.says (λ text says. replayed (leaving_out c.in-Ok-Replay.without) asks says)
+    let asks = asked _ _ _ (Replay c.in-Ok-Replay.without c.in-Ok-Replay.form) c.as_slice.ensures.value c.in-Ok-Replay.field-0-is c.in-Ok-Replay.ensures.asked in
+    IfSome_then _ c.run_replay.ensures.says (λ text says. replayed (leaving_out c.in-Ok-Replay.without) c.in-Ok-Replay.form asks says)
 
 pub returns-in-Ok-Replay-clause-named : goal.returns-in-Ok-Replay-clause-named
-returns-in-Ok-Replay-clause-named g c = inl (name_a_task _ (Replay c.in-Ok-Replay.without) (asked _ _ _ (Replay c.in-Ok-Replay.without) c.as_slice.ensures.value c.in-Ok-Replay.field-0-is c.in-Ok-Replay.ensures.asked))
+returns-in-Ok-Replay-clause-named g c = inl (name_a_task _ (Replay c.in-Ok-Replay.without c.in-Ok-Replay.form) (asked _ _ _ (Replay c.in-Ok-Replay.without c.in-Ok-Replay.form) c.as_slice.ensures.value c.in-Ok-Replay.field-0-is c.in-Ok-Replay.ensures.asked))
 
 pub returns-clause-says : goal.returns-clause-says
 returns-clause-says g c = refused_says _ _ _ _ _ c.refuse.ensures refl

@@ -1,0 +1,10 @@
+//! The form of what is written.
+
+/// The form of what a task writes.
+#[derive(Clone, Copy, PartialEq, Eq, Debug)]
+pub(crate) enum Form {
+    /// Text, for people.
+    Text,
+    /// JSON, for programs.
+    Json,
+}
