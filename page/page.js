@@ -7,7 +7,7 @@ const FAULT_WORDS = {
   BadLine: "The second field isn't M, S or B.",
   BadValue: "The third field isn't three hexadecimal digits up to 1FF or, at B, 1 to 9 decimal digits: 8 has to be written 008, and 0x108 as 108.",
 };
-const BLAMES = { controller: "the controller (VMC)", changer: "the coin changer", bill: "the bill validator", cashless: "the card reader at 10H", "cashless-2": "the card reader at 60H", other: "a peripheral, where no device had been asked" };
+const BLAMES = { controller: "the controller (VMC)", changer: "the coin changer", bill: "the bill validator", cashless: "the card reader at 10H", "cashless-2": "the card reader at 60H", other: "a peripheral that nobody had asked" };
 const ACCOUNTS = {
   "coins-in": { title: "Coins in", device: "changer", owner: "The changer", did: "took coins", counted: "counted" },
   "bills-in": { title: "Bills in", device: "bill", owner: "The bill validator", did: "stacked bills", counted: "counted" },
@@ -104,7 +104,11 @@ function showWay() {
   by("setups").hidden = !joined;
   for (const device of DEVICES.slice(1)) by("setup-" + device).disabled = by("without-" + device).checked;
   by("again").disabled = !state && !file;
+  by("stale").hidden = !state || wayKey() === state.key;
 }
+
+// The options as a text, to tell whether they are those of the answer that is shown.
+const wayKey = () => JSON.stringify(DEVICES.slice(1).map((it) => [by("without-" + it).checked, by("joined").checked && by("setup-" + it).value.trim()])) + by("joined").checked;
 
 // ---- the worker ----
 
@@ -159,6 +163,7 @@ async function run(given) {
     way = options();
     module ??= await start();
   } catch (fault) { trouble(fault.message); return null; }
+  const key = wayKey(), isKept = Boolean(given && way.words.length && key === state?.key);
   if (given) { file = given; worker?.terminate(); worker = null; }
   working(true);
   const begin = performance.now();
@@ -168,7 +173,7 @@ async function run(given) {
     const message = fresh ? { module, file, options: way.bytes } : { options: way.bytes };
     const told = await ask(worker, message, progress);
     working(false);
-    state = { ...told, name: file.name, way };
+    state = { ...told, name: file.name, way, key, isKept };
     show(state);
     state.ms.all = performance.now() - begin;
     by("figures").textContent = figures(state);
@@ -243,18 +248,22 @@ function figures(it) {
 }
 
 function wayWords(it) {
-  return it.way.words.length ? `Taken with ${it.way.words.join(" ")}.` : "Taken as a recording from power-on, with all devices.";
+  if (!it.way.words.length) return "Taken as a recording from power-on, with all devices.";
+  return `Taken with ${it.way.words.join(" ")}.${it.isKept ? " These settings are still those of the recording before: change them under “How the recording is taken”." : ""}`;
 }
 
 function showVerdict(it) {
   const r = it.report, card = by("verdict"), inner = [];
+  card.removeAttribute("data-unfollowed");
   const name = h("p", { class: "soft" }, "Recording: ", h("strong", { id: "name" }, it.name), `. ${wayWords(it)}`);
   if (it.answer === ANSWERS.YES) {
     card.className = "card yes";
-    inner.push(h("p", { class: "word" }, "Yes: all of this can have been said"));
+    const isIdle = r.rows !== "0" && isUnfollowed(it);
+    card.toggleAttribute("data-unfollowed", isIdle);
+    inner.push(h("p", { class: "word" }, isIdle ? "Yes, but nothing was followed: this proves nothing" : "Yes: all of this can have been said"));
     inner.push(h("p", {}, `All ${number(r.rows)} rows are possible together. This doesn't say that the money is honest: it says that an honest explanation of the recording exists.`));
     if (r.rows === "0") inner.push(h("p", {}, h("strong", {}, "There is no row in this file."), " An empty recording is possible too."));
-    else if (isUnfollowed(it)) inner.push(h("p", {}, h("strong", {}, "Nothing was followed:"), " no command to a device that is checked stands in this recording, so each sum is 0 and nobody could be blamed. Most likely the two lines are exchanged (M has to be the controller's, S the peripherals'), or the mode bits are lost."));
+    else if (isIdle) inner.push(h("p", {}, h("strong", {}, "Nothing was followed:"), " no command to a device that is checked stands in this recording, so each sum is 0 and nobody could be blamed. ", r.without.length ? `Left out: ${r.without.join(", ")}. Perhaps nobody else speaks here.` : "Most likely the two lines are exchanged (M has to be the controller's, S the peripherals'), or the mode bits are lost."));
     const differ = Object.entries(r.accounts).filter(([, a]) => a.difference[0] > 0n || a.difference[1] < 0n);
     if (differ.length) inner.push(h("p", {}, h("strong", {}, `The books differ, whatever was lost on the way: ${differ.map(([n]) => small(ACCOUNTS[n].title)).join(", ")}.`)));
   } else if (it.answer === ANSWERS.NO) {
@@ -262,6 +271,7 @@ function showVerdict(it) {
     inner.push(h("p", { class: "word" }, `No: row ${number(r.row)} cannot be`));
     inner.push(h("p", {}, `It breaks the rule ${r.rule}, and ${BLAMES[r.blame]} sent it (blame: ${r.blame}). All rows before it are possible together; what comes after it isn't judged.`));
     if (r.rule === "Profile") inner.push(h("p", {}, "This rule is about the checker's limits, and shows no fault of anybody."));
+    if (isPerhapsLate(it)) inner.push(h("p", {}, h("strong", {}, "Was the machine running already when the recording began?"), " No reset of a device stands before this row. If so, blame nobody for this: ", h("button", { type: "button", class: "noprint", onclick: () => { by("joined").checked = true; by("ways").open = true; showWay(); run(); } }, "Check as one that was running")));
   } else if (it.answer === ANSWERS.BAD_ROW) {
     card.className = "card none";
     const line = it.lines.find((l) => l.row === it.row);
@@ -282,6 +292,12 @@ function showVerdict(it) {
     inner.push(h("p", {}, "The bytes of a --setup are no answer of their device to SETUP."));
   }
   card.replaceChildren(...inner, name);
+}
+
+// Whether a no may come of a recording that began late: of a device's rule, or at its first row, where no device was reset.
+function isPerhapsLate(it) {
+  const { rule } = it.report, isOfDevice = ["Changer", "Bill", "Cashless"].includes(rule), isFirst = it.row === 1 && ["Speaker", "Mode"].includes(rule);
+  return !it.way.bytes[0] && (isOfDevice || isFirst) && !it.found.resets.length;
 }
 
 // Whether no act that is listed is one of a device that is followed.
@@ -500,7 +516,7 @@ function tellSection(it) {
     h("td", { class: "number" }, moneyAmount(m)), h("td", {}, m.acknowledged ? "yes" : "no")));
   if (!all.length) return section("Coins, bills and sales", "told-money", h("p", {}, "None was told."));
   return section("Coins, bills and sales", "told-money",
-    h("p", {}, "As they were told, each time that they were told. The same coin told twice stands here twice: what that may come to, the ranges above say."),
+    h("p", {}, `As they were told, each time that they were told. The same coin told twice stands here twice: ${it.answer === ANSWERS.YES ? "what that may come to, the ranges above say" : "and there are no sums, since one row cannot be"}.`),
     table(`${number(all.length)} entries${all.length > some.length ? `, the first ${MOST_MONEY} of them; the saved file has all` : ""}`, [["time", "number"], ["rows", "wide"], ["device"], ["what"], ["type, item"], ["amount", "number"], ["acknowledged"]], rows),
     h("p", { class: "noprint" }, h("button", { type: "button", id: "save", onclick: () => save("coins-bills-sales.csv", csv(it)) }, "Save as CSV")));
 }
@@ -604,7 +620,8 @@ async function readSetups(given) {
     const found = findSetups(new Acts(told.acts, told.listed));
     const names = [];
     for (let d = 1; d < 5; d++) if (found[d]) { by("setup-" + DEVICES[d]).value = found[d]; names.push(DEVICES[d]); }
-    by("setup-told").textContent = names.length ? `${given.name} shows the set-up of ${names.join(", ")}.` : `${given.name} shows no answer to SETUP.`;
+    by("setup-told").textContent = names.length ? `${given.name} shows the set-up of ${names.join(", ")}.` : `${given.name} shows no answer to SETUP: nothing was taken from it, and the bytes below are as they were.`;
+    showWay();
   } catch (fault) { by("setup-told").textContent = fault.message; }
   made.terminate();
 }
