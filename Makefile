@@ -47,7 +47,7 @@ install:
 	    [ ! -e completions/$$name.bash ] || \
 	        install -m 644 completions/$$name.bash '$(completions)'/$$name || exit 1; \
 	done
-	install -m 644 README.md CHANGELOG.md docs/*.md '$(doc)'
+	install -m 644 README.md CHANGELOG.md docs/*.md docs/*.json '$(doc)'
 	install -m 644 examples/*.csv '$(doc)/examples'
 
 # What others share, as bin, stays.
