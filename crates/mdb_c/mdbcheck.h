@@ -6,8 +6,8 @@
  *
  * Lengths are numbers of bytes. The call keeps nothing: after it the caller may change or free all
  * that it passed. It has no state of its own, so several threads may call it at once, each with a
- * report and a `told` of its own; the text may be shared, as long as nobody changes it. It isn't
- * for signal handlers, nor for the forked child of a process with threads.
+ * report and a `told` of its own; the text may be shared, as long as nobody changes it. Since
+ * it calls malloc, don't call it where that may not be called, as from a handler of signals.
  *
  * It takes memory by malloc and realloc, and gives it back by free before it returns: some ten
  * kilobytes, however many rows there are, and up to 23 times the bytes of the longest line. Of the

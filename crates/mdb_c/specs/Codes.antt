@@ -6,12 +6,11 @@ use Rattle.mdb_text.specs.declared.outcome.Outcome.{Outcome}
 use Rattle.mdb_text.specs.declared.outcome.Outcome.TheVariants.{Yes, No}
 use Rattle.mdb_verdict.specs.declared.fault.RunFault.{RunFault}
 use Rattle.mdb_verdict.specs.declared.fault.RunFault.TheVariants.{BadRow, TooLong, Read}
-use Rattle.mdb_c.specs.declared.codes.TheConstants.{BAD_ROW, NO, NO_MEMORY, TOO_LONG, UNREAD, YES}
 
 -- the code of a verdict
 abbrev pub verdict_code : Outcome → ℕ
-verdict_code (Yes report) = YES
-verdict_code (No offence) = NO
+verdict_code (Yes report) = 0
+verdict_code (No offence) = 1
 
 -- how many rows a yes has, or which row can't be
 abbrev pub verdict_row : Outcome → ℕ
@@ -20,10 +19,10 @@ verdict_row (No offence) = offence.row
 
 -- the code of why there is no verdict
 abbrev pub fault_code : RunFault → ℕ
-fault_code (BadRow row fault) = BAD_ROW
-fault_code TooLong = TOO_LONG
-fault_code Read = UNREAD
-fault_code other = NO_MEMORY
+fault_code (BadRow row fault) = 2
+fault_code TooLong = 3
+fault_code Read = 4
+fault_code other = 5
 
 -- the row that is none, and else 0
 abbrev pub fault_row : RunFault → ℕ

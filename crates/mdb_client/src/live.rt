@@ -1,10 +1,11 @@
 //! A bus that is followed while it runs, word by word.
 
-ghost use Rattle.std.specs.Prelude.{◌≡◌, ◌<◌, ◌≤◌, ◌^◌, ◌∷◌, ◌++◌, [], List, Err, IfErr, IfOk, IsOk, OnErr};
+ghost use Rattle.std.specs.Prelude.{◌≡◌, ◌<◌, ◌≤◌, ◌^◌, ◌∷◌, ◌++◌, [], List, Err, IfErr, IfOk, IsOk};
+ghost use Rattle.std.specs.Prelude.{OnErr, Some};
 ghost use Rattle.mdb_words.specs.declared.event.Event.{Event};
 ghost use Rattle.mdb_follow.specs.AccountNames.{sums_of};
 ghost use Rattle.mdb_follow.specs.Ends.{side_value};
-ghost use Rattle.mdb_follow.specs.Follower.{StandsFor, rows_of, scope_of};
+ghost use Rattle.mdb_follow.specs.Follower.{HasAccepted, StandsFor, offence_of, rows_of, scope_of};
 ghost use Rattle.mdb_follow.specs.Offences.{IsOffence};
 ghost use Rattle.mdb_follow.specs.Ranges.{IsRange};
 ghost use Rattle.mdb_follow.specs.Runs.{Run};
@@ -29,14 +30,20 @@ pub enum Untaken {
 ///
 /// # Errors
 ///
-/// Why the word isn't taken. After `Impossible` each further word is answered by that same offence;
-/// after the others all is as it was.
+/// Why the word isn't taken. After `Impossible` no further word is; after the others all is as it
+/// was.
 pub fn take_word(follower: &mut Follower, micros: u64, line: Line, bits: u16) -> Result<(), Untaken>
     ensures taken { (before : List Event) → StandsFor follower.old before
         → IfOk result (λ _. StandsFor follower.new (before ++ Event.Word micros line bits ∷ [])) }
     ensures impossible { (before : List Event) (offence : Offence) → StandsFor follower.old before
         → result ≡ Err (Untaken.Impossible offence)
         → IsOffence (scope_of follower.old) before (Event.Word micros line bits) offence }
+    ensures accepted { (before : List Event) (offence : Offence) → StandsFor follower.old before
+        → result ≡ Err (Untaken.Impossible offence) → HasAccepted follower.new before }
+    ensures noted { (offence : Offence) → result ≡ Err (Untaken.Impossible offence)
+        → offence_of follower.new ≡ Some offence }
+    ensures repeats { (offence : Offence) → offence_of follower.old ≡ Some offence
+        → IsOk result → ⊥ }
     ensures in_range { micros < 10 ^ 15 → bits < 512 → result ≡ Err Untaken.OutOfRange → ⊥ }
     ensures full { result ≡ Err Untaken.Full → ROWS_MAX ≤ rows_of follower.old }
     ensures unchanged { result ≡ Err Untaken.OutOfRange → follower.new ≡ follower.old }

@@ -22,6 +22,9 @@ pub(crate) enum Hint {
     DecimalComma,
 }
 
+/// How many fields the records of a table have at least: a time and two levels.
+const FEWEST: usize = 3;
+
 /// The likely cause of a record that is misformed, if one is known.
 pub(crate) fn hint_of(options: &EdgesOptions, fault: FormFault, row: &ByteRecord) -> Option<Hint> {
     if has(row, b';') {
@@ -39,7 +42,7 @@ pub(crate) fn hint_of(options: &EdgesOptions, fault: FormFault, row: &ByteRecord
             }
         }
         FormFault::FieldCount => {
-            if has_digits_alone(row, 0) && has_digits_alone(row, 1) {
+            if row.len() > FEWEST && has_digits_alone(row, 0) && has_digits_alone(row, 1) {
                 Some(Hint::DecimalComma)
             } else {
                 None
@@ -59,19 +62,21 @@ fn has(row: &ByteRecord, byte: u8) -> bool {
     false
 }
 
-/// Whether a column behind the first is called by a name, if one was told, but for the case of its
-/// letters.
+/// Whether a column behind the first is called by a name but for the case of its letters, if one was
+/// told and none is called by that itself.
 fn is_called(row: &ByteRecord, name: &Option<String>) -> bool {
     let Some(name) = name else {
         return false;
     };
+    let mut is_near = false;
     for place in 1..row.len() {
         let field = bare(field_at(row, place));
-        if field != name.as_bytes() && field.eq_ignore_ascii_case(name.as_bytes()) {
-            return true;
+        if field == name.as_bytes() {
+            return false;
         }
+        is_near = is_near || field.eq_ignore_ascii_case(name.as_bytes());
     }
-    false
+    is_near
 }
 
 /// Whether a field has digits, and nothing else.
