@@ -403,7 +403,7 @@ function moneySection(it) {
       h("td", { class: "number least" }, money(a[side][0], d)), h("td", { class: "number greatest" }, money(a[side][1], d))));
     shownAccounts.push(h("article", { class: "account", id: "account-" + name },
       h("h3", {}, title, " ", h("code", { class: "soft" }, name)),
-      h("table", {}, h("thead", {}, h("tr", {}, h("th", {}, ""), h("th", { scope: "col", class: "number" }, "at least"), h("th", { scope: "col", class: "number" }, "at most"))), h("tbody", {}, rows)),
+      h("table", { "aria-label": title }, h("thead", {}, h("tr", {}, h("td", {}), h("th", { scope: "col", class: "number" }, "at least"), h("th", { scope: "col", class: "number" }, "at most"))), h("tbody", {}, rows)),
       isZero(a) ? null : bars(name, a, d),
       isZero(a) ? h("p", {}, r.unvalued?.[device] ? "Nothing that has a value was told of it." : "Nothing was told of it, and nothing was counted.") : sentences(name, a, d).map((words) => h("p", {}, words)),
       r.unvalued?.[device] ? h("p", {}, h("strong", {}, `It may lack something: ${r.unvalued[device]} amounts were told that have no value (unvalued).`)) : null));
