@@ -2,8 +2,8 @@
 
 ghost use Rattle.std.specs.Prelude.{◌≡◌, IfErr, IfOk, IfSome, None, codes, false, map};
 ghost use Rattle.std.specs.Prelude.{string_bytes};
-ghost use Rattle.clap.specs.Words.{FailsBy, HasMatchesOf, app_of, fault_of, found_of, rows_of};
-ghost use Rattle.clap.specs.Words.{with_rule};
+ghost use Rattle.clap.specs.Words.{App, FailsBy, HasMatchesOf, app_of, fault_of, found_of};
+ghost use Rattle.clap.specs.Words.{rows_of, with_rule, with_subcommand};
 ghost use Rattle.clap.specs.declared.builder.command.Command.TheViews.{out-Command as fields_of};
 ghost use Rattle.mdb_msgs.specs.declared.device_set.DeviceSet.{DeviceSet};
 ghost use Rattle.mdb_bus.specs.declared.scope.Scope.{Scope};
@@ -107,9 +107,8 @@ fn command<'a>(alloc: Global) -> Result<Command<'a>, AllocError>
     ensures { IfOk result (λ command. app_of command ≡ mdbcheck) }
 {
     let with_two = command_of_two(alloc)?;
-    let explain = explain_command(alloc)?;
-    let replay = replay_command(alloc)?;
-    with_two.subcommand(explain)?.subcommand(replay)
+    let with_explain = add_made(with_two, explain_command(alloc))?;
+    add_made(with_explain, replay_command(alloc))
 }
 
 /// The command with the tasks `check` and `show`.
@@ -117,12 +116,33 @@ fn command_of_two<'a>(alloc: Global) -> Result<Command<'a>, AllocError>
     ensures { IfOk result (λ command. app_of command ≡ with_two_tasks) }
 {
     let check = check_command(alloc)?;
-    let show = show_command(alloc)?;
-    Command::new(alloc, "mdbcheck")
+    let with_check = Command::new(alloc, "mdbcheck")
         .version(VERSION)
         .subcommand_required(true)
-        .subcommand(check)?
-        .subcommand(show)
+        .subcommand(check)?;
+    add_made(with_check, show_command(alloc))
+}
+
+/// A command with a task more, if memory was given for it.
+fn add_made<'a>(
+    program: Command<'a>,
+    made: Result<Command<'a>, AllocError>,
+) -> Result<Command<'a>, AllocError>
+    requires { IfOk made (λ task. (fields_of task).has_globals ≡ false) }
+    ensures { (known : App) → IfOk made.entry (λ task. app_of task ≡ known) → IfOk result
+        (λ command. app_of command ≡ with_subcommand (app_of program.entry) known.top) }
+{
+    let task = made?;
+    add_task(program, task)
+}
+
+/// A command with a task more.
+fn add_task<'a>(program: Command<'a>, task: Command<'a>) -> Result<Command<'a>, AllocError>
+    requires { (fields_of task).has_globals ≡ false }
+    ensures { IfOk result (λ command.
+        app_of command ≡ with_subcommand (app_of program.entry) (app_of task.entry).top) }
+{
+    program.subcommand(task)
 }
 
 /// The task `check` with its options.

@@ -21,8 +21,9 @@ pub use mdb_explain::{explain, explain_scoped, replay, replay_scoped};
 pub use mdb_follow::{
     Account, AccountName, AccountSide, Bound, Goal, Offence, ROWS_MAX, Range, Report,
 };
+pub use mdb_json::json_of;
 pub use mdb_msgs::{BillSetup, ChangerSetup, Device, DeviceSet, ReaderConfig, ReaderUnit, Setups};
-pub use mdb_show::{show, show_scoped};
+pub use mdb_show::{show, show_json, show_scoped};
 pub use mdb_text::Outcome;
 pub use mdb_verdict::{
     BYTES_MAX, RunFault, check, check_joined, check_scoped, check_scoped_within, check_within,

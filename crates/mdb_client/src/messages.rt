@@ -1,12 +1,13 @@
 //! Blocks as the messages that they carry, and back.
 
 ghost use Rattle.std.specs.Prelude.{◌≡◌, List, ℕ, Err, IfOk};
-ghost use Rattle.mdb_blocks.specs.Block.{IsUnsealFault, block_of};
+ghost use Rattle.mdb_blocks.specs.Block.{IsBlock, IsUnsealFault, block_of};
 ghost use Rattle.mdb_blocks.specs.declared.block.BlockFault.{BlockFault};
 ghost use Rattle.mdb_msgs.specs.CommandFaults.{IsCommandFault};
 ghost use Rattle.mdb_msgs.specs.Commands.{Spells};
-ghost use Rattle.mdb_msgs.specs.Replies.{IsReadFault};
+ghost use Rattle.mdb_msgs.specs.Replies.{IsReadFault, SpellsReply};
 ghost use Rattle.mdb_msgs.specs.declared.fault.MsgFault.{MsgFault};
+ghost use Rattle.mdb_msgs.specs.declared.reply.Reply.{Reply};
 
 use mdb_blocks::{Block, BlockFault, unseal};
 use mdb_msgs::{Command, MsgFault, read_command, read_reply, write_reply};
@@ -30,7 +31,7 @@ pub fn command_in(bytes: &[u8]) -> Result<Command, Unread>
     ensures no_block { (fault : BlockFault) → result ≡ Err (Unread.NoBlock fault)
         → IsUnsealFault bytes.now fault }
     ensures no_message { (fault : MsgFault) → result ≡ Err (Unread.NoMessage fault)
-        → IsCommandFault bytes.now fault }
+        → IsBlock bytes.now × IsCommandFault bytes.now fault }
 {
     match unseal(bytes) {
         Ok(block) => read_command(&block).map_err(Unread::NoMessage),
@@ -45,11 +46,15 @@ pub fn command_in(bytes: &[u8]) -> Result<Command, Unread>
 /// Why the bytes are no reply to the command.
 pub fn sent_again(command: &Command, bytes: &[u8]) -> Result<Block, Unread>
     ensures same { IfOk result (λ block. block ≡ bytes.now) }
+    ensures reply { IfOk result (λ _. (reply : Reply)
+        × SpellsReply command.now reply bytes.now) }
     ensures no_block { (fault : BlockFault) → result ≡ Err (Unread.NoBlock fault)
         → IsUnsealFault bytes.now fault }
     ensures no_message { (fault : MsgFault) (content : List ℕ)
         → result ≡ Err (Unread.NoMessage fault) → bytes.now ≡ block_of content
         → IsReadFault command.now content fault }
+    ensures block { (fault : MsgFault) → result ≡ Err (Unread.NoMessage fault)
+        → IsBlock bytes.now }
 {
     let block = match unseal(bytes) {
         Ok(block) => block,

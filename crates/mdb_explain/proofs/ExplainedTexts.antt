@@ -1,11 +1,11 @@
 -- What is answered and written of rows that are kept, and the lines that are written.
-use Rattle.std.proofs.Common.{arith, refl, ap, sym, subst, ◌∙◌, ◌≡◌, ◌+◌, ◌<◌, ◌≤◌, ◌/◌, ◌%◌, ◌^◌, ℕ, List, [], ◌∷◌, ◌++◌, Option, Result, Ok, Err, IfErr, IfOk, length, length-append, map, append_assoc, drop, get_or, take, take-append-drop}
+use Rattle.std.proofs.Common.{arith, refl, ap, sym, subst, ◌∙◌, ◌≡◌, ◌≢◌, ◌+◌, ◌<◌, ◌≤◌, ◌/◌, ◌%◌, ◌^◌, ℕ, List, [], ◌∷◌, ◌++◌, Option, Result, Ok, Err, IfErr, IfOk, length, length-append, map, append_assoc, drop, get_or, take, take-append-drop}
 use Rattle.std.proofs.lemmas.List.{append-nil, flat_map_more, take_all, take_more}
 use Rattle.std.proofs.lemmas.List.Concat.{flat_map-append}
 use Rattle.std.proofs.lemmas.Fmt.{length-decimal-le}
 use Rattle.std.specs.Fmt.{decimal}
 use Rattle.std.specs.List.{flat_map}
-use Rattle.std.specs.Prelude.{IsErrAnd}
+use Rattle.std.specs.Prelude.{IsErrAnd, OnOk}
 use Rattle.std.specs.Io.KnownBytes.{Appends}
 use Rattle.mdb_words.specs.declared.event.Event.{Event}
 use Rattle.mdb_words.specs.Row.{IsRefusal, IsRow, row_fields}
@@ -24,7 +24,7 @@ use Rattle.mdb_explain.specs.declared.sheet.Sheet.{Sheet}
 use Rattle.mdb_explain.specs.Explain.{IsCutExplanation, IsExplainText, IsExplainedIn, explanation_text, record_line}
 use Rattle.mdb_verdict.specs.Headline.{IfNo, IfYes}
 use Rattle.mdb_text.specs.Text.{report_text}
-use Rattle.mdb_verdict.specs.Verdict.{AreRows, IsAnswer, IsImpossible}
+use Rattle.mdb_verdict.specs.Verdict.{AreRows, IsAnswer, IsImpossible, IsNoYes}
 use Rattle.mdb_verdict.specs.Written.{HasTaken}
 use Rattle.mdb_verdict.specs.Batch.{AreAll}
 use Rattle.mdb_verdict.specs.Ending.{HasEnded, HasFollowed, IsTakenWhole}
@@ -322,3 +322,51 @@ handed_on scope limit all verdict fault (Err other) is handed answers =
 pub if_yes : (outcome : Outcome) (P : Type 0) → P → IfYes outcome (λ report. P)
 if_yes (Yes report) P holds = holds
 if_yes (No offence) P holds = tt
+
+-- nothing is written where the answer is a fault, but where the writer failed
+pub nothing_told : {W : Type 0} (contents : W → Option (List ℕ)) (before after : W) (IsText : Outcome → List ℕ → Type 0) (answer : Result Outcome RunFault) → IsTold contents before after IsText answer → IfErr answer (λ fault. fault ≢ Write → after ≡ before)
+nothing_told contents before after IsText (Ok outcome) told = tt
+nothing_told contents before after IsText (Err (BadRow row fault)) told = absurd told
+nothing_told contents before after IsText (Err TooLong) told = absurd told
+nothing_told contents before after IsText (Err Read) told = absurd told
+nothing_told contents before after IsText (Err Write) told = λ not. absurd (not refl)
+nothing_told contents before after IsText (Err Memory) told = λ not. told
+nothing_told contents before after IsText (Err (MarkFault row)) told = absurd told
+
+-- a no is no yes
+pub no_yes_told : {W : Type 0} (contents : W → Option (List ℕ)) (before after : W) (scope : Scope) (offence : Offence) (answer : Result Outcome RunFault) → IsTold contents before after (IsNoText scope offence) answer → IsNoYes answer
+no_yes_told contents before after scope offence (Ok (Yes report)) told = let is = told.1.0 in absurd (cc is)
+no_yes_told contents before after scope offence (Ok (No other)) told = tt
+no_yes_told contents before after scope offence (Err fault) told = tt
+
+-- what is answered where a fault of a verdict is handed on
+
+pub handed : (told answer : Result Outcome RunFault) (fault : RunFault) → told ≡ Err fault → IsErrAnd answer (λ other. other ≡ fault) → told ≡ answer
+handed told (Ok outcome) fault is on = absurd on
+handed told (Err other) fault is on = is ∙ ap Err (sym on)
+
+pub no_ok : (P : Outcome → Type 0) (answer : Result Outcome RunFault) (fault : RunFault) → IsErrAnd answer (λ other. other ≡ fault) → IfOk answer P
+no_ok P (Ok outcome) fault on = absurd on
+no_ok P (Err other) fault on = tt
+
+pub no_yes : (answer : Result Outcome RunFault) (fault : RunFault) → IsErrAnd answer (λ other. other ≡ fault) → IsNoYes answer
+no_yes (Ok outcome) fault on = absurd on
+no_yes (Err other) fault on = tt
+
+-- and of a sheet
+
+pub not_on : {T : Type 0} (P : Type 0) (answer : Result T RunFault) (fault : RunFault) → IsErrAnd answer (λ other. other ≡ fault) → OnOk answer P
+not_on P (Ok done) fault on = absurd on
+not_on P (Err other) fault on = tt
+
+pub refused_on : {T : Type 0} (answer : Result T RunFault) (fault : RunFault) → fault ≡ Write → IsErrAnd answer (λ other. other ≡ fault) → IfErr answer (λ other. other ≡ Write)
+refused_on (Ok done) fault is on = absurd on
+refused_on (Err other) fault is on = on ∙ is
+
+-- a line is added where there is room
+pub put_line : (before now : Output) (items line : List ℕ) → Puts before now [] → items ≡ now.waiting ++ line → Puts before (record { held = now.held; waiting = items }) line
+put_line before now items line put is = record {
+  taken = put.taken;
+  parts = ap (λ l. l ++ line) (sym (append-nil before.waiting) ∙ put.parts) ∙ (append_assoc put.taken now.waiting line ∙ ap (λ l. put.taken ++ l) (sym is));
+  grown = put.grown;
+}

@@ -1,7 +1,7 @@
 //! The command line: which import its words ask for.
 
 ghost use Rattle.std.specs.Prelude.{◌≡◌, ◌≢◌, ◌↔◌, [], Bool, List, ℕ, Option, IfErr, IfNone, IfOk, IfSome, IsTrue, codes, false, map, option_map, option_to_list, string_bytes};
-ghost use Rattle.clap.specs.Words.{FailsBy, HasMatchesOf, app_of, fault_of, found_of, rows_of, with_rule, with_subcommand};
+ghost use Rattle.clap.specs.Words.{App, FailsBy, HasMatchesOf, app_of, fault_of, found_of, rows_of, with_rule, with_subcommand};
 ghost use Rattle.clap.specs.declared.builder.command.Command.TheViews.{out-Command as fields_of};
 ghost use Rattle.mdb_words.specs.Digits.{IsDecimal};
 ghost use Rattle.mdb_import.specs.declared.options.RowsOptions.{RowsOptions};
@@ -108,11 +108,8 @@ fn command<'a>(alloc: Global) -> Result<Command<'a>, AllocError>
     ensures { IfOk result (λ command. app_of command ≡ mdbimport) }
 {
     let decoded = decoded_command(alloc)?;
-    let saleae = saleae_command(alloc)?;
-    let with_saleae = add_task(decoded, saleae)?;
-    let edges = edges_command(alloc)?;
-    let program = add_task(with_saleae, edges)?;
-    Ok(program)
+    let with_saleae = add_made(decoded, saleae_command(alloc))?;
+    add_made(with_saleae, edges_command(alloc))
 }
 
 /// The command with the tasks `rows` and `sigrok`.
@@ -120,12 +117,24 @@ fn decoded_command<'a>(alloc: Global) -> Result<Command<'a>, AllocError>
     ensures { IfOk result (λ command. app_of command ≡ first_tasks) }
 {
     let rows = rows_command(alloc)?;
-    let sigrok = sigrok_command(alloc)?;
-    Command::new(alloc, "mdbimport")
+    let with_rows = Command::new(alloc, "mdbimport")
         .version(VERSION)
         .subcommand_required(true)
-        .subcommand(rows)?
-        .subcommand(sigrok)
+        .subcommand(rows)?;
+    add_made(with_rows, sigrok_command(alloc))
+}
+
+/// A command with a task more, if memory was given for it.
+fn add_made<'a>(
+    program: Command<'a>,
+    made: Result<Command<'a>, AllocError>,
+) -> Result<Command<'a>, AllocError>
+    requires { IfOk made (λ task. (fields_of task).has_globals ≡ false) }
+    ensures { (known : App) → IfOk made.entry (λ task. app_of task ≡ known) → IfOk result
+        (λ command. app_of command ≡ with_subcommand (app_of program.entry) known.top) }
+{
+    let task = made?;
+    add_task(program, task)
 }
 
 /// A command with a task more.

@@ -115,11 +115,7 @@ fn complain_of_record<E: Write>(
         (None, None) => {}
     }
     write!(err, ": {fault}")?;
-    if let Ok(found) = excerpt(alloc, fields) {
-        err.write_all(b"; found \"")?;
-        err.write_all(found.as_slice())?;
-        err.write_all(b"\"")?;
-    }
+    write_found(alloc, fields, err)?;
     if let Some(first) = first_after(refused) {
         write!(err, "; go on with --from {first}")?;
     }
@@ -177,11 +173,7 @@ fn complain_of_row<E: Write>(
     err: &mut E,
 ) -> std::io::Result<()> {
     write!(err, "mdbimport: {fault}")?;
-    if let Ok(found) = excerpt(alloc, fields) {
-        err.write_all(b"; found \"")?;
-        err.write_all(found.as_slice())?;
-        err.write_all(b"\"")?;
-    }
+    write_found(alloc, fields, err)?;
     err.write_all(b"\n")
 }
 
@@ -223,11 +215,7 @@ fn complain_of_edges_record<E: Write>(
 ) -> std::io::Result<()> {
     write!(err, "mdbimport: {fault}")?;
     if fields.len() > 0 {
-        if let Ok(found) = excerpt(alloc, fields) {
-            err.write_all(b"; found \"")?;
-            err.write_all(found.as_slice())?;
-            err.write_all(b"\"")?;
-        }
+        write_found(alloc, fields, err)?;
     }
     if let Some(hint) = hint {
         write!(err, "; {hint}")?;
@@ -328,6 +316,16 @@ fn note_what_is_missing<E: Write>(heard: Heard, err: &mut E) -> std::io::Result<
             err,
             "mdbimport: no word has its mode bit set: was it recorded with 8 bits and not 9?"
         )?;
+    }
+    Ok(())
+}
+
+/// Writes what stands in a record that is refused. Without memory it writes nothing.
+fn write_found<E: Write>(alloc: Global, fields: &ByteRecord, err: &mut E) -> std::io::Result<()> {
+    if let Ok(found) = excerpt(alloc, fields) {
+        err.write_all(b"; found \"")?;
+        err.write_all(found.as_slice())?;
+        err.write_all(b"\"")?;
     }
     Ok(())
 }

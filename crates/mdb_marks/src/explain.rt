@@ -6,7 +6,10 @@ ghost use Rattle.std.specs.Option.{IfNone};
 ghost use Rattle.mdb_bus.specs.Scopes.{leaving_out};
 ghost use Rattle.mdb_marks.specs.declared.mark.Mark.{Mark};
 ghost use Rattle.mdb_marks.specs.Goals.{Explains, IsExplainFault};
+ghost use Rattle.mdb_bus.specs.ActLists.{Piece};
 ghost use Rattle.mdb_follow.specs.Runs.{IsReached};
+ghost use Rattle.mdb_follow.specs.declared.goal.Goal.{Goal};
+ghost use Rattle.mdb_marks.specs.inner.AllPaths.{AreAllPaths, AreBestMarks, HasWay};
 ghost use Rattle.mdb_marks.specs.inner.Merges.{IsOfBoth, Merges};
 
 mod all_paths;
@@ -15,6 +18,7 @@ mod chains;
 mod paths;
 mod seeker;
 
+use self::all_paths::AllPaths;
 use crate::Mark;
 use mdb_bus::{Scope, laws as bus_laws};
 use mdb_cash::laws as cash_laws;
@@ -81,13 +85,33 @@ fn best_marks(
     cash_laws::own_acts_are_those_that_a_device_has_a_part_in();
     let seeker = seeker::seek(alloc, &Scope::leaving_out(without), events, goal)?;
     let all = &seeker.all;
-    let changer = all.marks(alloc, Device::Changer)?;
-    let bill = all.marks(alloc, Device::Bill)?;
-    let first_reader = all.marks(alloc, Device::Reader(ReaderUnit::First))?;
-    let second_reader = all.marks(alloc, Device::Reader(ReaderUnit::Second))?;
-    let cash = merge(alloc, &changer, &bill)?;
-    let cashless = merge(alloc, &first_reader, &second_reader)?;
+    let cash = marks_of_two(alloc, all, Device::Changer, Device::Bill)?;
+    let first = Device::Reader(ReaderUnit::First);
+    let cashless = marks_of_two(alloc, all, first, Device::Reader(ReaderUnit::Second))?;
     merge(alloc, &cash, &cashless)
+}
+
+/// The marks of best ways of two devices that have some, as one list.
+///
+/// # Errors
+///
+/// Memory was refused.
+fn marks_of_two(
+    alloc: Global,
+    all: &AllPaths,
+    one: Device,
+    other: Device,
+) -> Result<Vec<(u64, Mark)>, AllocError>
+    requires { (goal : Goal) × (pieces : List Piece) × AreAllPaths goal pieces all.now
+        × HasWay pieces one × HasWay pieces other }
+    ensures { IfOk result (λ both. (goal : Goal) (pieces : List Piece)
+        → AreAllPaths goal pieces all.now → HasWay pieces one → HasWay pieces other
+        → (ones others : List (ℕ × Mark)) × AreBestMarks goal pieces one ones
+        × AreBestMarks goal pieces other others × IsOfBoth ones others both.items) }
+{
+    let ones = all.marks(alloc, one)?;
+    let others = all.marks(alloc, other)?;
+    merge(alloc, &ones, &others)
 }
 
 /// Two lists of marks as one: where the rows of both rise, and no row is in both, its rows rise.

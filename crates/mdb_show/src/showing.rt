@@ -99,6 +99,11 @@ pub fn show_json<R: Read + Drop, W: Write>(
 
 /// Shows the records that are still to come. What they tell of where the reading ended is still to
 /// be asked then.
+///
+/// # Errors
+///
+/// As those of [`show`]: that a record is no row, that there are too many, that reading or writing
+/// failed, or that memory was refused.
 pub fn show_records<R: Read + Drop, W: Write>(
     alloc: Global,
     scope: &Scope,
@@ -114,6 +119,10 @@ pub fn show_records<R: Read + Drop, W: Write>(
 
 /// Shows the records that are still to come, as [`show_json`] does. What they tell of where the
 /// reading ended is still to be asked then.
+///
+/// # Errors
+///
+/// As those of [`show_records`].
 pub fn show_json_records<R: Read + Drop, W: Write>(
     alloc: Global,
     scope: &Scope,

@@ -1,6 +1,6 @@
 -- Texts that are written in parts.
-use Rattle.std.proofs.Common.{Bool, true, false, cond, ◌&&◌, [], refl, ap, ap₂, sym, ◌∙◌, ◌≡◌, ◌-◌, ℕ, List, ◌++◌, ◌∷◌, Option, Some, None, append_assoc, append-nil, drop, get_or, length, ◌+◌, ◌<◌, take, take-append-drop}
-use Rattle.std.proofs.lemmas.List.{flat_map_more, take_more, take_rest}
+use Rattle.std.proofs.Common.{Bool, Err, IfErr, Ok, OnOk, Result, inl, subst, true, false, cond, ◌&&◌, [], refl, ap, ap₂, sym, ◌∙◌, ◌≡◌, ◌-◌, ℕ, List, ◌++◌, ◌∷◌, Option, Some, None, append_assoc, append-nil, drop, get_or, length, ◌+◌, ◌<◌, ◌≤◌, ◌⊎◌, take, take-append-drop}
+use Rattle.std.proofs.lemmas.List.{flat_map_more, take_all, take_more, take_rest}
 use Rattle.std.proofs.lemmas.Grind.{flat_map-append}
 use Rattle.std.specs.Io.KnownBytes.{Appends, Keeps}
 use Rattle.mdb_words.specs.Event.{start_of}
@@ -9,6 +9,8 @@ use Rattle.mdb_sigrok.specs.Import.{HasTaken, row_line, rows_text}
 use Rattle.mdb_sigrok.specs.inner.Pages.{Turns}
 use Rattle.mdb_sigrok.specs.inner.Tallies.{part_line, part_text}
 use Rattle.mdb_sigrok.specs.Part.{is_from, is_taken, is_until, part_of}
+use Rattle.mdb_sigrok.specs.declared.fault.SigrokFault.{SigrokFault}
+use Rattle.mdb_sigrok.specs.declared.fault.SigrokFault.TheVariants.{Memory, Write}
 use Rattle.mdb_sigrok.specs.declared.options.SigrokOptions.{SigrokOptions}
 
 -- two parts in turn
@@ -76,6 +78,17 @@ taken_at options a b c page rows i far taken = record {
       ∙ append_assoc (far.written ++ taken.front) taken.rest (part_text options (drop i rows));
   grown = appended a b c far.written taken.front far.grown taken.grown;
 }
+
+-- where the last page is written, all is
+pub all_taken : {A E : Type 0} (r : Result A E) (options : SigrokOptions) (a b c : Option (List ℕ)) (page : List ℕ) (rows : List Event) (i : ℕ) → length rows ≤ i → SoFar options a b page (take i rows) → OnOk r (Appends b c page) → OnOk r (Appends a c (part_text options rows))
+all_taken (Ok x) options a b c page rows i all far appends =
+    subst (Appends a c) (sym far.parts ∙ ap (part_text options) (take_all i rows all)) (appended a b c far.written page far.grown appends)
+all_taken (Err e) options a b c page rows i all far appends = tt
+
+-- a page is refused by the writer alone
+pub written_only : {A : Type 0} (r : Result A SigrokFault) → IfErr r (λ fault. fault ≡ Write) → IfErr r (λ fault. (fault ≡ Write) ⊎ (fault ≡ Memory))
+written_only (Ok x) refused = tt
+written_only (Err fault) refused = inl refused
 
 pub nothing_taken : (a : Option (List ℕ)) (text : List ℕ) → HasTaken a a text
 nothing_taken a text = record { front = []; rest = text; parts = refl; grown = nothing_more a }

@@ -515,12 +515,18 @@ static REFUSED: [(&str, &str); 111] = [
     ),
 ];
 
+/// Puts more behind a line.
+fn push(rt: &impl Abort, line: &mut Vec<u8>, more: &[u8]) {
+    line.extend_from_slice(more).expect(rt, "memory");
+}
+
 /// Ends the test where a command line isn't refused for this reason.
 fn refused_for(rt: &impl Abort, alloc: Global, words: &str, reason: &str) {
     let mut line = Vec::new(alloc);
-    for part in &[b"mdbcheck: ", reason.as_bytes(), b"; ", USAGE] {
-        line.extend_from_slice(*part).expect(rt, "memory");
-    }
+    push(rt, &mut line, b"mdbcheck: ");
+    push(rt, &mut line, reason.as_bytes());
+    push(rt, &mut line, b"; ");
+    push(rt, &mut line, USAGE);
     let mut reader = Pieces::new(ROWS, usize::MAX);
     run_gives(rt, alloc, words, &mut reader, (2, b"", line.as_slice()));
 }

@@ -1,7 +1,8 @@
 -- How far the reading of rows has come, and how it ends.
 use Rattle.std.proofs.Common.{arith, refl, ap, sym, subst, ◌∙◌, ◌≡◌, ◌+◌, ◌≤◌, ◌⊎◌, inl, inr, ℕ, List, [], ◌++◌, Bool, true, false, Option, Some, None, Result, Ok, Err, length, length-append, append_assoc}
-use Rattle.std.specs.Prelude.{IsErrAnd}
+use Rattle.std.specs.Prelude.{IfErr, IfOk, IfSome, IsErrAnd, IsErrOf}
 use Rattle.mdb_words.specs.declared.row.RowFault.{RowFault}
+use Rattle.mdb_records.specs.declared.ReadFault.{ReadFault}
 use Rattle.mdb_records.specs.declared.ReadFault.TheVariants as reading
 use Rattle.mdb_records.specs.declared.Records.{Records}
 use Rattle.mdb_records.specs.ToCome.{ToCome}
@@ -9,8 +10,9 @@ use Rattle.mdb_verdict.specs.declared.batch.Next.{Next}
 use Rattle.mdb_verdict.specs.declared.batch.Next.TheVariants as next
 use Rattle.mdb_verdict.specs.declared.fault.RunFault.{RunFault}
 use Rattle.mdb_verdict.specs.declared.fault.RunFault.TheVariants.{BadRow, TooLong, Read, Write, Memory, Mark}
-use Rattle.mdb_verdict.specs.Batch.{FitsIn, HasRead}
-use Rattle.mdb_verdict.specs.Ending.{EndsAfter, HasEnded, HasFirst, HasTaken, IsStopped, IsTakenWhole, goes_on_by}
+use Rattle.mdb_verdict.specs.Batch.{FitsIn, HasRead, IsMet}
+use Rattle.mdb_verdict.specs.Ending.{EndsAfter, HasEnded, HasFirst, HasTaken, IsHeard, IsStop, IsStopped, IsTakenWhole, IsToldEnd, goes_on_by}
+use Rattle.mdb_verdict.specs.Verdict.{run_fault_of}
 use Rattle.mdb_verdict.proofs.Rows.{all_append, empty, first_row, no_rows}
 
 -- The first of the records are rows, which were taken, and this is what comes after them.
@@ -207,3 +209,85 @@ refused_at Is Refuses remaining Has Stops limit all start records progress to_co
     let P : RunFault → Type 0 = λ f. HasEnded Is Refuses Has Stops limit all (Err f) in
     let Q : Result Unit RunFault → Type 0 = λ t. EndsAfter read.rest t in
     subst P (sym handed) (refused_at_by Is Refuses remaining Has Stops limit all records progress.rows progress.has read full fault (subst Q is (ends read.rest read.after)))
+
+-- What was met of the reading of records.
+
+-- a fault after a batch is one that was met
+heard_by : (after : Next) (rows : ℕ) (told : Result Bool RunFault) (fault : RunFault) → told ≡ goes_on_by after rows → told ≡ Err fault → (met : Option ReadFault) → ((failed : ReadFault) → after ≡ next.Failed failed → met ≡ Some failed) → IsHeard met fault
+heard_by next.More rows told fault by is met known = absurd (cc)
+heard_by next.End rows told fault by is met known = absurd (cc)
+heard_by (next.BadRow refused) rows told fault by is met known =
+    let same : BadRow (rows + 1) refused ≡ fault = cc in
+    subst (IsHeard met) same tt
+heard_by (next.Failed reading.Read) rows told fault by is met known =
+    let same : Read ≡ fault = cc in
+    subst (IsHeard met) same (known reading.Read refl)
+heard_by (next.Failed reading.Memory) rows told fault by is met known =
+    let same : Memory ≡ fault = cc in
+    subst (IsHeard met) same (known reading.Memory refl)
+
+pub heard : {Stop : Type 0} (after : Next) (rows : ℕ) (told : Result Bool RunFault) (fault : RunFault) → told ≡ goes_on_by after rows → told ≡ Err fault → (met : Option ReadFault) → ((failed : ReadFault) → after ≡ next.Failed failed → met ≡ Some failed)
+    → (answer : Result (Option Stop) RunFault) → IsErrAnd answer (λ other. other ≡ fault) → IfErr answer (IsHeard met)
+heard after rows told fault by is met known (Ok stop) handed = absurd handed
+heard after rows told fault by is met known (Err other) handed = subst (IsHeard met) (sym handed) (heard_by after rows told fault by is met known)
+
+-- it is the answer
+told_by : (after : Next) (rows : ℕ) (told : Result Bool RunFault) (fault : RunFault) → told ≡ goes_on_by after rows → told ≡ Err fault → (met : Option ReadFault) → IsMet after met → IfSome met (λ failed. fault ≡ run_fault_of failed)
+told_by next.More rows told fault by is met known = absurd (cc)
+told_by next.End rows told fault by is met known = absurd (cc)
+told_by (next.BadRow refused) rows told fault by is met known = subst (λ m. IfSome m (λ failed. fault ≡ run_fault_of failed)) (sym known) tt
+told_by (next.Failed failed) rows told fault by is met known =
+    let same : fault ≡ run_fault_of failed = cc in
+    subst (λ m. IfSome m (λ one. fault ≡ run_fault_of one)) (sym known) same
+
+pub met_refused : {Stop : Type 0} (after : Next) (rows : ℕ) (told : Result Bool RunFault) (fault : RunFault) → told ≡ goes_on_by after rows → told ≡ Err fault → (met : Option ReadFault) → IsMet after met
+    → (answer : Result (Option Stop) RunFault) → IsErrAnd answer (λ other. other ≡ fault) → IfSome met (λ failed. IsToldEnd failed answer)
+met_refused after rows told fault by is met known (Ok stop) handed = absurd handed
+met_refused after rows told fault by is met known (Err other) handed = subst (λ f. IfSome met (λ failed. f ≡ run_fault_of failed)) (sym handed) (told_by after rows told fault by is met known)
+
+-- at the end of the text none is
+pub met_none : (after : Next) (met : Option ReadFault) → IsMet after met → after ≡ next.End → IfSome met (λ failed. ⊥)
+met_none next.End met known is = subst (λ m. IfSome m (λ failed. ⊥)) (sym known) tt
+met_none next.More met known is = absurd (cc)
+met_none (next.BadRow refused) met known is = absurd (cc)
+met_none (next.Failed failed) met known is = absurd (cc)
+
+-- a row that was stopped at is told before any
+pub met_stopped : {Stop : Type 0} (met : Option ReadFault) (stop : Stop) → IfSome met (λ failed. IsToldEnd failed (Ok (Some stop)))
+met_stopped None stop = tt
+met_stopped (Some failed) stop = tt
+
+-- a fault after the last row that there may be
+pub heard_at : {Stop : Type 0} (told : Result Unit RunFault) (fault : RunFault) (met : Option ReadFault) → IfErr told (IsHeard met) → told ≡ Err fault → (answer : Result (Option Stop) RunFault) → IsErrAnd answer (λ other. other ≡ fault) → IfErr answer (IsHeard met)
+heard_at told fault met known is (Ok stop) handed = absurd handed
+heard_at told fault met known is (Err other) handed = subst (IsHeard met) (sym handed) (subst (λ t. IfErr t (IsHeard met)) is known)
+
+pub met_at : {Stop : Type 0} (told : Result Unit RunFault) (fault : RunFault) (met : Option ReadFault) → IfSome met (λ failed. IsErrOf told (run_fault_of failed)) → told ≡ Err fault → (answer : Result (Option Stop) RunFault) → IsErrAnd answer (λ other. other ≡ fault)
+    → IfSome met (λ failed. IsToldEnd failed answer)
+met_at told fault met known is (Ok stop) handed = absurd handed
+met_at told fault None known is (Err other) handed = tt
+met_at told fault (Some failed) known is (Err other) handed =
+    let same : told ≡ Err (run_fault_of failed) = known in
+    let other_is : other ≡ fault = handed in
+    cc
+
+pub met_none_at : (told : Result Unit RunFault) (done : Unit) (met : Option ReadFault) → IfSome met (λ failed. IsErrOf told (run_fault_of failed)) → told ≡ Ok done → IfSome met (λ failed. ⊥)
+met_none_at told done None known is = tt
+met_none_at told done (Some failed) known is =
+    let same : told ≡ Err (run_fault_of failed) = known in
+    absurd (cc)
+
+-- A text that goes on past its limit isn't read whole.
+
+pub fault_not_whole : {Stop : Type 0} (fault : RunFault) (answer : Result (Option Stop) RunFault) → IsErrAnd answer (λ other. other ≡ fault) → answer ≡ Ok None → ⊥
+fault_not_whole fault (Ok stop) handed is = handed
+fault_not_whole fault (Err other) handed is = absurd (cc)
+
+-- A stop is one of those that there are.
+pub is_stop : {Row Stop : Type 0} (Has : List Row → Type 0) (Stops : List Row → List Row → Stop → Type 0) (rows later : List Row) (answer : Option Stop) (stop : Stop) → HasTaken Has Stops rows later answer → answer ≡ Some stop → IsStop Stops stop
+is_stop Has Stops rows later answer stop taken is = (rows, later, subst (λ a. HasTaken Has Stops rows later a) is taken)
+
+-- no stop is answered with a fault
+pub fault_no_stop : {Stop : Type 0} (P : Stop → Type 0) (fault : RunFault) (answer : Result (Option Stop) RunFault) → IsErrAnd answer (λ other. other ≡ fault) → IfOk answer (λ stop. IfSome stop P)
+fault_no_stop P fault (Ok stop) handed = absurd handed
+fault_no_stop P fault (Err other) handed = tt

@@ -1,7 +1,7 @@
 -- What the verdict is, by how the reading of rows ended.
-use Rattle.std.proofs.Common.{arith, ap, sym, subst, ◌∙◌, ◌≡◌, ◌+◌, ℕ, List, ◌∷◌, ◌++◌, Option, Result, Ok, Err, length, length-append, append_assoc}
+use Rattle.std.proofs.Common.{arith, ap, sym, subst, ◌∙◌, ◌≡◌, ◌+◌, ℕ, List, ◌∷◌, ◌++◌, ◌≢◌, Option, Some, None, Result, Ok, Err, length, length-append, append_assoc}
 use Rattle.std.proofs.lemmas.List.{append-nil}
-use Rattle.std.specs.Prelude.{IfErr, IfOk, IsErrAnd}
+use Rattle.std.specs.Prelude.{IfErr, IfOk, IfSome, IsErrAnd}
 use Rattle.std.specs.Result.{result_err}
 use Rattle.mdb_words.specs.declared.event.Event.{Event}
 use Rattle.mdb_words.specs.Row.{IsRefusal, IsRow}
@@ -15,8 +15,9 @@ use Rattle.mdb_text.specs.declared.outcome.Outcome.{Outcome}
 use Rattle.mdb_text.specs.declared.outcome.Outcome.TheVariants.{Yes, No}
 use Rattle.mdb_verdict.specs.declared.fault.RunFault.{RunFault}
 use Rattle.mdb_verdict.specs.declared.fault.RunFault.TheVariants.{BadRow, TooLong, Read, Write, Memory, Mark}
-use Rattle.mdb_verdict.specs.Ending.{AreRead, HasEnded, HasFollowed, HasTaken, IsStopped, IsTakenWhole}
-use Rattle.mdb_verdict.specs.Verdict.{AreRows, IsAnswer, IsImpossible, IsYes}
+use Rattle.mdb_records.specs.declared.ReadFault.{ReadFault}
+use Rattle.mdb_verdict.specs.Ending.{AreRead, HasEnded, HasFollowed, HasTaken, IsHeard, IsStopped, IsTakenWhole, IsToldEnd}
+use Rattle.mdb_verdict.specs.Verdict.{AreRows, HasMet, IsAnswer, IsImpossible, IsNoYes, IsToldAs, IsYes, run_fault_of}
 use Rattle.mdb_verdict.proofs.Rows.{IsReadUpTo, are_rows, read_up_to}
 use Rattle.mdb_bus.specs.declared.scope.Scope.{Scope}
 
@@ -100,3 +101,58 @@ refused scope reaches limit all follower Stops fault ended (Ok outcome) handed =
 refused scope reaches limit all follower Stops fault ended (Err other) handed =
     let P : RunFault → Type 0 = λ f. IsAnswer scope limit all (Err f) in
     subst P (sym handed) (refused_by scope reaches limit all follower Stops fault ended)
+
+-- What a reading of rows heard and met is told as the verdict is.
+
+-- a fault is handed on
+pub no_yes : (fault : RunFault) (answer : Result Outcome RunFault) → IsErrAnd answer (λ other. other ≡ fault) → IsNoYes answer
+no_yes fault (Ok outcome) handed = absurd handed
+no_yes fault (Err other) handed = tt
+
+met_by : (met : Option ReadFault) (fault : RunFault) → IsHeard met fault → HasMet met fault
+met_by met (BadRow row refused) heard = tt
+met_by met TooLong heard = tt
+met_by met Read heard = heard
+met_by met Write heard = tt
+met_by met Memory heard = heard
+met_by met (Mark row) heard = tt
+
+pub heard : {Stop : Type 0} (told : Result (Option Stop) RunFault) (fault : RunFault) (met : Option ReadFault) → IfErr told (IsHeard met) → told ≡ Err fault → (answer : Result Outcome RunFault) → IsErrAnd answer (λ other. other ≡ fault) → IfErr answer (HasMet met)
+heard told fault met known is (Ok outcome) handed = absurd handed
+heard told fault met known is (Err other) handed = subst (HasMet met) (sym handed) (met_by met fault (subst (λ t. IfErr t (IsHeard met)) is known))
+
+no_write : (met : Option ReadFault) → IsHeard met Write → ⊥
+no_write met heard = heard
+
+pub not_write : {Stop : Type 0} (told : Result (Option Stop) RunFault) (fault : RunFault) (met : Option ReadFault) → IfErr told (IsHeard met) → told ≡ Err fault → (answer : Result Outcome RunFault) → IsErrAnd answer (λ other. other ≡ fault) → IfErr answer (λ other. other ≢ Write)
+not_write told fault met known is (Ok outcome) handed = absurd handed
+not_write told fault met known is (Err other) handed = λ writes. no_write met (subst (IsHeard met) (sym handed ∙ writes) (subst (λ t. IfErr t (IsHeard met)) is known))
+
+pub met_refused : {Stop : Type 0} (told : Result (Option Stop) RunFault) (fault : RunFault) (met : Option ReadFault) → IfSome met (λ failed. IsToldEnd failed told) → told ≡ Err fault → (answer : Result Outcome RunFault) → IsErrAnd answer (λ other. other ≡ fault)
+    → IfSome met (λ failed. IsToldAs failed answer)
+met_refused told fault met known is (Ok outcome) handed = absurd handed
+met_refused told fault met known is (Err other) handed = subst (λ f. IfSome met (λ failed. f ≡ run_fault_of failed)) (sym handed) (subst (λ t. IfSome met (λ failed. IsToldEnd failed t)) is known)
+
+-- none was met where all rows were read
+pub met_whole : {Stop : Type 0} (told : Result (Option Stop) RunFault) (stop : Option Stop) (met : Option ReadFault) (outcome : Outcome) → IfSome met (λ failed. IsToldEnd failed told) → told ≡ Ok stop → stop ≡ None → IfSome met (λ failed. IsToldAs failed (Ok outcome))
+met_whole {Stop = Stop} told stop None outcome known is none = tt
+met_whole {Stop = Stop} told stop (Some failed) outcome known is none = absurd (subst (λ (t : Result (Option Stop) RunFault). IsToldEnd failed t) (is ∙ ap Ok none) known)
+
+-- a row that cannot be is told before any
+pub met_no : (met : Option ReadFault) (offence : Offence) → IfSome met (λ failed. IsToldAs failed (Ok (No offence)))
+met_no None offence = tt
+met_no (Some failed) offence = tt
+
+-- and one of a verdict, where its text is written
+
+pub handed_on : (told answer : Result Outcome RunFault) (fault : RunFault) → told ≡ Err fault → IsErrAnd answer (λ other. other ≡ fault) → told ≡ answer
+handed_on told (Ok outcome) fault is on = absurd on
+handed_on told (Err other) fault is on = is ∙ ap Err (sym on)
+
+pub no_ok : (P : Outcome → Type 0) (answer : Result Outcome RunFault) (fault : RunFault) → IsErrAnd answer (λ other. other ≡ fault) → IfOk answer P
+no_ok P (Ok outcome) fault on = absurd on
+no_ok P (Err other) fault on = tt
+
+pub write_answers : (scope : Scope) (limit : ℕ) (all : List (List (List ℕ))) (answer : Result Outcome RunFault) (fault : RunFault) → fault ≡ Write → IsErrAnd answer (λ other. other ≡ fault) → IsAnswer scope limit all answer
+write_answers scope limit all (Ok outcome) fault is on = absurd on
+write_answers scope limit all (Err other) fault is on = subst (λ f. IsAnswer scope limit all (Err f)) (sym (on ∙ is)) tt

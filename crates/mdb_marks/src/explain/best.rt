@@ -13,7 +13,7 @@ use mdb_cash::{Choice, Gains};
 use mdb_follow::{AccountSide, Bound};
 
 /// What the gains of a device count for a goal: less is always better.
-#[derive(Clone, Copy, PartialEq, Eq, Debug)]
+#[derive(Clone, Copy)]
 pub(crate) enum Weight {
     /// Nothing: the goal is of another device.
     Nothing,
@@ -78,7 +78,7 @@ pub(crate) fn marks_of(choice: Choice) -> u64
 }
 
 /// The best way to a state: what the sums count there, how many marks it has, and these.
-#[derive(Clone, Copy, PartialEq, Eq, Debug)]
+#[derive(Clone, Copy)]
 pub(crate) struct Best {
     pub(crate) value: i64,
     pub(crate) marks: u64,

@@ -10,7 +10,7 @@ use mdb_cash::Choice;
 use std::alloc::{AllocError, Global};
 
 /// A mark with its row, and the chain that it goes on from.
-#[derive(Clone, Copy, PartialEq, Eq, Debug)]
+#[derive(Clone, Copy)]
 pub(crate) struct Link {
     row: u64,
     mark: Mark,
@@ -18,7 +18,7 @@ pub(crate) struct Link {
 }
 
 /// A list of marks in `Chains`: 0 is no mark, and n + 1 ends with link n.
-#[derive(Clone, Copy, PartialEq, Eq, Debug)]
+#[derive(Clone, Copy)]
 pub(crate) struct Chain {
     at: usize,
 }

@@ -1,6 +1,5 @@
 use Rattle.std.proofs.Common.{◌≡◌, refl, sym, ◌∙◌}
 use Rattle.mdb_cash.proofs.Knowing.{only_open, reply_open, settled_steps, small_more, small_none}
-use Rattle.mdb_cash.proofs.Sizes.{facts_fit, steps_fit}
 use Rattle.mdb_cash.proofs.conduct.steps.Goals as goal
 
 pub returns-then-settles-clause-steps : goal.returns-then-settles-clause-steps
@@ -14,20 +13,6 @@ pub returns-then-settles-clause-small : goal.returns-then-settles-clause-small
 returns-then-settles-clause-small g c =
     small_more c.new-steps.result.items c.add_step.new.steps.items c.step.result c.add_step.ensures.items
     (small_none c.new-steps.result.items c.new-steps.ensures) c.step.ensures.small
-
-pub steps_replying-requires : goal.steps_replying-requires
-steps_replying-requires g c = (
-  facts_fit g.row.K-Setup g.row.K-Asked g.row.K-Kept g.met.K.Keeper.small_setup g.met.K.Keeper.small_asked
-      g.met.K.Keeper.few_bytes,
-  (
-    steps_fit g.row.K-State g.met.K.Conduct.small_state,
-    (
-      (c.in-Reply.field-0, c.in-Reply.is),
-      reply_open g.K.Keeper.tables c.args.known.now.knows_asked c.args.known.now.knows_kept c.in-Reply.is
-          (sym c.settles.ensures ∙ c.if-settles.false),
-    ),
-  ),
-)
 
 pub unreachable-requires : goal.unreachable-requires
 unreachable-requires g c =

@@ -3,6 +3,24 @@ use Rattle.mdb_import.proofs.Readings.{long_why, no_form, no_time, no_unit, time
 use Rattle.mdb_import.proofs.Readings.{time_only}
 use Rattle.mdb_import.proofs.times.read_time.Goals as goal
 
+pub returns-in-Some-clause-ok : goal.returns-in-Some-clause-ok
+returns-in-Some-clause-ok c =
+    time_ok c.time_of.result c.args.unit c.args.field.now c.in-Some.clock.count _
+    c.micros_of.result (inr (c.in-Some.clock.places, c.in-Some.ensures.some, refl))
+    c.micros_of.ensures c.time_of.ensures.ok
+
+pub returns-clause-ok : goal.returns-clause-ok
+returns-clause-ok c =
+    time_ok c.time_of-2.result c.args.unit c.args.field.now c.in-Some-read_number.number.count _
+    c.micros_of-2.result (inl (
+      c.in-Some-unit.used,
+      c.in-Some-read_number.number.places,
+      c.in-Some-unit.is,
+      c.in-Some-read_number.ensures.some,
+      refl,
+    )) c.micros_of-2.ensures
+    c.time_of-2.ensures.ok
+
 pub returns-in-Some-clause-err : goal.returns-in-Some-clause-err
 returns-in-Some-clause-err c =
     time_err c.time_of.result c.args.unit c.args.field.now c.in-Some.clock.count _

@@ -1,5 +1,10 @@
-use Rattle.std.proofs.Common.{◌∙◌, subst}
+use Rattle.std.proofs.Common.{◌∙◌, ◌≢◌, refl, subst}
+use Rattle.std.specs.Prelude.{IfErr}
+use Rattle.std.specs.Io.KnownBytes.{Appends}
+use Rattle.mdb_verdict.specs.declared.fault.RunFault.TheVariants.{Write}
+use Rattle.mdb_verdict.specs.Verdict.{IsAnswer, IsNoYes}
 use Rattle.mdb_verdict.specs.Written.{HasTaken}
+use Rattle.mdb_verdict.proofs.Verdicts as verdicts
 use Rattle.mdb_verdict.proofs.verdict.check_records.Goals as goal
 
 pub returns-clause-headline : goal.returns-clause-headline
@@ -13,3 +18,44 @@ returns-in_err-write_text-clause-cut g c all to_come refused =
       is = c.in_ok-outcome.ensures.answer all to_come;
       taken = subst (HasTaken (held c.args.writer.now) (held c.write_text.new.writer)) (c.as_slice.ensures.value ∙ c.in-Ok.ensures) c.write_text.ensures.front;
     }
+
+pub returns-in_err-outcome-clause-answer : goal.returns-in_err-outcome-clause-answer
+returns-in_err-outcome-clause-answer g c all to_come =
+    subst (λ r. IsAnswer c.args.scope.now c.args.rows_max all r) (verdicts.handed_on c.verdict_on.result c.from_residual.result c.in_err-outcome.field-0.0 c.in_err-outcome.was c.from_residual.ensures.1) (c.verdict_on.ensures.answer all to_come)
+
+pub returns-in_err-outcome-clause-headline : goal.returns-in_err-outcome-clause-headline
+returns-in_err-outcome-clause-headline g c all to_come = verdicts.no_ok _ c.from_residual.result c.in_err-outcome.field-0.0 c.from_residual.ensures.1
+
+pub returns-in_err-outcome-clause-whole : goal.returns-in_err-outcome-clause-whole
+returns-in_err-outcome-clause-whole g c over = verdicts.no_yes c.in_err-outcome.field-0.0 c.from_residual.result c.from_residual.ensures.1
+
+pub returns-in_err-outcome-clause-written : goal.returns-in_err-outcome-clause-written
+returns-in_err-outcome-clause-written g c = verdicts.no_ok _ c.from_residual.result c.in_err-outcome.field-0.0 c.from_residual.ensures.1
+
+pub returns-in_err-outcome-clause-cut : goal.returns-in_err-outcome-clause-cut
+returns-in_err-outcome-clause-cut g c all to_come is =
+    absurd (subst (λ r. IfErr r (λ f. f ≢ Write)) (verdicts.handed_on c.verdict_on.result c.from_residual.result c.in_err-outcome.field-0.0 c.in_err-outcome.was c.from_residual.ensures.1 ∙ is) c.verdict_on.ensures.not_write refl)
+
+pub returns-in_err-write_text-clause-answer : goal.returns-in_err-write_text-clause-answer
+returns-in_err-write_text-clause-answer g c all to_come =
+    verdicts.write_answers c.args.scope.now c.args.rows_max all c.from_residual-in_err-write_text.result c.in_err-write_text.field-0.0 c.in_err-write_text.ensures.refused c.from_residual-in_err-write_text.ensures.1
+
+pub returns-in_err-write_text-clause-headline : goal.returns-in_err-write_text-clause-headline
+returns-in_err-write_text-clause-headline g c all to_come = verdicts.no_ok _ c.from_residual-in_err-write_text.result c.in_err-write_text.field-0.0 c.from_residual-in_err-write_text.ensures.1
+
+pub returns-in_err-write_text-clause-whole : goal.returns-in_err-write_text-clause-whole
+returns-in_err-write_text-clause-whole g c over = verdicts.no_yes c.in_err-write_text.field-0.0 c.from_residual-in_err-write_text.result c.from_residual-in_err-write_text.ensures.1
+
+pub returns-in_err-write_text-clause-written : goal.returns-in_err-write_text-clause-written
+returns-in_err-write_text-clause-written g c = verdicts.no_ok _ c.from_residual-in_err-write_text.result c.in_err-write_text.field-0.0 c.from_residual-in_err-write_text.ensures.1
+
+pub returns-clause-answer : goal.returns-clause-answer
+returns-clause-answer g c = c.in_ok-outcome.ensures.answer
+
+pub returns-clause-whole : goal.returns-clause-whole
+returns-clause-whole g c over = subst IsNoYes c.in_ok-outcome.was (c.verdict_on.ensures.whole over)
+
+pub returns-clause-written : goal.returns-clause-written
+returns-clause-written g c =
+    let held = g.W.Write.contents in
+    subst (Appends (held c.args.writer.now) (held c.write_text.new.writer)) (c.as_slice.ensures.value ∙ c.in-Ok.ensures) c.in_ok-write_text.ensures.whole

@@ -1,5 +1,5 @@
-use Rattle.std.proofs.Common.{subst, sym, ◌∙◌, [], ◌∷◌, ◌++◌, List, take}
-use Rattle.std.proofs.lemmas.List.{take_more}
+use Rattle.std.proofs.Common.{ap, arith, length-take, subst, sym, ◌∙◌, [], ◌∷◌, ◌++◌, List, take}
+use Rattle.std.proofs.lemmas.List.{take_all, take_more}
 use Rattle.mdb_words.specs.declared.event.Event.{Event}
 use Rattle.mdb_follow.specs.Runs.{IsReached}
 use Rattle.mdb_marks.specs.inner.Seekers.{IsSeeker}
@@ -32,3 +32,31 @@ loop-event-preserved c =
           (c.in_ok-take.ensures.on (take i events) c.loop-event.invariant.on));
       scope = c.take.ensures.scope ∙ c.loop-event.invariant.scope;
     }
+
+pub loop-event-init : goal.loop-event-init
+loop-event-init c = record {
+  on = c.in_ok-seeker.ensures.stands c.args.goal.now;
+  scope = c.in_ok-seeker.ensures.scope;
+}
+
+pub take-requires-clause-begins : goal.take-requires-clause-begins
+take-requires-clause-begins c = ap (λ s. s.begins) c.loop-event.invariant.scope ∙ c.requires.begins
+
+pub take-requires-clause-room : goal.take-requires-clause-room
+take-requires-clause-room c =
+    omega (
+      arith,
+      c.loop-event.invariant.on.rows,
+      length-take c.loop-event.event-index c.args.events.now,
+      c.loop-event-test.true,
+      c.requires.few,
+    )
+
+pub returns-clause-stands : goal.returns-clause-stands
+returns-clause-stands c =
+    subst (λ (es : List Event). IsSeeker c.args.goal.now es c.loop-event.seeker)
+    (take_all c.loop-event.event-index c.args.events.now c.loop-event-test.false)
+    c.loop-event.invariant.on
+
+pub returns-clause-scope : goal.returns-clause-scope
+returns-clause-scope c = c.loop-event.invariant.scope

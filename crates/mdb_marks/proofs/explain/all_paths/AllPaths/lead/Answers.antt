@@ -213,3 +213,73 @@ returns-clause-within c limit are =
     (within-of 176 l0 l3 l4 l4 was.second_reader.entries.items
     c.lead-4.new.paths.entries.items k3 e4 c.in_ok-lead-4.ensures.within limit
     (are (devices.Reader Second)))
+
+pub returns-in_err-lead-clause-kept : goal.returns-in_err-lead-clause-kept
+returns-in_err-lead-clause-kept c =
+    c.lead.ensures.kept
+
+pub returns-then-not-branch-clause-kept : goal.returns-then-not-branch-clause-kept
+returns-then-not-branch-clause-kept c =
+    c.lead.ensures.kept
+
+pub returns-in_err-lead-2-clause-kept : goal.returns-in_err-lead-2-clause-kept
+returns-in_err-lead-2-clause-kept c =
+    let l0 = c.args.self.now.chains.links.items in
+    let l1 = c.lead.new.chains.links.items in
+    let l2 = c.lead-2.new.chains.links.items in
+    keep-then l0 l1 l2 c.lead.ensures.kept c.lead-2.ensures.kept
+
+pub returns-then-not-branch-2-clause-kept : goal.returns-then-not-branch-2-clause-kept
+returns-then-not-branch-2-clause-kept c =
+    let l0 = c.args.self.now.chains.links.items in
+    let l1 = c.lead.new.chains.links.items in
+    let l2 = c.lead-2.new.chains.links.items in
+    keep-then l0 l1 l2 c.lead.ensures.kept c.lead-2.ensures.kept
+
+pub returns-in_err-lead-3-clause-kept : goal.returns-in_err-lead-3-clause-kept
+returns-in_err-lead-3-clause-kept c =
+    let l0 = c.args.self.now.chains.links.items in
+    let l1 = c.lead.new.chains.links.items in
+    let l2 = c.lead-2.new.chains.links.items in
+    let l3 = c.lead-3.new.chains.links.items in
+    keep-then l0 l2 l3 (keep-then l0 l1 l2 c.lead.ensures.kept c.lead-2.ensures.kept)
+    c.lead-3.ensures.kept
+
+pub returns-then-not-branch-3-clause-kept : goal.returns-then-not-branch-3-clause-kept
+returns-then-not-branch-3-clause-kept c =
+    let l0 = c.args.self.now.chains.links.items in
+    let l1 = c.lead.new.chains.links.items in
+    let l2 = c.lead-2.new.chains.links.items in
+    let l3 = c.lead-3.new.chains.links.items in
+    keep-then l0 l2 l3 (keep-then l0 l1 l2 c.lead.ensures.kept c.lead-2.ensures.kept)
+    c.lead-3.ensures.kept
+
+pub returns-in_err-lead-4-clause-kept : goal.returns-in_err-lead-4-clause-kept
+returns-in_err-lead-4-clause-kept c =
+    let l0 = c.args.self.now.chains.links.items in
+    let l1 = c.lead.new.chains.links.items in
+    let l2 = c.lead-2.new.chains.links.items in
+    let l3 = c.lead-3.new.chains.links.items in
+    let l4 = c.lead-4.new.chains.links.items in
+    keep-then l0 l3 l4 (keep-then l0 l2 l3 (keep-then l0 l1 l2 c.lead.ensures.kept
+    c.lead-2.ensures.kept) c.lead-3.ensures.kept) c.lead-4.ensures.kept
+
+pub returns-then-not-branch-4-clause-kept : goal.returns-then-not-branch-4-clause-kept
+returns-then-not-branch-4-clause-kept c =
+    let l0 = c.args.self.now.chains.links.items in
+    let l1 = c.lead.new.chains.links.items in
+    let l2 = c.lead-2.new.chains.links.items in
+    let l3 = c.lead-3.new.chains.links.items in
+    let l4 = c.lead-4.new.chains.links.items in
+    keep-then l0 l3 l4 (keep-then l0 l2 l3 (keep-then l0 l1 l2 c.lead.ensures.kept
+    c.lead-2.ensures.kept) c.lead-3.ensures.kept) c.lead-4.ensures.kept
+
+pub returns-clause-kept : goal.returns-clause-kept
+returns-clause-kept c =
+    let l0 = c.args.self.now.chains.links.items in
+    let l1 = c.lead.new.chains.links.items in
+    let l2 = c.lead-2.new.chains.links.items in
+    let l3 = c.lead-3.new.chains.links.items in
+    let l4 = c.lead-4.new.chains.links.items in
+    keep-then l0 l3 l4 (keep-then l0 l2 l3 (keep-then l0 l1 l2 c.lead.ensures.kept
+    c.lead-2.ensures.kept) c.lead-3.ensures.kept) c.lead-4.ensures.kept

@@ -1,0 +1,34 @@
+use Rattle.std.proofs.Common.{ap, codes, ◌∙◌}
+use Rattle.clap.specs.Words.{app_of, with_rule}
+use Rattle.clap.specs.declared.builder.command.Command.TheViews.{out-Command}
+use Rattle.mdb_check.specs.inner.CommandLine.{flag_rule, option_rule}
+use Rattle.mdb_check.proofs.AddedOptions.{and_rule, made_as, none_made}
+use Rattle.mdb_check.proofs.command_line.check_command.Goals as goal
+
+pub returns-in_err-with_setup-clause-app : goal.returns-in_err-with_setup-clause-app
+returns-in_err-with_setup-clause-app c = none_made c.from_residual.result _ c.from_residual.ensures.0
+
+pub returns-in_err-with_setup-clause-local : goal.returns-in_err-with_setup-clause-local
+returns-in_err-with_setup-clause-local c = none_made c.from_residual.result _ c.from_residual.ensures.0
+
+pub returns-in_err-with_both-clause-app : goal.returns-in_err-with_both-clause-app
+returns-in_err-with_both-clause-app c = none_made c.from_residual-in_err-with_both.result _ c.from_residual-in_err-with_both.ensures.0
+
+pub returns-in_err-with_both-clause-local : goal.returns-in_err-with_both-clause-local
+returns-in_err-with_both-clause-local c = none_made c.from_residual-in_err-with_both.result _ c.from_residual-in_err-with_both.ensures.0
+
+pub returns-in_err-with_joined-clause-app : goal.returns-in_err-with_joined-clause-app
+returns-in_err-with_joined-clause-app c = none_made c.from_residual-in_err-with_joined.result _ c.from_residual-in_err-with_joined.ensures.0
+
+pub returns-in_err-with_joined-clause-local : goal.returns-in_err-with_joined-clause-local
+returns-in_err-with_joined-clause-local c = none_made c.from_residual-in_err-with_joined.result _ c.from_residual-in_err-with_joined.ensures.0
+
+pub returns-clause-app : goal.returns-clause-app
+returns-clause-app c =
+    made_as c.add_flag-2.result app_of c.add_flag-2.ensures.app
+    (ap (λ app. with_rule app (flag_rule (codes "json"))) (and_rule (flag_rule (codes "joined")) c.in_ok-with_joined.ensures.app (and_rule (option_rule (codes "without")) c.in_ok-with_both.ensures.app (and_rule (option_rule (codes "setup")) c.in_ok-with_setup.ensures.app c.new-bare.ensures.app))))
+
+pub returns-clause-local : goal.returns-clause-local
+returns-clause-local c =
+    made_as c.add_flag-2.result (λ command. (out-Command command).has_globals) c.add_flag-2.ensures.local
+    (c.in_ok-with_joined.ensures.local ∙ c.in_ok-with_both.ensures.local ∙ c.in_ok-with_setup.ensures.local ∙ c.new-bare.ensures.local)
