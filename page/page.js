@@ -232,7 +232,8 @@ function show(it) {
   const parts = [];
   showVerdict(it);
   if (it.lines.length) parts.push(faultSection(it));
-  if (it.answer === ANSWERS.YES) parts.push(moneySection(it), devicesSection(it));
+  if (it.answer === ANSWERS.YES) parts.push(moneySection(it.report), devicesSection(it.report));
+  if (it.before && it.row > 1) parts.push(beforeSection(it));
   if (it.listed) parts.push(timeSection(it), tellSection(it), actsSection(it));
   parts.push(textSection(it));
   by("told").replaceChildren(...parts);
@@ -244,7 +245,7 @@ const number = (n) => String(n).replace(/\B(?=(\d{3})+$)/g, ",");
 
 function figures(it) {
   const s = (ms) => (ms / 1000).toFixed(2) + " s";
-  return `${number(it.size)} bytes, read in ${s(it.ms.read)}, checked in ${s(it.ms.check)}, acts listed in ${s(it.ms.list)}, shown after ${s(it.ms.all)}; ${number(Math.round(it.memory / 1048576))} MB of memory.`;
+  return `${number(it.size)} bytes, read in ${s(it.ms.read)}, checked in ${s(it.ms.check)}${it.before ? `, the rows before row ${number(it.row)} in ${s(it.ms.before)}` : ""}, acts listed in ${s(it.ms.list)}, shown after ${s(it.ms.all)}; ${number(Math.round(it.memory / 1048576))} MB of memory.`;
 }
 
 function wayWords(it) {
@@ -269,7 +270,8 @@ function showVerdict(it) {
   } else if (it.answer === ANSWERS.NO) {
     card.className = "card no";
     inner.push(h("p", { class: "word" }, `No: row ${number(r.row)} cannot be`));
-    inner.push(h("p", {}, `It breaks the rule ${r.rule}, and ${BLAMES[r.blame]} sent it (blame: ${r.blame}). All rows before it are possible together; what comes after it isn't judged.`));
+    if (r.rule !== "Profile" && r.blame !== "other" && it.row > 3 && !isPerhapsLate(it)) inner.push(h("p", {}, h("strong", {}, `${capital(BLAMES[r.blame])} broke the protocol here`), ", if the file is what was said: every word of both lines, in microseconds, the lines the right way round, and taken as below. So look at the recorder first. The rows around it, what was said up to there and what the rule means follow."));
+    inner.push(h("p", {}, `The row breaks the rule ${r.rule}, and ${BLAMES[r.blame]} sent it (blame: ${r.blame}). All rows before it are possible together; what comes after it isn't judged.`));
     if (r.rule === "Profile") inner.push(h("p", {}, "This rule is about the checker's limits, and shows no fault of anybody."));
     if (isPerhapsLate(it)) inner.push(h("p", {}, h("strong", {}, "Was the machine running already when the recording began?"), " No reset of a device stands before this row. If so, blame nobody for this: ", h("button", { type: "button", class: "noprint", onclick: () => { by("joined").checked = true; by("ways").open = true; showWay(); run(); } }, "Check as one that was running")));
   } else if (it.answer === ANSWERS.BAD_ROW) {
@@ -331,20 +333,41 @@ function faultSection(it) {
   inner.push(table("The row with its neighbours: TIME in microseconds, LINE, VALUE", [["row", "number"], ["as it stands in the file"], [""], ["sender", "wide"]], rows));
   if (it.answer === ANSWERS.NO) {
     const rule = RULES[r.rule];
+    inner.push(gap(it), ...saidUpTo(it));
     const part = (title, paragraphs) => [h("h3", {}, title), paragraphs.filter((p) => !p.startsWith("• ")).map((p) => h("p", {}, p)), paragraphs.some((p) => p.startsWith("• ")) ? h("ul", {}, paragraphs.filter((p) => p.startsWith("• ")).map((p) => h("li", {}, p.slice(2)))) : null].flat();
     inner.push(h("div", { id: "rule" }, part(`What the rule ${r.rule} means`, rule.bench), part("What such a row is", rule.row), part(`Who is to blame: ${BLAMES[r.blame]}`, rule.blame), part("Where to look", rule.look)));
     if (it.row <= 3 && ["Order", "Early", "Spacing"].includes(r.rule)) inner.push(h("p", {}, h("strong", {}, "Is the unit microseconds?"), " Where the first no stands in one of the first rows, it is mostly the file: whole seconds are Order, milliseconds Early, nanoseconds and tenths of a microsecond Spacing, and nobody is to blame."));
     if (it.row === 1 && ["Speaker", "Mode"].includes(r.rule)) inner.push(h("p", {}, h("strong", {}, "In row 1"), " it is noise before the first block, a start inside a block, exchanged lines, or a recorder without a ninth bit."));
     if (["Changer", "Bill", "Cashless"].includes(r.rule) && !it.way.bytes[0]) inner.push(h("p", {}, h("strong", {}, "Did the recording begin at power-on?"), " If the machine was running already, tick so under “How the recording is taken”, and check again."));
     if (r.rule === "Profile") inner.push(leaveOut(it));
-    const at = actAtRow(it, it.row);
-    if (at >= 0) inner.push(h("p", { class: "noprint" }, h("button", { type: "button", onclick: () => jumpTo(it, at) }, "Show it among the acts")));
   }
   return section(it.answer === 1 ? "The row that cannot be" : "Where the reading ended", "fault", ...inner);
 }
 
+// How long after the row before it the row that cannot be starts.
+function gap(it) {
+  const [before, here] = [it.row - 1, it.row].map((row) => Number(/^(\d+),/.exec(shown(it.lines.find((l) => l.row === row) ?? { bytes: [] }))?.[1] ?? NaN));
+  return Number.isNaN(here - before) ? null : h("p", {}, `Row ${number(it.row)} starts ${number(here - before).replace("-", "−")} microseconds after the start of row ${number(it.row - 1)}.`);
+}
+
+// The last acts up to the row that cannot be.
+function saidUpTo(it) {
+  const at = actAtRow(it, it.row), rows = [];
+  for (let i = Math.max(0, at - 7); i <= at; i++) rows.push(actRow(it, i));
+  if (!rows.length) return [];
+  if (it.hole >= 0 && at === it.hole && it.list.first(at) > it.row) return [h("p", {}, "What was said there isn't listed, since the recording is so long.")];
+  const isThere = it.list.first(at) <= it.row && it.list.last(at) >= it.row;
+  return [
+    h("div", { class: "scroll", id: "said" }, h("table", {}, h("caption", {}, "What was said up to there, in words"),
+      h("thead", {}, h("tr", {}, ACT_HEADS.map(([words, kind]) => h("th", { scope: "col", class: kind }, words)))), h("tbody", {}, rows))),
+    isThere ? h("p", { class: "noprint" }, h("button", { type: "button", onclick: () => jumpTo(it, at) }, "Show it among the acts"))
+      : h("p", { class: "soft" }, "The row belongs to none of these: where a rule of the single words is broken, nothing is read from there on."),
+  ];
+}
+
 // ---- money ----
 
+const capital = (words) => words[0].toUpperCase() + words.slice(1);
 const small = (words) => words[0].toLowerCase() + words.slice(1);
 const isZero = (a) => [...a.device, ...a.controller, ...a.difference].every((n) => n === 0n);
 
@@ -352,8 +375,8 @@ function rangeWords([least, greatest], d) {
   return least === greatest ? money(least, d) : `${money(least, d)} to ${money(greatest, d)}`;
 }
 
-function sentences(name, a, d) {
-  const { owner, did, counted } = ACCOUNTS[name], m = (n) => money(n, d), abs = (n) => n < 0n ? -n : n, out = [];
+function sentences(name, a, d, isCut) {
+  const { owner, did, counted } = ACCOUNTS[name], so = isCut ? "up to there" : "whatever was lost on the way", m = (n) => money(n, d), abs = (n) => n < 0n ? -n : n, out = [];
   const sure = (what, [least, greatest]) => least === greatest
     ? `${what} ${m(least)}. That is certain, whatever was lost on the way.`
     : `${what} between ${m(least)} and ${m(greatest)}. Which of these isn't certain: it depends on what was received, and no recorder hears that.`;
@@ -363,8 +386,8 @@ function sentences(name, a, d) {
   const side = (n) => n < 0n ? `the controller has ${m(abs(n))} more than the device` : n > 0n ? `the device has ${m(n)} more than the controller` : "both have the same";
   if (low === 0n && high === 0n) out.push("The two books agree. That is certain.");
   else if (low <= 0n && high >= 0n) out.push(`The two books may agree: this is no evidence against anybody. At one end ${side(low)}, at the other ${side(high)}.`);
-  else if (low === high) out.push(`The two books differ, whatever was lost on the way: ${side(low)}.`);
-  else out.push(`The two books differ, whatever was lost on the way: between ${m(abs(low))} and ${m(abs(high))}; ${low < 0n ? "the controller has more than the device" : "the device has more than the controller"}.`);
+  else if (low === high) out.push(`The two books differ, ${so}: ${side(low)}.`);
+  else out.push(`The two books differ, ${so}: between ${m(abs(low))} and ${m(abs(high))}; ${low < 0n ? "the controller has more than the device" : "the device has more than the controller"}.`);
   return out;
 }
 
@@ -393,8 +416,9 @@ function bars(name, a, d) {
   return made;
 }
 
-function moneySection(it) {
-  const r = it.report, shownAccounts = [], silent = [];
+// The accounts of a report on what is explained: those with values, and a line on the others.
+function accounts(r, explained, isCut) {
+  const shownAccounts = [], silent = [];
   for (const [name, a] of Object.entries(r.accounts)) {
     const { device, title } = ACCOUNTS[name], d = r.decimals[device];
     if (isZero(a) && d === null) { silent.push(name); continue; }
@@ -405,22 +429,31 @@ function moneySection(it) {
       h("h3", {}, title, " ", h("code", { class: "soft" }, name)),
       h("table", { "aria-label": title }, h("thead", {}, h("tr", {}, h("td", {}), h("th", { scope: "col", class: "number" }, "at least"), h("th", { scope: "col", class: "number" }, "at most"))), h("tbody", {}, rows)),
       isZero(a) ? null : bars(name, a, d),
-      isZero(a) ? h("p", {}, r.unvalued?.[device] ? "Nothing that has a value was told of it." : "Nothing was told of it, and nothing was counted.") : sentences(name, a, d).map((words) => h("p", {}, words)),
+      isZero(a) ? h("p", {}, r.unvalued?.[device] ? "Nothing that has a value was told of it." : "Nothing was told of it, and nothing was counted.") : sentences(name, a, d, isCut).map((words) => h("p", {}, words)),
       r.unvalued?.[device] ? h("p", {}, h("strong", {}, `It may lack something: ${r.unvalued[device]} amounts were told that have no value (unvalued).`)) : null));
   }
   const out = [];
-  if (shownAccounts.length) out.push(h("p", {}, "Each device and the controller keep a book each. Each end of a range is what the book says in some course of events that explains the whole recording, and no course leads beyond. The amounts of a device are in its own unit; the point stands where the device told it. Use the difference as it stands, and don't subtract the others by hand."), h("div", { class: "accounts" }, shownAccounts));
+  if (shownAccounts.length) out.push(h("p", {}, `Each device and the controller keep a book each. Each end of a range is what the book says in some course of events that explains ${explained}, and no course leads beyond. The amounts of a device are in its own unit; the point stands where the device told it. Use the difference as it stands, and don't subtract the others by hand. Where the rows end between a report and its acknowledgement, as they ${isCut ? "mostly do here" : "may"}, a difference of that report was only on its way.`), h("div", { class: "accounts" }, shownAccounts));
   if (silent.length) {
     const why = (name) => { const { device } = ACCOUNTS[name]; return r.without.includes(device) ? "left out" : "no values told"; };
     out.push(h("p", { id: "silent" }, "0 or without values: ", silent.map((name) => `${small(ACCOUNTS[name].title)} (${why(name)})`).join(", "), ". Where a device told no SETUP answer its values are unknown and count 0, whatever it did: record a whole start of the machine, or give what an earlier recording shows."));
   }
-  return section("Where the money is", "money", ...out);
+  return out;
+}
+
+function moneySection(report) { return section("Where the money is", "money", ...accounts(report, "the whole recording")); }
+
+// The accounts of the rows before the one that cannot be.
+function beforeSection(it) {
+  const rows = it.row === 2 ? "row 1" : `rows 1 to ${number(it.row - 1)}`;
+  return section("Where the money was before that row", "before",
+    h("p", {}, h("strong", {}, `These are the sums of ${rows} alone`), ", as a recording that ends there has them: they rest on what is possible. No coin, bill or sale that this row or a later one tells of is in them, whether it took place or not."),
+    ...accounts(readReport(it.before), "these rows", true));
 }
 
 // ---- devices ----
 
-function devicesSection(it) {
-  const r = it.report;
+function devicesSection(r) {
   const heads = [["device"], ["decimals", "number"], ["silences", "number"]];
   if (r.unvalued) heads.push(["unvalued", "number"]);
   heads.push([""]);
@@ -496,8 +529,8 @@ function moneyAmount(m) {
 
 function csv(it) {
   const field = (v) => /[",\r\n]/.test(String(v)) ? `"${String(v).replaceAll('"', '""')}"` : String(v);
-  const rows = [["time_us", "first_row", "last_row", "device", "what", "type_or_item", "count", "amount", "acknowledged"]];
-  for (const m of it.found.money) rows.push([m.at, it.list.first(m.act), it.list.last(m.act), DEVICES[m.device], m.what, m.type, m.count ?? 1, m.noAmount ? "" : m.units === null ? "" : money(m.units, m.decimals).replace("−", "-"), m.acknowledged ? "yes" : "no"]);
+  const rows = [["time_us", "first_row", "last_row", "device", "what", "type_or_item", "count", "amount", "acknowledged", "judged"]];
+  for (const m of it.found.money) rows.push([m.at, it.list.first(m.act), it.list.last(m.act), DEVICES[m.device], m.what, m.type, m.count ?? 1, m.noAmount ? "" : m.units === null ? "" : money(m.units, m.decimals).replace("−", "-"), m.acknowledged ? "yes" : "no", isUnjudged(it, m.act) ? "no" : isPast(it, m.act) ? "cannot be" : "possible"]);
   return rows.map((row) => row.map(field).join(",")).join("\r\n") + "\r\n";
 }
 
@@ -509,19 +542,22 @@ function save(name, text) {
 }
 
 function tellSection(it) {
-  const all = it.found.money, some = all.slice(0, MOST_MONEY);
-  const rows = some.map((m) => h("tr", {},
+  const all = it.found.money, some = all.slice(0, MOST_MONEY), isNo = it.answer === ANSWERS.NO;
+  const rows = some.map((m) => h("tr", { class: isPast(it, m.act) && !isUnjudged(it, m.act) ? "mark" : undefined },
     h("td", { class: "number" }, seconds(m.at)), h("td", { class: "rows wide" }, `${it.list.first(m.act)}–${it.list.last(m.act)}`),
     h("td", {}, DEVICE_NAMES[m.device]), h("td", {}, m.what), h("td", {}, m.type === "" ? "" : typeof m.type === "number" ? `type ${m.type}` : m.type),
-    h("td", { class: "number" }, moneyAmount(m)), h("td", {}, m.acknowledged ? "yes" : "no")));
+    h("td", { class: "number" }, moneyAmount(m)), h("td", {}, m.acknowledged ? "yes" : "no"),
+    isNo ? h("td", {}, isUnjudged(it, m.act) ? "not judged" : isPast(it, m.act) ? h("strong", {}, "this cannot be") : "possible") : null));
   if (!all.length) return section("Coins, bills and sales", "told-money", h("p", {}, "None was told."));
   return section("Coins, bills and sales", "told-money",
-    h("p", {}, `As they were told, each time that they were told. The same coin told twice stands here twice: ${it.answer === ANSWERS.YES ? "what that may come to, the ranges above say" : "and there are no sums, since one row cannot be"}.`),
-    table(`${number(all.length)} entries${all.length > some.length ? `, the first ${MOST_MONEY} of them; the saved file has all` : ""}`, [["time", "number"], ["rows", "wide"], ["device"], ["what"], ["type, item"], ["amount", "number"], ["acknowledged"]], rows),
+    h("p", {}, `As they were told, each time that they were told. The same coin told twice stands here twice: ${it.answer === ANSWERS.YES ? "what that may come to, the ranges above say" : it.before ? "what may come of what is possible, the ranges above say" : "and there are no sums, since there is no verdict"}.`),
+    table(`${number(all.length)} ${all.length === 1 ? "entry" : "entries"}${all.length > some.length ? `, the first ${MOST_MONEY} of them; the saved file has all` : ""}`, [["ends at", "number"], ["rows", "wide"], ["device"], ["what"], ["type, item"], ["amount", "number"], ["acknowledged"], ...(isNo ? [["judged"]] : [])], rows),
     h("p", { class: "noprint" }, h("button", { type: "button", id: "save", onclick: () => save("coins-bills-sales.csv", csv(it)) }, "Save as CSV")));
 }
 
 // ---- acts ----
+
+const ACT_HEADS = [["begins at", "number"], ["rows"], ["who", "wide"], ["kind", "wide"], ["in words"], ["bytes"]];
 
 function actAtRow(it, row) {
   const acts = it.list;
@@ -530,12 +566,18 @@ function actAtRow(it, row) {
   return low < acts.count ? low : acts.count - 1;
 }
 
+// Whether an act comes after the row that cannot be.
+function isUnjudged(it, i) { return it.answer === ANSWERS.NO && it.list.first(i) > it.row; }
+
+// Whether an act has the row that cannot be, or comes after it.
+function isPast(it, i) { return it.answer === ANSWERS.NO && it.list.last(i) >= it.row; }
+
 function actRow(it, i) {
   const acts = it.list, first = acts.first(i), last = acts.last(i), bad = it.answer === 1 && it.row >= first && it.row <= last;
   return h("tr", { class: bad ? "mark" : undefined },
     h("td", { class: "number" }, seconds(acts.start(i))), h("td", { class: "rows" }, first === last ? first : `${first}–${last}`),
     h("td", { class: "wide" }, speaker(acts, i)), h("td", { class: "wide" }, h("code", {}, KINDS[acts.kind(i)])),
-    h("td", {}, actWords(acts, i), bad ? h("strong", {}, ` – cannot be: ${it.report.rule}`) : null), h("td", { class: "bytes" }, acts.hex(i)));
+    h("td", {}, actWords(acts, i), bad ? h("strong", {}, ` – cannot be: ${it.report.rule}`) : isUnjudged(it, i) ? h("span", { class: "soft" }, " – not judged") : null), h("td", { class: "bytes" }, acts.hex(i)));
 }
 
 // The acts that the fields above the list find. Long lists are searched piece by piece.
@@ -562,7 +604,7 @@ function drawActs(it) {
   for (let k = it.from; k < Math.min(count, it.from + PAGE_ACTS); k++) rows.push(actRow(it, it.hits ? it.hits[k] : k));
   by("act-rows").replaceChildren(...rows);
   const cut = it.hole >= 0 ? ` The first ${number(it.hole)} and the last ${number(it.listed - it.hole)} of ${number(it.all)} are listed.` : "";
-  by("act-count").textContent = `${number(count)} acts${it.hits ? " found" : ""}${count > PAGE_ACTS ? `, ${number(it.from + 1)} to ${number(Math.min(count, it.from + PAGE_ACTS))} shown` : ""}.${cut}`;
+  by("act-count").textContent = `${number(count)} ${count === 1 ? "act" : "acts"}${it.hits ? " found" : ""}${count > PAGE_ACTS ? `, ${number(it.from + 1)} to ${number(Math.min(count, it.from + PAGE_ACTS))} shown` : ""}.${cut}`;
   by("act-back").disabled = it.from === 0;
   by("act-more").disabled = it.from + PAGE_ACTS >= count;
 }
@@ -594,7 +636,7 @@ function actsSection(it) {
       h("button", { type: "button", id: "act-back", onclick: step(-1) }, "Earlier"), h("button", { type: "button", id: "act-more", onclick: step(1) }, "Later")),
     h("p", { id: "act-count", role: "status" }),
     h("div", { class: "scroll" }, h("table", {}, h("caption", {}, "The bytes are those of the whole block, its sum at the end"),
-      h("thead", {}, h("tr", {}, [["time", "number"], ["rows"], ["who", "wide"], ["kind", "wide"], ["in words"], ["bytes"]].map(([words, kind]) => h("th", { scope: "col", class: kind }, words)))),
+      h("thead", {}, h("tr", {}, ACT_HEADS.map(([words, kind]) => h("th", { scope: "col", class: kind }, words)))),
       h("tbody", { id: "act-rows" }))));
   made.tabIndex = -1;
   if (it.answer === 1 && ["Changer", "Bill", "Cashless"].includes(it.report.rule)) made.insertBefore(h("p", { class: "soft" }, "The acts after the fault aren't judged."), made.children[1]);

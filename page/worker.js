@@ -39,6 +39,7 @@ function told() {
   return { row: u64(0), offset: u64(8), fault: u64(16), acts: u64(24) };
 }
 
+// Checks so many bytes of the text.
 function check(length) {
   return call.mdb_page_check(BigInt(at.options), BigInt(at.text), BigInt(length), BigInt(at.told), BigInt(at.answer));
 }
@@ -94,6 +95,9 @@ function judge(options) {
   const answer = check(size), end = told();
   const text = answer < 2 ? answerText() : "";
   const checked = performance.now();
+  // The rows before one that cannot be are a recording of their own, and its answer is a yes.
+  const before = answer === 1 && check(end.offset) === 0 ? answerText() : "";
+  const summed = performance.now();
   tell("Listing", 0, (checked - begin) / 2);
   const linkAnswer = list(0, at.acts, at.room), link = told();
   let listed = Math.min(link.acts, at.room);
@@ -102,10 +106,10 @@ function judge(options) {
   const acts = new Uint8Array(call.memory.buffer, at.acts, listed * ACT).slice().buffer;
   const done = performance.now();
   const stops = answer === 1 || answer === 2 || answer === 3 || answer === 4;
-  postMessage({ told: "done", answer, text, row: end.row, offset: end.offset, fault: end.fault,
+  postMessage({ told: "done", answer, text, before, row: end.row, offset: end.offset, fault: end.fault,
     lines: stops ? lines(end.offset, end.row) : [], acts, listed, all: link.acts, hole: hole ? HALF : -1,
     link: { answer: linkAnswer, row: link.row }, size,
-    ms: { read, check: checked - begin, list: done - checked }, memory: call.memory.buffer.byteLength }, [acts]);
+    ms: { read, check: checked - begin, before: summed - checked, list: done - summed }, memory: call.memory.buffer.byteLength }, [acts]);
 }
 
 onmessage = async ({ data }) => {
