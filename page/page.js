@@ -530,7 +530,7 @@ function moneyAmount(m) {
 function csv(it) {
   const field = (v) => /[",\r\n]/.test(String(v)) ? `"${String(v).replaceAll('"', '""')}"` : String(v);
   const rows = [["time_us", "first_row", "last_row", "device", "what", "type_or_item", "count", "amount", "acknowledged", "judged"]];
-  for (const m of it.found.money) rows.push([m.at, it.list.first(m.act), it.list.last(m.act), DEVICES[m.device], m.what, m.type, m.count ?? 1, m.noAmount ? "" : m.units === null ? "" : money(m.units, m.decimals).replace("−", "-"), m.acknowledged ? "yes" : "no", isUnjudged(it, m.act) ? "no" : isPast(it, m.act) ? "cannot be" : "possible"]);
+  for (const m of it.found.money) rows.push([m.at, it.list.first(m.act), it.list.last(m.act), DEVICES[m.device], m.what, m.type, m.count ?? 1, m.noAmount ? "" : m.units === null ? "" : money(m.units, m.decimals).replace("−", "-"), m.acknowledged ? "yes" : "no", it.answer > ANSWERS.NO ? "" : isUnjudged(it, m.act) ? "no" : isPast(it, m.act) ? "cannot be" : "possible"]);
   return rows.map((row) => row.map(field).join(",")).join("\r\n") + "\r\n";
 }
 
