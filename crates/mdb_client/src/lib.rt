@@ -11,6 +11,3 @@ pub use commands::next_command;
 pub use live::{Untaken, difference_of, take_word};
 pub use messages::{Unread, command_in, sent_again};
 pub use printing::printed;
-
-#[cfg(test)]
-mod tests;

@@ -14,6 +14,3 @@ pub use acts::{PageAct, mdb_page_acts};
 pub use answer::{PageTold, mdb_page_check};
 pub use options::{PageOptions, PageSetup};
 pub use sheet::PageText;
-
-#[cfg(test)]
-mod tests;

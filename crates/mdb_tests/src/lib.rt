@@ -1,6 +1,7 @@
 //! The tests, of what no contract says of the libraries: that a call can answer at all, worked
-//! cases from outside, the faults of readers and writers, and the program's words. All stand in
-//! this one crate, since a crate that has tests is proved a second time for them.
+//! cases from outside, the faults of readers and writers, and the program's words. All but those of
+//! the calls for other programs stand in this one crate, since a crate that has tests is proved a
+//! second time for them.
 #![tactic(auto)]
 
 #[cfg(test)]

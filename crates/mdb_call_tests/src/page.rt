@@ -1,6 +1,8 @@
-//! What the calls answer to small texts.
+//! What the page's calls answer to small texts.
 
-use crate::{PageAct, PageOptions, PageSetup, PageText, PageTold, mdb_page_acts, mdb_page_check};
+use mdb_page::{
+    PageAct, PageOptions, PageSetup, PageText, PageTold, mdb_page_acts, mdb_page_check,
+};
 
 /// Nothing is known of a device.
 const UNKNOWN: PageSetup = PageSetup {

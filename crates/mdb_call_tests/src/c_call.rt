@@ -1,6 +1,6 @@
-//! What the call answers to small texts.
+//! What the call for C answers to small texts.
 
-use crate::{
+use mdb_c::{
     BAD_OPTIONS, BAD_ROW, JOINED, MdbcheckTold, NO, NO_ROOM, WITHOUT_BILL, YES, mdbcheck_check,
 };
 

@@ -1,10 +1,10 @@
-//! Each function on its happy path.
+//! Each call of a maker's client on its happy path.
 
-use crate::{
-    Unread, Untaken, command_in, difference_of, next_command, printed, sent_again, take_word,
-};
 use mdb_blocks::BlockFault;
 use mdb_bus::{Bus, Scope};
+use mdb_client::{
+    Unread, Untaken, command_in, difference_of, next_command, printed, sent_again, take_word,
+};
 use mdb_follow::{AccountName, Follower};
 use mdb_msgs::{ChangerCommand, Command, MsgFault};
 use mdb_words::{Event, Line};
