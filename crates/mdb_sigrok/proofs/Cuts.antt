@@ -1,7 +1,9 @@
 -- Texts cut in two, and their lines.
-use Rattle.std.proofs.Common.{◌≡◌, ◌≢◌, ◌==◌, ℕ, zero, suc, ◌+◌, ◌-◌, ◌<◌, List, [], ◌∷◌, ◌++◌, length, get_or, take, drop, map, refl, sym, ap, ◌∙◌, arith, cond, if◌then◌else◌, true, false, add-one, length-drop}
+use Rattle.std.proofs.Common.{◌≡◌, ◌≢◌, ◌==◌, ℕ, zero, suc, ◌+◌, ◌-◌, ◌<◌, List, [], ◌∷◌, ◌++◌, length, get_or, take, drop, map, refl, sym, ap, subst, ◌∙◌, arith, cond, if◌then◌else◌, true, false, add-one, length-drop}
 use Rattle.std.proofs.Math.Seq.{take-append_seam}
+use Rattle.std.proofs.lemmas.Bool.{eqb-true}
 use Rattle.std.proofs.lemmas.List.{take_all}
+use Rattle.memchr.specs.Find.{NoneBefore, Nowhere, Passes, is_byte}
 use Rattle.mdb_sigrok.specs.Text.{IsCut, Lacks, begun_with, lines_of, parts_of, without_return}
 
 -- the front of a text that begins with another one
@@ -23,6 +25,25 @@ cut_parts byte (c ∷ cs) (suc i) within here = ap (λ l. c ∷ l) (cut_parts by
 
 pub cut_here : (byte : ℕ) (text : List ℕ) (i : ℕ) → i < length text → get_or text i 0 ≡ byte → Lacks byte (take i text) → IsCut byte text (take i text) (take (length text - (i + 1)) (drop (i + 1) text))
 cut_here byte text i within here lacks = rw (take_all (length text - (i + 1)) (drop (i + 1) text) (omega (arith, length-drop (i + 1) text))) rw add-one (record { parts = cut_parts byte text i within here; first = lacks })
+
+-- what a search tells that looked at every place before the one that it found, or at every place
+
+is_it : (a b : ℕ) → a ≡ b → (a == b) ≡ true
+is_it a b same = grind arith
+
+lacks_front : (byte : ℕ) (text : List ℕ) (i : ℕ) → ((k : ℕ) → k < i → get_or text k 0 ≢ byte) → Lacks byte (take i text)
+lacks_front byte text zero others = tt
+lacks_front byte [] (suc i) others = tt
+lacks_front byte (c ∷ cs) (suc i) others = (others 0 (omega arith), lacks_front byte cs i (λ k before. others (suc k) (omega arith)))
+
+nowhere_lacks : (byte : ℕ) (text : List ℕ) (i : ℕ) → Nowhere (Passes (is_byte byte) text) 0 i → Lacks byte (take i text)
+nowhere_lacks byte text i nowhere = lacks_front byte text i (λ k before is. nowhere k (omega arith) before (is_it (get_or text k 0) byte is))
+
+pub cut_found : (byte : ℕ) (text : List ℕ) (i : ℕ) → NoneBefore (Passes (is_byte byte) text) 0 (length text) i → Passes (is_byte byte) text i → IsCut byte text (take i text) (take (length text - (i + 1)) (drop (i + 1) text))
+cut_found byte text i first here = cut_here byte text i first.high (eqb-true (get_or text i 0) byte here) (nowhere_lacks byte text i first.before)
+
+pub lacks_all : (byte : ℕ) (text : List ℕ) → Nowhere (Passes (is_byte byte) text) 0 (length text) → Lacks byte text
+lacks_all byte text nowhere = subst (Lacks byte) (take_all (length text) text (omega arith)) (nowhere_lacks byte text (length text) nowhere)
 
 -- a text is cut at the first such byte in one way
 pub one_cut : (byte : ℕ) (front rest other behind : List ℕ) → Lacks byte front → Lacks byte other → front ++ byte ∷ rest ≡ other ++ byte ∷ behind → (front ≡ other) × (rest ≡ behind)
@@ -46,9 +67,6 @@ lacks_around byte [] c rest lacks other more = (other, more)
 lacks_around byte (d ∷ ds) c rest lacks other more = (lacks.0, lacks_around byte ds c rest lacks.1 other more)
 
 -- lines
-
-is_it : (a b : ℕ) → a ≡ b → (a == b) ≡ true
-is_it a b same = grind arith
 
 not_it : (a b : ℕ) → a ≢ b → (a == b) ≡ false
 not_it a b other = grind arith

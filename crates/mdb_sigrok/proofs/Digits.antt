@@ -1,12 +1,17 @@
 -- Digits and times.
-use Rattle.std.proofs.Common.{◌≡◌, ℕ, zero, suc, ◌+◌, ◌*◌, ◌^◌, ◌<◌, ◌≤◌, List, [], ◌∷◌, length, get_or, take, sym, ap, subst, ◌∙◌, arith, add-one}
+use Rattle.std.proofs.Common.{◌≡◌, ℕ, zero, suc, ◌+◌, ◌*◌, ◌^◌, ◌<◌, ◌≤◌, List, [], ◌∷◌, ◌++◌, All, length, get_or, map, take, refl, sym, ap, subst, ◌∙◌, arith, add-one}
+use Rattle.std.proofs.Math.ListN.{length-map}
+use Rattle.std.proofs.Math.Nat.{pow-succ', pow-zero}
 use Rattle.std.proofs.lemmas.Int.Digits.{digits_value-lt, digits_value_more}
+use Rattle.std.proofs.lemmas.List.{length-append}
+use Rattle.std.proofs.lemmas.List.Elements.{All-cons, All-head, All-nil, All-tail}
 use Rattle.std.proofs.lemmas.Str.{digit_value_digit}
 use Rattle.std.proofs.lemmas.Str.Parse.{digit_from_value}
 use Rattle.std.specs.Char.{IsAsciiDigit, digit_value}
 use Rattle.std.specs.Str.Parse.{AllDigits, digits_value, digits_value_after}
-use Rattle.mdb_sigrok.specs.Text.{AreTimeDigits, IsCut, IsTime, Lacks, micros_of}
-use Rattle.mdb_sigrok.proofs.Cuts.{lacks_around, no_cut, one_cut}
+use Rattle.mdb_sigrok.specs.Text.{AreTimeDigits, IsTime, Lacks, micros_of}
+use Rattle.mdb_words.specs.Digits.{IsDecimal, positional}
+use Rattle.mdb_sigrok.proofs.Cuts.{lacks_around}
 
 pub digit_at : (text : List ℕ) (i : ℕ) → AllDigits 10 text → i < length text → IsAsciiDigit (get_or text i 0)
 digit_at [] i all within = absurd (omega arith)
@@ -48,36 +53,74 @@ time_lacks_comma field n time =
     subst (Lacks 44) (sym time.form)
     (lacks_around 44 time.whole 46 time.part (digits_lack 44 time.whole (omega arith) time.digits.digits) (λ is. omega (arith, is)) (digits_lack 44 time.part (omega arith) time.digits.more))
 
--- what a time tells of the digits around its first point
+-- what a time tells of the digits around its point, which stands before the last six
 pub record AroundPoint (whole part : List ℕ) (n : ℕ) : Type 0 where
   pub digits : AreTimeDigits whole part
   pub value : n ≡ digits_value 10 whole * 1000000 + digits_value 10 part
   pub small : micros_of n < 10 ^ 15
 
-pub around_point : (field whole part : List ℕ) (n : ℕ) → IsCut 46 field whole part → IsTime field n → AroundPoint whole part n
-around_point field whole part n cut time =
-    let same = one_cut 46 whole part time.whole time.part cut.first (digits_lack 46 time.whole (omega arith) time.digits.digits) (sym cut.parts ∙ time.form) in
+-- a text is parted before its last bytes in one way
+one_parting : (c : ℕ) (front rest other behind : List ℕ) → length rest ≡ length behind → front ++ c ∷ rest ≡ other ++ c ∷ behind → (front ≡ other) × (rest ≡ behind)
+one_parting c [] rest [] behind long is = (refl, cc)
+one_parting c [] rest (e ∷ es) behind long is = let all : length (c ∷ rest) ≡ length ((e ∷ es) ++ c ∷ behind) = ap length is in absurd (omega (arith, all, long, length-append (e ∷ es) (c ∷ behind)))
+one_parting c (d ∷ ds) rest [] behind long is = let all : length ((d ∷ ds) ++ c ∷ rest) ≡ length (c ∷ behind) = ap length is in absurd (omega (arith, all, long, length-append (d ∷ ds) (c ∷ rest)))
+one_parting c (d ∷ ds) rest (e ∷ es) behind long is =
+    let same = one_parting c ds rest es behind long cc in
+    let head : d ≡ e = cc in
+    let tail = same.0 in
+    (cc, same.1)
+
+pub around_point : (field whole part : List ℕ) (n : ℕ) → field ≡ whole ++ 46 ∷ part → length part ≡ 6 → IsTime field n → AroundPoint whole part n
+around_point field whole part n is six time =
+    let same = one_parting 46 whole part time.whole time.part (six ∙ sym time.digits.six) (sym is ∙ time.form) in
     record {
       digits = subst (λ w. AreTimeDigits w part) (sym same.0) (subst (λ p. AreTimeDigits time.whole p) (sym same.1) time.digits);
       value = time.value ∙ ap (λ w. digits_value 10 w * 1000000 + digits_value 10 time.part) (sym same.0) ∙ ap (λ p. digits_value 10 whole * 1000000 + digits_value 10 p) (sym same.1);
       small = time.small;
     }
 
-pub no_point : (field : List ℕ) (n : ℕ) → Lacks 46 field → IsTime field n → ⊥
-no_point field n lacks time = no_cut 46 field time.whole time.part lacks time.form
+-- its whole microseconds are a number that can be read
+pub whole_small : (whole part : List ℕ) (n : ℕ) → AroundPoint whole part n → digits_value 10 whole < 10 ^ 16
+whole_small whole part n around = omega (arith, around.value, around.small)
 
-pub whole_small : (field whole part : List ℕ) (n : ℕ) → IsCut 46 field whole part → IsTime field n → digits_value 10 whole < 10000000000000000
-whole_small field whole part n cut time =
-    let around = around_point field whole part n cut time in
-    omega (arith, around.value, around.small)
-
-pub part_small : (whole part : List ℕ) → AreTimeDigits whole part → digits_value 10 part < 1000000
-part_small whole part digits =
-    let below = digits_value-lt 10 part digits.more in
-    let power : 10 ^ length part ≡ 1000000 = ap (λ k. 10 ^ k) digits.six in
+pub part_small : (part : List ℕ) → AllDigits 10 part → length part ≡ 6 → digits_value 10 part < 1000000
+part_small part digits six =
+    let below = digits_value-lt 10 part digits in
+    let power : 10 ^ length part ≡ 1000000 = ap (λ k. 10 ^ k) six in
     omega (arith, below, power)
+
+-- a field that is a number of at most 15 digits
+
+positional_after : (n : ℕ) (ds : List ℕ) → n * 10 ^ length ds + positional 10 (map digit_value ds) ≡ digits_value_after 10 n ds
+positional_after n [] = omega (arith, ap (λ x. n * x) (pow-zero 10))
+positional_after n (c ∷ cs) =
+    omega (arith, ap (λ k. digit_value c * 10 ^ k) (length-map cs digit_value), ap (λ x. n * x) (pow-succ' 10 (length cs)), positional_after (n * 10 + digit_value c) cs)
+
+positional_is : (ds : List ℕ) → positional 10 (map digit_value ds) ≡ digits_value 10 ds
+positional_is ds = omega (arith, positional_after 0 ds)
+
+to_digits : (ds : List ℕ) → AllDigits 10 ds → All IsAsciiDigit ds
+to_digits [] all = All-nil IsAsciiDigit
+to_digits (c ∷ cs) all = All-cons IsAsciiDigit c cs (digit_from_value c all.0) (to_digits cs all.1)
+
+digits_from : (ds : List ℕ) → All IsAsciiDigit ds → AllDigits 10 ds
+digits_from [] all = tt
+digits_from (c ∷ cs) all =
+    let first = All-head IsAsciiDigit c cs all in
+    (omega (arith, first, digit_value_digit c first), digits_from cs (All-tail IsAsciiDigit c cs all))
+
+pub record IsWhole (field : List ℕ) (n : ℕ) : Type 0 where
+  pub some : 1 ≤ length field
+  pub digits : AllDigits 10 field
+  pub value : n ≡ digits_value 10 field
+
+pub whole_from : (field : List ℕ) (n : ℕ) → IsDecimal 15 field n → IsWhole field n
+whole_from field n is = record { some = is.some; digits = digits_from field is.digits; value = is.value ∙ positional_is field }
+
+pub decimal_from : (field : List ℕ) → 1 ≤ length field → length field ≤ 15 → AllDigits 10 field → IsDecimal 15 field (digits_value 10 field)
+decimal_from field some few all = record { some = some; few = few; digits = to_digits field all; value = sym (positional_is field) }
 
 pub one_time : (field : List ℕ) (n m : ℕ) → IsTime field n → IsTime field m → n ≡ m
 one_time field n m one other =
-    let around = around_point field one.whole one.part m (record { parts = one.form; first = digits_lack 46 one.whole (omega arith) one.digits.digits }) other in
+    let around = around_point field one.whole one.part m one.form one.digits.six other in
     one.value ∙ sym around.value

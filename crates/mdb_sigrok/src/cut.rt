@@ -3,6 +3,8 @@
 ghost use Rattle.std.specs.Prelude.{◌≡◌, ◌≢◌, ◌<◌, ◌↔◌, ◌++◌, ◌∷◌, [], List, ℕ, length, IfSome, IfNone, IsTrue};
 ghost use Rattle.mdb_sigrok.specs.Text.{IsCut, Lacks, lines_of, without_return};
 
+use memchr::memchr;
+
 /// What stands behind the front of a text; `None` where it begins otherwise.
 pub(crate) fn after<'a>(text: &'a [u8], front: &[u8]) -> Option<&'a [u8]>
     ensures some { IfSome result (λ rest. text.now ≡ front.now ++ rest.now) }
@@ -41,6 +43,19 @@ pub(crate) fn cut_at(text: &[u8], byte: u8) -> Option<(&[u8], &[u8])>
     None
 }
 
+/// The same as `cut_at`, for a byte that is likely to stand far behind: it looks at many bytes at
+/// once, and takes longer to begin.
+fn cut_far(text: &[u8], byte: u8) -> Option<(&[u8], &[u8])>
+    ensures some { IfSome result (λ cut. IsCut byte text.now cut.0.now cut.1.now) }
+    ensures shorter { IfSome result (λ cut. length cut.1.now < length text.now) }
+    ensures none { IfNone result (Lacks byte text.now) }
+{
+    match memchr(byte, text) {
+        Some(index) => Some((&text[..index], &text[index + 1..])),
+        None => None,
+    }
+}
+
 /// The first line of a text, and the text behind it; `None` at the end.
 pub(crate) fn next_line(text: &[u8]) -> Option<(&[u8], &[u8])>
     ensures some { IfSome result
@@ -51,7 +66,7 @@ pub(crate) fn next_line(text: &[u8]) -> Option<(&[u8], &[u8])>
     if text.is_empty() {
         return None;
     }
-    match cut_at(text, b'\n') {
+    match cut_far(text, b'\n') {
         Some((line, rest)) => Some((trimmed(line), rest)),
         None => Some((trimmed(text), &[])),
     }

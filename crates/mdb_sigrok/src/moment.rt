@@ -1,11 +1,10 @@
 //! Times of a trace.
 
-ghost use Rattle.std.specs.Prelude.{◌≡◌, ◌<◌, ◌≤◌, ◌^◌, ◌-◌, ◌↔◌, ℕ, IfOk, IfErr, IsTrue};
+ghost use Rattle.std.specs.Prelude.{◌≡◌, ◌<◌, ◌≤◌, ◌^◌, ◌-◌, ◌↔◌, ◌++◌, ◌∷◌, ℕ, length, IfOk, IfErr, IfSome, IfNone, IsTrue};
 ghost use Rattle.std.specs.Option.{SomeIff};
 ghost use Rattle.std.specs.Str.Parse.{AllDigits, digits_value};
-ghost use Rattle.mdb_sigrok.specs.Text.{AreTimeDigits, IsTime, micros_of};
+ghost use Rattle.mdb_sigrok.specs.Text.{IsTime, micros_of};
 
-use super::cut::cut_at;
 use super::fault::FormFault;
 use mdb_words::{Span, Time};
 use std::marker::Model;
@@ -40,19 +39,17 @@ impl Moment {
         ensures ok { IfOk result (IsTime field.now) }
         ensures err { IfErr result (λ _. (n : ℕ) → IsTime field.now n → ⊥) }
     {
-        let Some((whole, part)) = cut_at(field, b'.') else {
+        let Some((whole, part)) = around_point(field) else {
             return Err(FormFault::NoRecord);
         };
-        if !are_time_digits(whole, part) {
+        let Some(part) = Time::read(part) else {
             return Err(FormFault::NoRecord);
-        }
-        let Some(whole) = number_of(whole) else {
-            return Err(FormFault::LongTime);
         };
-        let Some(part) = number_of(part) else {
-            return Err(FormFault::LongTime);
+        let whole = match whole_of(whole) {
+            Ok(whole) => whole,
+            Err(fault) => return Err(fault),
         };
-        let millionths = u128::from(whole) * MICRO + u128::from(part);
+        let millionths = u128::from(whole) * MICRO + u128::from(part.value());
         if (millionths + MICRO / 2) / MICRO < 1_000_000_000_000_000 {
             Ok(Moment { millionths })
         } else {
@@ -85,11 +82,43 @@ impl Moment {
     }
 }
 
-/// Whether what stands before the point and behind it are the digits of a time.
-fn are_time_digits(whole: &[u8], part: &[u8]) -> bool
-    ensures { IsTrue result ↔ AreTimeDigits whole.now part.now }
+/// What stands before the point of a time, and the six bytes behind it; `None` where no point
+/// stands there.
+fn around_point(field: &[u8]) -> Option<(&[u8], &[u8])>
+    ensures some { IfSome result (λ parts. field.now ≡ parts.0.now ++ 46 ∷ parts.1.now) }
+    ensures six { IfSome result (λ parts. length parts.1.now ≡ 6) }
+    ensures none { IfNone result ((n : ℕ) → IsTime field.now n → ⊥) }
 {
-    !whole.is_empty() && part.len() == 6 && are_digits(whole) && are_digits(part)
+    if field.len() < 7 {
+        return None;
+    }
+    let (whole, behind) = field.split_at(field.len() - 7);
+    if behind[0] == b'.' {
+        Some((whole, &behind[1..]))
+    } else {
+        None
+    }
+}
+
+/// The whole microseconds that stand before the point of a time. More than 15 digits may begin with
+/// zeros.
+fn whole_of(digits: &[u8]) -> Result<u64, FormFault>
+    ensures digits { IfOk result (λ _. (1 ≤ length digits.now) × AllDigits 10 digits.now) }
+    ensures value { IfOk result (λ whole. whole ≡ digits_value 10 digits.now) }
+    ensures small { IfOk result (λ whole. whole < 10 ^ 16) }
+    ensures err { IfErr result (λ _. 1 ≤ length digits.now → AllDigits 10 digits.now →
+        digits_value 10 digits.now < 10 ^ 16 → ⊥) }
+{
+    if let Some(whole) = Time::read(digits) {
+        return Ok(whole.value());
+    }
+    if digits.is_empty() || !are_digits(digits) {
+        return Err(FormFault::NoRecord);
+    }
+    match number_of(digits) {
+        Some(number) => Ok(number),
+        None => Err(FormFault::LongTime),
+    }
 }
 
 /// Whether each byte is a decimal digit.

@@ -1,27 +1,34 @@
 use Rattle.std.proofs.Common.{arith}
-use Rattle.mdb_sigrok.proofs.Digits.{around_point, no_point, part_small, whole_small}
+use Rattle.std.specs.Str.Parse.{digits_value}
+use Rattle.mdb_sigrok.proofs.Digits.{around_point, decimal_from, whole_from, whole_small}
 use Rattle.mdb_sigrok.proofs.moment.Moment.read.Goals as goal
 
-pub returns-in_default-clause-err : goal.returns-in_default-clause-err
-returns-in_default-clause-err c = λ n time. no_point c.args.field.now n c.in_default.ensures.none time
+pub returns-in_default-read-clause-err : goal.returns-in_default-read-clause-err
+returns-in_default-read-clause-err c = λ n time.
+    let around = around_point c.args.field.now c.in-Some.whole.now c.in-Some.part.now n c.in-Some.ensures.some c.in-Some.ensures.six time in
+    c.in_default-read.ensures.none (digits_value 10 c.in-Some.part.now) (decimal_from c.in-Some.part.now (omega (arith, c.in-Some.ensures.six)) (omega (arith, c.in-Some.ensures.six)) around.digits.more)
 
-pub returns-then-not-are_time_digits-clause-err : goal.returns-then-not-are_time_digits-clause-err
-returns-then-not-are_time_digits-clause-err c = λ n time.
-    let around = around_point c.args.field.now c.in-Some.whole.now c.in-Some.part.now n c.in-Some.ensures.some time in
-    let yes = c.are_time_digits.ensures.1 around.digits in
-    absurd cc
+pub returns-in-Err-clause-err : goal.returns-in-Err-clause-err
+returns-in-Err-clause-err c = λ n time.
+    let around = around_point c.args.field.now c.in-Some.whole.now c.in-Some.part.now n c.in-Some.ensures.some c.in-Some.ensures.six time in
+    c.in-Err.ensures.err around.digits.some around.digits.digits (whole_small c.in-Some.whole.now c.in-Some.part.now n around)
 
-pub returns-in_default-number_of-clause-err : goal.returns-in_default-number_of-clause-err
-returns-in_default-number_of-clause-err c = λ n time.
-    c.in_default-number_of.ensures (whole_small c.args.field.now c.in-Some.whole.now c.in-Some.part.now n c.in-Some.ensures.some time)
+pub returns-then-millionths-lt1000000000000000-clause-ok :
+    goal.returns-then-millionths-lt1000000000000000-clause-ok
+returns-then-millionths-lt1000000000000000-clause-ok c =
+    let part = whole_from c.in-Some.part.now c.in-Some-read.part c.in-Some-read.ensures.some in
+    record {
+      whole = c.in-Some.whole.now;
+      part = c.in-Some.part.now;
+      form = c.in-Some.ensures.some;
+      digits = record { some = c.in-Ok.ensures.digits.0; digits = c.in-Ok.ensures.digits.1; more = part.digits; six = c.in-Some.ensures.six };
+      value = omega (arith, c.from.ensures, c.from-2.ensures, c.in-Ok.ensures.value, c.value.ensures.value, part.value);
+      small = c.if-millionths-lt1000000000000000.true;
+    }
 
-pub returns-in_default-number_of-2-clause-err : goal.returns-in_default-number_of-2-clause-err
-returns-in_default-number_of-2-clause-err c = λ n time.
-    let around = around_point c.args.field.now c.in-Some.whole.now c.in-Some.part.now n c.in-Some.ensures.some time in
-    let small = part_small c.in-Some.whole.now c.in-Some.part.now around.digits in
-    c.in_default-number_of-2.ensures (omega (arith, small))
-
-pub returns-else-millionths-lt1000000000000000-clause-err : goal.returns-else-millionths-lt1000000000000000-clause-err
+pub returns-else-millionths-lt1000000000000000-clause-err :
+    goal.returns-else-millionths-lt1000000000000000-clause-err
 returns-else-millionths-lt1000000000000000-clause-err c = λ n time.
-    let around = around_point c.args.field.now c.in-Some.whole.now c.in-Some.part.now n c.in-Some.ensures.some time in
-    omega (arith, around.value, around.small, c.if-millionths-lt1000000000000000.false, c.from.ensures, c.from-2.ensures, c.in-Some-number_of.ensures.1, c.in-Some-number_of-2.ensures.1)
+    let around = around_point c.args.field.now c.in-Some.whole.now c.in-Some.part.now n c.in-Some.ensures.some c.in-Some.ensures.six time in
+    let part = whole_from c.in-Some.part.now c.in-Some-read.part c.in-Some-read.ensures.some in
+    omega (arith, around.value, around.small, c.if-millionths-lt1000000000000000.false, c.from.ensures, c.from-2.ensures, c.in-Ok.ensures.value, c.value.ensures.value, part.value)
