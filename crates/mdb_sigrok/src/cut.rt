@@ -6,19 +6,34 @@ ghost use Rattle.mdb_sigrok.specs.Text.{IsCut, Lacks, lines_of, without_return};
 use memchr::memchr;
 
 /// What stands behind the front of a text; `None` where it begins otherwise.
-pub(crate) fn after<'a>(text: &'a [u8], front: &[u8]) -> Option<&'a [u8]>
+#[inline(always)]
+pub(crate) fn after<'a, const N: usize>(text: &'a [u8], front: &[u8; N]) -> Option<&'a [u8]>
     ensures some { IfSome result (λ rest. text.now ≡ front.now ++ rest.now) }
     ensures none { IfNone result ((rest : List ℕ) → text.now ≢ front.now ++ rest) }
 {
-    if text.len() < front.len() {
+    if text.len() < N {
         return None;
     }
-    let (begin, rest) = text.split_at(front.len());
-    if is_text(begin, front) {
+    let (begin, rest) = text.split_at(N);
+    if is_front(begin, front) {
         Some(rest)
     } else {
         None
     }
+}
+
+/// Whether the beginning of a text is a front. It looks at all bytes, whichever is the first that
+/// differs, so that the code can take many at once.
+#[inline(always)]
+fn is_front<const N: usize>(begin: &[u8], front: &[u8; N]) -> bool
+    requires { length begin.now ≡ N }
+    ensures { IsTrue result ↔ (begin.now ≡ front.now) }
+{
+    let mut same = true;
+    for index in 0..N {
+        same &= begin[index] == front[index];
+    }
+    same
 }
 
 /// Whether two texts are the same.

@@ -96,7 +96,7 @@ fn names_of(text: &[u8]) -> Option<(&[u8], &[u8], bool)>
 }
 
 /// The value behind a front, up to a quote, and what stands behind that.
-fn field_of<'a>(text: &'a [u8], front: &[u8]) -> Option<(&'a [u8], &'a [u8])>
+fn field_of<'a, const N: usize>(text: &'a [u8], front: &[u8; N]) -> Option<(&'a [u8], &'a [u8])>
     ensures some { IfSome result (λ field. IsField front.now text.now field.0.now field.1.now) }
     ensures none { IfNone result ((value rest : List ℕ) →
         IsField front.now text.now value rest → ⊥) }
