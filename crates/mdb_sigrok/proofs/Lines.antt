@@ -10,7 +10,7 @@ use Rattle.mdb_sigrok.specs.Text.{micros_of}
 use Rattle.mdb_sigrok.specs.Rows.{IsBreak, IsStart, LineRows, nothing, unfinished, word, broken, break_of}
 use Rattle.mdb_sigrok.specs.inner.Steps.{EndsWith, IsPlace}
 use Rattle.mdb_sigrok.specs.declared.line.Place.{Place}
-use Rattle.mdb_sigrok.specs.declared.line.Open.TheVariants.{Nothing}
+use Rattle.mdb_sigrok.specs.declared.line.Open.TheVariants.{Nothing, Started}
 
 -- what the first records of a line are
 
@@ -84,6 +84,14 @@ ends_worded line e s d w starts what = record {
         one.told ∙ ap (λ v. Word (micros_of s.from) line v ∷ one.more) same ∙ ap (λ l. Word (micros_of s.from) line w ∷ l) none
     | inr one ↦ absurd (let parts = one.parts in cc)
   ];
+}
+
+-- where a line stands behind a start bit
+pub started_place : (line : Line) (e : ℕ) (p : Pair) → IsStart e p → IsPlace line e (p ∷ []) [] (record { line = line; earliest = e; held = Started p })
+started_place line e p starts = record {
+  leads = record { took = λ pairs rows told. told; only = λ pairs rows told. (rows, refl, told) };
+  apart = starts;
+  same = refl;
 }
 
 -- steps that make a row sure

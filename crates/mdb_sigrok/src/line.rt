@@ -1,6 +1,6 @@
 //! The records of one line, as rows.
 
-ghost use Rattle.std.specs.Prelude.{◌≡◌, ◌++◌, ◌∷◌, [], List, IfOk, IfErr, Ok, Err, None};
+ghost use Rattle.std.specs.Prelude.{◌≡◌, ◌++◌, ◌∷◌, [], List, IfOk, IfErr, OnOk, Ok, Err, None};
 ghost use Rattle.mdb_words.specs.declared.event.Event.{Event};
 ghost use Rattle.mdb_sigrok.specs.Rows.{IsBreak, IsStart, LineRows, break_of};
 ghost use Rattle.mdb_sigrok.specs.inner.Steps.{Blocks, EndsWith, IsOpen, IsPlace, open_pairs, told_by};
@@ -33,15 +33,6 @@ pub(crate) struct Place {
     pub(crate) held: Open,
 }
 
-/// Where a line stands after some more records, and the row that they made sure.
-#[derive(Clone, Copy, Debug)]
-pub(crate) struct Step {
-    /// Where it stands.
-    pub(crate) place: Place,
-    /// The row.
-    pub(crate) row: Option<Event>,
-}
-
 /// Where a line stands at the start.
 pub(crate) fn first_place(line: Line) -> Place
     ensures line { result.line ≡ line }
@@ -55,15 +46,18 @@ pub(crate) fn first_place(line: Line) -> Place
     }
 }
 
-/// Goes on by what was seen next on the line.
-pub(crate) fn next_step(place: &Place, pair: &Pair) -> Result<Step, OrderFault>
-    requires { IsOpen place.now.earliest place.now.held }
-    ensures ok { IfOk result (λ step. IsPlace place.now.line place.now.earliest
-        (open_pairs place.now.held ++ pair.now ∷ []) (told_by step.row) step.place) }
-    ensures err { IfErr result (λ _. Blocks place.now.line place.now.earliest
-        (open_pairs place.now.held ++ pair.now ∷ [])) }
+/// Goes on by what was seen next on the line, and answers the row that this made sure, or none.
+/// Where the line can't go on, it stands where it stood.
+pub(crate) fn go_on(place: &mut Place, pair: &Pair) -> Result<Option<Event>, OrderFault>
+    requires { IsOpen place.old.earliest place.old.held }
+    ensures ok { IfOk result (λ row. IsPlace place.old.line place.old.earliest
+        (open_pairs place.old.held ++ pair.now ∷ []) (told_by row) place.new) }
+    ensures err { IfErr result (λ _. Blocks place.old.line place.old.earliest
+        (open_pairs place.old.held ++ pair.now ∷ [])) }
+    ensures kept { IfErr result (λ _. place.new ≡ place.old) }
 {
-    match place.held {
+    let held = place.held;
+    match held {
         Open::Nothing => silent(started(place, pair)),
         Open::Started(start) => silent(worded(place, &start, pair)),
         Open::Worded(start, value, word) => after_word(place, &start, &value, word, pair),
@@ -72,32 +66,27 @@ pub(crate) fn next_step(place: &Place, pair: &Pair) -> Result<Step, OrderFault>
 }
 
 /// A step that makes no row sure.
-fn silent(place: Result<Place, OrderFault>) -> Result<Step, OrderFault>
-    ensures ok { IfOk result (λ step. (place ≡ Ok step.place) × (step.row ≡ None)) }
-    ensures err { IfErr result (λ fault. place ≡ Err fault) }
+fn silent(step: Result<(), OrderFault>) -> Result<Option<Event>, OrderFault>
+    ensures ok { IfOk result (λ row. (step ≡ Ok tt) × (row ≡ None)) }
+    ensures err { IfErr result (λ fault. step ≡ Err fault) }
 {
-    match place {
-        Ok(place) => Ok(Step { place, row: None }),
+    match step {
+        Ok(()) => Ok(None),
         Err(fault) => Err(fault),
     }
 }
 
-/// Goes on from where no row is owed.
-fn started(place: &Place, pair: &Pair) -> Result<Place, OrderFault>
-    ensures ok { IfOk result
-        (IsPlace place.now.line place.now.earliest (pair.now ∷ []) []) }
-    ensures err { IfErr result (λ _. Blocks place.now.line place.now.earliest (pair.now ∷ [])) }
+/// Whether what was seen is the start of a word, in that microsecond or later; else why not.
+fn start_of_word(earliest: u64, pair: &Pair) -> Result<(), OrderFault>
+    ensures ok { IfOk result (λ _. IsStart earliest pair.now) }
+    ensures err { IfErr result (λ _. IsStart earliest pair.now → ⊥) }
 {
     match pair.what {
         What::Start => {
-            if pair.from.time().value() < place.earliest {
+            if pair.from.time().value() < earliest {
                 return Err(OrderFault::Early);
             }
-            Ok(Place {
-                line: place.line,
-                earliest: place.earliest,
-                held: Open::Started(*pair),
-            })
+            Ok(())
         }
         What::Data(_) => Err(OrderFault::NoStart),
         What::FrameError => Err(OrderFault::NoBreak),
@@ -105,20 +94,36 @@ fn started(place: &Place, pair: &Pair) -> Result<Place, OrderFault>
     }
 }
 
+/// Goes on from where no row is owed.
+fn started(place: &mut Place, pair: &Pair) -> Result<(), OrderFault>
+    ensures ok { OnOk result
+        (IsPlace place.old.line place.old.earliest (pair.now ∷ []) [] place.new) }
+    ensures err { IfErr result (λ _. Blocks place.old.line place.old.earliest (pair.now ∷ [])) }
+    ensures kept { IfErr result (λ _. place.new ≡ place.old) }
+{
+    match start_of_word(place.earliest, pair) {
+        Ok(()) => {
+            place.held = Open::Started(*pair);
+            Ok(())
+        }
+        Err(fault) => Err(fault),
+    }
+}
+
 /// Goes on from behind a start bit.
-fn worded(place: &Place, start: &Pair, pair: &Pair) -> Result<Place, OrderFault>
-    requires { IsStart place.now.earliest start.now }
-    ensures ok { IfOk result
-        (IsPlace place.now.line place.now.earliest (start.now ∷ pair.now ∷ []) []) }
-    ensures err { IfErr result (λ _. Blocks place.now.line place.now.earliest
+fn worded(place: &mut Place, start: &Pair, pair: &Pair) -> Result<(), OrderFault>
+    requires { IsStart place.old.earliest start.now }
+    ensures ok { OnOk result
+        (IsPlace place.old.line place.old.earliest (start.now ∷ pair.now ∷ []) [] place.new) }
+    ensures err { IfErr result (λ _. Blocks place.old.line place.old.earliest
         (start.now ∷ pair.now ∷ [])) }
+    ensures kept { IfErr result (λ _. place.new ≡ place.old) }
 {
     match pair.what {
-        What::Data(word) => Ok(Place {
-            line: place.line,
-            earliest: place.earliest,
-            held: Open::Worded(*start, *pair, word),
-        }),
+        What::Data(word) => {
+            place.held = Open::Worded(*start, *pair, word);
+            Ok(())
+        }
         What::Start => Err(OrderFault::NoWord),
         What::FrameError => Err(OrderFault::NoBreak),
         What::BreakEnd => Err(OrderFault::NoFrameError),
@@ -127,18 +132,19 @@ fn worded(place: &Place, start: &Pair, pair: &Pair) -> Result<Place, OrderFault>
 
 /// Goes on from behind a word, which may be that of a break.
 fn after_word(
-    place: &Place,
+    place: &mut Place,
     start: &Pair,
     value: &Pair,
     word: Word,
     pair: &Pair,
-) -> Result<Step, OrderFault>
-    requires start { IsStart place.now.earliest start.now }
+) -> Result<Option<Event>, OrderFault>
+    requires start { IsStart place.old.earliest start.now }
     requires word { value.now.what ≡ What.Data word }
-    ensures ok { IfOk result (λ step. IsPlace place.now.line place.now.earliest
-        (start.now ∷ value.now ∷ pair.now ∷ []) (told_by step.row) step.place) }
-    ensures err { IfErr result (λ _. Blocks place.now.line place.now.earliest
+    ensures ok { IfOk result (λ row. IsPlace place.old.line place.old.earliest
+        (start.now ∷ value.now ∷ pair.now ∷ []) (told_by row) place.new) }
+    ensures err { IfErr result (λ _. Blocks place.old.line place.old.earliest
         (start.now ∷ value.now ∷ pair.now ∷ [])) }
+    ensures kept { IfErr result (λ _. place.new ≡ place.old) }
 {
     match pair.what {
         What::Start => next_word(place, start, value, word, pair),
@@ -150,87 +156,81 @@ fn after_word(
 
 /// Goes on from behind a word by the start of the next one.
 fn next_word(
-    place: &Place,
+    place: &mut Place,
     start: &Pair,
     value: &Pair,
     word: Word,
     pair: &Pair,
-) -> Result<Step, OrderFault>
-    requires start { IsStart place.now.earliest start.now }
+) -> Result<Option<Event>, OrderFault>
+    requires start { IsStart place.old.earliest start.now }
     requires word { value.now.what ≡ What.Data word }
     requires next { pair.now.what ≡ What.Start }
-    ensures ok { IfOk result (λ step. IsPlace place.now.line place.now.earliest
-        (start.now ∷ value.now ∷ pair.now ∷ []) (told_by step.row) step.place) }
-    ensures err { IfErr result (λ _. Blocks place.now.line place.now.earliest
+    ensures ok { IfOk result (λ row. IsPlace place.old.line place.old.earliest
+        (start.now ∷ value.now ∷ pair.now ∷ []) (told_by row) place.new) }
+    ensures err { IfErr result (λ _. Blocks place.old.line place.old.earliest
         (start.now ∷ value.now ∷ pair.now ∷ [])) }
+    ensures kept { IfErr result (λ _. place.new ≡ place.old) }
 {
     let at = start.from.time();
     let line = place.line;
-    let behind = Place {
-        line,
-        earliest: at.value() + 1,
-        held: Open::Nothing,
-    };
-    match started(&behind, pair) {
-        Ok(place) => Ok(Step {
-            place,
-            row: Some(Event::Word { at, line, word }),
-        }),
+    let earliest = at.value() + 1;
+    match start_of_word(earliest, pair) {
+        Ok(()) => {
+            place.earliest = earliest;
+            place.held = Open::Started(*pair);
+            Ok(Some(Event::Word { at, line, word }))
+        }
         Err(fault) => Err(fault),
     }
 }
 
 /// Goes on from behind a word by a frame error.
 fn wrong(
-    place: &Place,
+    place: &mut Place,
     start: &Pair,
     value: &Pair,
     word: Word,
     pair: &Pair,
-) -> Result<Place, OrderFault>
-    requires start { IsStart place.now.earliest start.now }
+) -> Result<(), OrderFault>
+    requires start { IsStart place.old.earliest start.now }
     requires word { value.now.what ≡ What.Data word }
     requires next { pair.now.what ≡ What.FrameError }
-    ensures ok { IfOk result (IsPlace place.now.line place.now.earliest
-        (start.now ∷ value.now ∷ pair.now ∷ []) []) }
-    ensures err { IfErr result (λ _. Blocks place.now.line place.now.earliest
+    ensures ok { OnOk result (IsPlace place.old.line place.old.earliest
+        (start.now ∷ value.now ∷ pair.now ∷ []) [] place.new) }
+    ensures err { IfErr result (λ _. Blocks place.old.line place.old.earliest
         (start.now ∷ value.now ∷ pair.now ∷ [])) }
+    ensures kept { IfErr result (λ _. place.new ≡ place.old) }
 {
     if word.byte() != 0 || word.marked() {
         return Err(OrderFault::NoBreak);
     }
-    Ok(Place {
-        line: place.line,
-        earliest: place.earliest,
-        held: Open::Wrong(*start, *value, *pair),
-    })
+    place.held = Open::Wrong(*start, *value, *pair);
+    Ok(())
 }
 
 /// Goes on from behind a frame error, which has to be that of a break.
 fn broken(
-    place: &Place,
+    place: &mut Place,
     start: &Pair,
     zero: &Pair,
     wrong: &Pair,
     pair: &Pair,
-) -> Result<Step, OrderFault>
-    requires start { IsStart place.now.earliest start.now }
+) -> Result<Option<Event>, OrderFault>
+    requires start { IsStart place.old.earliest start.now }
     requires zero { zero.now.what ≡ What.Data 0 }
     requires wrong { wrong.now.what ≡ What.FrameError }
-    ensures ok { IfOk result (λ step. IsPlace place.now.line place.now.earliest
-        (start.now ∷ zero.now ∷ wrong.now ∷ pair.now ∷ []) (told_by step.row) step.place) }
-    ensures err { IfErr result (λ _. Blocks place.now.line place.now.earliest
+    ensures ok { IfOk result (λ row. IsPlace place.old.line place.old.earliest
+        (start.now ∷ zero.now ∷ wrong.now ∷ pair.now ∷ []) (told_by row) place.new) }
+    ensures err { IfErr result (λ _. Blocks place.old.line place.old.earliest
         (start.now ∷ zero.now ∷ wrong.now ∷ pair.now ∷ [])) }
+    ensures kept { IfErr result (λ _. place.new ≡ place.old) }
 {
     match break_row(place, pair) {
-        Ok(row) => Ok(Step {
-            place: Place {
-                line: place.line,
-                earliest: row.start().value() + 1,
-                held: Open::Nothing,
-            },
-            row: Some(row),
-        }),
+        Ok(row) => {
+            place.earliest = row.start().value() + 1;
+            place.held = Open::Nothing;
+            Ok(Some(row))
+        }
         Err(fault) => Err(fault),
     }
 }

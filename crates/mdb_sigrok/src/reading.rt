@@ -10,7 +10,7 @@ ghost use Rattle.mdb_sigrok.specs.inner.Stands.{stand_of};
 ghost use Rattle.mdb_sigrok.specs.inner.Steps.{IsOpen, open_pairs, told_by};
 
 use super::fault::{OrderFault, SigrokFault};
-use super::line::{Open, Place, Step, first_place, last_row, next_step};
+use super::line::{Open, Place, first_place, go_on, last_row};
 use super::pair::Pair;
 use super::trace::{end_of_trace, fault_line, next_pair, order};
 use mdb_words::{Event, Line};
@@ -59,22 +59,13 @@ impl Reading {
         ensures err { IfErr result (λ fault.
             Bars fault self.old.place.line self.old.place (pair.now ∷ [])) }
     {
-        match next_step(&self.place, pair) {
-            Ok(step) => self.go(&step, number),
+        match go_on(&mut self.place, pair) {
+            Ok(row) => {
+                self.number = number;
+                self.tell(row)
+            }
             Err(fault) => Err(self.fault_at(number, pair, fault)),
         }
-    }
-
-    /// Stands where a step comes to, and has its row.
-    fn go(&mut self, step: &Step, number: u64) -> Result<(), SigrokFault>
-        ensures place { OnOk result (self.new.place ≡ step.now.place) }
-        ensures rows { OnOk result
-            (self.new.rows.items ≡ self.old.rows.items ++ told_by step.now.row) }
-        ensures err { IfErr result (λ fault. fault ≡ SigrokFault.Memory) }
-    {
-        self.place = step.place;
-        self.number = number;
-        self.tell(step.row)
     }
 
     /// Has one more row, or none.
