@@ -1,10 +1,13 @@
 -- Texts cut in two, and their lines.
-use Rattle.std.proofs.Common.{◌≡◌, ◌≢◌, ◌==◌, ℕ, zero, suc, ◌+◌, ◌-◌, ◌<◌, List, [], ◌∷◌, ◌++◌, length, get_or, take, drop, map, refl, sym, ap, subst, ◌∙◌, arith, cond, if◌then◌else◌, true, false, add-one, length-drop}
+use Rattle.std.proofs.Common.{◌≡◌, ◌≢◌, ◌==◌, ℕ, zero, suc, ◌+◌, ◌-◌, ◌<◌, List, [], ◌∷◌, ◌++◌, length, get_or, take, drop, map, Option, None, Some, refl, sym, ap, subst, ◌∙◌, arith, cond, if◌then◌else◌, true, false, add-one, length-drop}
 use Rattle.std.proofs.Math.Seq.{take-append_seam}
 use Rattle.std.proofs.lemmas.Bool.{eqb-true}
-use Rattle.std.proofs.lemmas.List.{take_all}
-use Rattle.memchr.specs.Find.{NoneBefore, Nowhere, Passes, is_byte}
+use Rattle.std.proofs.lemmas.Int.{clamps}
+use Rattle.std.proofs.lemmas.List.{get_or-take, length-take, take_all}
+use Rattle.std.specs.Option.{IfSome}
+use Rattle.memchr.specs.Find.{IsFirstByte, NoneBefore, Nowhere, Passes, is_byte}
 use Rattle.mdb_sigrok.specs.Text.{IsCut, Lacks, begun_with, lines_of, parts_of, without_return}
+use Rattle.mdb_sigrok.specs.inner.Places.{IsFirstAt}
 
 -- the front of a text that begins with another one
 pub begins : (text front rest : List ℕ) → text ≡ front ++ rest → take (length front) text ≡ front
@@ -41,6 +44,17 @@ nowhere_lacks byte text i nowhere = lacks_front byte text i (λ k before is. now
 
 pub cut_found : (byte : ℕ) (text : List ℕ) (i : ℕ) → NoneBefore (Passes (is_byte byte) text) 0 (length text) i → Passes (is_byte byte) text i → IsCut byte text (take i text) (take (length text - (i + 1)) (drop (i + 1) text))
 cut_found byte text i first here = cut_here byte text i first.high (eqb-true (get_or text i 0) byte here) (nowhere_lacks byte text i first.before)
+
+-- what a search of the first bytes tells of the text
+pub found_near : (byte : ℕ) (text : List ℕ) (n : ℕ) (r : Option ℕ) → IsFirstByte (is_byte byte) (take n text) r → IfSome r (IsFirstAt byte text)
+found_near byte text n None found = tt
+found_near byte text n (Some i) found =
+    let near : i < n = omega (arith, clamps, found.0.high, length-take n text) in
+    record {
+      within = omega (arith, clamps, found.0.high, length-take n text);
+      here = sym (get_or-take n text i 0 near) ∙ eqb-true (get_or (take n text) i 0) byte found.1;
+      first = lacks_front byte text i (λ k before is. found.0.before k (omega arith) before (is_it (get_or (take n text) k 0) byte (get_or-take n text k 0 (omega (arith, near)) ∙ is)));
+    }
 
 pub lacks_all : (byte : ℕ) (text : List ℕ) → Nowhere (Passes (is_byte byte) text) 0 (length text) → Lacks byte text
 lacks_all byte text nowhere = subst (Lacks byte) (take_all (length text) text (omega arith)) (nowhere_lacks byte text (length text) nowhere)

@@ -1,6 +1,7 @@
 pub mod Heads
 pub mod Pages
 pub mod Pairs
+pub mod Places
 pub mod Stands
 pub mod Steps
 pub mod Tallies

@@ -2,6 +2,7 @@
 
 ghost use Rattle.std.specs.Prelude.{◌≡◌, ◌≢◌, ◌<◌, ◌↔◌, ◌++◌, ◌∷◌, [], List, ℕ, length, IfSome, IfNone, IsTrue};
 ghost use Rattle.mdb_sigrok.specs.Text.{IsCut, Lacks, lines_of, without_return};
+ghost use Rattle.mdb_sigrok.specs.inner.Places.{IsFirstAt};
 
 use memchr::memchr;
 
@@ -56,6 +57,29 @@ pub(crate) fn cut_at(text: &[u8], byte: u8) -> Option<(&[u8], &[u8])>
         }
     }
     None
+}
+
+/// The same as `cut_at`, for a byte that is likely to be among the first 32.
+pub(crate) fn cut_near(text: &[u8], byte: u8) -> Option<(&[u8], &[u8])>
+    ensures some { IfSome result (λ cut. IsCut byte text.now cut.0.now cut.1.now) }
+    ensures shorter { IfSome result (λ cut. length cut.1.now < length text.now) }
+    ensures none { IfNone result (Lacks byte text.now) }
+{
+    match place_near(text, byte) {
+        Some(index) => Some((&text[..index], &text[index + 1..])),
+        None => cut_at(text, byte),
+    }
+}
+
+/// The first place of a byte among the first 32 of a text, which are looked at at once: a search of
+/// more takes longer to begin. `None` where it isn't among them, or where there are fewer.
+fn place_near(text: &[u8], byte: u8) -> Option<usize>
+    ensures { IfSome result (IsFirstAt byte text.now) }
+{
+    if text.len() < 32 {
+        return None;
+    }
+    memchr(byte, &text[..32])
 }
 
 /// The same as `cut_at`, for a byte that is likely to stand far behind: it looks at many bytes at

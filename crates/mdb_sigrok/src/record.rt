@@ -4,7 +4,7 @@ ghost use Rattle.std.specs.Prelude.{◌≡◌, ◌≢◌, ◌++◌, Bool, ℕ, L
 ghost use Rattle.mdb_sigrok.specs.inner.Heads.{HasHead};
 ghost use Rattle.mdb_sigrok.specs.Record.{AreNames, IsField, IsHead, IsRecord, before_name, before_tid, end_of, front_of};
 
-use super::cut::{after, cut_at, is_text};
+use super::cut::{after, cut_at, cut_near, is_text};
 use super::fault::FormFault;
 use super::moment::Moment;
 
@@ -56,7 +56,7 @@ fn head_of(line: &[u8]) -> Option<(bool, &[u8], &[u8])>
     let Some((ends, begun)) = begun_of(line) else {
         return None;
     };
-    match cut_at(begun, b',') {
+    match cut_near(begun, b',') {
         Some((digits, rest)) => Some((ends, digits, rest)),
         None => None,
     }
