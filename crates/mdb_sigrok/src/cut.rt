@@ -6,6 +6,9 @@ ghost use Rattle.mdb_sigrok.specs.inner.Places.{IsFirstAt};
 
 use memchr::memchr;
 
+/// How many bytes a line of a trace seldom goes beyond, with its end.
+const LINE: usize = 96;
+
 /// What stands behind the front of a text; `None` where it begins otherwise.
 #[inline(always)]
 pub(crate) fn after<'a, const N: usize>(text: &'a [u8], front: &[u8; N]) -> Option<&'a [u8]>
@@ -59,31 +62,30 @@ pub(crate) fn cut_at(text: &[u8], byte: u8) -> Option<(&[u8], &[u8])>
     None
 }
 
-/// The same as `cut_at`, for a byte that is likely to be among the first 32.
-pub(crate) fn cut_near(text: &[u8], byte: u8) -> Option<(&[u8], &[u8])>
+/// The same as `cut_at`, for a byte that is likely to be among the first `N` bytes of a long text.
+pub(crate) fn cut_near<const N: usize>(text: &[u8], byte: u8) -> Option<(&[u8], &[u8])>
     ensures some { IfSome result (λ cut. IsCut byte text.now cut.0.now cut.1.now) }
     ensures shorter { IfSome result (λ cut. length cut.1.now < length text.now) }
     ensures none { IfNone result (Lacks byte text.now) }
 {
-    match place_near(text, byte) {
+    match place_near::<N>(text, byte) {
         Some(index) => Some((&text[..index], &text[index + 1..])),
-        None => cut_at(text, byte),
+        None => cut_far(text, byte),
     }
 }
 
-/// The first place of a byte among the first 32 of a text, which are looked at at once: a search of
-/// more takes longer to begin. `None` where it isn't among them, or where there are fewer.
-fn place_near(text: &[u8], byte: u8) -> Option<usize>
+/// The first place of a byte among the first `N` of a text; `None` where it isn't among them, or
+/// where there are fewer. A search of more than it takes would begin with larger steps.
+fn place_near<const N: usize>(text: &[u8], byte: u8) -> Option<usize>
     ensures { IfSome result (IsFirstAt byte text.now) }
 {
-    if text.len() < 32 {
+    if text.len() < N {
         return None;
     }
-    memchr(byte, &text[..32])
+    memchr(byte, &text[..N])
 }
 
-/// The same as `cut_at`, for a byte that is likely to stand far behind: it looks at many bytes at
-/// once, and takes longer to begin.
+/// The same as `cut_at`, for a byte that may be far behind: many bytes are looked at at once.
 fn cut_far(text: &[u8], byte: u8) -> Option<(&[u8], &[u8])>
     ensures some { IfSome result (λ cut. IsCut byte text.now cut.0.now cut.1.now) }
     ensures shorter { IfSome result (λ cut. length cut.1.now < length text.now) }
@@ -105,7 +107,7 @@ pub(crate) fn next_line(text: &[u8]) -> Option<(&[u8], &[u8])>
     if text.is_empty() {
         return None;
     }
-    match cut_far(text, b'\n') {
+    match cut_near::<LINE>(text, b'\n') {
         Some((line, rest)) => Some((trimmed(line), rest)),
         None => Some((trimmed(text), &[])),
     }

@@ -8,6 +8,9 @@ use super::cut::{after, cut_at, cut_near, is_text};
 use super::fault::FormFault;
 use super::moment::Moment;
 
+/// How many bytes a time never goes beyond, with the comma behind it, unless it begins with zeros.
+const TIME: usize = 32;
+
 /// A record: where something begins, or where it ends.
 #[derive(Clone, Copy, Debug)]
 pub(crate) struct Record<'a> {
@@ -56,7 +59,7 @@ fn head_of(line: &[u8]) -> Option<(bool, &[u8], &[u8])>
     let Some((ends, begun)) = begun_of(line) else {
         return None;
     };
-    match cut_near(begun, b',') {
+    match cut_near::<TIME>(begun, b',') {
         Some((digits, rest)) => Some((ends, digits, rest)),
         None => None,
     }
