@@ -1,6 +1,6 @@
 //! Times of a trace.
 
-ghost use Rattle.std.specs.Prelude.{◌≡◌, ◌<◌, ◌≤◌, ◌^◌, ◌-◌, ◌↔◌, ◌++◌, ◌∷◌, ℕ, length, IfOk, IfErr, IfSome, IfNone, IsTrue};
+ghost use Rattle.std.specs.Prelude.{◌≡◌, ◌<◌, ◌≤◌, ◌^◌, ◌+◌, ◌*◌, ◌-◌, ◌↔◌, ◌++◌, ◌∷◌, ℕ, length, IfOk, IfErr, IfSome, IfNone, IsTrue};
 ghost use Rattle.std.specs.Option.{SomeIff};
 ghost use Rattle.std.specs.Str.Parse.{AllDigits, digits_value};
 ghost use Rattle.mdb_sigrok.specs.Text.{IsTime, micros_of};
@@ -17,20 +17,23 @@ const MICRO: u128 = 1_000_000;
 /// A clause sees it as that number.
 #[derive(Clone, Copy, PartialEq, Eq, Debug)]
 pub struct Moment {
-    millionths: u128,
+    // The whole microseconds.
+    whole: u64,
+    // The millionths of the next one.
+    part: u32,
 }
 
 impl Model for Moment {
-    ghost use Rattle.std.specs.Prelude.{ℕ, ◌<◌, ◌^◌};
+    ghost use Rattle.std.specs.Prelude.{ℕ, ◌+◌, ◌*◌, ◌/◌, ◌%◌, ◌<◌, ◌^◌};
     ghost use Rattle.mdb_sigrok.specs.Text.{micros_of};
 
     ghost Value = { ℕ };
 
-    ghost view = { λ m. m.millionths };
+    ghost view = { λ m. m.whole * 1000000 + m.part };
 
-    ghost invariant = { λ m. micros_of m.millionths < 10 ^ 15 };
+    ghost invariant = { λ m. (m.part < 1000000) × (micros_of (m.whole * 1000000 + m.part) < 10 ^ 15) };
 
-    ghost inverse = { λ n. record { millionths = n } };
+    ghost inverse = { λ n. record { whole = n / 1000000; part = n % 1000000 } };
 }
 
 impl Moment {
@@ -42,16 +45,15 @@ impl Moment {
         let Some((whole, part)) = around_point(field) else {
             return Err(FormFault::NoRecord);
         };
-        let Some(part) = Time::read(part) else {
+        let Some(part) = part_of(part) else {
             return Err(FormFault::NoRecord);
         };
         let whole = match whole_of(whole) {
             Ok(whole) => whole,
             Err(fault) => return Err(fault),
         };
-        let millionths = u128::from(whole) * MICRO + u128::from(part.value());
-        if (millionths + MICRO / 2) / MICRO < 1_000_000_000_000_000 {
-            Ok(Moment { millionths })
+        if nearest(whole, part) < 1_000_000_000_000_000 {
+            Ok(Moment { whole, part })
         } else {
             Err(FormFault::LongTime)
         }
@@ -61,7 +63,7 @@ impl Moment {
     pub(crate) fn time(self) -> Time
         ensures { result ≡ micros_of self }
     {
-        Time::new(((self.millionths + MICRO / 2) / MICRO) as u64).unwrap()
+        Time::new(nearest(self.whole, self.part)).unwrap()
     }
 
     /// How long it is to a later moment, or the same one, rounded once; `None` where it is longer
@@ -70,16 +72,32 @@ impl Moment {
         requires { self ≤ later }
         ensures { SomeIff result (micros_of (later - self) < 10 ^ 9) (micros_of (later - self)) }
     {
-        let micros = (later.millionths - self.millionths + MICRO / 2) / MICRO;
+        let micros = (later.millionths() - self.millionths() + MICRO / 2) / MICRO;
         Span::new(micros as u64)
+    }
+
+    /// As one number.
+    fn millionths(self) -> u128
+        ensures { result ≡ self }
+    {
+        u128::from(self.whole) * MICRO + u128::from(self.part)
     }
 
     /// Whether it comes before another one.
     pub(crate) fn is_before(self, other: Moment) -> bool
         ensures { IsTrue result ↔ (self < other) }
     {
-        self.millionths < other.millionths
+        self.millionths() < other.millionths()
     }
+}
+
+/// The nearest whole microsecond; a half goes up.
+fn nearest(whole: u64, part: u32) -> u64
+    requires part { part < 1000000 }
+    requires whole { whole < 10 ^ 16 }
+    ensures { result ≡ micros_of (whole * 1000000 + part) }
+{
+    whole + u64::from(part >= 500_000)
 }
 
 /// What stands before the point of a time, and the six bytes behind it; `None` where no point
@@ -118,6 +136,19 @@ fn whole_of(digits: &[u8]) -> Result<u64, FormFault>
     match number_of(digits) {
         Some(number) => Ok(number),
         None => Err(FormFault::LongTime),
+    }
+}
+
+/// The millionths of a microsecond that stand behind the point of a time; `None` where a byte is no
+/// digit.
+fn part_of(digits: &[u8]) -> Option<u32>
+    requires { length digits.now ≡ 6 }
+    ensures part { SomeIff result (AllDigits 10 digits.now) (digits_value 10 digits.now) }
+    ensures small { IfSome result (λ part. part < 1000000) }
+{
+    match Time::read(digits) {
+        Some(part) => Some(part.value() as u32),
+        None => None,
     }
 }
 
