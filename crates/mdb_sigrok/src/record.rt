@@ -24,18 +24,21 @@ pub(crate) struct Record<'a> {
     pub(crate) name: &'a [u8],
     /// Whether a comma stands behind it.
     pub(crate) more: bool,
+    /// The text behind its time, which tells the line, what was seen and that comma.
+    pub(crate) names: &'a [u8],
 }
 
 /// The record of a line.
 pub(crate) fn record_of(line: &[u8]) -> Result<Record<'_>, FormFault>
     ensures ok { IfOk result (λ r. IsRecord line.now r.ends r.time r.tid.now r.name.now r.more) }
+    ensures names { IfOk result (λ r. AreNames r.names.now r.tid.now r.name.now r.more) }
     ensures err { IfErr result (λ _. (ends : Bool) (time : ℕ) (tid name : List ℕ) (more : Bool) →
         IsRecord line.now ends time tid name more → ⊥) }
 {
-    let Some((ends, digits, rest)) = head_of(line) else {
+    let Some((ends, digits, names)) = head_of(line) else {
         return Err(FormFault::NoRecord);
     };
-    let Some((tid, name, more)) = names_of(rest) else {
+    let Some((tid, name, more)) = names_of(names) else {
         return Err(FormFault::NoRecord);
     };
     match Moment::read(digits) {
@@ -45,9 +48,55 @@ pub(crate) fn record_of(line: &[u8]) -> Result<Record<'_>, FormFault>
             tid,
             name,
             more,
+            names,
         }),
         Err(fault) => Err(fault),
     }
+}
+
+/// The same, behind a record. Where the same text stands behind both times, it isn't read again.
+pub(crate) fn record_behind<'a>(
+    line: &'a [u8],
+    before: &Record<'a>,
+) -> Result<Record<'a>, FormFault>
+    requires { AreNames before.now.names.now before.now.tid.now before.now.name.now
+        before.now.more }
+    ensures ok { IfOk result (λ r. IsRecord line.now r.ends r.time r.tid.now r.name.now r.more) }
+    ensures names { IfOk result (λ r. AreNames r.names.now r.tid.now r.name.now r.more) }
+    ensures err { IfErr result (λ _. (ends : Bool) (time : ℕ) (tid name : List ℕ) (more : Bool) →
+        IsRecord line.now ends time tid name more → ⊥) }
+{
+    let Some((ends, digits, names)) = head_of(line) else {
+        return Err(FormFault::NoRecord);
+    };
+    let Some((tid, name, more)) = names_behind(names, before) else {
+        return Err(FormFault::NoRecord);
+    };
+    match Moment::read(digits) {
+        Ok(time) => Ok(Record {
+            ends,
+            time,
+            tid,
+            name,
+            more,
+            names,
+        }),
+        Err(fault) => Err(fault),
+    }
+}
+
+/// The same as `names_of`, of a text that is likely to be that of a record before it.
+fn names_behind<'a>(text: &'a [u8], before: &Record<'a>) -> Option<(&'a [u8], &'a [u8], bool)>
+    requires { AreNames before.now.names.now before.now.tid.now before.now.name.now
+        before.now.more }
+    ensures some { IfSome result (λ names. AreNames text.now names.0.now names.1.now names.2) }
+    ensures none { IfNone result ((tid name : List ℕ) (more : Bool) →
+        AreNames text.now tid name more → ⊥) }
+{
+    if is_text(text, before.names) {
+        return Some((before.tid, before.name, before.more));
+    }
+    names_of(text)
 }
 
 /// Whether a record is an end, the digits of its time, and what stands behind the comma after them.

@@ -4,14 +4,14 @@ ghost use Rattle.std.specs.Prelude.{◌≡◌, ◌<◌, ◌++◌, ◌∷◌, [],
 ghost use Rattle.mdb_sigrok.specs.declared.pair.Pair.{Pair};
 ghost use Rattle.mdb_sigrok.specs.Text.{lines_of};
 ghost use Rattle.mdb_sigrok.specs.inner.Pairs.{BeginsWith, IsNext, IsOfTrace, MakesPair};
-ghost use Rattle.mdb_sigrok.specs.Record.{IsRecord};
+ghost use Rattle.mdb_sigrok.specs.Record.{AreNames, IsRecord};
 ghost use Rattle.mdb_sigrok.specs.Trace.{Refutes};
 
 use super::cut::{is_text, next_line};
 use super::fault::{FaultLine, FormFault, OrderFault, SigrokFault};
 use super::moment::Moment;
 use super::pair::{Pair, line_of, what_of};
-use super::record::{Record, record_of};
+use super::record::{Record, record_behind, record_of};
 use mdb_words::Line;
 
 /// What was seen next, and what stands behind it.
@@ -52,7 +52,7 @@ pub(crate) fn next_pair(swap: bool, text: &[u8], number: u64) -> Result<Seen<'_>
     if let Some(fault) = fault_of_first(&first, rest, number) {
         return Err(Refusal { fault, line: None });
     }
-    let (second, rest) = match next_record(rest, next) {
+    let (second, rest) = match next_behind(rest, next, &first) {
         Ok(read) => read,
         Err(fault) => return Err(Refusal { fault, line: None }),
     };
@@ -70,6 +70,8 @@ pub(crate) fn next_pair(swap: bool, text: &[u8], number: u64) -> Result<Seen<'_>
 fn next_record(text: &[u8], number: u64) -> Result<(Record<'_>, &[u8]), SigrokFault>
     ensures ok { IfOk result (λ read.
         BeginsWith (lines_of text.now) read.0 (lines_of read.1.now)) }
+    ensures names { IfOk result (λ read.
+        AreNames read.0.names.now read.0.tid.now read.0.name.now read.0.more) }
     ensures shorter { IfOk result (λ read. length read.1.now < length text.now) }
     ensures err { IfErr result (λ _. (ends : Bool) (time : ℕ) (tid name : List ℕ) (more : Bool)
         (line : List ℕ) (lines : List (List ℕ)) → lines_of text.now ≡ line ∷ lines →
@@ -80,6 +82,31 @@ fn next_record(text: &[u8], number: u64) -> Result<(Record<'_>, &[u8]), SigrokFa
         return Err(form(number, FormFault::Cut));
     };
     match record_of(line) {
+        Ok(read) => Ok((read, rest)),
+        Err(fault) => Err(form(number, fault)),
+    }
+}
+
+/// The same, behind a record.
+fn next_behind<'a>(
+    text: &'a [u8],
+    number: u64,
+    before: &Record<'a>,
+) -> Result<(Record<'a>, &'a [u8]), SigrokFault>
+    requires { AreNames before.now.names.now before.now.tid.now before.now.name.now
+        before.now.more }
+    ensures ok { IfOk result (λ read.
+        BeginsWith (lines_of text.now) read.0 (lines_of read.1.now)) }
+    ensures shorter { IfOk result (λ read. length read.1.now < length text.now) }
+    ensures err { IfErr result (λ _. (ends : Bool) (time : ℕ) (tid name : List ℕ) (more : Bool)
+        (line : List ℕ) (lines : List (List ℕ)) → lines_of text.now ≡ line ∷ lines →
+        IsRecord line ends time tid name more → ⊥) }
+    ensures told { IfErr result IsOfTrace }
+{
+    let Some((line, rest)) = next_line(text) else {
+        return Err(form(number, FormFault::Cut));
+    };
+    match record_behind(line, before) {
         Ok(read) => Ok((read, rest)),
         Err(fault) => Err(form(number, fault)),
     }
