@@ -100,6 +100,7 @@ fn names_behind<'a>(text: &'a [u8], before: &Record<'a>) -> Option<(&'a [u8], &'
 }
 
 /// Whether a record is an end, the digits of its time, and what stands behind the comma after them.
+#[inline(always)]
 fn head_of(line: &[u8]) -> Option<(bool, &[u8], &[u8])>
     ensures some { IfSome result (λ head. HasHead line.now head.0 head.1.now head.2.now) }
     ensures none { IfNone result ((ends : Bool) (time : ℕ) (rest : List ℕ) →
@@ -115,6 +116,7 @@ fn head_of(line: &[u8]) -> Option<(bool, &[u8], &[u8])>
 }
 
 /// Whether a record is an end, and what stands behind its front.
+#[inline(always)]
 fn begun_of(line: &[u8]) -> Option<(bool, &[u8])>
     ensures some { IfSome result (λ begun. line.now ≡ front_of begun.0 ++ begun.1.now) }
     ensures none { IfNone result ((ends : Bool) (rest : List ℕ) →
@@ -130,6 +132,7 @@ fn begun_of(line: &[u8]) -> Option<(bool, &[u8])>
 }
 
 /// `tid` and `name`, and whether a comma stands at the end.
+#[inline(always)]
 fn names_of(text: &[u8]) -> Option<(&[u8], &[u8], bool)>
     ensures some { IfSome result (λ names. AreNames text.now names.0.now names.1.now names.2) }
     ensures none { IfNone result ((tid name : List ℕ) (more : Bool) →
