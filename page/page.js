@@ -577,7 +577,7 @@ function actRow(it, i) {
   return h("tr", { class: bad ? "mark" : undefined },
     h("td", { class: "number" }, seconds(acts.start(i))), h("td", { class: "rows" }, first === last ? first : `${first}–${last}`),
     h("td", { class: "wide" }, speaker(acts, i)), h("td", { class: "wide" }, h("code", {}, KINDS[acts.kind(i)])),
-    h("td", {}, actWords(acts, i), bad ? h("strong", {}, ` – cannot be: ${it.report.rule}`) : isUnjudged(it, i) ? h("span", { class: "soft" }, " – not judged") : null), h("td", { class: "bytes" }, acts.hex(i)));
+    h("td", {}, h("span", { class: "narrow" }, `${speaker(acts, i)}: `), actWords(acts, i), bad ? h("strong", {}, ` – cannot be: ${it.report.rule}`) : isUnjudged(it, i) ? h("span", { class: "soft" }, " – not judged") : null), h("td", { class: "bytes" }, acts.hex(i)));
 }
 
 // The acts that the fields above the list find. Long lists are searched piece by piece.

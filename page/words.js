@@ -172,7 +172,10 @@ function readerWords(m, setup) {
 
 function replyWords(device, ask, bytes, setup) {
   const name = ask ? commandName(ask) : "", n = bytes.length - 1;
-  if (device > 2) return `${name}: ${readerMessages(bytes).map((m) => readerWords(m, readSetup(device, bytes) ?? setup)).join("; ")}`;
+  if (device > 2) {
+    const said = readerMessages(bytes).map((m) => readerWords(m, readSetup(device, bytes) ?? setup)).join("; ");
+    return `${name}: ${name.endsWith("config data") ? said.replace(/^config: /, "") : said}`;
+  }
   if (name === "SETUP") {
     const told = readSetup(device, bytes);
     if (!told) return name;
