@@ -5,8 +5,10 @@ pub mod Lines
 pub mod Pairs
 pub mod Whats
 pub mod Moves
+pub mod Fronts
 pub mod Merges
 pub mod Traces
+pub mod Sources
 pub mod Pages
 pub mod Orders
 pub mod Tallies

@@ -1,3 +1,4 @@
+pub mod Fronts
 pub mod Heads
 pub mod Pages
 pub mod Pairs

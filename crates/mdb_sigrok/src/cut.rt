@@ -2,6 +2,7 @@
 
 ghost use Rattle.std.specs.Prelude.{◌≡◌, ◌≢◌, ◌<◌, ◌↔◌, ◌++◌, ◌∷◌, [], List, ℕ, length, IfSome, IfNone, IsTrue};
 ghost use Rattle.mdb_sigrok.specs.Text.{IsCut, Lacks, lines_of, without_return};
+ghost use Rattle.mdb_sigrok.specs.inner.Fronts.{HasLine};
 ghost use Rattle.mdb_sigrok.specs.inner.Places.{IsFirstAt};
 
 use memchr::memchr;
@@ -101,6 +102,8 @@ fn cut_far(text: &[u8], byte: u8) -> Option<(&[u8], &[u8])>
 pub(crate) fn next_line(text: &[u8]) -> Option<(&[u8], &[u8])>
     ensures some { IfSome result
         (λ next. lines_of text.now ≡ next.0.now ∷ lines_of next.1.now) }
+    ensures whole { IfSome result
+        (λ next. 0 < length next.1.now → HasLine text.now next.1.now) }
     ensures shorter { IfSome result (λ next. length next.1.now < length text.now) }
     ensures none { IfNone result (lines_of text.now ≡ []) }
 {

@@ -17,6 +17,7 @@ mod pair;
 mod reading;
 mod record;
 mod rows;
+mod source;
 mod tally;
 mod trace;
 mod writing;

@@ -1,10 +1,11 @@
 //! Both lines of the bus, as a trace is read.
 
-ghost use Rattle.std.specs.Prelude.{◌≡◌, ◌++◌, ◌∷◌, ◌<◌, [], Bool, true, false, List, length, codes, IfOk, IfErr, OnOk};
+ghost use Rattle.std.specs.Prelude.{◌≡◌, ◌++◌, ◌∷◌, [], ℕ, Bool, true, false, List, codes, IfOk, IfErr, OnOk};
 ghost use Rattle.mdb_words.specs.declared.event.Event.{Event};
 ghost use Rattle.mdb_sigrok.specs.Text.{lines_of};
 ghost use Rattle.mdb_sigrok.specs.Trace.{Refutes};
 ghost use Rattle.mdb_sigrok.specs.Rows.{LineRows};
+ghost use Rattle.mdb_sigrok.specs.inner.Fronts.{AreFirst};
 ghost use Rattle.mdb_sigrok.specs.inner.Pairs.{Bars, Ends, GoBy, Goes, IsOfTrace, IsReady, Moves, Stops, start};
 ghost use Rattle.mdb_sigrok.specs.inner.Stands.{stand_of};
 ghost use Rattle.mdb_sigrok.specs.inner.Steps.{IsOpen, open_pairs, told_by};
@@ -179,33 +180,29 @@ impl Both {
         }
     }
 
-    /// Goes on by the next two records, and tells whether more follow, and the text behind them.
-    pub(crate) fn step<'a>(
-        &mut self,
-        swap: bool,
-        text: &'a [u8],
-        number: u64,
-    ) -> Result<(bool, &'a [u8]), SigrokFault>
+    /// Goes on by the next two records, which stand in two lines, and tells whether more follow.
+    pub(crate) fn step(&mut self, swap: bool, text: &[u8], number: u64) -> Result<bool, SigrokFault>
         requires { IsReady (stand_of self.old) }
-        ensures ok { IfOk result (λ next. Moves swap true (lines_of text.now) (stand_of self.old)
-            next.0 (lines_of next.1.now) (stand_of self.new)) }
+        ensures ok { IfOk result (λ more. (lines behind : List (List ℕ)) →
+            AreFirst 2 (lines_of text.now) lines behind →
+            Moves swap true lines (stand_of self.old) more behind (stand_of self.new)) }
         ensures ready { OnOk result (IsReady (stand_of self.new)) }
-        ensures shorter { IfOk result (λ next. length next.1.now < length text.now) }
-        ensures err { IfErr result (λ fault.
-            Stops fault swap true (lines_of text.now) (stand_of self.old)) }
+        ensures err { IfErr result (λ fault. (lines behind : List (List ℕ)) →
+            AreFirst 2 (lines_of text.now) lines behind →
+            Stops fault swap true lines (stand_of self.old)) }
     {
         let seen = match next_pair(swap, text, number) {
             Ok(seen) => seen,
             Err(refusal) => return Err(self.fault_before(refusal.line, refusal.fault)),
         };
         match self.take(number, &seen.pair) {
-            Ok(()) => Ok((seen.more, seen.rest)),
+            Ok(()) => Ok(seen.more),
             Err(fault) => Err(fault),
         }
     }
 
     /// Goes on by what was seen.
-    fn take(&mut self, number: u64, pair: &Pair) -> Result<(), SigrokFault>
+    pub(crate) fn take(&mut self, number: u64, pair: &Pair) -> Result<(), SigrokFault>
         requires { IsReady (stand_of self.old) }
         ensures ok { OnOk result (GoBy (stand_of self.old) (stand_of self.new) pair.now) }
         ensures ready { OnOk result (IsReady (stand_of self.new)) }

@@ -1,9 +1,10 @@
 //! The rows of a trace.
 
-ghost use Rattle.std.specs.Prelude.{◌≡◌, true, false, List, IfOk, IfErr, OnOk};
+ghost use Rattle.std.specs.Prelude.{◌≡◌, ◌⊎◌, true, false, List, IfSome, IfOk, IfErr, OnOk};
 ghost use Rattle.mdb_words.specs.declared.event.Event.{Event};
 ghost use Rattle.mdb_sigrok.specs.Text.{lines_of};
 ghost use Rattle.mdb_sigrok.specs.Trace.{AreRowsOfTrace, Refutes};
+ghost use Rattle.mdb_sigrok.specs.inner.Fronts.{Leaves};
 ghost use Rattle.mdb_sigrok.specs.inner.Pairs.{IsReady, Moves, Stops, Tells, start};
 ghost use Rattle.mdb_sigrok.specs.inner.Stands.{stand_of};
 
@@ -11,35 +12,75 @@ use super::cut::{is_text, next_line};
 use super::fault::{FormFault, SigrokFault};
 use super::merging::merged;
 use super::reading::Both;
+use super::source::{pass_pair, read_one, read_two};
 use super::trace::form;
 use mdb_words::Event;
 use std::alloc::Global;
+use std::io::{BufRead, BufReader, Read};
+
+/// How many bytes of a trace are asked for at once.
+const READ_SIZE: usize = 65_536;
 
 /// The rows of a trace that sigrok-cli wrote of its decoder `uart`. With `swap` the channel `RX` is
 /// the controller's line.
 ///
-/// It takes the memory of the rows twice: those of each line, and then both in one.
+/// It takes the memory of the rows twice: those of each line, and then both in one. Of the trace it
+/// keeps two lines and 64 KiB.
 ///
 /// # Errors
 ///
-/// The first record of what is no trace, or that memory was refused.
-pub fn rows_of_trace(alloc: Global, swap: bool, text: &[u8]) -> Result<Vec<Event>, SigrokFault>
+/// The first record of what is no trace, or that reading failed, or that memory was refused.
+pub fn rows_of_trace<R: Read + Drop>(
+    alloc: Global,
+    swap: bool,
+    reader: R,
+) -> Result<Vec<Event>, SigrokFault>
     // What is answered are the rows of the trace.
-    ensures rows { IfOk result (λ rows. AreRowsOfTrace swap text.now rows.items) }
+    ensures rows { IfOk result (λ rows. IfSome (R.remaining reader) (λ text.
+        AreRowsOfTrace swap text rows.items)) }
     // It has no others.
-    ensures only { IfOk result (λ rows. (others : List Event) →
-        AreRowsOfTrace swap text.now others → others ≡ rows.items) }
+    ensures only { IfOk result (λ rows. IfSome (R.remaining reader) (λ text.
+        (others : List Event) → AreRowsOfTrace swap text others → others ≡ rows.items)) }
     // What is refused for what stands in it has no rows.
-    ensures refused { IfErr result (λ fault. (rows : List Event) →
-        Refutes fault (AreRowsOfTrace swap text.now rows)) }
+    ensures refused { IfErr result (λ fault. IfSome (R.remaining reader) (λ text.
+        (fault ≡ SigrokFault.Read) ⊎ ((rows : List Event) →
+        Refutes fault (AreRowsOfTrace swap text rows)))) }
 {
-    let Some((first, rest)) = next_line(text) else {
+    match BufReader::with_capacity(alloc, READ_SIZE, reader) {
+        Ok(reader) => {
+            let mut reader = reader;
+            read_rows(alloc, swap, &mut reader)
+        }
+        Err(_) => Err(SigrokFault::Memory),
+    }
+}
+
+/// The same, of a reader that has a buffer.
+fn read_rows<B: BufRead>(
+    alloc: Global,
+    swap: bool,
+    reader: &mut B,
+) -> Result<Vec<Event>, SigrokFault>
+    ensures rows { IfOk result (λ rows. IfSome (B.remaining reader.old) (λ text.
+        AreRowsOfTrace swap text rows.items)) }
+    ensures only { IfOk result (λ rows. IfSome (B.remaining reader.old) (λ text.
+        (others : List Event) → AreRowsOfTrace swap text others → others ≡ rows.items)) }
+    ensures refused { IfErr result (λ fault. IfSome (B.remaining reader.old) (λ text.
+        (fault ≡ SigrokFault.Read) ⊎ ((rows : List Event) →
+        Refutes fault (AreRowsOfTrace swap text rows)))) }
+{
+    let mut held = Vec::new(alloc);
+    match read_one(reader, &mut held) {
+        Ok(()) => (),
+        Err(fault) => return Err(fault),
+    }
+    let Some((first, _)) = next_line(held.as_slice()) else {
         return Err(form(0, FormFault::NoTrace));
     };
     if !is_text(first, b"{\"traceEvents\": [") {
         return Err(form(0, FormFault::NoTrace));
     }
-    match rows_of_lines(alloc, swap, rest) {
+    match rows_of_lines(alloc, swap, reader, &mut held) {
         Ok(both) => match merged(alloc, both.0.as_slice(), both.1.as_slice()) {
             Ok(rows) => Ok(rows),
             Err(_) => Err(SigrokFault::Memory),
@@ -49,55 +90,96 @@ pub fn rows_of_trace(alloc: Global, swap: bool, text: &[u8]) -> Result<Vec<Event
 }
 
 /// The rows of each line, by what stands below the first line of a trace.
-fn rows_of_lines(
+fn rows_of_lines<B: BufRead>(
     alloc: Global,
     swap: bool,
-    text: &[u8],
+    reader: &mut B,
+    held: &mut Vec<u8>,
 ) -> Result<(Vec<Event>, Vec<Event>), SigrokFault>
-    ensures ok { IfOk result (λ rows. Tells swap (lines_of text.now) rows.0.items rows.1.items) }
-    ensures only { IfOk result (λ rows. (sent answered : List Event) →
-        Tells swap (lines_of text.now) sent answered →
-        (sent ≡ rows.0.items) × (answered ≡ rows.1.items)) }
-    ensures err { IfErr result (λ fault. (sent answered : List Event) →
-        Refutes fault (Tells swap (lines_of text.now) sent answered)) }
+    ensures ok { IfOk result (λ rows. IfSome (B.remaining reader.old) (λ text.
+        Tells swap (lines_of text) rows.0.items rows.1.items)) }
+    ensures only { IfOk result (λ rows. IfSome (B.remaining reader.old) (λ text.
+        (sent answered : List Event) → Tells swap (lines_of text) sent answered →
+        (sent ≡ rows.0.items) × (answered ≡ rows.1.items))) }
+    ensures err { IfErr result (λ fault. IfSome (B.remaining reader.old) (λ text.
+        (fault ≡ SigrokFault.Read) ⊎ ((sent answered : List Event) →
+        Refutes fault (Tells swap (lines_of text) sent answered)))) }
 {
     let mut both = Both::new(alloc);
-    let (rest, number) = match read_pairs(&mut both, swap, text) {
-        Ok(read) => read,
+    let number = match read_pairs(&mut both, swap, reader, held) {
+        Ok(number) => number,
         Err(fault) => return Err(fault),
     };
-    match both.end(rest, number) {
+    match read_two(reader, held) {
+        Ok(()) => (),
+        Err(fault) => return Err(fault),
+    }
+    match both.end(held.as_slice(), number) {
         Ok(()) => Ok((both.controller.rows, both.devices.rows)),
         Err(fault) => Err(fault),
     }
 }
 
-/// Reads all pairs of records of a trace. What it answers is the text behind them, and the number
-/// of the record that would come next.
-fn read_pairs<'a>(
+/// Reads all pairs of records of a trace. What it answers is the number of the record that would
+/// come next.
+fn read_pairs<B: BufRead>(
     both: &mut Both,
     swap: bool,
-    text: &'a [u8],
-) -> Result<(&'a [u8], u64), SigrokFault>
+    reader: &mut B,
+    held: &mut Vec<u8>,
+) -> Result<u64, SigrokFault>
     requires { IsReady (stand_of both.old) }
-    ensures ok { IfOk result (λ read. Moves swap true (lines_of text.now) (stand_of both.old)
-        false (lines_of read.0.now) (stand_of both.new)) }
+    ensures ok { OnOk result (Leaves (B.remaining reader.old) (B.remaining reader.new)
+        (λ text rest. Moves swap true (lines_of text) (stand_of both.old)
+        false (lines_of rest) (stand_of both.new))) }
     ensures ready { OnOk result (IsReady (stand_of both.new)) }
-    ensures err { IfErr result (λ fault.
-        Stops fault swap true (lines_of text.now) (stand_of both.old)) }
+    ensures err { IfErr result (λ fault. IfSome (B.remaining reader.old) (λ text.
+        (fault ≡ SigrokFault.Read) ⊎ Stops fault swap true (lines_of text) (stand_of both.old))) }
 {
-    let mut rest = text;
-    let mut more = true;
     let mut number: u64 = 1;
-    while more {
-        match both.step(swap, rest, number) {
-            Ok(next) => {
-                more = next.0;
-                rest = next.1;
-            }
+    while number < u64::MAX {
+        let more = match next_step(both, swap, reader, held, number) {
+            Ok(more) => more,
             Err(fault) => return Err(fault),
-        }
+        };
         number = number.saturating_add(2);
+        if !more {
+            return Ok(number);
+        }
     }
-    Ok((rest, number))
+    // Their rows would fit no memory.
+    Err(SigrokFault::Memory)
+}
+
+/// Goes on by the next two records, and tells whether more follow. Their lines are copied only where
+/// the reader doesn't show both whole.
+fn next_step<B: BufRead>(
+    both: &mut Both,
+    swap: bool,
+    reader: &mut B,
+    held: &mut Vec<u8>,
+    number: u64,
+) -> Result<bool, SigrokFault>
+    requires { IsReady (stand_of both.old) }
+    ensures ok { IfOk result (λ more. Leaves (B.remaining reader.old) (B.remaining reader.new)
+        (λ text rest. Moves swap true (lines_of text) (stand_of both.old)
+        more (lines_of rest) (stand_of both.new))) }
+    ensures ready { OnOk result (IsReady (stand_of both.new)) }
+    ensures err { IfErr result (λ fault. IfSome (B.remaining reader.old) (λ text.
+        (fault ≡ SigrokFault.Read) ⊎ Stops fault swap true (lines_of text) (stand_of both.old))) }
+{
+    match pass_pair(reader, swap, number) {
+        Ok(Some(shown)) => {
+            return match both.take(number, &shown.pair) {
+                Ok(()) => Ok(shown.more),
+                Err(fault) => Err(fault),
+            };
+        }
+        Ok(None) => (),
+        Err(fault) => return Err(fault),
+    }
+    match read_two(reader, held) {
+        Ok(()) => both.step(swap, held.as_slice(), number),
+        Err(fault) => Err(fault),
+    }
 }

@@ -3,6 +3,7 @@
 ghost use Rattle.std.specs.Prelude.{◌≡◌, ◌<◌, ◌++◌, ◌∷◌, [], Bool, true, false, List, ℕ, length, codes, IfOk, IfErr, IfNone, IfSome, IsTrue, ◌↔◌};
 ghost use Rattle.mdb_sigrok.specs.declared.pair.Pair.{Pair};
 ghost use Rattle.mdb_sigrok.specs.Text.{lines_of};
+ghost use Rattle.mdb_sigrok.specs.inner.Fronts.{HasLine, HasTwo};
 ghost use Rattle.mdb_sigrok.specs.inner.Pairs.{BeginsWith, IsNext, IsOfTrace, MakesPair};
 ghost use Rattle.mdb_sigrok.specs.Record.{AreNames, IsRecord};
 ghost use Rattle.mdb_sigrok.specs.Trace.{Refutes};
@@ -38,7 +39,8 @@ pub(crate) struct Refusal {
 pub(crate) fn next_pair(swap: bool, text: &[u8], number: u64) -> Result<Seen<'_>, Refusal>
     ensures ok { IfOk result (λ seen.
         IsNext swap (lines_of text.now) seen.pair seen.more (lines_of seen.rest.now)) }
-    ensures shorter { IfOk result (λ seen. length seen.rest.now < length text.now) }
+    ensures whole { IfOk result
+        (λ seen. 0 < length seen.rest.now → HasTwo text.now seen.rest.now) }
     ensures err { IfErr result (λ _.
         (pair : Pair) (more : Bool) (lines : List (List ℕ)) →
         IsNext swap (lines_of text.now) pair more lines → ⊥) }
@@ -72,7 +74,8 @@ fn next_record(text: &[u8], number: u64) -> Result<(Record<'_>, &[u8]), SigrokFa
         BeginsWith (lines_of text.now) read.0 (lines_of read.1.now)) }
     ensures names { IfOk result (λ read.
         AreNames read.0.names.now read.0.tid.now read.0.name.now read.0.more) }
-    ensures shorter { IfOk result (λ read. length read.1.now < length text.now) }
+    ensures whole { IfOk result
+        (λ read. 0 < length read.1.now → HasLine text.now read.1.now) }
     ensures err { IfErr result (λ _. (ends : Bool) (time : ℕ) (tid name : List ℕ) (more : Bool)
         (line : List ℕ) (lines : List (List ℕ)) → lines_of text.now ≡ line ∷ lines →
         IsRecord line ends time tid name more → ⊥) }
@@ -97,7 +100,8 @@ fn next_behind<'a>(
         before.now.more }
     ensures ok { IfOk result (λ read.
         BeginsWith (lines_of text.now) read.0 (lines_of read.1.now)) }
-    ensures shorter { IfOk result (λ read. length read.1.now < length text.now) }
+    ensures whole { IfOk result
+        (λ read. 0 < length read.1.now → HasLine text.now read.1.now) }
     ensures err { IfErr result (λ _. (ends : Bool) (time : ℕ) (tid name : List ℕ) (more : Bool)
         (line : List ℕ) (lines : List (List ℕ)) → lines_of text.now ≡ line ∷ lines →
         IsRecord line ends time tid name more → ⊥) }

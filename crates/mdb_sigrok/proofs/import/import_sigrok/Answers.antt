@@ -4,23 +4,23 @@ use Rattle.mdb_sigrok.specs.Import.{HasTaken}
 use Rattle.mdb_sigrok.specs.Part.{IsTold}
 use Rattle.std.specs.Io.KnownBytes.{Appends}
 use Rattle.mdb_sigrok.specs.inner.Tallies.{part_text}
-use Rattle.mdb_sigrok.proofs.Traces.{imported_of, partial_of, refused_of}
-use Rattle.mdb_sigrok.proofs.import.import_text.Goals as goal
+use Rattle.mdb_sigrok.proofs.Sources.{imported_by, partial_by, refused_by}
+use Rattle.mdb_sigrok.proofs.import.import_sigrok.Goals as goal
 
 pub returns : goal.returns
-returns g c = refused_of c.args.options.now c.args.text.now c.in-Err.fault (g.W.Write.contents c.args.writer.now) c.in-Err.ensures.refused
+returns g c = refused_by c.args.options.now (g.R.Read.remaining c.args.reader) c.in-Err.fault (g.W.Write.contents c.args.writer.now) c.in-Err.ensures.refused
 
 pub returns-in-Ok : goal.returns-in-Ok
 returns-in-Ok g c =
     let held = g.W.Write.contents in
     let options = c.args.options.now in
-    partial_of options c.args.text.now c.in-Ok.rows.items c.in-Err-write_part.fault (held c.args.writer.now) (held c.write_part.new.writer) c.in-Ok.ensures.rows
+    partial_by options (g.R.Read.remaining c.args.reader) c.in-Ok.rows.items c.in-Err-write_part.fault (held c.args.writer.now) (held c.write_part.new.writer) c.in-Ok.ensures.rows
     (subst (λ (l : List Event). HasTaken (held c.args.writer.now) (held c.write_part.new.writer) (part_text options l)) c.as_slice.ensures.value c.write_part.ensures.front) c.in-Err-write_part.ensures.refused
 
 pub returns-in-Ok-write_part : goal.returns-in-Ok-write_part
 returns-in-Ok-write_part g c =
     let held = g.W.Write.contents in
     let options = c.args.options.now in
-    imported_of options c.args.text.now c.in-Ok.rows.items c.tally_of.result (held c.args.writer.now) (held c.write_part.new.writer) c.in-Ok.ensures.rows
+    imported_by options (g.R.Read.remaining c.args.reader) c.in-Ok.rows.items c.tally_of.result (held c.args.writer.now) (held c.write_part.new.writer) c.in-Ok.ensures.rows
     (subst (λ (l : List Event). IsTold options l c.tally_of.result) c.as_slice-in-Ok-write_part.ensures.value c.tally_of.ensures)
     (subst (λ (l : List Event). Appends (held c.args.writer.now) (held c.write_part.new.writer) (part_text options l)) c.as_slice.ensures.value c.in-Ok-write_part.ensures.whole)
