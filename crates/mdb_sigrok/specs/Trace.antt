@@ -48,7 +48,7 @@ pub record AreRowsOfTrace (swap : Bool) (text : List ℕ) (rows : List Event) : 
   pub both : Merges controller devices rows
 
 -- A fault that is told of a trace refutes what is claimed of it. That memory was refused tells
--- nothing of the trace. That reading or writing failed is never told.
+-- nothing of the trace. That writing failed is never told; that reading did is told beside this.
 abbrev pub Refutes : SigrokFault → Type 0 → Type 0
 Refutes (Form number fault) claim = claim → ⊥
 Refutes (Order number micros line fault) claim = claim → ⊥

@@ -52,7 +52,6 @@ pub(crate) fn is_text(text: &[u8], other: &[u8]) -> bool
 /// stands nowhere.
 pub(crate) fn cut_at(text: &[u8], byte: u8) -> Option<(&[u8], &[u8])>
     ensures some { IfSome result (λ cut. IsCut byte text.now cut.0.now cut.1.now) }
-    ensures shorter { IfSome result (λ cut. length cut.1.now < length text.now) }
     ensures none { IfNone result (Lacks byte text.now) }
 {
     for (index, other) in text.iter().enumerate() {
@@ -66,7 +65,6 @@ pub(crate) fn cut_at(text: &[u8], byte: u8) -> Option<(&[u8], &[u8])>
 /// The same as `cut_at`, for a byte that is likely to be among the first `N` bytes of a long text.
 pub(crate) fn cut_near<const N: usize>(text: &[u8], byte: u8) -> Option<(&[u8], &[u8])>
     ensures some { IfSome result (λ cut. IsCut byte text.now cut.0.now cut.1.now) }
-    ensures shorter { IfSome result (λ cut. length cut.1.now < length text.now) }
     ensures none { IfNone result (Lacks byte text.now) }
 {
     match place_near::<N>(text, byte) {
@@ -89,7 +87,6 @@ fn place_near<const N: usize>(text: &[u8], byte: u8) -> Option<usize>
 /// The same as `cut_at`, for a byte that may be far behind: many bytes are looked at at once.
 fn cut_far(text: &[u8], byte: u8) -> Option<(&[u8], &[u8])>
     ensures some { IfSome result (λ cut. IsCut byte text.now cut.0.now cut.1.now) }
-    ensures shorter { IfSome result (λ cut. length cut.1.now < length text.now) }
     ensures none { IfNone result (Lacks byte text.now) }
 {
     match memchr(byte, text) {
@@ -104,7 +101,6 @@ pub(crate) fn next_line(text: &[u8]) -> Option<(&[u8], &[u8])>
         (λ next. lines_of text.now ≡ next.0.now ∷ lines_of next.1.now) }
     ensures whole { IfSome result
         (λ next. 0 < length next.1.now → HasLine text.now next.1.now) }
-    ensures shorter { IfSome result (λ next. length next.1.now < length text.now) }
     ensures none { IfNone result (lines_of text.now ≡ []) }
 {
     if text.is_empty() {

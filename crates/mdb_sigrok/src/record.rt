@@ -62,7 +62,6 @@ pub(crate) fn record_behind<'a>(
     requires { AreNames before.now.names.now before.now.tid.now before.now.name.now
         before.now.more }
     ensures ok { IfOk result (λ r. IsRecord line.now r.ends r.time r.tid.now r.name.now r.more) }
-    ensures names { IfOk result (λ r. AreNames r.names.now r.tid.now r.name.now r.more) }
     ensures err { IfErr result (λ _. (ends : Bool) (time : ℕ) (tid name : List ℕ) (more : Bool) →
         IsRecord line.now ends time tid name more → ⊥) }
 {

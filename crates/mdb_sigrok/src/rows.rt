@@ -47,10 +47,7 @@ pub fn rows_of_trace<R: Read + Drop>(
         Refutes fault (AreRowsOfTrace swap text rows)))) }
 {
     match BufReader::with_capacity(alloc, READ_SIZE, reader) {
-        Ok(reader) => {
-            let mut reader = reader;
-            read_rows(alloc, swap, &mut reader)
-        }
+        Ok(mut reader) => read_rows(alloc, swap, &mut reader),
         Err(_) => Err(SigrokFault::Memory),
     }
 }
@@ -151,8 +148,9 @@ fn read_pairs<B: BufRead>(
     Err(SigrokFault::Memory)
 }
 
-/// Goes on by the next two records, and tells whether more follow. Their lines are copied only where
-/// the reader doesn't show both whole.
+/// Goes on by the next two records, and tells whether more follow. Their lines are copied where the
+/// reader doesn't show both with something behind them, and where they may not stand there, which
+/// tells why.
 fn next_step<B: BufRead>(
     both: &mut Both,
     swap: bool,

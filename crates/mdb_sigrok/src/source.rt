@@ -1,6 +1,6 @@
 //! The lines of a trace, from its reader.
 
-ghost use Rattle.std.specs.Prelude.{◌≡◌, ◌≤◌, ◌++◌, ℕ, List, length, take, IfSome, IfNone, IsNone, IfOk, IfErr, OnOk};
+ghost use Rattle.std.specs.Prelude.{◌≡◌, ◌≢◌, ◌≤◌, ◌++◌, ℕ, List, length, take, IfSome, IfNone, IsNone, IfOk, IfErr, OnOk};
 ghost use Rattle.std.specs.Io.BufRead.{DropsThrough, take_through};
 ghost use Rattle.std.specs.Io.KnownBytes.{Keeps};
 ghost use Rattle.mdb_sigrok.specs.Text.{lines_of};
@@ -23,8 +23,8 @@ pub(crate) struct Shown {
     length: usize,
 }
 
-/// Passes over the next two records, if the reader shows them whole and they may stand there. If
-/// not, it passes over nothing.
+/// Passes over the next two records, if the reader shows their lines and something behind them, and
+/// they may stand there. If not, it passes over nothing.
 pub(crate) fn pass_pair<B: BufRead>(
     reader: &mut B,
     swap: bool,
@@ -48,7 +48,8 @@ pub(crate) fn pass_pair<B: BufRead>(
     Ok(Some(shown))
 }
 
-/// The next two records, if their lines are whole and they may stand there.
+/// The next two records, if something stands behind their lines, so that these are whole, and they
+/// may stand there.
 fn shown_pair(swap: bool, text: &[u8], number: u64) -> Option<Shown>
     ensures within { IfSome result (λ shown. shown.length ≤ length text.now) }
     ensures next { IfSome result (λ shown. (rest : List ℕ) →
@@ -73,7 +74,9 @@ fn shown_pair(swap: bool, text: &[u8], number: u64) -> Option<Shown>
 /// What is told where a reader shows nothing. A read that was interrupted is tried again.
 fn none_or_fault(kind: ErrorKind) -> Result<Option<Shown>, SigrokFault>
     ensures none { IfOk result IsNone }
+    ensures retried { IfOk result (λ _. kind ≡ ErrorKind.Interrupted) }
     ensures err { IfErr result IsOfReading }
+    ensures failed { IfErr result (λ _. kind ≢ ErrorKind.Interrupted) }
 {
     if kind == ErrorKind::Interrupted {
         return Ok(None);
