@@ -1,7 +1,7 @@
 # Installs the programs that are built, their man pages, completions for bash and the pages of docs/.
 # For these it builds nothing: README.md says how to get the program. And it builds the page for a
 # browser, out/mdbcheck.html, and the library for C, out/c, which proves what these stand on
-# (docs/page.md, docs/library.md); and the worked cases as one file, out/vectors.jsonl.
+# (docs/bench/page.md, docs/programs/library.md); and the worked cases as one file, out/vectors.jsonl.
 #
 #     make install [PREFIX=/usr/local] [DESTDIR=..]
 #     make uninstall [PREFIX=/usr/local] [DESTDIR=..]
@@ -39,7 +39,7 @@ vectors:
 # Only what is built and what has a page or completions here. The second program may be missing.
 install:
 	$(if $(wildcard $(PROGRAM)),,$(error there is no $(PROGRAM): build it as README.md says, or name it with PROGRAM=))
-	install -d '$(bin)' '$(man)' '$(completions)' '$(doc)/examples'
+	install -d '$(bin)' '$(man)' '$(completions)' '$(doc)/examples' '$(doc)/docs'
 	install -m 755 '$(PROGRAM)' '$(bin)/mdbcheck'
 	$(if $(wildcard $(IMPORT)),install -m 755 '$(IMPORT)' '$(bin)/mdbimport')
 	for name in $(names); do \
@@ -47,7 +47,10 @@ install:
 	    [ ! -e completions/$$name.bash ] || \
 	        install -m 644 completions/$$name.bash '$(completions)'/$$name || exit 1; \
 	done
-	install -m 644 README.md CHANGELOG.md docs/*.md docs/*.json '$(doc)'
+	install -m 644 README.md CHANGELOG.md '$(doc)'
+	cd docs && find . -name '*.md' -o -name '*.json' | while read -r page; do \
+	    install -D -m 644 "$$page" '$(doc)/docs'/"$$page" || exit 1; \
+	done
 	install -m 644 examples/*.csv '$(doc)/examples'
 
 # What others share, as bin, stays.

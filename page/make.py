@@ -1,7 +1,7 @@
 #!/usr/bin/env python3
 """make.py MODULE.wasm PAGE.html: puts the page's sources and the module into one file.
 
-The texts of the rules are those of docs/rules.md. Scripts and styles are named by their checksums
+The texts of the rules are those of docs/bench/rules.md. Scripts and styles are named by their checksums
 in the page's Content-Security-Policy, so that the browser runs nothing else. The same input gives
 the same bytes.
 """
@@ -20,14 +20,14 @@ LEADS = {"At the bench": "bench", "The row": "row", "Blame": "blame", "Look at":
 
 def plain(text):
     """Words without the marks of Markdown, and without the sentences that name another page."""
-    text = re.sub(r",? `[a-z-]+\.md`(?=\))", "", text)
-    text = re.sub(r"(?:^|(?<=\. ))[^.]*\.md`[^.]*\. ?", "", text)
+    text = re.sub(r",? `[a-z/.-]+\.md`(?=\))", "", text)
+    text = re.sub(r"(?:^|(?<=\. ))(?:[^.]|\.\./)*\.md`[^.]*\. ?", "", text)
     return text.replace("`", "").replace("**", "").replace("*", "").strip()
 
 
 def rule_texts():
-    """The paragraphs of each rule in docs/rules.md, by their leading words."""
-    text = (HERE.parent / "docs" / "rules.md").read_text()
+    """The paragraphs of each rule in docs/bench/rules.md, by their leading words."""
+    text = (HERE.parent / "docs" / "bench" / "rules.md").read_text()
     rules = {}
     for section in re.split(r"^## ", text, flags=re.M)[1:]:
         name, _, body = section.partition("\n")
@@ -45,10 +45,10 @@ def rule_texts():
                 last.extend("• " + plain(item) for item in re.split(r"\n?^- ", part, flags=re.M) if item)
         missing = set(LEADS.values()) - set(rule)
         if missing:
-            sys.exit(f"docs/rules.md: the rule {name} has no {sorted(missing)}")
+            sys.exit(f"docs/bench/rules.md: the rule {name} has no {sorted(missing)}")
         rules[name.strip()] = rule
     if list(rules) != RULES:
-        sys.exit(f"docs/rules.md: the rules are {list(rules)}")
+        sys.exit(f"docs/bench/rules.md: the rules are {list(rules)}")
     return rules
 
 

@@ -1,5 +1,5 @@
 // The acts of a recording in words. It reads the bytes that the module lists, as
-// docs/commands-and-messages.md has them. No verdict and no bound rests on it.
+// docs/bench/commands-and-messages.md has them. No verdict and no bound rests on it.
 const DEVICES = ["", "changer", "bill", "cashless", "cashless-2"];
 const DEVICE_NAMES = ["", "coin changer", "bill validator", "card reader at 10H", "card reader at 60H"];
 const KINDS = ["ask", "ack", "nak", "reply", "vmc-ack", "vmc-nak", "vmc-ret", "repeat", "foreign", "break", "cut"];

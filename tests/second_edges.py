@@ -1,6 +1,6 @@
 #!/usr/bin/env python3
 """Reads a table of edges, and gives the rows of a recording: a second reader, written from the page
-docs/edges.md (and docs/importing.md, docs/rows-and-command-line.md for what a csv reader takes) and
+docs/bench/edges.md (and docs/bench/importing.md, docs/bench/rows-and-command-line.md for what a csv reader takes) and
 not from a program's code, to compare with.
 
     tests/second_edges.py [--controller NAME] [--peripheral NAME] [--unit s|ms|us|ns] [--invert]

@@ -1,6 +1,6 @@
 #!/usr/bin/env python3
 """Reads what a recorder's program exports, and gives the rows of a recording: a second reader,
-written from the pages in words (docs/sigrok-trace.md) and not from a program's code, to compare
+written from the pages in words (docs/bench/sigrok-trace.md) and not from a program's code, to compare
 with.
 
     tests/second_import.py sigrok [--swap] [--from MICROSECONDS] [--until MICROSECONDS] < TRACE

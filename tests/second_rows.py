@@ -1,6 +1,6 @@
 #!/usr/bin/env python3
 """Reads an export that is nearly rows, and gives the rows of a recording: a second reader, written
-from the pages in words (docs/importing.md, and docs/rows-and-command-line.md for what a csv reader
+from the pages in words (docs/bench/importing.md, and docs/bench/rows-and-command-line.md for what a csv reader
 takes) and not from a program's code, to compare with.
 
     tests/second_rows.py [--unit s|ms|us|ns] [--controller NAME] [--peripheral NAME]

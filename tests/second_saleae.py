@@ -1,6 +1,6 @@
 #!/usr/bin/env python3
 """Reads the table of an asynchronous serial analyser, and gives the rows of a recording: a second
-reader, written from the page in words (docs/saleae.md) and not from a program's code, to compare
+reader, written from the page in words (docs/bench/saleae.md) and not from a program's code, to compare
 with.
 
     tests/second_saleae.py [--controller NAME] [--peripheral NAME] [--break MICROSECONDS]

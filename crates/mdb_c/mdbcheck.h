@@ -2,7 +2,7 @@
  * mdbcheck.h - checks a recording of an MDB/ICP bus that lies in memory as text.
  *
  * The call is compiled from the proved code of the program mdbcheck, and answers what
- * `mdbcheck check` answers. docs/library.md says how to build it, what is promised and what isn't.
+ * `mdbcheck check` answers. docs/programs/library.md says how to build it, what is promised and what isn't.
  *
  * Lengths are numbers of bytes. The call keeps nothing: after it the caller may change or free all
  * that it passed. It has no state of its own, so several threads may call it at once, each with a
@@ -42,7 +42,7 @@ extern "C" {
 #define MDBCHECK_NO_ROOM 6u     /* there is a verdict, and its report is longer than `room` */
 #define MDBCHECK_BAD_OPTIONS 7u /* a bit is set that is no option */
 
-/* Why a record is no row: TIME,LINE,VALUE is wanted (docs/rows-and-command-line.md). */
+/* Why a record is no row: TIME,LINE,VALUE is wanted (docs/bench/rows-and-command-line.md). */
 #define MDBCHECK_FIELD_COUNT 1u /* it hasn't three fields */
 #define MDBCHECK_BAD_TIME 2u    /* TIME isn't 1 to 15 decimal digits */
 #define MDBCHECK_BAD_LINE 3u    /* LINE isn't M, S or B */

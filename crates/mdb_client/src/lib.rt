@@ -1,4 +1,4 @@
-//! How a program calls the library: each function is one that `docs/library.md` shows, and its
+//! How a program calls the library: each function is one that `docs/programs/library.md` shows, and its
 //! contract what is promised of it.
 #![tactic(auto)]
 
