@@ -17,9 +17,9 @@ The parts, and the page of `docs/` that each follows:
 
     records, rows and marks     rows-and-command-line.md, *The recording* and *Explanations*
     commands, messages          commands-and-messages.md
-    the link                    rows-and-command-line.md, *What a bus may do*, *Times*, *The rules*
+    the link                    bus.md, *What a bus may do*, *Times*, *The rules*
     the machines                machines.md
-    silences, the report        rows-and-command-line.md, *The report*
+    silences, the report        report.md, *The report*
 """
 
 import re
@@ -355,7 +355,7 @@ def has_messages(command: Command) -> bool:
 
 
 # ------------------------------------------------------------------------------------------------------
-# The link (rows-and-command-line.md, *What a bus may do*, *Times*, *The rules*)
+# The link (bus.md, *What a bus may do*, *Times*, *The rules*)
 # ------------------------------------------------------------------------------------------------------
 
 LEAST_GAP = 996
@@ -1101,7 +1101,7 @@ def amount_of(message: bytes) -> int:
 
 
 # ------------------------------------------------------------------------------------------------------
-# Silences (rows-and-command-line.md, *The report*)
+# Silences (report.md, *The report*)
 # ------------------------------------------------------------------------------------------------------
 
 
