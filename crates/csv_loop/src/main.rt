@@ -1,5 +1,5 @@
-//! Counts the CSV records of its standard input. It does nothing else, so the benchmark compares
-//! the checker with it.
+//! Counts the CSV records of its standard input, and does nothing else. The benchmark compares the
+//! checker with this program.
 #![tactic(auto)]
 
 use csv::{ByteRecord, Error, ReaderBuilder};

@@ -7,11 +7,11 @@ ghost use Rattle.mdb_blocks.specs.Answer.{answer_byte};
 /// An answer of one byte (MDB/ICP 4.3, response codes).
 #[derive(Clone, Copy, PartialEq, Eq, Debug)]
 pub enum Answer {
-    /// Received well, 00.
+    /// ACK, 00: the block was received well.
     Ack,
-    /// Not received well, FF.
+    /// NAK, FF: the block wasn't received well.
     Nak,
-    /// Send it again, AA: the controller alone sends it.
+    /// RET, AA: send the block again. Only the controller sends it.
     Ret,
 }
 
@@ -27,7 +27,7 @@ impl Answer {
         }
     }
 
-    /// The answer of a byte, `None` where it is no answer's.
+    /// The answer that a byte is. `None` if it is none.
     pub fn of(byte: u8) -> Option<Answer>
         ensures some { IfSome result (λ answer. answer_byte answer ≡ byte) }
         ensures none { IfNone result ((answer : Answer) → answer_byte answer ≢ byte) }

@@ -10,8 +10,8 @@ use std::marker::Model;
 /// The most bytes of a block, its sum included (MDB/ICP 4.3, block format).
 const BLOCK_MAX: usize = 36;
 
-/// A block: 2 to 36 bytes, the last of them the sum of the others modulo 256 (MDB/ICP 4.3, block
-/// format).
+/// A block: 2 to 36 bytes, of which the last is the sum of the others modulo 256 (MDB/ICP 4.3,
+/// block format).
 #[derive(Debug, Drop)]
 pub struct Block {
     bytes: ArrayVec<u8, BLOCK_MAX>,
@@ -31,9 +31,9 @@ impl Model for Block {
 /// Why bytes are no block.
 #[derive(Clone, Copy, PartialEq, Eq, Debug)]
 pub enum BlockFault {
-    /// Nothing to carry, or fewer than two bytes.
+    /// To seal: no bytes. To unseal: fewer than two bytes.
     Empty,
-    /// More than 35 bytes to carry, or more than 36 bytes.
+    /// To seal: more than 35 bytes. To unseal: more than 36 bytes.
     TooLong,
     /// The last byte is not the sum of the others modulo 256.
     BadSum,
@@ -48,7 +48,7 @@ impl Block {
         self.bytes.as_slice()
     }
 
-    /// The bytes that the block carries, without their sum.
+    /// The bytes that the block carries: all but the sum.
     pub fn content(&self) -> &[u8]
         ensures content { IsContent result.now }
         ensures block { self.now ≡ block_of result.now }
@@ -57,8 +57,8 @@ impl Block {
         &bytes[..bytes.len() - 1]
     }
 
-    /// The `i`-th word of the block on a line. The controller marks the first word of a block, a
-    /// peripheral the last.
+    /// The `i`-th word of the block on a line, from 0. The controller marks the first word of a
+    /// block, and a peripheral the last.
     #[tactic(auto, using(crate::proofs::Words::peripheral_word))]
     pub fn word(&self, line: Line, i: usize) -> Word
         requires { i < length self.now }
@@ -71,7 +71,7 @@ impl Block {
         }
     }
 
-    /// The same block once more.
+    /// A copy of the block.
     pub fn copy(&self) -> Block
         ensures { result ≡ self.now }
     {
@@ -81,8 +81,11 @@ impl Block {
     }
 }
 
-/// The block that carries these bytes: they, and their sum. `Empty` where there are none, `TooLong`
-/// where there are more than 35.
+/// The block that carries these bytes, with their sum after them.
+///
+/// # Errors
+///
+/// `Empty` if there are no bytes, `TooLong` if there are more than 35.
 pub fn seal(content: &[u8]) -> Result<Block, BlockFault>
     ensures exactly { IsOk result ↔ IsContent content.now }
     ensures block { IfOk result (λ block. block ≡ block_of content.now) }
@@ -99,8 +102,12 @@ pub fn seal(content: &[u8]) -> Result<Block, BlockFault>
     }
 }
 
-/// These bytes as a block. `Empty` where there are fewer than two, else `TooLong` where there are
-/// more than 36, else `BadSum` where the last is not the sum of the others.
+/// Checks that these bytes are a block.
+///
+/// # Errors
+///
+/// The first of these: `Empty` if there are fewer than two bytes, `TooLong` if there are more than
+/// 36, `BadSum` if the last isn't the sum of the others.
 pub fn unseal(bytes: &[u8]) -> Result<Block, BlockFault>
     ensures exactly { IsOk result ↔ IsBlock bytes.now }
     ensures block { IfOk result (λ block. block ≡ bytes.now) }
@@ -128,8 +135,8 @@ fn word_of(byte: u8, marked: bool) -> Word
     Word::new(value).unwrap()
 }
 
-/// The sum of bytes modulo 256: what a block that carries them ends with (MDB/ICP 4.3, block
-/// format).
+/// The sum of bytes modulo 256, which is the last byte of a block that carries them (MDB/ICP 4.3,
+/// block format).
 pub fn sum_of(bytes: &[u8]) -> u8
     ensures { result ≡ sum bytes.now % 256 }
 {

@@ -2,17 +2,18 @@
 
 use mdb_msgs::{Command, Reply};
 
-/// What the controller (VMC) or a peripheral has done, once its last word was sent (MDB/ICP 4.3,
-/// bus format; foreign acts and breaks, this profile).
+/// What the controller (VMC) or a peripheral has done. An act is known when its last word was sent
+/// (MDB/ICP 4.3, bus format; foreign acts and breaks, this profile).
 ///
-/// An answer names the command that it answers, and a controller's answer the reply too.
+/// An answer names the command that it answers. An answer of the controller names the reply too.
 #[derive(PartialEq, Eq, Debug, Drop)]
 pub enum Act {
-    /// The controller asks: the whole block of a command.
+    /// The controller sends a command: its whole block.
     Ask(Command),
     /// The peripheral acknowledges the command: ACK.
     Ack(Command),
-    /// The peripheral refuses the command: NAK. It says nothing of whether it heard it.
+    /// The peripheral refuses the command: NAK. This doesn't show whether the peripheral received
+    /// it.
     Nak(Command),
     /// The peripheral answers the command with a data block.
     Reply(Command, Reply),
@@ -24,9 +25,9 @@ pub enum Act {
     VmcRet(Command, Reply),
     /// The peripheral sends the words of the reply again.
     Repeat(Command, Reply),
-    /// Traffic that isn't followed: the opening of a foreign block, or a word after one.
+    /// Traffic that isn't followed: the first bytes of a foreign block, or a word after one.
     Foreign,
-    /// The controller held its line low for so many microseconds, at least 100,000: a break.
+    /// A break: the controller held its line low for this many microseconds, at least 100,000.
     Break(u64),
 }
 

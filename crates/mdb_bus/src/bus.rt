@@ -1,4 +1,4 @@
-//! The bus: which rows may follow which, and the acts that they are.
+//! The bus: which rows may follow which, and the acts that they form.
 
 ghost use Rattle.std.specs.Prelude.{◌≡◌, ◌≢◌, [], ◌∷◌, ◌++◌, ℕ, List, Some, false, true, IfOk, IfErr, OnErr, Ok, Err};
 ghost use Rattle.mdb_msgs.specs.declared.reply.Reply.{Reply};
@@ -21,7 +21,7 @@ use mdb_words::{Event, Line};
 
 /// The bus after the rows that it was fed.
 ///
-/// It keeps where the bus is, and no rows: its size doesn't depend on how many there were.
+/// It keeps its present state and no rows, so its size doesn't grow with their number.
 #[derive(Drop)]
 pub struct Bus {
     scope: Scope,
@@ -40,8 +40,8 @@ impl Bus {
     ghost use Rattle.mdb_bus.specs.inner.Step as step;
     ghost use Rattle.mdb_bus.specs.inner.Steps.{Belongs, IsAt, IsReadAt};
 
-    /// The bus before its first row: recording began at power-on or at a break, and all devices are
-    /// followed.
+    /// The bus before the first row of a recording that begins at power-on or at a break. All
+    /// devices are followed.
     pub fn new() -> Bus
         ensures stands { StandsFor result [] }
         ensures scope { scope_of result ≡ power_on }
@@ -49,7 +49,8 @@ impl Bus {
         Bus::scoped(&Scope::POWER_ON)
     }
 
-    /// The bus before its first row: recording began in mid-session, and all devices are followed.
+    /// The bus before the first row of a recording that begins while the machine was running. All
+    /// devices are followed.
     pub fn joined() -> Bus
         ensures stands { StandsFor result [] }
         ensures scope { scope_of result ≡ all_joined }
@@ -57,7 +58,7 @@ impl Bus {
         Bus::scoped(&Scope::joined(Setups::NONE, DeviceSet::NONE))
     }
 
-    /// The bus before its first row, of a recording that is taken so.
+    /// The bus before the first row of a recording with this scope.
     pub fn scoped(scope: &Scope) -> Bus
         ensures stands { StandsFor result [] }
         ensures scope { scope_of result ≡ scope.now }
@@ -80,12 +81,12 @@ impl Bus {
         }
     }
 
-    /// Takes the next row, and answers the act that it ends, if it ends one.
+    /// Accepts the next row, and returns the act that ends with it, if one does.
     ///
     /// # Errors
     ///
-    /// The fault of a row that cannot follow the rows before it: the first rule of the link that it
-    /// breaks, and who is to blame. The bus is then as it was.
+    /// The fault of a row that can't follow the rows before it: the first rule of the link that it
+    /// breaks, and who is to blame. The bus is then unchanged.
     pub fn feed(&mut self, event: Event) -> Result<Option<Act>, LinkFault>
         ensures goes_on { (pieces : List Piece) → StandsFor self.old pieces
             → IfOk result (λ act. GoesOn self.new pieces event act) }

@@ -7,38 +7,39 @@ ghost use Rattle.mdb_bus.specs.LinkFaults.{blame_on};
 use mdb_msgs::{Device, ReaderUnit};
 use std::fmt;
 
-/// The rule that an impossible row breaks. Of several, the first of this order is told.
+/// The rule that an impossible row breaks. If there are several, the first of this order is
+/// reported.
 ///
-/// The first thirteen are rules of the link (MDB/ICP 4.3, bus format and timing, in this profile),
-/// the last three say that no state of the device or of the controller allows the row.
+/// The first thirteen are rules of the link (MDB/ICP 4.3, bus format and timing, in this profile).
+/// The last three mean that no state of the device or of the controller allows the row.
 #[derive(Clone, Copy, PartialEq, Eq, Debug)]
 pub enum Rule {
     /// The row doesn't start after the row before it.
     Order,
-    /// A side sends where the other one has the bus.
+    /// Someone sends out of turn.
     Speaker,
-    /// The mode bit is set, or isn't, where it must not be so.
+    /// The mode bit is set where it must not be, or isn't set where it must be.
     Mode,
     /// The row comes too soon.
     Early,
     /// The answer comes too late.
     Late,
-    /// The words of a block are too far apart, or the controller's word finds a peripheral's block
-    /// left open.
+    /// The words of a block are too far apart, or the controller's word comes before a peripheral's
+    /// block is complete.
     Spacing,
-    /// The block has another length than the command's answer has.
+    /// The block doesn't have the length of an answer to the command.
     Length,
     /// The last byte of the block isn't the sum of the others.
     Sum,
     /// The break is too short.
     Break,
-    /// The answer isn't one that the command can have.
+    /// The command can't have this answer.
     Answer,
     /// A message can't be read.
     Message,
     /// A repeated word differs from the word that it repeats.
     Same,
-    /// The row is outside what this profile covers.
+    /// This profile doesn't follow what the row does. Nobody is at fault.
     Profile,
     /// No state of the coin changer or of the controller allows the row.
     Changer,
@@ -49,7 +50,7 @@ pub enum Rule {
 }
 
 impl Rule {
-    /// Its word in what is printed.
+    /// The rule's word in printed text, for example `Cashless`.
     pub fn word(self) -> &'static str
         ensures { result.now ≡ rule_word self }
     {
@@ -82,7 +83,7 @@ impl fmt::Display for Rule {
     }
 }
 
-/// Who is to blame for an impossible row.
+/// Who sent an impossible row.
 #[derive(Clone, Copy, PartialEq, Eq, Debug)]
 pub enum Blame {
     /// The controller (VMC).
@@ -95,12 +96,12 @@ pub enum Blame {
     Cashless,
     /// The cashless reader at 60H.
     Cashless2,
-    /// Some peripheral, where no device was asked.
+    /// Some peripheral, if the controller has asked no device.
     Other,
 }
 
 impl Blame {
-    /// The device that was asked, or `Other` where none was.
+    /// The device that was asked. `Other` if none was.
     pub fn on(asked: Option<Device>) -> Blame
         ensures { result ≡ blame_on asked }
     {
@@ -113,7 +114,7 @@ impl Blame {
         }
     }
 
-    /// Its word in what is printed: a device's is that of the device.
+    /// The word in printed text. That of a device is [`Device::word`](mdb_msgs::Device::word).
     pub fn word(self) -> &'static str
         ensures { result.now ≡ blame_word self }
     {

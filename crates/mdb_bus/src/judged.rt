@@ -1,6 +1,6 @@
-//! What a row that breaks no rule does.
+//! The effect of a possible row.
 
-/// What a row does that breaks no rule. Its byte, its word and its length are the row's.
+/// The effect of a row that breaks no rule. Its byte, its word and its length are the row's.
 #[derive(Clone, Copy, PartialEq, Eq, Debug)]
 pub enum Judged {
     /// A byte of a command's block, which has more to come: its first, or a further one.

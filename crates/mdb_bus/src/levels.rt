@@ -5,13 +5,13 @@ ghost use Rattle.mdb_bus.specs.ActLists.{tells_high};
 
 use mdb_msgs::{Command, ReaderCommand, ReaderUnit, Reply};
 
-/// The feature level (Y2 of SETUP config) that the controller has last told each reader; `None`
-/// where it told none.
+/// The feature level (Y2 of SETUP config) that the controller last reported to each reader. `None`
+/// before it reported one.
 #[derive(Clone, Copy, PartialEq, Eq, Debug)]
 pub struct Levels {
-    /// What it told the reader at 10H.
+    /// Reported to the reader at 10H.
     pub first: Option<u8>,
-    /// What it told the reader at 60H.
+    /// Reported to the reader at 60H.
     pub second: Option<u8>,
 }
 

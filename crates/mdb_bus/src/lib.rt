@@ -1,8 +1,12 @@
-//! The bus: which rows may follow which, and the acts that they are.
+//! The bus: which rows may follow which, and the acts that they form.
 //!
-//! A [`Bus`] is fed the rows of a transcript one by one. It answers each act of the controller and
-//! its peripherals with the row that ends it, and the first row that cannot be with the rule that
-//! it breaks and who is to blame. It takes no memory.
+//! Feed a [`Bus`] the rows of a recording one by one. If a row ends an [`Act`] of the controller or
+//! of a peripheral, the bus returns that act. For the first impossible row it returns a
+//! [`LinkFault`]: the [`Rule`] that the row breaks, and who is to blame.
+//!
+//! A [`Scope`] states where the recording begins, and which devices are left out. The rules are
+//! those of MDB/ICP 4.3, bus format and timing, as this profile follows them. This crate allocates
+//! nothing.
 #![tactic(auto)]
 
 mod act;

@@ -1,7 +1,7 @@
 //! What is open on the bus.
 
-/// What the last act has left open, or what was said since. The bytes, the command and the reply
-/// that a phase means stand beside it.
+/// What is open after the last act and the words since. The bytes, the command and the reply of a
+/// phase are kept next to it.
 #[derive(Clone, Copy, PartialEq, Eq, Debug)]
 pub enum Phase {
     /// Nothing is open.

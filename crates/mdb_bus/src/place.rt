@@ -1,4 +1,4 @@
-//! Where the bus is, and how that goes on.
+//! The state of the bus, and its changes.
 
 ghost use Rattle.std.specs.Prelude.{◌≡◌, ◌≢◌, ◌%◌, ℕ, false, true, Some, None, IfOk, IfErr, OnErr, Ok, Err};
 ghost use Rattle.mdb_bus.specs.inner.PlaceBytes.{HasBegun, HasBegun-prop};
@@ -16,10 +16,10 @@ use mdb_msgs::{Command, MsgFault, Reply, command_of, laws, polled, reply_of};
 use mdb_words::Event;
 use std::mem;
 
-/// Where the bus is.
+/// The state of the bus.
 ///
-/// Bytes, command and reply stay where they are until the next ones, so that a step writes no more
-/// than what it changes.
+/// Bytes, command and reply stay in place until the next ones, so that a step writes only what it
+/// changes.
 #[derive(Drop)]
 pub struct Place {
     /// The phase.

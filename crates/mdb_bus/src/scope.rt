@@ -1,4 +1,4 @@
-//! How a recording is taken.
+//! The scope of a check.
 
 ghost use Rattle.std.specs.Prelude.{◌≡◌};
 ghost use Rattle.mdb_bus.specs.Scopes.{joined, leaving_out};
@@ -8,16 +8,16 @@ use mdb_msgs::{DeviceSet, Setups};
 /// Where a recording begins (this profile).
 #[derive(PartialEq, Eq, Debug, Drop)]
 pub enum Beginning {
-    /// At power-on or at a break: nothing was said before, and each device is in its power-on
+    /// At power-on or at a break: nothing was sent before, and each device is in its power-on
     /// state.
     PowerOn,
-    /// In mid-session: what was said before isn't known, and each device may be in any state. These
-    /// setup data are known from elsewhere.
+    /// While the machine was running. Nothing is known of what was sent before, and each device may
+    /// be in any state. These setup data are known from elsewhere.
     Joined(Setups),
 }
 
 impl Beginning {
-    /// The same again.
+    /// A copy.
     pub fn copy(&self) -> Beginning
         ensures { result ≡ self.now }
     {
@@ -28,10 +28,9 @@ impl Beginning {
     }
 }
 
-/// How a recording is taken: where it begins, and which devices are left out (this profile).
+/// The scope of a check: where the recording begins, and which devices are left out (this profile).
 ///
-/// A device that is left out isn't followed: all that is said to it, and what it answers, is
-/// foreign traffic.
+/// A device that is left out isn't followed. All words to it and from it are foreign traffic.
 #[derive(PartialEq, Eq, Debug, Drop)]
 pub struct Scope {
     /// Where the recording begins.
@@ -41,13 +40,13 @@ pub struct Scope {
 }
 
 impl Scope {
-    /// From power-on, with all devices.
+    /// A recording from power-on, with all devices followed.
     pub const POWER_ON: Scope = Scope {
         begins: Beginning::PowerOn,
         without: DeviceSet::NONE,
     };
 
-    /// From power-on, with these devices left out.
+    /// A recording from power-on, with these devices left out.
     pub fn leaving_out(devices: DeviceSet) -> Scope
         ensures { result ≡ leaving_out devices }
     {
@@ -57,7 +56,8 @@ impl Scope {
         }
     }
 
-    /// In mid-session, with these setup data known, and with these devices left out.
+    /// A recording of a machine that was running, with these setup data known and these devices
+    /// left out.
     pub fn joined(setups: Setups, without: DeviceSet) -> Scope
         ensures { result ≡ joined setups without }
     {
@@ -67,7 +67,7 @@ impl Scope {
         }
     }
 
-    /// The same again.
+    /// A copy.
     pub fn copy(&self) -> Scope
         ensures { result ≡ self.now }
     {

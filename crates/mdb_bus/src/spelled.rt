@@ -1,4 +1,4 @@
-//! A reply and how it is spelled.
+//! A reply and its bytes.
 
 ghost use Rattle.std.specs.Prelude.{◌≡◌, ◌≤◌, ◌+◌, [], ◌∷◌, length};
 ghost use Rattle.mdb_msgs.specs.Replies.{reply_bytes};
@@ -10,7 +10,7 @@ use arrayvec::ArrayVec;
 use mdb_msgs::{ChangerMsg, Reply};
 use mdb_words::{Line, Word};
 
-/// A reply and how it is spelled.
+/// A reply and its bytes.
 #[derive(Drop)]
 pub struct Spelled {
     /// The reply.

@@ -22,33 +22,33 @@ use mdb_text::Outcome;
 use mdb_verdict::{RunFault, check_scoped, laws};
 use std::alloc::Global;
 
-/// What is told beside the code.
+/// What the call reports in addition to its code.
 #[repr(C)]
 #[derive(Drop)]
 pub struct MdbcheckTold {
-    /// How many rows there are (`YES`), or the row, from 1, that can't be (`NO`) or is none
-    /// (`BAD_ROW`). Where the report has no room, that of its verdict; else 0.
+    /// `YES`: the number of rows. `NO`: the impossible row, from 1. `BAD_ROW`: the record that is
+    /// no row, from 1. `NO_ROOM`: that of the verdict. Else 0.
     pub row: u64,
-    /// How many bytes the report has, also where it has no room; 0 where there is no verdict.
+    /// The number of bytes of the report, also if it has no room. 0 if there is no verdict.
     pub length: u64,
-    /// Why the row is none (`BAD_ROW`), from 1 in the order of `RowFault`; else 0.
+    /// `BAD_ROW`: why the record is no row, from 1 in the order of `RowFault`. Else 0.
     pub fault: u64,
 }
 
-/// Checks the recording that lies in memory as text, taken as the options say, and puts the text
-/// that `mdbcheck check` prints in front of the report's buffer, whose other bytes stay as they
-/// were. It answers a code.
+/// Checks the recording that lies in memory as text, with these options. It puts the text that
+/// `mdbcheck check` prints at the beginning of the report's buffer, and leaves the buffer's other
+/// bytes as they were. It returns a code:
 ///
 /// - `YES`: all rows are possible;
-/// - `NO`: a row can't be;
+/// - `NO`: a row is impossible;
 /// - `BAD_ROW`: a record is no row;
 /// - `TOO_LONG`: there are more rows than a recording may have;
-/// - `UNREAD`: the text has more bytes than one may have;
+/// - `UNREAD`: the text has more bytes than it may have;
 /// - `NO_MEMORY`: memory was refused;
 /// - `NO_ROOM`: there is a verdict, and its text has no room;
 /// - `BAD_OPTIONS`: a bit is set that is no option.
 ///
-/// But for `YES` and `NO` the buffer stays as it was.
+/// With any code but `YES` and `NO` the buffer stays as it was.
 #[unsafe(no_mangle)]
 pub extern "C" fn mdbcheck_check(
     alloc: Global,

@@ -1,4 +1,4 @@
-//! The numbers that a call answers.
+//! The numbers that a call returns.
 
 ghost use Rattle.std.specs.Prelude.{◌≡◌};
 ghost use Rattle.mdb_c.specs.Codes as spec;
@@ -10,7 +10,7 @@ use mdb_words::RowFault;
 /// All rows are possible.
 pub const YES: u32 = 0;
 
-/// A row can't be.
+/// A row is impossible.
 pub const NO: u32 = 1;
 
 /// A record is no row.
@@ -19,7 +19,7 @@ pub const BAD_ROW: u32 = 2;
 /// There are more rows than a recording may have.
 pub const TOO_LONG: u32 = 3;
 
-/// The text has more bytes than one may have.
+/// The text has more bytes than it may have.
 pub const UNREAD: u32 = 4;
 
 /// Memory was refused.

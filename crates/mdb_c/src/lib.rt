@@ -1,8 +1,8 @@
-//! The checker for programs in C and whatever calls C: a recording lies in memory as text, and the
-//! verdict and its text go into memory that the caller gives. `mdbcheck.h` beside this crate's
-//! `src/` says it in C.
+//! The checker for C, and for languages that can call C.
 //!
-//! No call keeps anything for the next one.
+//! The recording lies in memory as text. The verdict and its text go into memory that the caller
+//! provides. No call keeps anything for the next one. `mdbcheck.h`, next to this crate's `src/`, is
+//! the same in C.
 #![tactic(auto)]
 
 mod call;

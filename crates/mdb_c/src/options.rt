@@ -1,4 +1,4 @@
-//! How a caller wants a recording to be taken: a sum of these numbers.
+//! The options of a check: a sum of these numbers.
 
 ghost use Rattle.std.specs.Prelude.{◌≡◌, ◌<◌, ◌≤◌, MatchOption, if◌then◌else◌};
 ghost use Rattle.mdb_msgs.specs.DeviceSets.{with_device};
@@ -7,7 +7,7 @@ ghost use Rattle.mdb_c.specs.Options as spec;
 use mdb_bus::Scope;
 use mdb_msgs::{Device, DeviceSet, ReaderUnit, Setups};
 
-/// The recording began in mid-session.
+/// The recording begins while the machine was running.
 pub const JOINED: u32 = 1;
 
 /// The changer is left out.

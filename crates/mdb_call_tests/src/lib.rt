@@ -1,6 +1,9 @@
-//! The tests of the calls that other programs make: the page's, those for C and those of a maker's
-//! client. They stand apart from them, since a crate that has tests is proved a second time for
-//! them, and apart from the other tests, so that these two crates are proved side by side.
+//! The tests of the calls that other programs make: the page's, those for C, and those of a maker's
+//! client.
+//!
+//! They stand apart from these crates, because a crate that has tests is proved a second time for
+//! them. They stand apart from the other tests, so that the two test crates are proved side by
+//! side.
 #![tactic(auto)]
 
 #[cfg(test)]

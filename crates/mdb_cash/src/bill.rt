@@ -29,7 +29,7 @@ pub use state::{BillState, BillType, Escrow};
 pub use tables::BillKnown;
 
 /// The bill validator and the controller's dealings with it (MDB/ICP 4.3, bill validator). Its
-/// first account is bills-in, and the second stays 0.
+/// first account is bills-in. The second stays 0.
 pub struct Bill;
 
 impl HasCode for BillState {

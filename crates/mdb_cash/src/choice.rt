@@ -1,4 +1,4 @@
-//! What is chosen of an act, where the transcript doesn't tell it.
+//! The choice that an act leaves open.
 
 ghost use Rattle.std.specs.Prelude.{◌≡◌, ◌≢◌, ◌↔◌, IsTrue, Some};
 ghost use Rattle.mdb_cash.specs.Choices.{CanStand};
@@ -7,14 +7,14 @@ ghost use Rattle.mdb_cash.specs.declared.choice.Choice.TheVariants.{Plain};
 
 use mdb_bus::Act;
 
-/// What is chosen of an act (this profile).
+/// A choice about an act that the recording leaves open (this profile).
 #[derive(Clone, Copy, PartialEq, Eq, Debug)]
 pub enum Choice {
-    /// An ACK was heard, and a reply tells of no restart.
+    /// The plain choice: an ACK was heard, and a reply reports no restart.
     Plain,
-    /// An ACK, of the device or of the controller, that its receiver didn't hear.
+    /// An ACK of the device or of the controller, which its receiver didn't hear.
     Lost,
-    /// A reply that tells that the device was restarted before it.
+    /// A reply that reports a restart of the device before it.
     Restart,
 }
 

@@ -3,7 +3,7 @@
 ghost use Rattle.std.specs.Prelude.{◌≡◌};
 ghost use Rattle.mdb_cash.specs.Gains as spec;
 
-/// What a step adds to the sums of a pair's two accounts, in smallest units of money (this
+/// What a step adds to the sums of a pair's two accounts, in the smallest unit of money (this
 /// profile).
 #[derive(Clone, Copy, PartialEq, Eq, Debug, Default)]
 pub struct Gains {

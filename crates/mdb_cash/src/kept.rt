@@ -1,4 +1,4 @@
-//! Kept messages: what a device tells again until it knows that the controller heard it.
+//! Kept messages: a device repeats them until it knows that the controller heard them.
 
 ghost use Rattle.std.specs.Prelude.{◌≡◌, ◌+◌, ◌++◌, ◌<◌, ◌≤◌, ◌↔◌, ◌||◌, ◌&&◌, not, IsTrue, IfSome, IfNone, length, map, List, [], ◌∷◌, false, true};
 ghost use Rattle.std.specs.Bool.{OnFalse};
@@ -11,18 +11,18 @@ ghost use Rattle.mdb_cash.specs.Kept.{CanBeRead, IsNew, IsSummary, MayBeRead, Ha
 use crate::choice::Choice;
 use arrayvec::ArrayVec;
 
-/// What a message of a reply is to the device that keeps some of them (this profile).
+/// What a message of a reply is to its device, which keeps some of them (this profile).
 #[derive(Clone, Copy, PartialEq, Eq, Debug)]
 pub enum Part<M> {
-    /// The device tells that it was reset.
+    /// The device reports that it was reset.
     Reset,
-    /// It is kept, and says this.
+    /// It is kept, and has this meaning.
     Kept(M),
     /// It is neither.
     Other,
 }
 
-/// What a kept message says.
+/// The meaning of a kept message.
 pub trait KeptMessage: Copy + Default {
     /// Whether both say the same.
     fn is(self, other: Self) -> bool
@@ -31,7 +31,7 @@ pub trait KeptMessage: Copy + Default {
 
 /// A message of a reply whose device keeps some of them.
 pub trait Message: Copy {
-    /// What a kept message says.
+    /// The meaning of a kept message.
     type Kept: KeptMessage + Drop;
 
     /// What the message is to its device.

@@ -1,8 +1,10 @@
-//! What the devices and the controller may do, and the money that moves by it.
+//! What the devices and the controller may do, and the money that moves with it.
 //!
-//! A [`Pair`] is a device with the controller's dealings with it. It has a few states, each with a
-//! code, and tells for each act which steps may be taken and what they add to the sums. [`Changer`]
-//! is that of the coin changer, and [`Bill`] that of the bill validator. Nothing here takes memory.
+//! A [`Pair`] is a device together with the controller's dealings with it. It has a few states,
+//! each with a code. For each act it gives the steps that are allowed from a state, and what they
+//! add to the sums. [`Changer`] is the pair of the coin changer, and [`Bill`] that of the bill
+//! validator, as in MDB/ICP 4.3. Sums are in the smallest unit of money. Nothing here allocates
+//! memory.
 #![tactic(auto)]
 
 mod bill;

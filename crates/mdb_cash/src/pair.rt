@@ -22,10 +22,10 @@ use mdb_msgs::Device;
 
 /// A device and the controller's dealings with it: its states as codes, its facts, and its steps.
 ///
-/// The facts are a running value: what counts of the acts so far, however many there were. Lists of
-/// acts are written newest first.
+/// The facts are a running value. They hold what counts of the acts so far, and don't grow with
+/// their number. Lists of acts are written newest first.
 pub trait Pair {
-    /// The number of states. Their codes are below it.
+    /// The number of states. All codes are below it.
     const CODES: usize;
 
     ghost CODES: { ℕ };

@@ -11,7 +11,7 @@ use crate::kept::{KeptMessage, Summary};
 use arrayvec::ArrayVec;
 use mdb_msgs::{ReaderList, ReaderMsg, Reply};
 
-/// What a command is to the device that takes it (this profile).
+/// The effect of a command on the device that accepts it (this profile).
 #[derive(Clone, Copy, PartialEq, Eq, Debug)]
 pub enum Effect {
     /// It puts the device into its power-on state: RESET.

@@ -1,9 +1,10 @@
-//! The checker: reads a transcript, and answers whether the controller and its peripherals can have
-//! said these words at these times, and what the money can have come to then.
+//! The checker, for programs and for the command line: everything that `mdbcheck` does.
 //!
-//! [`check`] gives the verdict, [`show`] the acts line by line, [`explain`] what has to be believed
-//! for an end of a range, and [`replay`] follows that; [`run`] does one of them, as the words of a
-//! command line ask.
+//! - [`check`] returns the verdict: whether a recording is possible, and the bounds of the money.
+//! - [`show`] writes the acts line by line.
+//! - [`explain`] writes the marks that lead to a bound of a report, and the rows.
+//! - [`replay`] reads such marks and rows, and follows them.
+//! - [`run`] does one of these, as the words of a command line ask.
 #![tactic(auto)]
 
 mod command_line;

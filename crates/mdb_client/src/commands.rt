@@ -1,4 +1,4 @@
-//! The commands that a controller says, as the rows of a recording tell them.
+//! The commands that a controller sends, from the rows of a recording.
 
 ghost use Rattle.std.specs.Prelude.{◌≡◌, ◌∷◌, ◌++◌, [], List, Option, IfErr, IfOk, OnErr};
 ghost use Rattle.mdb_bus.specs.ActLists.{HasActList, Piece, events_of};

@@ -1,5 +1,5 @@
-//! How a program calls the library: each function is one that `docs/programs/library.md` shows, and its
-//! contract what is promised of it.
+//! How a program calls the library. Each function is one that `docs/programs/library.md` shows, and
+//! its contract states what is promised.
 #![tactic(auto)]
 
 mod commands;

@@ -1,4 +1,4 @@
-//! A bus that is followed while it runs, word by word.
+//! A bus that is checked while it runs, word by word.
 
 ghost use Rattle.std.specs.Prelude.{◌≡◌, ◌<◌, ◌≤◌, ◌^◌, ◌∷◌, ◌++◌, [], List, Err, IfErr, IfOk, IsOk};
 ghost use Rattle.std.specs.Prelude.{OnErr, Some};

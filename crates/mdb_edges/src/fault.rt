@@ -6,7 +6,7 @@ use super::instant::Instant;
 use mdb_words::Line;
 use thiserror::Error;
 
-/// Why a table of edges gives no rows: the first thing that is met in the order of its records.
+/// Why a table of edges gives no rows: the first fault in the order of its records.
 #[derive(Clone, Copy, PartialEq, Eq, Debug, Error)]
 pub enum EdgesFault {
     /// A record that isn't what should stand there.
@@ -30,10 +30,10 @@ pub enum EdgesFault {
     /// Levels of a line that are no words and breaks.
     #[error("record {number} at {micros} on {line}: {fault}")]
     Line {
-        /// The number of the record at which that is seen, counted from 1; at the end of the table
-        /// that of the record that would come.
+        /// The number of the record that shows the fault, counted from 1. At the end of the table
+        /// it is that of the record that would come next.
         number: u64,
-        /// When that began, in whole microseconds.
+        /// When the faulty word or break began, in whole microseconds.
         micros: u64,
         /// On which line.
         line: Wire,
@@ -51,7 +51,7 @@ pub enum EdgesFault {
     Memory,
 }
 
-/// A line, as it is told of.
+/// A line of the bus, in a fault.
 #[derive(Clone, Copy, PartialEq, Eq, Debug, Error)]
 pub enum Wire {
     /// The controller's line.
@@ -99,7 +99,7 @@ pub enum LineFault {
     /// A field that is no level, in a record of that time.
     #[error("wanted a level, 0 or 1")]
     BadLevel,
-    /// The line falls, and is high again half a bit later.
+    /// The line falls, and is high again half a bit later: a glitch.
     #[error("wanted a start bit that is low at its middle, and it is high there")]
     Glitch,
     /// The line is low at the middle of a stop bit, and it isn't low for 100 milliseconds from the

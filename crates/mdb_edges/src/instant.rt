@@ -16,8 +16,8 @@ const HALF_MICRO: u128 = 1_500_000_000_000_000_000;
 /// So many parts are more than any instant.
 const END: u128 = 3_000_000_000_000_000_000_000_000_000_000_000;
 
-/// When something is so in a table: parts from its zero, thirds of 10^-24 of a second, in whole
-/// microseconds below 10^15.
+/// A time in a table: thirds of 10^-24 of a second since its zero, in whole microseconds below
+/// 10^15.
 ///
 /// A clause sees it as that number.
 #[derive(Clone, Copy, PartialEq, Eq, Debug)]

@@ -1,11 +1,16 @@
-//! A table of edges, as a logic analyser exports it that decodes nothing, as the rows of a
-//! transcript.
+//! Imports a table of edges, which a logic analyser exports if it decodes nothing: decodes it into
+//! the rows that `mdbcheck` reads.
 //!
-//! Such a table has a record for each change: when it was, and the level of each channel from then
-//! on. This crate decodes the words and breaks of both lines of the bus out of it, 9600 baud and
-//! nine data bits, and answers the rows that `mdbcheck` reads. Nothing is guessed. A line counts as
-//! low until it is high for the first time, and that it is low till then is no row, and isn't told;
-//! rows outside the part that is asked for are counted; and whatever else is no row is refused.
+//! A table has a record for each change: its time, and the level of each channel from then on. This
+//! crate decodes the words and breaks of both lines of the bus, at 9600 baud and nine data bits.
+//! Nothing is guessed.
+//!
+//! - A line counts as low until it is high for the first time. That it is low until then is no row,
+//!   and isn't reported.
+//! - Rows outside the part that is asked for are counted.
+//! - Everything else that is no row is refused, and then no row is written.
+//!
+//! Times of rows are in microseconds.
 #![tactic(auto)]
 
 mod columns;

@@ -1,4 +1,4 @@
-//! The moments that a table tells.
+//! The moments of a table.
 
 use super::instant::Instant;
 

@@ -1,5 +1,8 @@
-//! What is promised of the end of a recording, taken as a recording that begins in mid-session:
-//! nobody is blamed because it begins late, and the truth lies within its bounds.
+//! What is promised of the end of a recording that was cut at its front, and is checked as one that
+//! begins while the machine was running.
+//!
+//! Nobody is blamed because the recording begins late, and the true sums lie within its bounds. The
+//! laws are in [`laws`]. This crate has no code that runs.
 #![tactic(auto)]
 
 pub mod laws;

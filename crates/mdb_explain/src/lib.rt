@@ -1,5 +1,8 @@
-//! Why a bound of a sum is what it is: what has to be believed of a recording for it, and the
-//! replay of that without any choice.
+//! Why a bound of a sum has its value.
+//!
+//! [`explain`] writes the fewest lost ACKs and restarts that lead to the bound, as marks before the
+//! rows. [`replay`] reads marks and rows, and follows them without any choice. Both are for
+//! recordings from power-on.
 #![tactic(auto)]
 
 mod entry;

@@ -1,4 +1,4 @@
-//! The ranges of an account's sums.
+//! The bounds of an account's sums.
 
 ghost use Rattle.std.specs.Prelude.{◌≡◌, ◌<◌, ◌^◌};
 ghost use Rattle.mdb_follow.specs.Cells.{joined_account, moved_account};
@@ -6,7 +6,8 @@ ghost use Rattle.mdb_follow.specs.Limits.{IsAccountWithin};
 
 use crate::Range;
 
-/// What the sums of an account may be, in smallest units of money.
+/// The bounds of an account's sums, in the smallest unit of money. For example, the device counted
+/// 25 to 50, and the controller 50 to 50.
 #[derive(Clone, Copy, PartialEq, Eq, Debug, Default)]
 pub struct Account {
     /// The device's sum.
@@ -18,7 +19,7 @@ pub struct Account {
 }
 
 impl Account {
-    /// Nothing came and nothing went.
+    /// No money moved: all bounds are 0.
     pub const NOTHING: Account = Account {
         device: Range::NOTHING,
         controller: Range::NOTHING,

@@ -1,4 +1,4 @@
-//! The accounts of a report by name.
+//! The accounts of a report, by name.
 
 ghost use Rattle.std.specs.Prelude.{◌≡◌, ◌<◌, Some};
 ghost use Rattle.mdb_follow.specs.AccountNames.{account_device, account_place, account_word};
@@ -6,7 +6,7 @@ ghost use Rattle.mdb_follow.specs.AccountNames.{account_device, account_place, a
 use mdb_msgs::{Device, ReaderUnit};
 use std::fmt;
 
-/// An account of a report, by name.
+/// The name of an account of a report.
 #[derive(Clone, Copy, PartialEq, Eq, Debug)]
 pub enum AccountName {
     /// The coins that were put in.
@@ -33,7 +33,7 @@ impl AccountName {
         AccountName::Sold(ReaderUnit::Second),
     ];
 
-    /// Its word in a report.
+    /// The account's word in a report, for example `coins-in`.
     pub fn word(self) -> &'static str
         ensures { result.now ≡ account_word self }
     {
@@ -48,7 +48,7 @@ impl AccountName {
         }
     }
 
-    /// The device that keeps it, and the controller with it.
+    /// The device that keeps the account. The controller keeps it too.
     pub fn device(self) -> Device
         ensures { result ≡ account_device self }
     {

@@ -1,4 +1,4 @@
-//! The ranges of all sums.
+//! The bounds of all sums of a device.
 
 ghost use Rattle.std.specs.Prelude.{◌≡◌, ◌^◌};
 ghost use Rattle.mdb_cash.specs.Gains.{IsSmall};
@@ -8,7 +8,7 @@ ghost use Rattle.mdb_follow.specs.Limits.{IsCellWithin};
 use crate::Account;
 use mdb_cash::Gains;
 
-/// What the sums of a pair's two accounts may be.
+/// The bounds of a pair's two accounts.
 #[derive(Clone, Copy, PartialEq, Eq, Debug, Default)]
 pub struct Cell {
     /// The first account.
@@ -18,7 +18,7 @@ pub struct Cell {
 }
 
 impl Cell {
-    /// The cell with the gains of a step added.
+    /// The bounds after a step, which adds these gains.
     #[tactic(auto, unfolding(crate::specs::Cells::moved_cell))]
     pub fn moved(&self, gains: &Gains) -> Cell
         requires within { IsCellWithin (2 ^ 62) self.now }

@@ -1,4 +1,4 @@
-//! The follower of a recording: every possible state of each device and the controller.
+//! The follower of a recording.
 
 ghost use Rattle.std.specs.Prelude.{◌≡◌, ◌<◌, ◌≤◌, ◌+◌, ◌*◌, ◌^◌, List, [], ◌∷◌, ◌++◌, ℕ, length};
 ghost use Rattle.std.specs.Prelude.{Some, None, Err, IfSome, IfOk, IfErr, IsOk, IsSome, IsSomeAnd};
@@ -19,14 +19,14 @@ use mdb_msgs::{Device, DeviceSet, ReaderUnit, Setups};
 use mdb_words::{Event, Time};
 use std::mem;
 
-/// The most rows of a recording (this profile).
+/// The most rows that a recording may have (this profile).
 pub const ROWS_MAX: u64 = 100_000_000;
 
-/// What all that may have happened in the rows so far comes to.
+/// Everything that may have happened in the rows so far, and the sums it leads to.
 ///
-/// It keeps the bus, and of each device what is known of it, a table of its possible states, how
-/// many amounts have no value, and what counts of its silences; no rows. Behind an offence it takes
-/// no row more, and of the rows before the offence all that it tells stays.
+/// It keeps the bus and no rows. For each device it keeps what is known of it, a table of its
+/// possible states, the number of amounts without a value, and its silences. After an offence it
+/// accepts no more rows. Everything it reports about the rows before the offence stays the same.
 #[derive(Drop)]
 pub struct Follower {
     bus: Bus,
@@ -55,7 +55,7 @@ impl Follower {
     ghost use Rattle.mdb_follow.specs.Report.{IsReport};
     ghost use Rattle.mdb_follow.specs.Sales.{SalesFollowApprovals};
 
-    /// The follower before the first row: recording began at power-on or at a break, and all
+    /// The follower before the first row of a recording that begins at power-on or at a break. All
     /// devices are followed.
     pub fn new() -> Follower
         ensures stands { StandsFor result [] }
@@ -65,8 +65,8 @@ impl Follower {
         Follower::scoped(&Scope::POWER_ON)
     }
 
-    /// The follower before the first row: recording began in mid-session, and all devices are
-    /// followed.
+    /// The follower before the first row of a recording that begins while the machine was running.
+    /// All devices are followed.
     pub fn joined() -> Follower
         ensures stands { StandsFor result [] }
         ensures empty { rows_of result ≡ 0 }
@@ -75,7 +75,7 @@ impl Follower {
         Follower::scoped(&Scope::joined(Setups::NONE, DeviceSet::NONE))
     }
 
-    /// The follower before the first row, of a recording that is taken so.
+    /// The follower before the first row of a recording with this scope.
     pub fn scoped(scope: &Scope) -> Follower
         ensures stands { StandsFor result [] }
         ensures empty { rows_of result ≡ 0 }
@@ -91,7 +91,7 @@ impl Follower {
         }
     }
 
-    /// How many rows were accepted.
+    /// The number of rows that were accepted.
     pub fn rows(&self) -> u64
         ensures { result ≡ rows_of self.now }
     {
@@ -99,11 +99,11 @@ impl Follower {
         *rows
     }
 
-    /// Takes the next row.
+    /// Accepts the next row.
     ///
     /// # Errors
     ///
-    /// The offence of the first row that cannot be. From then on each call answers it again, and
+    /// The offence of the first impossible row. After that every call returns the same offence, and
     /// nothing changes.
     #[inline(always)]
     pub fn feed(&mut self, event: Event) -> Result<(), Offence>
@@ -137,13 +137,14 @@ impl Follower {
         }
     }
 
-    /// Takes the next row as `feed` does, and answers the act that ends with it, if one does.
+    /// Accepts the next row like [`Follower::feed`], and returns the act that ends with it, if one
+    /// does.
     ///
-    /// An act is large, and moved out of the follower: where none is wanted, `feed` is quicker.
+    /// An act is large, and is moved out of the follower. If you don't need it, `feed` is faster.
     ///
     /// # Errors
     ///
-    /// As `feed`.
+    /// Those of `feed`.
     pub fn feed_act(&mut self, event: Event) -> Result<Option<Act>, Offence>
         requires { rows_of self.old < ROWS_MAX }
         ensures reached { (events : List Event) → StandsFor self.old events
@@ -178,11 +179,12 @@ impl Follower {
         }
     }
 
-    /// Takes the next rows, up to the first that cannot be.
+    /// Accepts rows up to the first impossible one.
     ///
     /// # Errors
     ///
-    /// The offence of the first row that cannot be, as from `feed`, or one that was met before.
+    /// The offence of the first impossible row, as from [`Follower::feed`], or one that was met
+    /// before.
     pub fn feed_all(&mut self, events: &[Event]) -> Result<(), Offence>
         requires { rows_of self.old + length events.now ≤ ROWS_MAX }
         ensures reached { (before : List Event) → StandsFor self.old before
@@ -302,11 +304,12 @@ impl Follower {
         }
     }
 
-    /// What the rows so far tell.
+    /// The report on the rows so far.
     ///
     /// # Errors
     ///
-    /// The offence of a row that cannot be. What the rows before it tell, `report_before` answers.
+    /// The offence of an impossible row. [`Follower::report_before`] still reports on the rows
+    /// before it.
     pub fn report(&self) -> Result<Report, Offence>
         ensures report { (events : List Event) → StandsFor self.now events
             → IfOk result (IsReport (scope_of self.now) events) }
@@ -319,8 +322,8 @@ impl Follower {
         }
     }
 
-    /// What the rows that were accepted tell: behind an offence those before its row, and where
-    /// none was met all rows so far, as `report` does.
+    /// The report on the rows that were accepted. After an offence these are the rows before the
+    /// impossible one. Without one they are all rows so far, as in [`Follower::report`].
     pub fn report_before(&self) -> Report
         ensures before { (events : List Event) → HasAccepted self.now events
             → IsReport (scope_of self.now) events result }
@@ -362,7 +365,7 @@ fn stop(noted: &mut Option<Offence>, rows: u64, fault: LinkFault)
     });
 }
 
-/// Who sends an act: the controller, or the device that it asked.
+/// The sender of an act: the controller, or the device that it asked.
 pub fn sender_of(act: &Act) -> Blame
     ensures { result ≡ spec.sender_of act.now }
 {

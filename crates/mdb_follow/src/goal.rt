@@ -1,19 +1,19 @@
-//! The ends of the ranges of a report: a goal is one of them.
+//! Goals: the bounds of a report, one by one.
 
 use crate::AccountName;
 
-/// A side of an account (this profile).
+/// Whose count of an account, or the difference of both (this profile).
 #[derive(Clone, Copy, PartialEq, Eq, Debug)]
 pub enum AccountSide {
-    /// As the device has it.
+    /// The device's count.
     Device,
-    /// As the controller has it.
+    /// The controller's count.
     Controller,
-    /// The device's less the controller's.
+    /// The device's count minus the controller's.
     Difference,
 }
 
-/// An end of a range.
+/// Which bound.
 #[derive(Clone, Copy, PartialEq, Eq, Debug)]
 pub enum Bound {
     /// The least.
@@ -22,13 +22,13 @@ pub enum Bound {
     Greatest,
 }
 
-/// An end of a range of a report (this profile).
+/// A bound of a report (this profile), for example the least of the device's `coins-in`.
 #[derive(Clone, Copy, PartialEq, Eq, Debug)]
 pub struct Goal {
     /// The account.
     pub account: AccountName,
     /// Its side.
     pub side: AccountSide,
-    /// Which end of the range.
+    /// Which bound.
     pub bound: Bound,
 }

@@ -1,5 +1,12 @@
-//! The follower of a recording: every possible state of each device and the controller, and exact
-//! bounds of what the accounts come to.
+//! The follower of a recording. It keeps every possible state of each device and of the controller,
+//! and the exact bounds of the money in each account.
+//!
+//! Feed a [`Follower`] the rows one by one or in slices. At any row it returns a [`Report`], with
+//! an [`Account`] for each [`AccountName`]. For the first impossible row it returns an [`Offence`]:
+//! the row's number, the rule that it breaks, and who is to blame.
+//!
+//! Sums are in the smallest unit of money of their device. [`Report::decimals`] has the decimal
+//! places of each device. Times are in microseconds. This crate allocates nothing.
 #![tactic(auto)]
 
 mod account;

@@ -1,8 +1,8 @@
-//! The first row that cannot be.
+//! The first impossible row.
 
 use mdb_bus::{Blame, Rule};
 
-/// The first row that cannot be, the rule that it breaks, and who is to blame.
+/// The first impossible row, the rule that it breaks, and who is to blame.
 #[derive(Clone, Copy, PartialEq, Eq, Debug)]
 pub struct Offence {
     /// The row's number, from 1.

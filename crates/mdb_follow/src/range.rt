@@ -1,10 +1,10 @@
-//! The least and the greatest of a sum.
+//! The bounds of a sum.
 
 ghost use Rattle.std.specs.Prelude.{◌≡◌, ◌^◌, ℤ, pos, neg_ℤ, ◌≤ℤ◌};
 ghost use Rattle.mdb_follow.specs.Cells.{joined_range, moved_range};
 ghost use Rattle.mdb_follow.specs.Limits.{IsRangeWithin};
 
-/// The least and the greatest that a sum may be, in smallest units of money.
+/// The least and the greatest value of a sum, in the smallest unit of money.
 #[derive(Clone, Copy, PartialEq, Eq, Debug, Default)]
 pub struct Range {
     /// The least.
@@ -14,7 +14,7 @@ pub struct Range {
 }
 
 impl Range {
-    /// Of nothing.
+    /// From 0 to 0.
     pub const NOTHING: Range = Range {
         least: 0,
         greatest: 0,

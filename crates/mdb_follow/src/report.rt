@@ -1,4 +1,4 @@
-//! What rows that can have been tell.
+//! The report on possible rows.
 
 use crate::devices::device_place;
 use crate::sides::Sides;
@@ -6,21 +6,20 @@ use crate::silence::Silences;
 use crate::{Account, AccountName};
 use mdb_msgs::{Device, ReaderUnit};
 
-/// What rows that can have been tell.
+/// The report on possible rows.
 #[derive(Clone, Copy, PartialEq, Eq, Debug)]
 pub struct Report {
-    /// How many rows there are.
+    /// The number of rows.
     pub rows: u64,
-    /// The decimal places of each of `Report::DEVICES`: those that it has told last, or that are
-    /// known from elsewhere; `None` where there are none.
+    /// The decimal places of each of `Report::DEVICES`: those that it reported last, or that are
+    /// known from elsewhere. `None` if there are none.
     pub decimals: [Option<u8>; 4],
-    /// What each of `AccountName::ALL` comes to, in smallest units of money.
+    /// The bounds of each of `AccountName::ALL`, in the smallest unit of money.
     pub accounts: [Account; 7],
-    /// How often each of `Report::DEVICES` left the controller's asks without an answer for too
-    /// long.
+    /// How often each of `Report::DEVICES` left the controller's commands unanswered for too long.
     pub silences: [u64; 4],
-    /// How many amounts each of `Report::DEVICES` told, or was asked for, that have no value, since
-    /// nothing told how it is set up. They are in no sum.
+    /// How many amounts without a value each of `Report::DEVICES` reported, or was asked for. An
+    /// amount has no value if nothing shows how the device is set up. It is in no sum.
     pub unvalued: [u64; 4],
 }
 
@@ -85,28 +84,28 @@ impl Report {
         }
     }
 
-    /// What an account comes to.
+    /// The bounds of an account.
     pub fn account(&self, name: AccountName) -> Account
         ensures { result ≡ account_of name self.now }
     {
         self.accounts[name.place()]
     }
 
-    /// The decimal places of a device; `None` where there are none.
+    /// The decimal places of a device. `None` if there are none.
     pub fn device_decimals(&self, device: Device) -> Option<u8>
         ensures { result ≡ device_decimals device self.now }
     {
         self.decimals[device_place(device)]
     }
 
-    /// How often a device left the controller's asks without an answer for too long.
+    /// How often a device left the controller's commands unanswered for too long.
     pub fn device_silences(&self, device: Device) -> u64
         ensures { result ≡ device_silences device self.now }
     {
         self.silences[device_place(device)]
     }
 
-    /// How many amounts a device told, or was asked for, that have no value.
+    /// How many amounts without a value a device reported, or was asked for.
     pub fn device_unvalued(&self, device: Device) -> u64
         ensures { result ≡ device_unvalued device self.now }
     {

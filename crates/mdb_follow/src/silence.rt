@@ -1,7 +1,7 @@
-//! Silences: how often a device left the controller's asks without an answer for too long.
+//! Silences: how often a device left the controller's commands unanswered for too long.
 //!
-//! The limits are in microseconds, from the start of the last word of the first ask that is left
-//! without an answer to that of a later one.
+//! The limits are in microseconds. They count from the start of the last word of the first
+//! unanswered command to that of a later one.
 
 ghost use Rattle.std.specs.Prelude.{◌≡◌, ◌<◌, ◌≤◌, ◌+◌, ◌^◌, List};
 ghost use Rattle.mdb_follow.specs.Silences.{TimedAsk, with_ask};
@@ -17,17 +17,17 @@ use mdb_cashless::ReaderKnown;
 use mdb_msgs::{Device, ReaderUnit};
 use mdb_words::Time;
 
-/// Longest time that the changer may be silent (MDB/ICP 4.3, coin changer: non-response time).
+/// The longest allowed silence of the changer (MDB/ICP 4.3, coin changer: non-response time).
 pub const CHANGER_SILENCE_MAX: u64 = 2_000_000;
 
-/// Longest time that the validator may be silent (MDB/ICP 4.3, bill validator: non-response time).
+/// The longest allowed silence of the validator (MDB/ICP 4.3, bill validator: non-response time).
 pub const BILL_SILENCE_MAX: u64 = 5_000_000;
 
-/// Longest time that a reader may be silent that has told no longer response time (MDB/ICP 4.3,
+/// The longest allowed silence of a reader that has reported no longer response time (MDB/ICP 4.3,
 /// cashless device: non-response time).
 pub const READER_SILENCE_MAX: u64 = 5_000_000;
 
-/// A second of a reader's response time.
+/// A second, the unit of a reader's response time.
 pub const MICROS_PER_SECOND: u64 = 1_000_000;
 
 /// The asks that a device has left without an answer since its last answer or the last break.

@@ -1,28 +1,28 @@
-//! What an import answers.
+//! The result of an import.
 
 ghost use Rattle.std.specs.Prelude.{◌≡◌};
 
 use mdb_records::ReadFault;
 use thiserror::Error;
 
-/// What a whole import tells beside the rows.
+/// What an import reports in addition to the rows.
 #[derive(Clone, Copy, PartialEq, Eq, Debug)]
 pub struct Imported {
     /// Whether the first record was a header.
     pub header: bool,
-    /// How many rows were written.
+    /// The number of rows that were written.
     pub rows: u64,
-    /// How many rows were left out since they are before the part that was asked for.
+    /// The number of rows that were left out, because they are before the part that was asked for.
     pub before: u64,
-    /// How many rows were left out since they are after it.
+    /// The number of rows that were left out, because they are after it.
     pub after: u64,
     /// How many records outside the part were passed over that are no rows that may stand there.
     pub passed: u64,
     /// Whether a word had its mode bit set.
     pub marked: bool,
-    /// Whether the controller said a word.
+    /// Whether the controller sent a word.
     pub controller: bool,
-    /// Whether a peripheral said a word.
+    /// Whether a peripheral sent a word.
     pub peripheral: bool,
 }
 

@@ -1,7 +1,9 @@
-//! Imports exports of recorders and spreadsheets: turns them into the rows that `mdbcheck` reads.
+//! Imports rows in other forms: turns exports of recorders and spreadsheets into the rows that
+//! `mdbcheck` reads.
 //!
-//! Each record of an export is a row, a header or a refusal. Nothing is guessed, and nothing is
-//! left out in silence.
+//! Each record of an export is a row, a header, or refused. Outside the part that is asked for, a
+//! bad record may also be passed over, and is counted. Nothing is guessed. The rows before a
+//! refused record are written. Times are in microseconds.
 #![tactic(auto)]
 
 mod decoded;

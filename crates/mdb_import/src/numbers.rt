@@ -7,13 +7,13 @@ ghost use Rattle.mdb_import.specs.Numbers.{AreClock, AreDigits, IsClock, IsNeare
 use super::fields::parted;
 use mdb_words::Time;
 
-/// A number with decimals: `count / 10^places`, where `count` is below 10^30 and `places` at most
-/// 15.
+/// A number with decimals: `count / 10^places`, where `count` is below 10^30 and `places` is at
+/// most 15.
 #[derive(Clone, Copy, PartialEq, Eq, Debug)]
 pub struct Number {
     /// All its digits as a whole number.
     pub count: u128,
-    /// How many of them are behind the mark.
+    /// How many of them are after the decimal mark.
     pub places: usize,
     ghost small: { count < 10 ^ 30 },
     ghost few: { places ≤ 15 },

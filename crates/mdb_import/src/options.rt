@@ -1,4 +1,4 @@
-//! What is told of an export beside its text.
+//! The options of an import.
 
 ghost use Rattle.std.specs.Prelude.{◌≡◌, ◌↔◌, IsSomeAnd, IsTrue, false};
 ghost use Rattle.mdb_import.specs.Part.{is_in as in_part};
@@ -16,18 +16,18 @@ pub enum Unit {
     Nanoseconds,
 }
 
-/// How rows as people have them are to be read.
+/// The options of the import of rows.
 #[derive(Debug, Drop)]
 pub struct RowsOptions {
-    /// The unit of their times; `None` where none was told. Then a time has to be a time of day.
+    /// The unit of the times. `None` if none was given: then each time must be a time of day.
     pub unit: Option<Unit>,
-    /// What a line names the controller's line by, beside `M` and `m`.
+    /// The name of the controller's line in the export, in addition to `M` and `m`.
     pub controller: Option<String>,
-    /// What a line names the peripherals' line by, beside `S` and `s`.
+    /// The name of the peripherals' line in the export, in addition to `S` and `s`.
     pub peripheral: Option<String>,
-    /// The first microsecond of the part that is asked for; `None`: from the start on.
+    /// The first microsecond of the part that is asked for. `None`: from the beginning.
     pub from: Option<u64>,
-    /// The last microsecond of the part that is asked for; `None`: to the end.
+    /// The last microsecond of the part that is asked for. `None`: to the end.
     pub until: Option<u64>,
 }
 

@@ -17,7 +17,7 @@ use std::io::Write;
 /// How long a page may be before it is written out.
 const PAGE: usize = 65_536;
 
-/// Rows that are still to be written, all of them whole. Their memory is used again and again.
+/// Whole rows that are still to be written. Their memory is used again and again.
 #[derive(Drop)]
 pub struct Page {
     lines: Vec<u8>,

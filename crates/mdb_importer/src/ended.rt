@@ -1,4 +1,4 @@
-//! What the program answers.
+//! How a run of the program ends.
 
 ghost use Rattle.std.specs.Prelude.{◌≡◌};
 ghost use Rattle.mdb_importer.specs.Program.{status_of};
@@ -18,15 +18,15 @@ const NOT_IMPORTED: u8 = 2;
 /// How a run of the program ended.
 #[derive(Clone, Copy, Debug)]
 pub enum Ended {
-    /// The words name `rows`, and this is the answer of that import.
+    /// The words name `rows`, and that import returned this.
     Rows(Result<Imported, ImportFault>),
-    /// The words name `sigrok`, and this is the answer of that import.
+    /// The words name `sigrok`, and that import returned this.
     Sigrok(Result<SigrokRows, SigrokFault>),
-    /// The words name `saleae`, and this is the answer of that import.
+    /// The words name `saleae`, and that import returned this.
     Saleae(Result<Imported, SaleaeFault>),
-    /// The words name `edges`, and this is the answer of that import.
+    /// The words name `edges`, and that import returned this.
     Edges(Result<EdgesImported, EdgesFault>),
-    /// There was no import: the words were refused.
+    /// The words were refused, and there was no import.
     Refused(Refusal),
 }
 

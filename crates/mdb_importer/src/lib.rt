@@ -1,4 +1,8 @@
-//! The program `mdbimport` over its words: which export is to be imported, and what is told of it.
+//! The program `mdbimport`, as a function of its words.
+//!
+//! [`run`] does the import that the words of a command line name, and writes its remarks to
+//! standard error. [`Ended`] is the answer of that import, or the reason why the words were
+//! refused.
 #![tactic(auto)]
 
 mod command_line;

@@ -6,7 +6,8 @@ use thiserror::Error;
 /// Why a command line is refused.
 #[derive(Clone, Copy, PartialEq, Eq, Debug)]
 pub enum Refusal {
-    /// For what `clap` says of its words, for an option that stands twice, or for want of memory.
+    /// For what `clap` reports about its words, for an option that is given twice, or because
+    /// memory was refused.
     Words(ErrorKind),
     /// For a value of one of its options.
     Value(ValueFault),

@@ -1,8 +1,9 @@
-//! Answers as JSON, for programs: an answer is an object on one line.
+//! Answers as JSON, for programs: one object on one line.
 //!
-//! The words are those of the text: of verdicts, rules, devices, accounts and their sides. Money is
-//! in the smallest unit of its device, whose decimal places stand beside it. No number is a float.
-//! The members of an object stand in the order of their names.
+//! - Verdicts, rules, devices, accounts and their sides have the same words as in the text.
+//! - Money is in the smallest unit of its device. The decimal places of that unit stand next to it.
+//! - No number is a float.
+//! - The members of an object are in the order of their names.
 #![tactic(auto)]
 
 mod account;

@@ -1,4 +1,4 @@
-//! Explanations: the fewest marks of a run that comes to an end of a range.
+//! Explanations: the fewest marks of a run that reaches a bound.
 
 ghost use Rattle.std.specs.Prelude.{◌≡◌, ◌<◌, ◌≤◌, ◌+◌, [], ◌∷◌, ℕ, List, length};
 ghost use Rattle.std.specs.Prelude.{IfErr, IfOk, IfSome};
@@ -30,7 +30,7 @@ use std::alloc::{AllocError, Global};
 /// Why a goal is not explained (this profile).
 #[derive(Clone, Copy, PartialEq, Eq, Debug)]
 pub enum ExplainFault {
-    /// The first row that cannot be.
+    /// The first impossible row.
     Offence(Offence),
     /// Memory was refused.
     Memory,

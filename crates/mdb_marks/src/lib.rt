@@ -1,6 +1,8 @@
-//! Marks: what has to be believed of a recording from power-on, so that one run of it is left. An
-//! explanation is the fewest marks of a run that comes to an end of a range, and a replay follows
-//! the one run that has given marks.
+//! Marks: choices about acts that the recording leaves open, for example that an ACK was lost.
+//!
+//! With all its [`Mark`]s, a recording from power-on has only one run. An explanation has the
+//! fewest marks that lead to a bound of a report. A [`Replay`] follows the run that has given
+//! marks.
 #![tactic(auto)]
 
 mod explain;

@@ -1,4 +1,4 @@
-//! Marks: what was chosen of an act, where that isn't plain.
+//! Marks: the choices about acts that aren't the plain ones.
 
 ghost use Rattle.std.specs.Prelude.{◌≡◌, ◌↔◌, IsTrue, Some};
 ghost use Rattle.mdb_cash.specs.declared.choice.Choice.TheVariants as choices;
@@ -14,9 +14,9 @@ use mdb_msgs::{Command, ReaderIter, ReaderMsg, Reply};
 /// A mark on the row that ends an act (this profile).
 #[derive(Clone, Copy, PartialEq, Eq, Debug)]
 pub enum Mark {
-    /// An ACK, of a device or of the controller, was lost at its receiver.
+    /// The receiver didn't hear this ACK, of a device or of the controller.
     Lost,
-    /// A reply tells that its device was restarted before it.
+    /// This reply reports that its device was restarted before it.
     Restart,
 }
 

@@ -1,4 +1,4 @@
-//! The replay of a recording: the run from power-on that has given marks.
+//! The replay of a recording: the run from power-on with given marks.
 
 ghost use Rattle.std.specs.Prelude.{◌≡◌, ◌<◌, ◌≤◌, ◌+◌, ◌*◌, ◌^◌, ◌↔◌, ℕ, List, [], ◌∷◌, ◌++◌};
 ghost use Rattle.std.specs.Prelude.{Some, None, Err, IfSome, IfOk, IfErr, IsOk, IsSome};
@@ -24,15 +24,15 @@ use mdb_words::{Event, Time};
 /// Why rows with these marks have no run.
 #[derive(Clone, Copy, PartialEq, Eq, Debug)]
 pub enum ReplayFault {
-    /// The first row that cannot be, with the marks.
+    /// The first row that is impossible with these marks.
     Offence(Offence),
-    /// A mark may not stand at this row, from 1: it ends no act, or one that is no ACK, or no reply
-    /// that can be read as telling of a restart.
+    /// A mark that can't stand at this row, counted from 1. The row ends no act, or an act that is
+    /// neither an ACK nor a reply that can report a restart.
     Mark(u64),
 }
 
-/// The run of a recording from power-on that has given marks: one state of each device and the
-/// controller. It takes no memory.
+/// The run of a recording from power-on with given marks: one state of each device and of the
+/// controller. It allocates nothing.
 #[derive(Drop)]
 pub struct Replay {
     bus: Bus,

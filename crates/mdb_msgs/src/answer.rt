@@ -1,11 +1,11 @@
-//! What a command may be answered with, beside ACK.
+//! What a command may be answered with, other than ACK.
 
 ghost use Rattle.std.specs.Prelude.{◌≡◌, ◌↔◌, IsTrue};
 ghost use Rattle.mdb_msgs.specs.Answers.{form_of, changer_form_of, bill_form_of, lengths_of, may_tell_of_sales, HasDataAnswer, IsDataLength, MayHaveData};
 
 use crate::command::{BillCommand, ChangerCommand, Command, ReaderCommand};
 
-/// The form of a data answer.
+/// The form of a data answer, by the command that it answers.
 #[derive(Clone, Copy, PartialEq, Eq, Debug)]
 pub enum AnswerForm {
     /// To the changer's SETUP.
@@ -26,13 +26,13 @@ pub enum AnswerForm {
     BillIdentification,
     /// To the validator's identification with options.
     BillIdentificationWithOptions,
-    /// To every command of a reader: a list of messages. That RESET, DISABLE and ENABLE may be
-    /// answered with one too is this profile's; the others may by MDB/ICP 4.3, cashless device.
+    /// To every command of a reader: a list of messages. MDB/ICP 4.3 (cashless device) allows a
+    /// list as the answer to most of them. For RESET, DISABLE and ENABLE, this profile allows it.
     Reader,
 }
 
 impl AnswerForm {
-    /// The form of the data answers to a command, or `None` where it may have none.
+    /// The form of the data answers to a command. `None` if it can't have any.
     pub fn of(command: &Command) -> Option<Self>
         ensures { result ≡ form_of command.now }
     {
@@ -72,8 +72,9 @@ impl AnswerForm {
 
     /// The least and the greatest number of data bytes, without the sum.
     ///
-    /// In setup and tube status each of the 16 credits or counts may be left out from the last on,
-    /// down to none, and a reader's list may have any number that a block can carry (this profile).
+    /// SETUP and TUBE STATUS have up to 16 credits or counts. Any number of them may be left out
+    /// from the end. A reader's list may have any number of bytes that a block can carry (this
+    /// profile).
     pub fn lengths(self) -> (usize, usize)
         ensures { result ≡ lengths_of self }
     {

@@ -6,8 +6,8 @@ ghost use Rattle.mdb_msgs.specs.Devices.{device_word};
 
 use std::fmt;
 
-/// A peripheral that this profile follows (MDB/ICP 4.3: changer at 08H, cashless device #1 at 10H,
-/// validator at 30H, cashless device #2 at 60H).
+/// A peripheral that this profile follows. In MDB/ICP 4.3 the changer is at 08H, cashless device #1
+/// at 10H, the validator at 30H, and cashless device #2 at 60H.
 #[derive(Clone, Copy, PartialEq, Eq, Debug)]
 pub enum Device {
     /// The coin changer, 08H.
@@ -19,8 +19,8 @@ pub enum Device {
 }
 
 impl Device {
-    /// The POLL of the device (MDB/ICP 4.3: 0B to the changer, 33 to the validator, 12 and 62 to
-    /// the readers).
+    /// The device's POLL (MDB/ICP 4.3: 0B to the changer, 33 to the validator, 12 and 62 to the
+    /// readers).
     #[inline(always)]
     pub fn poll(self) -> Command
         ensures { result ≡ poll_of self }
@@ -34,7 +34,7 @@ impl Device {
         POLLS[number]
     }
 
-    /// Its word in what is printed.
+    /// The device's word in printed text, for example `changer`.
     pub fn word(self) -> &'static str
         ensures { result.now ≡ device_word self }
     {
@@ -46,7 +46,7 @@ impl Device {
         }
     }
 
-    /// The device that has this word, if one has.
+    /// The device that has this word. `None` if no device has it.
     pub fn named(word: &str) -> Option<Device>
         ensures found { IfSome result (λ device. word.now ≡ device_word device) }
         ensures only { (device : Device) → word.now ≡ device_word device
@@ -79,7 +79,7 @@ static POLLS: [Command; 4] = [
     Command::Reader(ReaderUnit::Second, ReaderCommand::Poll),
 ];
 
-/// A cashless reader: MDB/ICP 4.3 has two, with the same commands and the same answers.
+/// Which of the two cashless readers of MDB/ICP 4.3. Both have the same commands and answers.
 #[derive(Clone, Copy, PartialEq, Eq, Debug)]
 pub enum ReaderUnit {
     /// Cashless device #1, at 10H.
@@ -89,7 +89,7 @@ pub enum ReaderUnit {
 }
 
 impl ReaderUnit {
-    /// Its address, which is the first byte of its RESET.
+    /// The reader's address, which is the first byte of its RESET.
     pub fn address(self) -> u8
         ensures { result ≡ reader_address self }
     {
@@ -100,8 +100,8 @@ impl ReaderUnit {
     }
 }
 
-/// A command of the controller. Its fields are whole bytes and two-byte numbers, so every command
-/// has a block.
+/// A command of the controller. Its fields are whole bytes and two-byte numbers, so every value of
+/// this type has a block.
 #[derive(Clone, Copy, PartialEq, Eq, Debug)]
 pub enum Command {
     /// To the coin changer.
@@ -113,7 +113,7 @@ pub enum Command {
 }
 
 impl Command {
-    /// Whose command it is.
+    /// The device that the command is for.
     pub fn device(&self) -> Device
         ensures { result ≡ device_of self.now }
     {
@@ -124,7 +124,7 @@ impl Command {
         }
     }
 
-    /// The same command once more.
+    /// A copy of the command.
     pub fn copy(&self) -> Command
         ensures { result ≡ self.now }
     {
@@ -150,7 +150,7 @@ pub enum ChangerCommand {
         /// Y3-Y4: the coin types that may be dispensed manually.
         manual: u16,
     },
-    /// DISPENSE, 0D: Y1, the count in the high half and the coin type in the low half.
+    /// DISPENSE, 0D, with its byte Y1: the count is the high half, and the coin type the low half.
     Dispense(u8),
     /// EXPANSION identification, 0F 00.
     Identification,
@@ -176,7 +176,7 @@ pub enum BillCommand {
         /// Y3-Y4: the bill types that are held in escrow.
         escrow: u16,
     },
-    /// ESCROW, 35: Y1, 0 returns the bill, its lowest bit stacks it.
+    /// ESCROW, 35, with its byte Y1: 0 returns the bill, and the lowest bit stacks it.
     Escrow(u8),
     /// STACKER, 36.
     Stacker,
@@ -188,8 +188,8 @@ pub enum BillCommand {
     IdentificationWithOptions,
 }
 
-/// A command to a cashless reader (MDB/ICP 4.3, cashless device). The bytes are those to the first;
-/// to the second, the first byte is greater by 50 hexadecimal.
+/// A command to a cashless reader (MDB/ICP 4.3, cashless device). The bytes given here are those to
+/// the reader at 10H. For the reader at 60H, the first byte is greater by 50H.
 #[derive(Clone, Copy, PartialEq, Eq, Debug)]
 pub enum ReaderCommand {
     /// RESET, 10.

@@ -15,8 +15,12 @@ use super::fault::MsgFault;
 use super::two_bytes::number;
 use mdb_blocks::Block;
 
-/// The command of a block. `Profile` where the first two bytes tell that the block is foreign or
-/// outside of this profile, `Length` where they tell another length.
+/// Reads a block as a command.
+///
+/// # Errors
+///
+/// `Profile` if the first two bytes are those of a foreign block, or of one outside this profile.
+/// `Length` if they need another length.
 pub fn read_command(block: &Block) -> Result<Command, MsgFault>
     ensures command { IfOk result (λ command. Spells command block.now) }
     ensures only { (command : Command) → Spells command block.now → result ≡ Ok command }
@@ -26,8 +30,11 @@ pub fn read_command(block: &Block) -> Result<Command, MsgFault>
     command_of(block.content())
 }
 
-/// The command whose block carries these bytes, its sum left out: `read_command` for one who has
-/// the bytes alone. The faults are those of the block that carries them.
+/// Reads the content of a block, without its sum, as a command.
+///
+/// # Errors
+///
+/// Those of [`read_command`] for the block that carries these bytes.
 pub fn command_of(content: &[u8]) -> Result<Command, MsgFault>
     requires { 0 < length content.now }
     ensures command { IfOk result (λ command. Spells command (block_of content.now)) }

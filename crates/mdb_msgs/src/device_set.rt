@@ -25,7 +25,7 @@ impl DeviceSet {
         second_reader: false,
     };
 
-    /// These devices and one more; the same where it is one of them.
+    /// The set with a device added.
     pub fn with(self, device: Device) -> DeviceSet
         ensures set { result ≡ with_device self device }
         ensures more { has result device ≡ true }
@@ -41,7 +41,7 @@ impl DeviceSet {
         set
     }
 
-    /// Whether a device is one of them.
+    /// Whether the set contains a device.
     pub fn has(self, device: Device) -> bool
         ensures { result ≡ has self device }
     {
@@ -53,8 +53,8 @@ impl DeviceSet {
         }
     }
 
-    /// Whether a block of the controller that begins with this byte is to one of them: its upper
-    /// five bits are those of the device's address (MDB/ICP 4.3, bus format).
+    /// Whether a controller's block that begins with this byte is for a device of the set: its
+    /// upper five bits are those of the device's address (MDB/ICP 4.3, bus format).
     #[inline(always)]
     pub fn has_address(self, first: u8) -> bool
         ensures { result ≡ is_to_one_of self first }

@@ -1,15 +1,15 @@
 //! Why a block is no command or no reply.
 
-/// Why a block can't be read, or a reply can't be written (this profile). Each function says in
-/// which order it looks for them.
+/// Why a block can't be read, or why a reply can't be written (this profile). Each function
+/// documents the order in which it looks for faults.
 #[derive(Clone, Copy, PartialEq, Eq, Debug)]
 pub enum MsgFault {
-    /// The number of bytes isn't the command's.
+    /// The command doesn't have this number of bytes.
     Length,
-    /// A message or a field that the grammar doesn't have.
+    /// The grammar has no such message, or no such value of a field.
     Message,
-    /// Something that MDB/ICP 4.3 has and this profile leaves out.
+    /// MDB/ICP 4.3 has it, and this profile leaves it out.
     Profile,
-    /// An answer that the command may not have.
+    /// The command can't have this answer.
     Answer,
 }

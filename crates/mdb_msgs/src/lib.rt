@@ -1,4 +1,12 @@
-//! Commands of the controller and replies of the peripherals, as blocks of the bus.
+//! Commands of the controller and replies of the peripherals, as the blocks that carry them.
+//!
+//! [`read_command`] and [`write_command`] turn a block into a [`Command`] and back. [`read_reply`]
+//! and [`write_reply`] do the same for a [`Reply`], which has a meaning only with the command that
+//! it answers. [`need_of`] tells the length of a controller's block from its first bytes.
+//!
+//! The devices are the coin changer (08H), the bill validator (30H) and the two cashless readers
+//! (10H, 60H), as in MDB/ICP 4.3. Amounts are in units of the device's scale factor. This crate
+//! allocates nothing.
 #![tactic(auto)]
 
 mod answer;

@@ -1,14 +1,14 @@
 //! What the first bytes of a block tell.
 
-/// What the first bytes of a block of the controller tell of the rest of it.
+/// What the first bytes of a controller's block show about its length.
 #[derive(Clone, Copy, PartialEq, Eq, Debug)]
 pub enum Need {
-    /// The subcommand, the second byte, decides.
+    /// Nothing yet: the second byte, the subcommand, decides.
     More,
     /// The block has this many bytes, its sum included.
     Exactly(usize),
-    /// It is for another device, or one of an EXPANSION that this profile does not know.
+    /// The block is for another device, or has an EXPANSION that this profile doesn't know.
     Foreign,
-    /// It is for a device of this profile, which leaves it out.
+    /// The block is for a device of this profile, but the profile leaves out the command.
     Outside,
 }

@@ -1,4 +1,4 @@
-//! How many bytes a block of the controller needs, told from its first bytes.
+//! The length of a controller's block, from its first bytes.
 
 ghost use Rattle.std.specs.Prelude.{◌≡◌, ◌<◌, ◌≤◌, length};
 ghost use Rattle.mdb_msgs.specs.Needs.{bill_need, changer_need, needed, needed_without, reader_need};
@@ -7,9 +7,9 @@ use crate::device_set::DeviceSet;
 use crate::first_needs::FIRST;
 use crate::need::Need;
 
-/// What a block that begins with these bytes needs. At most the first two bytes count (MDB/ICP 4.3,
+/// What a block that begins with these bytes needs. Only the first two bytes count (MDB/ICP 4.3,
 /// commands of the coin changer, the bill validator and the cashless device, as far as this profile
-/// goes).
+/// follows them).
 #[inline(always)]
 pub fn need_of(prefix: &[u8]) -> Need
     requires { 0 < length prefix.now }
@@ -22,8 +22,8 @@ pub fn need_of(prefix: &[u8]) -> Need
     }
 }
 
-/// What a block that begins with these bytes needs, where devices are left out: that to one of them
-/// is foreign by its first byte, whatever comes after it (this profile).
+/// What a block that begins with these bytes needs, with some devices left out. A block to one of
+/// these is foreign by its first byte, no matter what comes after it (this profile).
 #[inline(always)]
 pub fn need_without(left_out: DeviceSet, prefix: &[u8]) -> Need
     requires { 0 < length prefix.now }

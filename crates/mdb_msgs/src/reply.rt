@@ -25,6 +25,8 @@ use reader::ReaderList;
 use setup::{BillSetup, ChangerSetup, Stacker, TubeStatus};
 
 /// A data answer of a peripheral (MDB/ICP 4.3, coin changer, bill validator and cashless device).
+/// Which bytes it has depends on the command that it answers: see [`read_reply`] and
+/// [`write_reply`].
 #[derive(PartialEq, Eq, Debug, Drop)]
 pub enum Reply {
     /// To the changer's SETUP.
@@ -221,16 +223,19 @@ fn read_content(command: &Command, content: &[u8]) -> Result<Reply, MsgFault>
     read
 }
 
-/// The reply to a command that a block spells.
+/// Reads a block as the reply to a command.
 ///
 /// # Errors
 ///
-/// The first of these: `Answer` where the command may have no data answer; `Length` where the
-/// number of data bytes isn't the command's; `Message` or `Profile` for the leftmost message that
-/// can't be taken, or `Message` for a validator's SETUP whose byte for the escrow is neither FF nor
-/// 00; `Answer` for a reader's message of a session or a sale (03, 05, 06, 07) in an answer to
-/// another command than POLL and the five commands of a session, 13 00 to 13 04 or 63 00 to 63 04
-/// (this profile).
+/// The first of these (this profile):
+///
+/// - `Answer`: the command can't have a data answer.
+/// - `Length`: the command's answer doesn't have this number of data bytes.
+/// - `Message` or `Profile`: the leftmost message that can't be read. `Message` too if the escrow
+///   byte of a validator's SETUP is neither FF nor 00.
+/// - `Answer`: a reader's message about a session or a sale (03, 05, 06, 07) in an answer to
+///   another command than POLL and the five commands of a session. These are 13 00 to 13 04, or 63
+///   00 to 63 04.
 pub fn read_reply(command: &Command, block: &Block) -> Result<Reply, MsgFault>
     ensures found { IfOk result (λ reply. SpellsReply command.now reply block.now) }
     ensures only { (reply : Reply) → SpellsReply command.now reply block.now → result ≡ Ok reply }
@@ -256,12 +261,14 @@ fn block_with(bytes: &[u8]) -> Block
 ///
 /// # Errors
 ///
-/// The first of these, and none where the command has a block of this reply: `Answer` where the
-/// command may have no data answer; `Length` where the bytes of the reply, whatever its form,
-/// aren't as many as the command allows; `Message` where the reply is of another command's form, or
-/// a field is outside its range; `Answer` for a reader's message of a session or a sale (03, 05,
-/// 06, 07) in an answer to another command than POLL and the five commands of a session, 13 00 to
-/// 13 04 or 63 00 to 63 04 (this profile).
+/// The first of these, and none if the command has a block of this reply (this profile):
+///
+/// - `Answer`: the command can't have a data answer.
+/// - `Length`: the command's answer doesn't have as many bytes as the reply, whatever its form.
+/// - `Message`: the reply has the form of another command's, or a field is outside its range.
+/// - `Answer`: a reader's message about a session or a sale (03, 05, 06, 07) in an answer to
+///   another command than POLL and the five commands of a session. These are 13 00 to 13 04, or 63
+///   00 to 63 04.
 pub fn write_reply(command: &Command, reply: &Reply) -> Result<Block, MsgFault>
     ensures exactly { IsOk result ↔ IsReplyTo command.now reply.now }
     ensures written { IfOk result (λ block. SpellsReply command.now reply.now block) }

@@ -1,4 +1,4 @@
-//! What is known from elsewhere of how the devices are set up.
+//! Setup data that are known from elsewhere.
 
 ghost use Rattle.std.specs.Prelude.{◌≡◌};
 ghost use Rattle.mdb_msgs.specs.Setups.{config_known};
@@ -6,10 +6,10 @@ ghost use Rattle.mdb_msgs.specs.Setups.{config_known};
 use super::command::ReaderUnit;
 use super::reply::setup::{BillSetup, ChangerSetup};
 
-/// What is known of a cashless reader by its config message (MDB/ICP 4.3, cashless device).
+/// The setup data of a cashless reader, from its config message (MDB/ICP 4.3, cashless device).
 #[derive(Clone, Copy, PartialEq, Eq, Debug)]
 pub struct ReaderConfig {
-    /// Z5: the scale factor, in smallest units of money.
+    /// Z5: the scale factor, in the smallest unit of money.
     pub scale: u8,
     /// Z6: the decimal places.
     pub decimals: u8,
@@ -17,17 +17,17 @@ pub struct ReaderConfig {
     pub response: u8,
 }
 
-/// What is known of how the devices are set up, where a recording doesn't show it: their answers to
-/// SETUP in an earlier recording of the same machine (this profile).
+/// Setup data that a recording doesn't show: the devices' answers to SETUP in an earlier recording
+/// of the same machine (this profile).
 #[derive(PartialEq, Eq, Debug, Drop)]
 pub struct Setups {
     /// The changer's answer.
     pub changer: Option<ChangerSetup>,
     /// The validator's answer.
     pub bill: Option<BillSetup>,
-    /// Of the answer of the reader at 10H to SETUP config, what counts.
+    /// What counts of the answer of the reader at 10H to SETUP config.
     pub first_reader: Option<ReaderConfig>,
-    /// Of that of the reader at 60H.
+    /// The same of the reader at 60H.
     pub second_reader: Option<ReaderConfig>,
 }
 
@@ -40,7 +40,7 @@ impl Setups {
         second_reader: None,
     };
 
-    /// The same again.
+    /// A copy.
     pub fn copy(&self) -> Setups
         ensures { result ≡ self.now }
     {
@@ -52,7 +52,7 @@ impl Setups {
         }
     }
 
-    /// What is known of a reader.
+    /// The setup data of a reader, if they are known.
     pub fn config(&self, unit: ReaderUnit) -> Option<ReaderConfig>
         ensures { result ≡ config_known self.now unit }
     {

@@ -30,9 +30,9 @@ pub struct PageAct {
     pub kind: u8,
     /// The device: 0 none, 1 changer, 2 bill, 3 cashless, 4 cashless-2.
     pub device: u8,
-    /// How many bytes it has.
+    /// The number of its bytes.
     pub count: u8,
-    /// Its bytes, in front.
+    /// Its bytes, at the beginning of this array.
     pub bytes: [u8; 36],
 }
 
@@ -66,9 +66,9 @@ struct Tail {
     end: u64,
 }
 
-/// Lists the acts of a recording, but for the first `skip`, as far as there is room, and answers as
-/// `mdb_page_check` does: 1 says that a row breaks a rule of the link. The rules of the devices it
-/// doesn't know. `told` says how many acts there are.
+/// Lists the acts of a recording after the first `skip`, as far as there is room. It returns what
+/// `mdb_page_check` does: 1 means that a row breaks a rule of the link. It doesn't know the rules
+/// of the devices. `told` has the number of acts.
 #[unsafe(no_mangle)]
 pub extern "C" fn mdb_page_acts(
     options: &PageOptions,

@@ -38,13 +38,13 @@ pub(crate) const NO_ROOM: u32 = 6;
 #[repr(C)]
 #[derive(Drop)]
 pub struct PageTold {
-    /// How many rows were read, or the number of the row that ended it, from 1.
+    /// The number of rows that were read, or the number of the row that ended it, from 1.
     pub row: u64,
-    /// How many bytes of the text stand in front of the line of that row, or were read.
+    /// The number of bytes before the line of that row, or of the bytes that were read.
     pub offset: u64,
-    /// Why that row is none: 0 to 3, in the order of `RowFault`.
+    /// Why that line is no row: 0 to 3, in the order of `RowFault`.
     pub fault: u64,
-    /// How many acts there are.
+    /// The number of acts.
     pub acts: u64,
 }
 
@@ -70,17 +70,17 @@ pub(crate) fn fault_number(fault: RowFault) -> u64 {
     }
 }
 
-/// Checks the recording that lies in memory as text. It answers
+/// Checks the recording that lies in memory as text. It returns
 ///
 /// - 0: all rows are possible, and `answer` has the text of the report;
-/// - 1: a row can't be, and `answer` has the text that says so;
+/// - 1: a row is impossible, and `answer` has the text with its rule and blame;
 /// - 2: a line is no row;
-/// - 3: there are more rows than there may be;
+/// - 3: there are more rows than a recording may have;
 /// - 4: a line has a quote, or a CR that doesn't end it;
-/// - 5: the options name no way to take a recording;
+/// - 5: the options aren't valid;
 /// - 6: the text of the answer has no room.
 ///
-/// `told` says where the reading ended.
+/// `told` shows where the reading ended.
 #[unsafe(no_mangle)]
 pub extern "C" fn mdb_page_check(
     options: &PageOptions,

@@ -1,7 +1,8 @@
-//! The checker for a page in a browser: a recording lies in memory as text, and the verdict, its
-//! text and the acts go into memory that the page gives. It takes no memory of its own.
+//! The checker for a page in a browser.
 //!
-//! Each call reads the whole text, and keeps nothing for the next one.
+//! The recording lies in memory as text. The verdict, its text and the acts go into memory that the
+//! page provides. The crate allocates nothing. Each call reads the whole text, and keeps nothing
+//! for the next call. Rows are numbered from 1, and times are in microseconds.
 #![tactic(auto)]
 
 mod acts;

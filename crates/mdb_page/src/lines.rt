@@ -1,9 +1,10 @@
 //! The lines of a text, and the rows that they are.
 //!
-//! A line ends before LF, before CR LF, or with the text. A byte order mark in front of the text is
-//! no part of its first line, and a line without bytes is no row. Three fields stand between two
-//! commas. That is how the program reads a text in which no field stands between quotes, and no CR
-//! stands alone; a line with either is refused here, as it would be none or another one there.
+//! A line ends before LF, before CR LF, or with the text. A byte order mark at the beginning of the
+//! text doesn't belong to its first line, and a line without bytes is no row. A row has three
+//! fields with two commas between them. The program `mdbcheck` reads a text in the same way, if no
+//! field of it is quoted and no CR stands alone. This crate refuses a line with either, because the
+//! program may read it as another row or as none.
 
 ghost use Rattle.std.specs.Prelude.{◌≡◌, ◌≢◌, ◌≤◌, ◌<◌, ◌∷◌, [], ℕ, List, All, IfNone, IfOk, IfSome, length};
 ghost use Rattle.mdb_page.specs.Lines.{IsBare, IsCut, IsFirstLine, IsUnmarked, TellsRow};

@@ -1,4 +1,4 @@
-//! How the page wants a recording to be taken.
+//! The options of a check, as the page gives them.
 
 ghost use Rattle.std.specs.Prelude.{◌≡◌, IfSome, if◌then◌else◌};
 ghost use Rattle.mdb_msgs.specs.DeviceSets.{with_device};
@@ -11,26 +11,26 @@ use mdb_msgs::{
     ReaderList, ReaderMsg, ReaderUnit, Reply, Setups, read_reply,
 };
 
-/// A device's answer to SETUP: a whole block, its sum at the end.
+/// A device's answer to SETUP: a whole block, with its sum at the end.
 #[repr(C)]
 #[derive(Clone, Copy)]
 pub struct PageSetup {
-    /// How many bytes it has; 0 where nothing is known of the device.
+    /// The number of its bytes; 0 if nothing is known of the device.
     pub count: u8,
-    /// Its bytes, in front.
+    /// Its bytes, at the beginning of this array.
     pub bytes: [u8; 36],
 }
 
-/// How a recording is taken.
+/// The options of a check.
 #[repr(C)]
 #[derive(Drop)]
 pub struct PageOptions {
-    /// Not 0: the recording began in mid-session.
+    /// Not 0: the recording begins while the machine was running.
     pub joined: u8,
-    /// Not 0: this device is left out. In the order of a report: the changer, the bill validator, the
-    /// cashless reader at 10H, that at 60H.
+    /// Not 0: this device is left out. The order is that of a report: the changer, the bill
+    /// validator, the cashless reader at 10H, the cashless reader at 60H.
     pub without: [u8; 4],
-    /// Their answers to SETUP in an earlier recording, in that order.
+    /// The devices' answers to SETUP in an earlier recording, in that order.
     pub setups: [PageSetup; 4],
 }
 

@@ -1,4 +1,4 @@
-//! The text of an answer, in memory that the page gives.
+//! The text of an answer, in memory that the page provides.
 
 ghost use Rattle.std.specs.Prelude.{Some, take};
 
@@ -12,9 +12,9 @@ const ROOM: usize = 2048;
 #[repr(C)]
 #[derive(Drop)]
 pub struct PageText {
-    /// How many bytes it has.
+    /// The number of its bytes.
     pub count: u64,
-    /// Its bytes, in front.
+    /// Its bytes, at the beginning of this array.
     pub bytes: [u8; ROOM],
 }
 

@@ -1,8 +1,8 @@
-//! The CSV records of a text, one at a time, from any reader and under a limit on the number of its
-//! bytes.
+//! The CSV records of a text, one at a time, from any reader, with a limit on the number of bytes.
 //!
-//! A text that is longer than the limit is an error and never the end of the text: each record that
-//! is given is one of the whole text's records, and the end is told only where the whole text ends.
+//! A text that is longer than the limit is an error, and never looks like the end of the text. So
+//! each record that [`Records`] returns is a record of the whole text, and the end is the end of
+//! the whole text.
 #![tactic(auto)]
 
 ghost use Rattle.std.specs.Prelude.{◌≡◌, ◌<◌, ◌≤◌, ◌+◌, ◌-◌, ◌^◌, ◌↔◌, ◌⊎◌, min, ℕ, All, List, [], None, length, true, IfErr, IfOk, OnOk, IfSome, IsSome, IsTrue, Some, Err, if◌then◌else◌};
@@ -25,27 +25,27 @@ const ROW_BYTES: usize = 64;
 // And for so many fields.
 const ROW_FIELDS: usize = 4;
 
-/// Why the next record could not be read.
+/// Why the next record can't be read.
 #[derive(Clone, Copy, PartialEq, Eq, Debug)]
 pub enum ReadFault {
     /// The reader failed, or its text goes on past the limit.
     Read,
-    /// Memory ran out.
+    /// Memory was refused.
     Memory,
 }
 
-/// Why a reading ended by [`ReadFault::Read`].
+/// Why reading ended with [`ReadFault::Read`].
 #[derive(Clone, Copy, PartialEq, Eq, Debug)]
 pub enum ReadCause {
     /// The reader failed.
     Failed,
-    /// The reader has no byte yet, and doesn't wait for one.
+    /// The reader has no byte yet, and doesn't wait for one (`WouldBlock`).
     WouldBlock,
     /// The text goes on past the limit.
     OverLimit,
 }
 
-/// The records of the text that a reader has left, one after the other.
+/// The records of the rest of a reader's text, one after the other.
 #[derive(Drop)]
 pub struct Records<R> {
     reader: Reader<Limited<R>>,

@@ -9,24 +9,24 @@ use super::fault::HeaderFault;
 use csv::ByteRecord;
 use std::fmt;
 
-/// What a column of a table tells.
+/// What a column of a table contains.
 #[derive(Clone, Copy, PartialEq, Eq, Debug)]
 pub enum Column {
     /// When a word's start bit began.
     Time,
     /// The name of the analyser.
     Name,
-    /// What sort of a thing was seen.
+    /// The type of what was seen.
     Kind,
     /// The word.
     Data,
-    /// What was wrong with it.
+    /// The error of the word.
     Error,
     /// Whether its parity was wrong.
     Parity,
     /// Whether its stop bit was missing.
     Framing,
-    /// Its mode bit, where the analyser takes that for itself.
+    /// The mode bit of the word, if the analyser reports it in a column of its own.
     Address,
 }
 

@@ -8,7 +8,7 @@ use thiserror::Error;
 /// What is wrong with a header.
 #[derive(Clone, Copy, PartialEq, Eq, Debug, Error)]
 pub enum HeaderFault {
-    /// A column isn't there that has to be.
+    /// A column that must be there is missing.
     #[error("wanted a column {column}")]
     Missing {
         /// The column.
@@ -49,10 +49,10 @@ pub enum RowFault {
     /// Its error is unknown.
     #[error("wanted no error, or the error framing")]
     BadError,
-    /// What is there besides its data tells neither that its mode bit is set nor that it isn't.
+    /// Its column for the mode bit shows neither that the bit is set nor that it isn't.
     #[error("wanted true or false as the address, or nothing")]
     BadAddress,
-    /// Its data aren't told in hexadecimal digits.
+    /// Its data aren't hexadecimal digits.
     #[error("wanted data as 0x and 1 to 4 hexadecimal digits: export them as hexadecimal")]
     NoHex,
     /// Its data have more than nine bits, or more than eight where the mode bit stands elsewhere.
@@ -64,7 +64,7 @@ pub enum RowFault {
     /// A word has no stop bit, and isn't 0.
     #[error("wanted a stop bit: a word that isn't 0 is no break")]
     Framing,
-    /// A break, whose length isn't told.
+    /// A break, and its length wasn't given.
     #[error("the table doesn't tell how long the break is: give --break MICROSECONDS")]
     NoLength,
     /// It is at the same microsecond as the row before it.
@@ -101,7 +101,7 @@ pub enum SaleaeFault {
     /// There is no record at all.
     #[error("record 1: wanted a header with the names of the columns, and the table is empty")]
     NoHeader,
-    /// The first record is no header as it is wanted.
+    /// The first record isn't a header of the expected form.
     #[error("record 1: {fault}")]
     BadHeader {
         /// What is wrong with it.
@@ -115,7 +115,7 @@ pub enum SaleaeFault {
         /// What is wrong with it.
         fault: RowFault,
     },
-    /// A record with a time is no row, or none that may come there.
+    /// A record with a time is no row, or can't come at this place.
     #[error("record {number} at {at}: {fault}")]
     BadRow {
         /// The record's number, from 1; the header is the first.

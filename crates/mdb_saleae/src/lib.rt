@@ -1,8 +1,8 @@
 //! Imports the table that an asynchronous serial analyser exports, with nine bits a word: turns it
 //! into the rows that `mdbcheck` reads.
 //!
-//! The first record of a table is its header, each other a row or a refusal. Nothing is guessed,
-//! and nothing is left out in silence.
+//! The first record of a table is its header. Each other record is a row, or is refused. Nothing is
+//! guessed. The rows before a refused record are written. Times are in microseconds.
 #![tactic(auto)]
 
 mod cells;

@@ -1,4 +1,7 @@
-//! What was said on the bus, line by line: an act, a tail that was cut, or the row that cannot be.
+//! What was sent on the bus, line by line.
+//!
+//! A line is an act with its rows, the words of a block that was cut, or the first row that breaks
+//! a rule of the link. The lines are text for people, or JSON for programs.
 #![tactic(auto)]
 
 mod form;

@@ -2,18 +2,18 @@
 
 use thiserror::Error;
 
-/// Why a trace gives no rows: the first thing that is met in the order of its records.
+/// Why a trace gives no rows: the first fault in the order of its records.
 #[derive(Clone, Copy, PartialEq, Eq, Debug, Error)]
 pub enum SigrokFault {
-    /// A line that isn't the one that should stand there.
+    /// A line of another form than the one that should be there.
     #[error("record {number}: {fault}")]
     Form {
-        /// The record that stands there, or should, counted from 1: the line above the first is 0.
+        /// The record that is there, or should be, counted from 1: the line above the first is 0.
         number: u64,
         /// What is wrong with it.
         fault: FormFault,
     },
-    /// A record that can't stand where it does.
+    /// A record that can't come at this place.
     #[error("record {number} at {micros}{line}: {fault}")]
     Order {
         /// The record, counted from 1.
@@ -36,7 +36,7 @@ pub enum SigrokFault {
     Memory,
 }
 
-/// The line of the bus that a fault is on.
+/// The line of the bus that has a fault.
 #[derive(Clone, Copy, PartialEq, Eq, Debug, Error)]
 pub enum FaultLine {
     /// That of the controller.
@@ -56,13 +56,13 @@ pub enum FormFault {
     /// The first line is another one, or there is none.
     #[error("wanted a trace, whose first line is {{\"traceEvents\": [, and it is another one")]
     NoTrace,
-    /// No record as sigrok-cli writes it for the decoder `uart-1`.
+    /// The line is no record as sigrok-cli writes it for the decoder `uart-1`.
     #[error("wanted a record as sigrok-cli writes it for its decoder uart-1")]
     NoRecord,
     /// A time of more than 15 digits, in whole microseconds.
     #[error("wanted a time of at most 15 digits of microseconds")]
     LongTime,
-    /// After a record without a comma something else than the end.
+    /// After a record without a comma, something other than the end.
     #[error("wanted the last line of a trace, ]}}, after a record without a comma")]
     NoEnd,
     /// Something after the end.
@@ -73,7 +73,7 @@ pub enum FormFault {
     Cut,
 }
 
-/// What is wrong with a record where it stands.
+/// What is wrong with a record at its place.
 #[derive(Clone, Copy, PartialEq, Eq, Debug, Error)]
 pub enum OrderFault {
     /// The end of something, where the beginning of something should be.

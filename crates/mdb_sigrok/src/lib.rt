@@ -1,8 +1,10 @@
-//! What sigrok-cli writes of its decoder `uart`, as the rows of a transcript.
+//! Reads the trace that sigrok-cli writes of its decoder `uart`, and returns the rows that
+//! `mdbcheck` reads.
 //!
-//! sigrok-cli reads what a logic analyser recorded, and writes a trace: two records for each thing
-//! that its decoder saw on a line, where that begins and where it ends. This crate reads such a
-//! trace, and answers the rows that `mdbcheck` reads: those of both lines, and no others.
+//! sigrok-cli reads what a logic analyser recorded. Its trace has two records for each thing that
+//! the decoder saw on a line: where that begins, and where it ends. The rows are those of both
+//! lines, and no others. A trace with any other record is refused as a whole, with a
+//! [`SigrokFault`]. Times are in microseconds.
 #![tactic(auto)]
 
 mod cut;

@@ -12,7 +12,7 @@ use std::marker::Model;
 /// What a microsecond has of the parts that a moment counts.
 const MICRO: u128 = 1_000_000;
 
-/// When something begins or ends, in millionths of a microsecond from the first sample.
+/// When something begins or ends, in millionths of a microsecond since the first sample.
 ///
 /// A clause sees it as that number.
 #[derive(Clone, Copy, PartialEq, Eq, Debug)]

@@ -1,18 +1,18 @@
-//! What is told of a trace beside its text.
+//! The options of the import of a trace.
 
 ghost use Rattle.std.specs.Prelude.{◌≡◌};
 ghost use Rattle.mdb_sigrok.specs.Part.{is_before as before_part, is_behind as behind_part, is_taken as in_part};
 
 use mdb_words::Event;
 
-/// How a trace is to be imported.
+/// The options of the import of a trace.
 #[derive(Clone, Copy, PartialEq, Eq, Debug)]
 pub struct SigrokOptions {
     /// Whether the channel `RX` is the controller's line, and `TX` that of the devices.
     pub swap: bool,
-    /// The first microsecond of the part that is asked for; `None`: from the start on.
+    /// The first microsecond of the part that is asked for. `None`: from the beginning.
     pub from: Option<u64>,
-    /// The last microsecond of the part that is asked for; `None`: to the end.
+    /// The last microsecond of the part that is asked for. `None`: to the end.
     pub until: Option<u64>,
 }
 

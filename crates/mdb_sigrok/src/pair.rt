@@ -1,4 +1,4 @@
-//! What the decoder saw: two records, where it begins and where it ends.
+//! What the decoder saw: two records, one where it begins and one where it ends.
 
 ghost use Rattle.std.specs.Prelude.{◌≡◌, ◌≢◌, ◌++◌, ◌<◌, ℕ, List, [], IfSome, IfNone, IfOk, IfErr, true};
 ghost use Rattle.std.specs.Fmt.{digit_glyph};
@@ -19,7 +19,7 @@ pub enum What {
     Start,
     /// The nine data bits of a word.
     Data(Word),
-    /// A stop bit that is none.
+    /// The stop bit is low, or the start bit is none.
     FrameError,
     /// A break, once the line is high again.
     BreakEnd,

@@ -1,4 +1,4 @@
-//! What is told of the rows of a trace.
+//! What is reported of the rows of a trace.
 
 ghost use Rattle.std.specs.Prelude.{◌≡◌};
 ghost use Rattle.mdb_sigrok.specs.Part.{IsTold};
@@ -7,20 +7,20 @@ ghost use Rattle.mdb_sigrok.specs.inner.Tallies.{IsNoted};
 use super::options::SigrokOptions;
 use mdb_words::{Event, Line};
 
-/// What was imported, and what whoever recorded should know of the whole trace.
+/// What was imported, and what the recorder's user should know of the whole trace.
 #[derive(Clone, Copy, PartialEq, Eq, Debug)]
 pub struct SigrokRows {
-    /// How many rows were written.
+    /// The number of rows that were written.
     pub rows: u64,
-    /// How many rows were left out since they are before the part that was asked for.
+    /// The number of rows that were left out, because they are before the part that was asked for.
     pub before: u64,
-    /// How many rows were left out since they are after it.
+    /// The number of rows that were left out, because they are after it.
     pub after: u64,
     /// Whether a word had its mode bit set.
     pub marked: bool,
-    /// Whether the controller said a word.
+    /// Whether the controller sent a word.
     pub controller: bool,
-    /// Whether a device said a word.
+    /// Whether a device sent a word.
     pub peripheral: bool,
 }
 

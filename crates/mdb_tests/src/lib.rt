@@ -1,7 +1,8 @@
-//! The tests, of what no contract says of the libraries: that a call can answer at all, worked
-//! cases from outside, the faults of readers and writers, and the program's words. All but those of
-//! the calls for other programs stand in this one crate, since a crate that has tests is proved a
-//! second time for them.
+//! The tests, of everything that no contract states about the libraries: that a call can succeed at
+//! all, worked cases from outside, the faults of readers and writers, and the words of the program.
+//!
+//! Only the tests of the calls for other programs stand elsewhere. They share this one crate,
+//! because a crate that has tests is proved a second time for them.
 #![tactic(auto)]
 
 #[cfg(test)]

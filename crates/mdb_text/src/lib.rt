@@ -1,4 +1,7 @@
-//! The answer to a transcript, and its text. It takes no memory.
+//! The answer to a recording, and the text that `mdbcheck check` prints of it.
+//!
+//! An [`Outcome`] is a yes with its report, or a no with its offence. [`write_outcome`] writes the
+//! text. This crate allocates nothing.
 #![tactic(auto)]
 
 mod digits;

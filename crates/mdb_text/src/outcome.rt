@@ -1,13 +1,12 @@
-//! The answer to a transcript.
+//! The answer to a recording.
 
 use mdb_follow::{Offence, Report};
 
-/// The answer to a transcript.
+/// The answer to a recording.
 #[derive(Clone, Copy, PartialEq, Eq, Debug)]
 pub enum Outcome {
-    /// The controller and its peripherals can have said these words at these times: what that
-    /// tells.
+    /// Yes: the recording is possible, with this report.
     Yes(Report),
-    /// They cannot: the first row that cannot be.
+    /// No: it is impossible, with the first impossible row.
     No(Offence),
 }

@@ -1,4 +1,4 @@
-//! Rows that are read before they are followed.
+//! Rows that are read before they are checked.
 
 ghost use Rattle.std.specs.Prelude.{◌≡◌, ◌<◌, ◌≤◌, List, ℕ, None, Some, length};
 ghost use Rattle.mdb_records.specs.declared.ReadFault.{ReadFault};
@@ -11,7 +11,7 @@ use mdb_words::RowFault;
 use std::io::Read;
 use std::marker::Model;
 
-/// The most rows of a batch.
+/// The most rows in a batch.
 pub const BATCH: usize = 128;
 
 /// So many bytes have a whole row, where it is written as recorders write it.
@@ -20,9 +20,9 @@ const ROW_BYTES: u64 = 64;
 /// What comes after the rows of a batch.
 #[derive(Clone, Copy, PartialEq, Eq, Debug)]
 pub enum Next {
-    /// What the next batch tells: this one is full, or the text has to be waited for.
+    /// The next batch shows it: this one is full, or the text isn't there yet.
     More,
-    /// Nothing: the text has ended.
+    /// Nothing: the text ends here.
     End,
     /// A record that is no row.
     BadRow(RowFault),
@@ -30,10 +30,10 @@ pub enum Next {
     Failed(ReadFault),
 }
 
-/// Rows that were read, and are taken next.
+/// Rows that were read, and are checked next.
 ///
-/// Reading and following take turns by batches, since a processor does many rows of the same work
-/// in less time than one row of each in turn. A clause sees the rows as a list.
+/// Reading and checking take turns by batches. A processor does the same work for many rows faster
+/// than it changes the work after each row. A clause sees the rows as a list.
 #[derive(Drop)]
 pub struct Batch<T> {
     rows: [T; BATCH],

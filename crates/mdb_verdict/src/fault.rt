@@ -9,7 +9,7 @@ use thiserror::Error;
 /// Why there is no answer.
 #[derive(Clone, Copy, PartialEq, Eq, Debug, Error)]
 pub enum RunFault {
-    /// A record is no row of a transcript.
+    /// A record is no row of a recording.
     #[error("row {row}: {fault:?}")]
     BadRow {
         /// The record's number, from 1.
@@ -17,10 +17,10 @@ pub enum RunFault {
         /// What is wrong with it.
         fault: RowFault,
     },
-    /// The transcript has more rows than it may have.
+    /// The recording has more rows than one may have.
     #[error("more rows than are allowed")]
     TooLong,
-    /// The reader failed, or the input has more bytes than it may have.
+    /// The reader failed, or the input has more bytes than one may have.
     #[error("the input can't be read, or has more bytes than are allowed")]
     Read,
     /// The writer failed.

@@ -1,7 +1,11 @@
-//! The verdict: whether the controller and its peripherals can have said the words of a transcript
-//! at their times, and what the money can have come to then, with its text.
+//! The verdict: whether a recording is possible, and the bounds of the money if it is.
 //!
-//! What shows or explains a transcript reads it as [`check`] does, by [`read_rows`].
+//! [`check`] reads a recording as CSV rows from a reader, and returns an [`Outcome`] with its text.
+//! [`check_joined`] does so for a recording that begins while the machine was running, and
+//! [`check_scoped`] for any scope. [`RunFault`] is the reason if there is no verdict.
+//!
+//! Crates that show or explain a recording read it in the same way, by [`read_rows`]. Money is in
+//! the smallest unit of its device, and times are in microseconds.
 #![tactic(auto)]
 
 mod batch;

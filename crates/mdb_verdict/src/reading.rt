@@ -1,4 +1,4 @@
-//! The reading of rows, batch by batch, for what takes them.
+//! Reading rows, batch by batch, for a type that accepts them.
 
 ghost use Rattle.std.specs.Prelude.{◌≡◌, ◌+◌, ◌^◌, ◌<◌, ◌≤◌, ◌≢◌, List, ℕ, [], IfErr, IfOk, IfSome, IsErr, IsErrOf, None, Ok, Option, length};
 ghost use Rattle.mdb_records.specs.ToCome.{IsOverLimit, ToCome, fault_of};
@@ -12,19 +12,19 @@ use super::row::FromRecord;
 use mdb_records::Records;
 use std::io::Read;
 
-/// What takes rows as they are read, until it stops at one of them. What it tells of them meanwhile
-/// goes to an `O`.
+/// A type that accepts rows as they are read, until it stops at one of them. What it reports
+/// meanwhile goes to an `O`.
 pub trait TakeRows<O> {
-    /// What it takes a record for.
+    /// The kind of row that it reads a record as.
     type Row: FromRecord;
 
     /// Why it stops at a row.
     type Stop: Drop;
 
-    /// The most rows that it may be given.
+    /// The most rows that it can accept.
     ghost most: { ℕ };
 
-    /// How many rows it has taken.
+    /// The number of rows that it has accepted.
     ghost count: { Self → ℕ };
 
     /// How the recording is taken whose rows it takes.
@@ -37,7 +37,7 @@ pub trait TakeRows<O> {
     /// After the earlier rows it has stopped at one of the later ones.
     ghost stops: { Self → O → O → List Self.Row → List Self.Row → Self.Stop → Type 0 };
 
-    /// How many rows it has taken.
+    /// The number of rows that it has accepted.
     fn rows_taken(&self) -> u64
         ensures { result ≡ count self.now };
 

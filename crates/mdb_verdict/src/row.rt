@@ -1,4 +1,4 @@
-//! What a record is read as.
+//! A kind of row that a record is read as.
 
 ghost use Rattle.std.specs.Prelude.{◌≡◌, ◌<◌, List, ℕ, IfErr, IfOk, Some, length};
 ghost use Rattle.csv.specs.Records.{field_at, fields_of};
@@ -8,7 +8,7 @@ ghost use Rattle.mdb_words.specs.Row.{IsRefusal, IsRow};
 use csv::ByteRecord;
 use mdb_words::{Event, Line, RowFault, Time, Word};
 
-/// What a record is read as.
+/// A kind of row that a record is read as.
 pub trait FromRecord: Copy {
     /// The fields are this row.
     ghost is: { List (List ℕ) → Self → Type 0 };

@@ -1,4 +1,4 @@
-//! The verdict on a transcript.
+//! The verdict on a recording.
 
 ghost use Rattle.std.specs.Prelude.{◌≡◌, ◌≢◌, ◌<◌, ◌≤◌, List, ℕ, IfOk, IfErr, IfSome, None, Ok, Err, length};
 ghost use Rattle.std.specs.Io.KnownBytes.{Appends};
@@ -30,7 +30,7 @@ use mdb_words::Event;
 use std::alloc::Global;
 use std::io::{Read, Write};
 
-/// The most bytes of an input (this profile).
+/// The most bytes that an input may have (this profile).
 pub const BYTES_MAX: u64 = 6_400_000_000;
 
 /// Reads a transcript, writes the text of its verdict, and answers it. Recording began at power-on

@@ -1,4 +1,4 @@
-//! What a recorder saw: a word or a break, and the row that tells it.
+//! What a recorder saw: a word or a break, and the row of each.
 
 ghost use Rattle.std.specs.Prelude.{◌≡◌, ◌≢◌, ◌<◌, ◌≤◌, ◌^◌, ◌↔◌, ◌∷◌, length, [], List, ℕ, All, map, IfSome, IfNone, IfOk, IfErr, IsTrue, Ok};
 ghost use Rattle.mdb_words.specs.Event.{AtLeast, AtMost, IsGap, start_of, end_of};
@@ -12,10 +12,10 @@ use super::time::{Span, Time};
 use super::word::{Line, Word};
 use arrayvec::ArrayString;
 
-/// One row of a transcript (this profile).
+/// A row of a recording: a word or a break (this profile).
 #[derive(Clone, Copy, PartialEq, Eq, Debug)]
 pub enum Event {
-    /// A word that started at a time on a line.
+    /// A word: when it started, and on which line.
     Word {
         /// When its first bit started.
         at: Time,
@@ -24,7 +24,7 @@ pub enum Event {
         /// Its nine bits.
         word: Word,
     },
-    /// A break: the controller held its line low from a time on, for a length of time.
+    /// A break: when the controller's line went low, and for how long it stayed low.
     Break {
         /// When it started.
         at: Time,
@@ -34,12 +34,16 @@ pub enum Event {
 }
 
 impl Event {
-    /// The event of a row's fields (this profile): the start in microseconds as 1 to 15 decimal
-    /// digits; `M`, `S` or `B`; a word of the controller (`M`) or a peripheral (`S`) as three
-    /// hexadecimal digits up to 1FF, or the length of a break (`B`) in microseconds as 1 to 9
-    /// decimal digits.
+    /// Reads the fields of a row (this profile). A row has three fields:
     ///
-    /// Of several faults the first in the order of [`RowFault`] is told.
+    /// - the start in microseconds, 1 to 15 decimal digits;
+    /// - `M`, `S` or `B`: a word of the controller, a word of a peripheral, or a break;
+    /// - a word as three hexadecimal digits up to 1FF, or the length of a break in microseconds as
+    ///   1 to 9 decimal digits.
+    ///
+    /// # Errors
+    ///
+    /// The first fault in the order of [`RowFault`].
     #[inline(always)]
     pub fn read(fields: &[&[u8]]) -> Result<Event, RowFault>
         ensures ok { IfOk result (IsRow (map (λ f. f.now) fields.now)) }
@@ -90,9 +94,9 @@ impl Event {
         Ok(Event::Break { at, length })
     }
 
-    /// The event as the text of a row (this profile): start, letter and value between commas, and
-    /// no line feed. Numbers are as short as they can be, a word is always three hexadecimal
-    /// digits, in capitals. [`Event::read`] reads the fields of this text as the same event.
+    /// The text of the row (this profile): start, letter and value, with commas between them and no
+    /// line feed. Numbers have no leading zeros. A word is always three hexadecimal digits, in
+    /// capitals. [`Event::read`] reads the fields of this text as the same event.
     pub fn row_text(&self) -> ArrayString<32>
         ensures text { result.bytes ≡ joined_by_commas (row_fields self.now) }
         ensures row { IsRow (row_fields self.now) self.now }
@@ -172,8 +176,9 @@ fn is_break(letter: &[u8]) -> bool
     matches!(letter, [b'B'])
 }
 
-/// The microseconds from one event to a later one: from the start of a word, or the end of a break,
-/// to the start of the later event. `None` where the later event starts before that (this profile).
+/// The microseconds from one event to a later one (this profile). They count from the start of a
+/// word, or from the end of a break, to the start of the later event. `None` if the later event
+/// starts before that.
 pub fn gap_of(earlier: &Event, later: &Event) -> Option<u64>
     ensures some { IfSome result (λ gap. IsGap earlier.now later.now gap) }
     ensures none { IfNone result (start_of later.now < end_of earlier.now) }
@@ -181,8 +186,8 @@ pub fn gap_of(earlier: &Event, later: &Event) -> Option<u64>
     later.start().value().checked_sub(earlier.end())
 }
 
-/// Whether the later event starts at least so many microseconds after the earlier one: after the
-/// start of a word, or the end of a break (this profile).
+/// Whether the later event starts at least `least` microseconds after the earlier one (this
+/// profile). They count from the start of a word, or from the end of a break.
 pub fn is_at_least(earlier: &Event, later: &Event, least: u64) -> bool
     requires { least < 2 ^ 32 }
     ensures { IsTrue result ↔ AtLeast least earlier.now later.now }
@@ -190,9 +195,9 @@ pub fn is_at_least(earlier: &Event, later: &Event, least: u64) -> bool
     earlier.end() + least <= later.start().value()
 }
 
-/// Whether the later event starts at most so many microseconds after the earlier one: after the
-/// start of a word, or the end of a break (this profile). An event that starts before that does
-/// too.
+/// Whether the later event starts at most `most` microseconds after the earlier one (this profile).
+/// They count from the start of a word, or from the end of a break. An event that starts before
+/// that also counts.
 pub fn is_at_most(earlier: &Event, later: &Event, most: u64) -> bool
     requires { most < 2 ^ 32 }
     ensures { IsTrue result ↔ AtMost most earlier.now later.now }

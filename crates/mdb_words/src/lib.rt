@@ -1,8 +1,15 @@
-//! Words, times and events of a recorded MDB/ICP payment bus, and the rows that tell them.
+//! The rows of a recorded MDB/ICP payment bus, and the words, times and breaks in them.
 //!
 //! A recorder writes one row for each word and each break on the bus: when it started, on which
-//! line, and what it was. This crate has the values of such a row and reads and writes it. It takes
-//! no memory.
+//! line, and what it was. `28497,M,10B` is such a row. [`Event::read`] reads its three fields, and
+//! [`Event::row_text`] writes it.
+//!
+//! - [`Time`] and [`Span`] are whole microseconds.
+//! - [`Word`] has nine bits: eight data bits, and the mode bit as the ninth.
+//! - [`Line`] is the sender's line: the controller's or that of all peripherals.
+//! - The constants are the time limits of MDB/ICP 4.3, with the tolerance of this profile.
+//!
+//! This crate allocates nothing.
 #![tactic(auto)]
 
 mod digits;

@@ -1,10 +1,10 @@
-//! Rows of a transcript as text.
+//! Why fields are no row.
 
-/// Why the fields of a record are no row of a transcript (this profile). Of several faults the
-/// first of this order is told.
+/// Why the fields of a record are no row (this profile). If there are several faults, the first of
+/// this order is reported.
 #[derive(Clone, Copy, PartialEq, Eq, Debug)]
 pub enum RowFault {
-    /// There are not three fields.
+    /// The record hasn't three fields.
     FieldCount,
     /// The first field isn't 1 to 15 decimal digits.
     BadTime,

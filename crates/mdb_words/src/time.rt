@@ -28,7 +28,7 @@ impl Model for Time {
 }
 
 impl Time {
-    /// The time of this many microseconds, which are below 10^15; else `None`.
+    /// The time of this many microseconds. `None` unless they are below 10^15.
     pub fn new(micros: u64) -> Option<Time>
         ensures { SomeIff result (micros < 10 ^ 15) micros }
     {
@@ -39,8 +39,8 @@ impl Time {
         }
     }
 
-    /// The time that a field of exactly 1 to 15 ASCII digits tells, leading zeros allowed; else
-    /// `None` (this profile).
+    /// Reads a field of 1 to 15 ASCII digits, with leading zeros allowed. `None` for any other
+    /// field (this profile).
     #[inline(always)]
     pub fn read(field: &[u8]) -> Option<Time>
         ensures some { IfSome result (IsDecimal 15 field.now) }
@@ -80,7 +80,7 @@ impl Model for Span {
 }
 
 impl Span {
-    /// The length of this many microseconds, which are below 10^9; else `None`.
+    /// The length of this many microseconds. `None` unless they are below 10^9.
     pub fn new(micros: u64) -> Option<Span>
         ensures { SomeIff result (micros < 10 ^ 9) micros }
     {

@@ -7,7 +7,7 @@ ghost use Rattle.mdb_words.specs.Digits.{IsHexWord};
 use super::digits::read_hex_word;
 use std::marker::Model;
 
-/// Who sends on a line: the controller (VMC) on its transmit line, all peripherals on theirs.
+/// A line of the bus: that on which the controller (VMC) sends, or that of all peripherals.
 #[derive(Clone, Copy, PartialEq, Eq, Debug)]
 pub enum Line {
     /// The controller's line, `M` in a row.
@@ -16,7 +16,7 @@ pub enum Line {
     Peripheral,
 }
 
-/// A word: 8 data bits and, as the ninth, the mode bit, 0 to 511 (MDB/ICP 4.3, bus format).
+/// A word, 0 to 511: eight data bits, and the mode bit as the ninth (MDB/ICP 4.3, bus format).
 ///
 /// A clause sees it as that number.
 #[derive(Clone, Copy, PartialEq, Eq, Debug)]
@@ -37,7 +37,7 @@ impl Model for Word {
 }
 
 impl Word {
-    /// The word of this value, which is below 512; else `None`.
+    /// The word of this value. `None` unless it is below 512.
     pub fn new(value: u16) -> Option<Word>
         ensures { SomeIff result (value < 512) value }
     {

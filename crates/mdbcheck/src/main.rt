@@ -1,5 +1,5 @@
-//! `mdbcheck`: reads a recording of a vending bus from its standard input, and says on its standard
-//! output whether the controller and its peripherals can have said these words at these times.
+//! `mdbcheck`: reads a recording of a vending bus from standard input, and writes to standard
+//! output whether the recording is possible.
 #![tactic(auto)]
 
 use std::io::BufReader;

@@ -1,5 +1,5 @@
-//! `mdbimport`: reads an export of a recorder or a spreadsheet from its standard input, and writes
-//! its rows, as `mdbcheck` reads them, to its standard output.
+//! `mdbimport`: reads an export of a recorder or a spreadsheet from standard input, and writes its
+//! rows to standard output in the form that `mdbcheck` reads.
 #![tactic(auto)]
 
 use std::io::BufReader;

@@ -1,11 +1,11 @@
-//! What the validator's kept messages say.
+//! The meaning of the validator's kept messages.
 
 ghost use Rattle.mdb_cash.specs.BillMessages as spec;
 
 use crate::kept::{KeptMessage, Message, Part};
 use mdb_msgs::BillMsg;
 
-/// What a kept message of the validator says (MDB/ICP 4.3, bill validator).
+/// The meaning of a kept message of the validator (MDB/ICP 4.3, bill validator).
 #[derive(Clone, Copy, PartialEq, Eq, Debug)]
 pub enum BillActivity {
     /// 80 to 8F: a bill of this type was stacked.

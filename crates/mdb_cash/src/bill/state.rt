@@ -47,7 +47,7 @@ pub enum Escrow {
     Empty,
     /// A bill of this type.
     Waiting(BillType),
-    /// A bill of this type, which the validator has the order to stack.
+    /// A bill of this type, which the controller has ordered the validator to stack.
     Ordered(BillType),
 }
 
@@ -132,10 +132,10 @@ impl Escrow {
     }
 }
 
-/// A state of the validator and the controller's dealings with it (this profile).
+/// A state of the validator and of the controller's dealings with it (this profile).
 #[derive(Clone, Copy, PartialEq, Eq, Debug)]
 pub struct BillState {
-    /// What is in escrow.
+    /// What is in the validator's escrow.
     pub escrow: Escrow,
     /// Whether the validator holds kept messages.
     pub holds: bool,

@@ -1,16 +1,16 @@
-//! What the changer's kept messages say.
+//! The meaning of the changer's kept messages.
 
 ghost use Rattle.mdb_cash.specs.ChangerMessages as spec;
 
 use crate::kept::{KeptMessage, Message, Part};
 use mdb_msgs::ChangerMsg;
 
-/// What a kept message of the changer says (MDB/ICP 4.3, coin changer). Two such messages are the
-/// same where their first bytes are; the second counts the coins that are then in the tube (this
-/// profile).
+/// The meaning of a kept message of the changer (MDB/ICP 4.3, coin changer). Two such messages are
+/// the same if their first bytes are. The second byte counts the coins that are then in the tube
+/// (this profile).
 #[derive(Clone, Copy, PartialEq, Eq, Debug)]
 pub enum ChangerActivity {
-    /// 80 to FF: so many coins of a type were dispensed by hand.
+    /// 80 to FF: coins of a type were dispensed by hand.
     Dispensed {
         /// How many.
         count: u8,

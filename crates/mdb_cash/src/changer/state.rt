@@ -2,12 +2,12 @@
 
 ghost use Rattle.std.specs.Prelude.{◌≡◌, ◌<◌};
 
-/// A state of the changer and the controller's dealings with it (this profile).
+/// A state of the changer and of the controller's dealings with it (this profile).
 #[derive(Clone, Copy, PartialEq, Eq, Debug)]
 pub struct ChangerState {
     /// Whether the changer holds kept messages.
     pub holds: bool,
-    /// Whether the controller owes a DISPENSE: it asked for one, and hasn't heard that it was done.
+    /// Whether the controller owes a DISPENSE: it sent one, and hasn't received that it was done.
     pub dispense_owed: bool,
 }
 

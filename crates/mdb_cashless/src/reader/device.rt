@@ -24,9 +24,9 @@ pub enum Home {
 pub enum DeviceState {
     /// It waits for SETUP: its power-on state.
     Inactive,
-    /// It is set up, and takes no card.
+    /// It is set up, and accepts no card.
     Disabled,
-    /// It takes cards.
+    /// It accepts cards.
     Enabled,
     /// In a session: it waits for a request.
     Idle(Home),
@@ -34,7 +34,7 @@ pub enum DeviceState {
     Vend(Home),
     /// In a session: it has approved a sale.
     Approved(Home),
-    /// The session was completed, and it hasn't told its end yet.
+    /// The session was completed, and the reader hasn't reported its end yet.
     Ending(Home),
 }
 

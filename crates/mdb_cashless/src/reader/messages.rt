@@ -1,4 +1,4 @@
-//! What a reader's messages say.
+//! The meaning of a reader's messages.
 
 ghost use Rattle.std.specs.Prelude.{◌≡◌, ◌≤◌, length, map};
 ghost use Rattle.std.specs.List.{list_any};
@@ -9,8 +9,8 @@ ghost use Rattle.mdb_cashless.specs.ReaderMessages as spec;
 use mdb_cash::kept::{KeptMessage, Part, Summary};
 use mdb_msgs::{ReaderConfig, ReaderIter, ReaderMsg, Reply};
 
-/// What a kept message of a cashless reader says (MDB/ICP 4.3, cashless device; what is kept, this
-/// profile). Two such messages are the same where all their bytes are.
+/// The meaning of a kept message of a cashless reader (MDB/ICP 4.3, cashless device; which messages
+/// are kept, this profile). Two such messages are the same if all their bytes are.
 #[derive(Clone, Copy, PartialEq, Eq, Debug, Default)]
 pub enum ReaderActivity {
     /// 03: a session begins.

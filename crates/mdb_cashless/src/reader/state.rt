@@ -5,7 +5,7 @@ ghost use Rattle.std.specs.Prelude.{◌≡◌, ◌<◌};
 use super::device::DeviceState;
 use super::view::View;
 
-/// A state of a cashless reader and the controller's dealings with it (this profile).
+/// A state of a cashless reader and of the controller's dealings with it (this profile).
 #[derive(Clone, Copy, PartialEq, Eq, Debug)]
 pub struct ReaderState {
     /// The reader.

@@ -10,19 +10,19 @@ use mdb_msgs::ReaderMsg;
 /// The controller's view of a reader's session (this profile).
 #[derive(Clone, Copy, PartialEq, Eq, Debug)]
 pub enum View {
-    /// It knows of no session.
+    /// The controller knows of no session.
     NoSession,
     /// A session has begun.
     Idle,
-    /// It asked for a sale, and doesn't know yet that the reader took that.
+    /// It requested a sale, and doesn't know yet that the reader accepted the request.
     Asked,
     /// It waits for the reader's decision.
     Waiting,
     /// The sale is approved.
     Approved,
-    /// It sent VEND SUCCESS, and doesn't know yet that the reader took that.
+    /// It sent VEND SUCCESS, and doesn't know yet that the reader accepted that.
     SuccessOwed,
-    /// It sent VEND FAILURE, and doesn't know yet that the reader took that.
+    /// It sent VEND FAILURE, and doesn't know yet that the reader accepted that.
     FailureOwed,
     /// It completes the session.
     Ending,
