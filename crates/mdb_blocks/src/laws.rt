@@ -1,4 +1,4 @@
-//! What follows from the definitions of blocks and answers alone.
+//! Laws of blocks and answers. They follow from the definitions alone.
 
 ghost use Rattle.std.specs.Prelude.{◌≡◌, ◌+◌, ◌≤◌, List, ℕ, length};
 ghost use Rattle.mdb_words.specs.declared.word.Line.TheVariants.{Controller, Peripheral};
@@ -6,7 +6,7 @@ ghost use Rattle.mdb_blocks.specs.declared.answer.Answer.TheVariants.{Ack, Nak, 
 ghost use Rattle.mdb_blocks.specs.Answer.{answer_word};
 ghost use Rattle.mdb_blocks.specs.Block.{IsBlock, IsContent, block_of};
 
-/// Each content has a block, so what was sealed can be unsealed.
+/// Each content has a block, so a sealed block can be unsealed.
 pub fn content_has_a_block()
     ensures { (content : List ℕ) → IsContent content → IsBlock (block_of content) }
 {}
@@ -16,8 +16,8 @@ pub fn block_has_one_content()
     ensures { (one other : List ℕ) → block_of one ≡ block_of other → one ≡ other }
 {}
 
-/// A block is a content of 1 to 35 bytes and one byte more, so it has 2 to 36 (MDB/ICP 4.3, block
-/// format).
+/// A block is a content of 1 to 35 bytes and one byte more. So it has 2 to 36 bytes (MDB/ICP 4.3,
+/// block format).
 pub fn block_is_one_byte_longer()
     ensures one { (content : List ℕ) → length (block_of content) ≡ length content + 1 }
     ensures content { (content : List ℕ) →

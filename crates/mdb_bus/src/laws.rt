@@ -36,7 +36,7 @@ fn grammar()
     messages::reply_has_its_length();
 }
 
-/// A transcript divides into acts in at most one way.
+/// The rows of a recording divide into acts in at most one way.
 pub fn transcripts_have_one_act_list()
     ensures { (scope : Scope) (rows : List Event) (one other : List Piece)
         → IsActList scope one rows → IsActList scope other rows → one ≡ other }
@@ -44,7 +44,7 @@ pub fn transcripts_have_one_act_list()
     grammar();
 }
 
-/// What was recorded up to any row of a possible transcript is possible too.
+/// The first rows of a possible recording are possible too, up to any row.
 pub fn fronts_of_act_lists_have_act_lists()
     ensures { (scope : Scope) (rows more : List Event) → HasActList scope (rows ++ more)
         → HasActList scope rows }
@@ -52,8 +52,8 @@ pub fn fronts_of_act_lists_have_act_lists()
     grammar();
 }
 
-/// An act list of rows and one more goes on from an act list of the rows: by the act that the row
-/// ends, if it ends one.
+/// With one row more, the act list goes on from the act list of the rows before it. It has one act
+/// more if the row ends one.
 pub fn act_lists_go_on_row_by_row()
     ensures { (scope : Scope) (rows : List Event) (row : Event) (pieces : List Piece)
         → IsActList scope pieces (rows ++ row ∷ []) → GoesOnFrom scope rows pieces }
@@ -61,20 +61,20 @@ pub fn act_lists_go_on_row_by_row()
     grammar();
 }
 
-/// An act that repeats a reply, or answers it, is of a reply that its command may have.
+/// An act that repeats a reply, or answers it, names a reply that its command can have.
 pub fn acts_name_replies_of_their_commands()
     ensures { (scope : Scope) (act : Act) (events : List Event) (pieces : List Piece)
         → ArePieces scope (Whole act events ∷ pieces) → NamesAReply act }
 {}
 
-/// Each act list has a loss that fits, whichever of its free acts are to be heard: nothing tells
+/// Each act list has a loss that fits, no matter which of its free acts were heard: nothing shows
 /// whether a free act was heard.
 pub fn free_acts_may_be_heard_or_not()
     ensures { (scope : Scope) (pieces : List Piece) → ArePieces scope pieces → (wish : Wish) → (loss : Loss)
         × LossFits loss pieces × HearsFreeAsWished loss wish nothing_told pieces }
 {}
 
-/// Each act list has a loss that fits, whichever of its ACKs are to be heard.
+/// Each act list has a loss that fits, no matter which of its ACKs were heard.
 pub fn acks_may_be_heard_or_not()
     ensures { (scope : Scope) (pieces : List Piece) → ArePieces scope pieces → (wish : Wish) → (loss : Loss)
         × LossFits loss pieces × HearsAsWished loss wish pieces }
@@ -89,8 +89,7 @@ pub fn act_lists_have_a_fitting_loss()
     free_acts_may_be_heard_or_not();
 }
 
-/// After pieces, no act list goes on with a row that breaks a rule of the link, whichever rule
-/// that is.
+/// After pieces, no act list goes on with a row that breaks any rule of the link.
 pub fn rows_that_break_a_rule_end_the_act_list()
     ensures { (scope : Scope) (pieces : List Piece) (row : Event) (broken : Rule)
         → ArePieces scope pieces → RowBreaks (situation_of scope pieces) row broken
@@ -99,8 +98,8 @@ pub fn rows_that_break_a_rule_end_the_act_list()
     grammar();
 }
 
-/// After pieces, a row that no act list goes on with breaks some rule of the link: there is a
-/// first one to tell.
+/// After pieces, a row that no act list goes on with breaks some rule of the link. So there is a
+/// first rule to report.
 pub fn rows_that_end_the_act_list_break_a_rule()
     ensures { (scope : Scope) (pieces : List Piece) (row : Event) → ArePieces scope pieces
         → (HasActList scope (events_of pieces ++ row ∷ []) → ⊥)
@@ -116,14 +115,14 @@ pub fn rows_have_one_fault()
         → IsLinkFault scope pieces row s b → (r ≡ s) × (a ≡ b) }
 {}
 
-/// An act of an act list names no device that is left out.
+/// No act of an act list names a device that is left out.
 pub fn acts_name_devices_that_are_followed()
     ensures { (scope : Scope) (act : Act) (events : List Event) (pieces : List Piece)
         (device : Device) → ArePieces scope (Whole act events ∷ pieces)
         → device_in act ≡ Some device → IsFollowed scope device }
 {}
 
-/// After pieces, the device that was asked last is none that is left out.
+/// After pieces, the device that was asked last isn't left out.
 pub fn asked_devices_are_followed()
     ensures { (scope : Scope) (pieces : List Piece) (device : Device) → ArePieces scope pieces
         → asked_device pieces ≡ Some device → IsFollowed scope device }
@@ -136,9 +135,9 @@ pub fn faults_are_blamed_on_devices_that_are_followed()
         → blamed ≡ blame_on (Some device) → IsFollowed scope device }
 {}
 
-/// Pieces in order are in order without further devices: each row of what is of these is a foreign
-/// act then, and all else stands as it did, with the same rows. The bus is where it was, but for
-/// foreign traffic after what is of a device that is left out.
+/// Pieces in order stay in order if further devices are left out. Each row of a device that is now
+/// left out becomes a foreign act. Everything else stays the same, with the same rows. The bus is
+/// in the same state, except for foreign traffic after pieces of such a device.
 pub fn pieces_stay_in_order_without_further_devices()
     ensures order { (less more : Scope) (pieces : List Piece) → LeavesOutMore less more
         → ArePieces less pieces → ArePieces more (leave_out more pieces) }
@@ -150,7 +149,7 @@ pub fn pieces_stay_in_order_without_further_devices()
     messages::first_byte_tells_the_device();
 }
 
-/// So an act list is one without further devices, of the same rows.
+/// So an act list stays one of the same rows if further devices are left out.
 pub fn act_lists_stay_without_further_devices()
     ensures { (less more : Scope) (rows : List Event) (pieces : List Piece)
         → LeavesOutMore less more → IsActList less pieces rows
@@ -159,7 +158,7 @@ pub fn act_lists_stay_without_further_devices()
     pieces_stay_in_order_without_further_devices();
 }
 
-/// What is possible with devices is possible without them.
+/// A recording that is possible with devices is possible without them.
 pub fn rows_keep_an_act_list_without_further_devices()
     ensures { (less more : Scope) (rows : List Event) → LeavesOutMore less more
         → HasActList less rows → HasActList more rows }
@@ -167,8 +166,8 @@ pub fn rows_keep_an_act_list_without_further_devices()
     act_lists_stay_without_further_devices();
 }
 
-/// Where rows have an act list with devices, the one that they have without them has all else as
-/// it stands there.
+/// If rows have an act list with devices, the act list without them keeps everything else
+/// unchanged.
 pub fn act_lists_without_further_devices_are_what_is_left()
     ensures { (less more : Scope) (rows : List Event) (pieces other : List Piece)
         → LeavesOutMore less more → IsActList less pieces rows → IsActList more other rows
@@ -178,8 +177,8 @@ pub fn act_lists_without_further_devices_are_what_is_left()
     transcripts_have_one_act_list();
 }
 
-/// A device that is followed has no part in an act that is left out, and an act that stays names no
-/// device that isn't followed.
+/// A device that is followed has no part in an act that is left out. An act that stays names only
+/// devices that are followed.
 pub fn acts_that_stay_are_those_of_followed_devices()
     ensures left_out { (scope : Scope) (act : Act) (events : List Event) (device : Device)
         → is_left_out scope (Whole act events) ≡ true → IsFollowed scope device
@@ -189,8 +188,8 @@ pub fn acts_that_stay_are_those_of_followed_devices()
         → IsFollowed scope device }
 {}
 
-/// A device that is followed has a part in the same acts without further devices, and one that is
-/// left out has a part in the breaks alone.
+/// A device that is followed keeps its part in the same acts if further devices are left out. A
+/// device that is left out has a part in breaks only.
 pub fn acts_of_followed_devices_stay()
     ensures followed { (scope : Scope) (pieces : List Piece) (device : Device)
         → IsFollowed scope device
@@ -200,21 +199,23 @@ pub fn acts_of_followed_devices_stay()
         → acts_with device (acts_of (leave_out scope pieces)) ≡ breaks_among (acts_of pieces) }
 {}
 
-/// In an act list a device that is left out has a part in breaks alone.
+/// In an act list, a device that is left out has a part in breaks only.
 pub fn devices_left_out_have_a_part_in_breaks_alone()
     ensures { (scope : Scope) (pieces : List Piece) (device : Device) → ArePieces scope pieces
         → IsLeftOut scope device
         → acts_with device (acts_of pieces) ≡ breaks_among (acts_of pieces) }
 {}
 
-/// Two devices are told to be one exactly where they are.
+/// Two devices compare as one exactly if they are one.
 pub fn one_device_is_told_to_be_one()
     ensures { (one other : Device) → (are_one one other ≡ true) ↔ (one ≡ other) }
 {}
 
-/// A loss that fits pieces fits them without further devices, too, exactly where a block to one of
-/// these that was cut right after another device's reply tells that this reply wasn't heard: as a
-/// foreign block it does, and as the tail of an ask it doesn't.
+/// A loss that fits pieces still fits them if further devices are left out, under one condition. It
+/// concerns a block to one of these devices that was cut before its end, right after another
+/// device's reply. As the beginning of a command, such a block leaves open whether the reply was
+/// heard. As a foreign block it shows that the reply wasn't heard, so the loss fits exactly if it
+/// agrees.
 pub fn losses_fit_without_further_devices()
     ensures { (less more : Scope) (pieces : List Piece) (loss : Loss) → LeavesOutMore less more
         → ArePieces less pieces → LossFits loss pieces

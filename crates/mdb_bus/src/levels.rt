@@ -44,8 +44,8 @@ impl Levels {
         }
     }
 
-    /// Whether a reply to a command fits these levels: it tells of no level of 2 or more, or the
-    /// controller has told the reader of none.
+    /// Whether a reply to a command fits these levels: the reply reports no level of 2 or more, or
+    /// the controller has reported none to the reader.
     pub(crate) fn fit(self, command: Command, reply: &Reply) -> bool
         ensures low { OnTrue result (tells_high reply.now ≡ true → IsLow (level_for command self)) }
         ensures high { OnFalse result ((tells_high reply.now ≡ true)
@@ -54,7 +54,7 @@ impl Levels {
         self.is_low_for(command) || !tells_high(reply)
     }
 
-    /// Whether the controller has told the reader of a command no level of 2 or more.
+    /// Whether the controller has reported no level of 2 or more to the reader of a command.
     fn is_low_for(self, command: Command) -> bool
         ensures { IsTrue result ↔ IsLow (level_for command self) }
     {
@@ -70,7 +70,7 @@ impl Levels {
     }
 }
 
-/// Whether a reader's reply tells of a feature level of 2 or more (Z2 of a config message).
+/// Whether a reader's reply reports a feature level of 2 or more (Z2 of a config message).
 fn tells_high(reply: &Reply) -> bool
     ensures { result ≡ tells_high reply.now }
 {

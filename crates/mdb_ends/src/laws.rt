@@ -32,34 +32,37 @@ use mdb_bus::laws as links;
 use mdb_follow::laws as follow;
 use mdb_words::laws as rows;
 
-/// The end of a transcript has an act list of its own, as a recording that begins in mid-session,
-/// wherever it is cut: the pieces that begin in it, and before them foreign words.
+/// The end of a recording has an act list of its own, wherever the recording is cut. Checked as a
+/// recording that begins while the machine was running, it has the pieces that begin in it, and
+/// foreign words before them.
 pub fn ends_of_transcripts_have_act_lists()
     ensures { (scope : Scope) (setups : Setups) (front end : List Event) (pieces : List Piece)
         → IsActList scope pieces (front ++ end) → IsCut scope setups front end pieces }
 {}
 
-/// The act list of a transcript from power-on is one of the same rows as a recording that begins in
-/// mid-session.
+/// The act list of a recording from power-on is also that of the same rows, checked as a recording
+/// that begins while the machine was running.
 pub fn act_lists_from_power_on_are_joined_ones()
     ensures { (setups : Setups) (without : DeviceSet) (pieces : List Piece) (rows : List Event)
         → IsActList (leaving_out without) pieces rows
         → IsActList (joined setups without) pieces rows }
 {}
 
-/// What the changer does, it may do in mid-session.
+/// Every step of the changer from power-on is allowed in a recording that begins while it was
+/// running.
 pub fn the_changer_stays_in_mid_session()
     ensures { (begins : Beginning) (setups : Setups)
         → StaysInMidSession begins setups devices.Changer }
 {}
 
-/// What the validator does, it may do in mid-session.
+/// Every step of the validator from power-on is allowed in a recording that begins while it was
+/// running.
 pub fn the_validator_stays_in_mid_session()
     ensures { (begins : Beginning) (setups : Setups)
         → StaysInMidSession begins setups devices.Bill }
 {}
 
-/// What a reader does, it may do in mid-session.
+/// Every step of a reader from power-on is allowed in a recording that begins while it was running.
 pub fn a_reader_stays_in_mid_session()
     ensures { (begins : Beginning) (setups : Setups) (unit : ReaderUnit)
         → StaysInMidSession begins setups (devices.Reader unit) }
@@ -79,9 +82,9 @@ fn end_laws()
     follow::ways_join();
 }
 
-/// Each run from power-on is one in mid-session, with the same act list and loss, the same choices
-/// and the same states, and with the same sums of each device of which nothing is known from
-/// elsewhere.
+/// Each run from power-on is also a run of a recording that begins while the machine was running.
+/// It has the same act list and loss, the same choices and the same states. It has the same sums
+/// for each device of which nothing is known from elsewhere.
 pub fn runs_from_power_on_are_joined_runs()
     ensures { (setups : Setups) (without : DeviceSet) (rows : List Event) (sums : AllSums)
         (run : Run (leaving_out without) rows sums) → (more : AllSums)
@@ -95,8 +98,8 @@ pub fn runs_from_power_on_are_joined_runs()
     end_laws();
 }
 
-/// Nobody is blamed because a recording began late: where rows are reached, each end of them is
-/// reached as a recording that begins in mid-session, wherever it is cut.
+/// Nobody is blamed because a recording begins late. If rows are reached, each end of them is
+/// reached as a recording that begins while the machine was running, wherever it is cut.
 pub fn ends_of_reached_rows_are_reached()
     ensures { (scope : Scope) (setups : Setups) (front end : List Event)
         → IsReached scope (front ++ end) → IsReached (from_later setups scope) end }
@@ -104,7 +107,7 @@ pub fn ends_of_reached_rows_are_reached()
     end_laws();
 }
 
-/// Where the end of rows begins anew, each run of them passes the end of the rows in front of it.
+/// If the end of rows begins anew, each run of the rows passes the end of the rows before it.
 pub fn runs_pass_where_an_end_begins_anew()
     ensures { (scope : Scope) (front end : List Event) (sums : AllSums)
         (run : Run scope (front ++ end) sums) → BeginAnew end
@@ -113,9 +116,9 @@ pub fn runs_pass_where_an_end_begins_anew()
     end_laws();
 }
 
-/// Where an end begins anew, each run of the whole rows has one of the end that gains the same
-/// there, in both accounts of each device that leaves no amount without a value in the end, where
-/// what is told of it from elsewhere is how it was set up in front of the end.
+/// If an end begins anew, each run of the whole rows has a run of the end that gains the same
+/// there. It does so in both accounts of each device that leaves no amount without a value in the
+/// end. What is known of that device from elsewhere must be how it was set up before the end.
 pub fn runs_of_ends_gain_what_whole_runs_gain_there()
     ensures { (scope : Scope) (setups : Setups) (front end : List Event) (sums : AllSums)
         (run : Run scope (front ++ end) sums) → BeginAnew end
@@ -128,11 +131,11 @@ pub fn runs_of_ends_gain_what_whole_runs_gain_there()
     end_laws();
 }
 
-/// So the truth lies within the bounds: where an end begins anew, what an account came to in it, in
-/// any run of the whole rows, lies within the ranges of the end's report, as the device has it, as
-/// the controller has it, and the difference. That is so of each device that leaves no amount
-/// without a value in the end, where what is told of it from elsewhere is how it was set up in
-/// front of the end.
+/// So the true sums lie within the bounds. If an end begins anew, take what an account gained in
+/// it, in any run of the whole rows. It lies within the bounds of the end's report: the device's
+/// count, the controller's count, and the difference. This holds for each device that leaves no
+/// amount without a value in the end. What is known of that device from elsewhere must be how it
+/// was set up before the end.
 pub fn what_came_in_an_end_lies_within_its_bounds()
     ensures { (scope : Scope) (setups : Setups) (front end : List Event) (sums : AllSums)
         (run : Run scope (front ++ end) sums) (report : Report) → BeginAnew end
@@ -148,9 +151,10 @@ pub fn what_came_in_an_end_lies_within_its_bounds()
     follow::reports_name_the_decimals_and_silences_of_devices();
 }
 
-/// Where the records of a text are answered with yes, the answer to each end of them, as a
-/// recording that begins in mid-session, is a yes too, wherever the text is cut and whatever is
-/// known of the devices from elsewhere (refused reads, writes and memory apart).
+/// If the answer to the records of a text is yes, the answer to each end of them is yes too. The
+/// end is checked as a recording that begins while the machine was running. It may be cut anywhere,
+/// and anything may be known of the devices from elsewhere. Refused reads, writes and memory are
+/// excepted.
 pub fn ends_of_yeses_are_yeses()
     ensures { (scope : Scope) (setups : Setups) (limit : ℕ) (front end : List (List (List ℕ)))
         (report : Report) (answer : Result Outcome RunFault)

@@ -1,4 +1,4 @@
-//! What follows from the definitions of runs alone.
+//! Laws of runs. They follow from the definitions alone.
 
 ghost use Rattle.std.specs.Prelude.{◌≡◌, ◌↔◌, ◌+◌, List, [], ◌∷◌, ◌++◌, Option, Result, Some};
 ghost use Rattle.mdb_words.specs.declared.event.Event.{Event};
@@ -42,14 +42,14 @@ use mdb_bus::laws;
 use mdb_cash::laws as cash_laws;
 use mdb_cashless::laws as cashless_laws;
 
-/// Each way of all is a way of each device.
+/// A way of all devices is a way of each device.
 pub fn ways_split()
     ensures { (begins : Beginning) (loss : Loss) (pieces : List Piece) (states : States)
         (sums : AllSums) → IsWay begins loss pieces states sums
         → EachArrives begins (acts_of pieces) states sums }
 {}
 
-/// Ways of each device are together a way of all, under one loss that fits.
+/// Ways of each device are together a way of all devices, under one loss that fits.
 pub fn ways_join()
     ensures { (scope : Scope) (pieces : List Piece) (states : States) (sums : AllSums)
         → ArePieces scope pieces
@@ -59,7 +59,7 @@ pub fn ways_join()
     laws::acks_may_be_heard_or_not();
 }
 
-/// Each way of all is a way of each device, with what it chooses of each act.
+/// A way of all devices is a way of each device, with the same choice for each act.
 pub fn ways_split_with_choices()
     ensures { (begins : Beginning) (loss : Loss) (pieces : List Piece) (states : States)
         (sums : AllSums) (way : IsWay begins loss pieces states sums)
@@ -67,8 +67,8 @@ pub fn ways_split_with_choices()
         sums }
 {}
 
-/// Ways of each device with the same choices are together a way of all that chooses so, under one
-/// loss that fits.
+/// Ways of each device with the same choices are together a way of all devices with these choices,
+/// under one loss that fits.
 pub fn ways_with_choices_join()
     ensures { (scope : Scope) (pieces : List Piece) (chosen : Choices (acts_of pieces))
         (states : States) (sums : AllSums) → ArePieces scope pieces
@@ -80,15 +80,15 @@ pub fn ways_with_choices_join()
     laws::acks_may_be_heard_or_not();
 }
 
-/// Only the loss of an ACK, a device's or the controller's, can change a state or a sum: where the
-/// same ACKs were heard, whatever else was lost, the same ways lead through the pieces.
+/// Only the loss of an ACK, a device's or the controller's, can change a state or a sum. If the
+/// same ACKs were heard, the same ways lead through the pieces, no matter what else was lost.
 pub fn only_the_loss_of_an_ack_matters()
     ensures { (begins : Beginning) (one other : Loss) (pieces : List Piece)
         → HearSameAcks one other pieces → (states : States) (sums : AllSums)
         → IsWay begins one pieces states sums ↔ IsWay begins other pieces states sums }
 {}
 
-/// Where rows are reached, the rows before the last are too.
+/// If rows are reached, the rows before the last are reached too.
 pub fn reached_rows_stay_reached_without_the_last()
     ensures { (scope : Scope) (rows : List Event) (row : Event)
         → IsReached scope (rows ++ row ∷ []) → IsReached scope rows }
@@ -97,7 +97,7 @@ pub fn reached_rows_stay_reached_without_the_last()
     ways_join();
 }
 
-/// Where rows are reached, any first rows of them are.
+/// If rows are reached, any first rows of them are reached too.
 pub fn fronts_of_reached_rows_are_reached()
     ensures { (scope : Scope) (rows more : List Event) → IsReached scope (rows ++ more)
         → IsReached scope rows }
@@ -113,16 +113,16 @@ pub fn rows_have_one_report()
     laws::transcripts_have_one_act_list();
 }
 
-/// What a report has of each account are the exact ranges of its sums in the runs of the rows.
+/// The bounds of each account in a report are the exact bounds of its sums in the runs of the rows.
 pub fn reports_name_the_accounts_of_runs()
     ensures { (scope : Scope) (rows : List Event) (report : Report) → IsReport scope rows report
         → (account : AccountName)
         → IsAccount (Run scope rows) (sums_of account) (account_of account report) }
 {}
 
-/// What a report has of each device are the decimal places that it has told in the act list of the
-/// rows, or that are known from elsewhere, its silences there, and the amounts without a value
-/// there.
+/// A report has the following of each device: the decimal places that it has reported in the act
+/// list of the rows, or that are known from elsewhere; its silences there; and the amounts without
+/// a value there.
 pub fn reports_name_the_decimals_and_silences_of_devices()
     ensures decimals { (scope : Scope) (rows : List Event) (report : Report)
         (pieces : List Piece) → IsReport scope rows report → IsActList scope pieces rows
@@ -160,9 +160,9 @@ pub fn lists_have_one_offence()
     rows_have_one_offence();
 }
 
-/// However rows are cut into slices, a follower that is fed these one by one tells the same as one
-/// that is fed the whole, and it is one answer: the report on all rows, or the offence of one. What
-/// a follower tells of slices is so by the clauses of `Follower::feed_all` and `Follower::report`.
+/// No matter how rows are cut into slices, a follower that is fed the slices reports the same as
+/// one that is fed the whole. The answer is one: the report on all rows, or the offence of one row.
+/// The clauses of `Follower::feed_all` and `Follower::report` say so for slices.
 pub fn cuts_change_no_answer()
     ensures whole { (scope : Scope) (earlier : List Event) (slices : List (List Event))
         (answer : Result Report Offence)
@@ -190,7 +190,7 @@ pub fn followers_have_accepted_what_they_stand_for()
         → HasAccepted follower rows }
 {}
 
-/// With a row one act ends, or none: the act list tells which.
+/// A row ends one act or none, and the act list shows which.
 pub fn rows_end_one_act_or_none()
     ensures { (scope : Scope) (rows : List Event) (row : Event) (a b : Option Act)
         → IsEndedAct scope rows row a → IsEndedAct scope rows row b → a ≡ b }
@@ -198,10 +198,10 @@ pub fn rows_end_one_act_or_none()
     laws::transcripts_have_one_act_list();
 }
 
-/// In every run of rows, each sale at either reader follows its approval: before each VEND SUCCESS
+/// In every run of rows, each sale at either reader follows its approval. Before each VEND SUCCESS
 /// the controller has requested a sale, the reader has approved one, and the controller has
-/// acknowledged that. In a recording that begins in mid-session so it is with each VEND SUCCESS
-/// before which the controller requests a sale there.
+/// acknowledged that. In a recording that begins while the machine was running, this holds for each
+/// VEND SUCCESS before which the controller requests a sale there.
 pub fn sales_follow_their_approvals()
     ensures { (scope : Scope) (rows : List Event) → SalesFollowApprovals scope rows }
 {
@@ -209,8 +209,7 @@ pub fn sales_follow_their_approvals()
     cashless_laws::views_allow_approved_sales_alone();
 }
 
-/// The limits of silences are the non-response times of MDB/ICP 4.3, and response times are told in
-/// seconds.
+/// The limits of silences are the non-response times of MDB/ICP 4.3. Response times are in seconds.
 pub fn limits_of_silences_are_those_of_the_standard()
     ensures changer { CHANGER_SILENCE_MAX ≡ 2000000 }
     ensures bill { BILL_SILENCE_MAX ≡ 5000000 }
@@ -218,7 +217,8 @@ pub fn limits_of_silences_are_those_of_the_standard()
     ensures second { MICROS_PER_SECOND ≡ 1000000 }
 {}
 
-/// Each run gives one without further devices: the others' sums are the same, and theirs nothing.
+/// Each run gives a run without further devices. The sums of the other devices are the same, and
+/// those of the devices left out are 0.
 pub fn runs_go_on_without_further_devices()
     ensures { (less more : Scope) (rows : List Event) (sums : AllSums) → LeavesOutMore less more
         → Run less rows sums
@@ -231,7 +231,8 @@ pub fn runs_go_on_without_further_devices()
     cash_laws::own_acts_are_those_that_a_device_has_a_part_in();
 }
 
-/// Where rows are reached, each run of them without further devices comes from a run with these.
+/// If rows are reached, each run of them without further devices comes from a run with these
+/// devices.
 pub fn runs_without_further_devices_come_from_runs()
     ensures { (less more : Scope) (rows : List Event) (other : AllSums) → LeavesOutMore less more
         → IsReached less rows → Run more rows other
@@ -261,8 +262,7 @@ pub fn runs_add_nothing_of_devices_left_out()
     cash_laws::own_acts_are_those_that_a_device_has_a_part_in();
 }
 
-/// Two reports on rows, of which one is without further devices, are the same of those that both
-/// follow.
+/// A report without further devices is the same for the devices that both reports follow.
 pub fn reports_stay_without_further_devices()
     ensures { (less more : Scope) (rows : List Event) (one other : Report)
         → LeavesOutMore less more → IsReport less rows one → IsReport more rows other
@@ -278,8 +278,8 @@ pub fn reports_stay_without_further_devices()
     runs_without_further_devices_come_from_runs();
 }
 
-/// Rows that have a report have one without further devices, and it is the same of those that are
-/// followed still.
+/// Rows that have a report have one without further devices. It is the same for the devices that
+/// are still followed.
 pub fn reports_go_on_without_further_devices()
     ensures { (less more : Scope) (rows : List Event) (one : Report) → LeavesOutMore less more
         → IsReport less rows one
@@ -296,8 +296,8 @@ pub fn reports_go_on_without_further_devices()
     runs_add_nothing_of_devices_left_out();
 }
 
-/// A report has nothing of the devices that are left out, but for decimal places that are known
-/// from elsewhere.
+/// A report has nothing of the devices that are left out, except decimal places that are known from
+/// elsewhere.
 pub fn reports_have_nothing_of_devices_left_out()
     ensures { (scope : Scope) (rows : List Event) (report : Report) → IsReport scope rows report
         → HasNothingLeftOut scope report }

@@ -113,8 +113,8 @@ impl Sides {
         }
     }
 
-    /// The decimal places of a device: those that it has told last, or that are known from
-    /// elsewhere; `None` where there are none.
+    /// The decimal places of a device: those that it reported last, or that are known from
+    /// elsewhere.
     pub(crate) fn decimals(&self, device: Device) -> Option<u8>
         ensures { (begins : Beginning) (acts : List Act) → AreSides begins self.now acts
             → result ≡ decimals_of begins device acts }
@@ -129,7 +129,7 @@ impl Sides {
         }
     }
 
-    /// How many amounts a device told that have no value.
+    /// How many amounts without a value a device reported.
     pub(crate) fn unvalued(&self, device: Device) -> u64
         ensures { (begins : Beginning) (acts : List Act) → AreSides begins self.now acts
             → result ≡ unvalued_of begins device acts }

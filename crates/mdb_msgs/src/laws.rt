@@ -1,4 +1,4 @@
-//! What follows from the grammars of commands and replies alone.
+//! Laws of commands and replies. They follow from the grammars alone.
 
 ghost use Rattle.std.specs.Prelude.{◌≡◌, ◌<◌, ◌+◌, ◌++◌, List, ℕ, length, All, slice_index};
 ghost use Rattle.mdb_blocks.specs.Block.{block_of};
@@ -16,41 +16,40 @@ pub fn block_has_one_command()
         Spells one block → Spells other block → one ≡ other }
 {}
 
-/// What the first two bytes of a command's block need is the length of the block.
+/// The length that the first two bytes of a command's block need is that of the block.
 pub fn command_has_what_it_needs()
     ensures { (block : List ℕ) (command : Command) →
         Spells command block → needed block ≡ Exactly (length block) }
 {}
 
-/// The first byte of a command's block tells the length of the block or leaves it to the second,
-/// and the first two bytes tell it.
+/// The first byte of a command's block fixes the length of the block or leaves it to the second
+/// byte. The first two bytes fix it.
 pub fn first_bytes_tell_the_length()
     ensures { (prefix rest : List ℕ) (command : Command) →
         0 < length prefix → Spells command (prefix ++ rest) →
         TellsLength prefix (length (prefix ++ rest)) }
 {}
 
-/// The first byte of a command's block is to its device, and to no other: to a device of a set
-/// exactly where that device is one of the set.
+/// The first byte of a command's block names its device and no other. It names a device of a set
+/// exactly if that device is in the set.
 pub fn first_byte_tells_the_device()
     ensures { (block : List ℕ) (command : Command) → Spells command block → (set : DeviceSet)
         → is_to_one_of set (slice_index block 0) ≡ has set (device_of command) }
 {}
 
-/// Bytes that are as long as they need to be are those of a command.
+/// Bytes of the length that they need are those of a command.
 pub fn what_it_needs_is_a_command()
     ensures { (content : List ℕ) →
         All IsByte content → needed content ≡ Exactly (length content + 1) →
         (command : Command) × Spells command (block_of content) }
 {}
 
-/// Bytes whose need wants more of them are the front of some command's block: they leave a command
-/// open.
+/// Bytes that need more of them are the beginning of some command's block.
 pub fn need_leaves_a_command_open()
     ensures { OpenIsAFront }
 {}
 
-/// A front of a command's block that is not the whole block wants more.
+/// An incomplete beginning of a command's block needs more bytes.
 pub fn front_of_a_command_is_open()
     ensures { FrontIsOpen }
 {}
@@ -60,7 +59,7 @@ pub fn block_has_one_reply()
     ensures { BlockHasOneReply }
 {}
 
-/// The data bytes of a reply are as many as the command allows, and that is 1 to 35.
+/// The command allows the number of data bytes of its reply, and that number is 1 to 35.
 pub fn reply_has_its_length()
     ensures allowed { ReplyHasItsLength }
     ensures fits { DataFitsABlock }
@@ -96,9 +95,9 @@ pub fn written_has_no_fault()
     ensures { WrittenHasNoFault }
 {}
 
-/// The fault with which a reader's list is refused is the one that these messages have in writing,
-/// as a reply to any command of a reader; and there they have no other, but for `Answer`, which the
-/// command alone tells.
+/// The fault of a refused reader's list is the fault that these messages have in writing, as a
+/// reply to any command of a reader. They have no other there, except `Answer`, which depends on
+/// the command alone.
 pub fn list_fault_is_a_write_fault()
     ensures same { ListFaultIsAWriteFault }
     ensures only { WriteFaultIsAListFault }

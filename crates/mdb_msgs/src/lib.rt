@@ -2,7 +2,7 @@
 //!
 //! [`read_command`] and [`write_command`] turn a block into a [`Command`] and back. [`read_reply`]
 //! and [`write_reply`] do the same for a [`Reply`], which has a meaning only with the command that
-//! it answers. [`need_of`] tells the length of a controller's block from its first bytes.
+//! it answers. [`need_of`] gives the length of a controller's block from its first bytes.
 //!
 //! The devices are the coin changer (08H), the bill validator (30H) and the two cashless readers
 //! (10H, 60H), as in MDB/ICP 4.3. Amounts are in units of the device's scale factor. This crate

@@ -32,7 +32,7 @@ pub(crate) fn without_mark(text: &[u8]) -> &[u8]
     text
 }
 
-/// The bytes before the first such byte, and those behind it.
+/// The bytes before the first such byte, and those after it.
 #[inline(always)]
 fn cut(all: &[u8], mark: u8) -> Option<(&[u8], &[u8])>
     ensures cut { IfSome result (λ parts. IsCut mark all.now parts.0.now parts.1.now) }

@@ -109,7 +109,7 @@ fn learn(
     add(setups, device, reply)
 }
 
-/// The command that asks a device how it is set up. What a reader is told with it is of no matter.
+/// The command that asks a device how it is set up. What it reports to a reader doesn't matter.
 fn setup_of(device: Device) -> Command {
     match device {
         Device::Changer => Command::Changer(ChangerCommand::Setup),

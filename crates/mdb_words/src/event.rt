@@ -156,7 +156,7 @@ static LINES: [Option<Line>; 7] = [
     Some(Line::Peripheral),
 ];
 
-/// The line that the letter of a row tells; `None` where it tells none.
+/// The line of a row's letter. `None` if the letter is that of no line.
 #[inline(always)]
 fn line_of(letter: &[u8]) -> Option<Line>
     ensures some { IfSome result (λ line. letter.now ≡ letter_of line ∷ []) }

@@ -6,7 +6,7 @@ ghost use Rattle.mdb_words.specs.declared.event.Event.{Event};
 ghost use Rattle.mdb_words.specs.declared.limits.TheConstants.{ANSWER_GAP_MAX, BLOCK_GAP_MAX, BREAK_LENGTH_MIN, NEW_BLOCK_GAP_MIN, SETUP_GAP_MIN, WORD_GAP_MIN};
 ghost use Rattle.mdb_words.specs.declared.row.RowFault.{RowFault};
 
-/// Fields are a row of at most one event.
+/// Fields are the row of at most one event.
 pub fn fields_are_of_one_event()
     ensures { (fields : List (List ℕ)) (a b : Event) → IsRow fields a → IsRow fields b → a ≡ b }
 {}
@@ -23,8 +23,8 @@ pub fn fields_have_one_refusal()
         IsRefusal fields a → IsRefusal fields b → a ≡ b }
 {}
 
-/// The time limits are those of MDB/ICP 4.3 with the 1146 of the word that they count from and 150
-/// of tolerance.
+/// The time limits are those of MDB/ICP 4.3, plus the 1146 microseconds of the word that they count
+/// from and a tolerance of 150.
 pub fn limits_are_those_of_the_standard()
     ensures word { WORD_GAP_MIN + 150 ≡ 1146 }
     ensures block { BLOCK_GAP_MAX ≡ 1146 + 1000 + 150 }

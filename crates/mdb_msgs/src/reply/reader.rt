@@ -27,7 +27,7 @@ pub enum ReaderMsg {
         level: u8,
         /// Z3-Z4: the country or currency code.
         code: u16,
-        /// Z5: the scale factor, in smallest units of money.
+        /// Z5: the scale factor, in the smallest unit of money.
         scale: u8,
         /// Z6: the decimal places.
         decimals: u8,
@@ -36,7 +36,7 @@ pub enum ReaderMsg {
         /// Z8: the options.
         options: u8,
     },
-    /// 02: a display request, whose text stands in [`ReaderList::text`].
+    /// 02: a display request. Its text is [`ReaderList::text`].
     Display {
         /// How long the text is to be shown, in tenths of a second.
         time: u8,
@@ -59,7 +59,7 @@ pub enum ReaderMsg {
     EndSession,
     /// 08: the reader was cancelled.
     Cancelled,
-    /// 09: the peripheral's identification, whose bytes stand in [`ReaderList::id`].
+    /// 09: the peripheral's identification. Its bytes are [`ReaderList::id`].
     PeripheralId,
     /// 0A: a malfunction, with its code.
     Malfunction(u8),
@@ -142,10 +142,10 @@ impl ReaderMsg {
     }
 }
 
-/// A reader's answer: its messages in order, and beside them the two long texts, of which a block
-/// holds at most one each. A display request is last (this profile).
+/// A reader's answer: its messages in order, and the two long texts, of which a block holds at most
+/// one each. A display request is last (this profile).
 ///
-/// It keeps the bytes of its messages, put end to end, and reads them when it is asked.
+/// It keeps the bytes of its messages, one after the other, and reads them on request.
 #[derive(PartialEq, Eq, Debug, Drop)]
 pub struct ReaderList {
     bytes: Bytes,

@@ -17,7 +17,7 @@ pub struct ChangerSetup {
     pub level: u8,
     /// Z2-Z3: the country or currency code.
     pub code: u16,
-    /// Z4: the scaling factor, in smallest units of money.
+    /// Z4: the scaling factor, in the smallest unit of money.
     pub scaling: u8,
     /// Z5: the decimal places.
     pub decimals: u8,
@@ -120,11 +120,11 @@ pub struct BillSetup {
     pub level: u8,
     /// Z2-Z3: the country or currency code.
     pub code: u16,
-    /// Z4-Z5: the scaling factor, in smallest units of money.
+    /// Z4-Z5: the scaling factor, in the smallest unit of money.
     pub scaling: u16,
     /// Z6: the decimal places.
     pub decimals: u8,
-    /// Z7-Z8: how many bills the stacker takes.
+    /// Z7-Z8: how many bills the stacker holds.
     pub capacity: u16,
     /// Z9-Z10: the bill types of high security, the lowest bit type 0.
     pub security: u16,
