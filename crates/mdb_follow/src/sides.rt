@@ -114,7 +114,7 @@ impl Sides {
     }
 
     /// The decimal places of a device: those that it reported last, or that are known from
-    /// elsewhere.
+    /// elsewhere. `None` if there are none.
     pub(crate) fn decimals(&self, device: Device) -> Option<u8>
         ensures { (begins : Beginning) (acts : List Act) → AreSides begins self.now acts
             → result ≡ decimals_of begins device acts }
