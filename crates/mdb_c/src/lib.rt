@@ -1,8 +1,8 @@
 //! The checker for C, and for languages that can call C.
 //!
-//! The recording lies in memory as text. The verdict and its text go into memory that the caller
-//! provides. No call keeps anything for the next one. `mdbcheck.h`, next to this crate's `src/`, is
-//! the same in C.
+//! The recording lies in memory as text. [`mdbcheck_check`] puts the verdict and its text into
+//! memory that the caller provides, and keeps nothing for the next call. `mdbcheck.h`, next to this
+//! crate's `src/`, says the same in C.
 #![tactic(auto)]
 
 mod call;

@@ -1,5 +1,5 @@
-//! Imports a table of edges, which a logic analyser exports if it decodes nothing: decodes it into
-//! the rows that `mdbcheck` reads.
+//! Imports a table of edges, which a logic analyser exports if it decodes nothing. [`import_edges`]
+//! turns it into the rows that `mdbcheck` reads.
 //!
 //! A table has a record for each change: its time, and the level of each channel from then on. This
 //! crate decodes the words and breaks of both lines of the bus, at 9600 baud and nine data bits.

@@ -1,8 +1,8 @@
 //! Why a bound of a sum has its value.
 //!
-//! [`explain`] writes the fewest lost ACKs and restarts that lead to the bound, as marks before the
-//! rows. [`replay`] reads marks and rows, and follows them without any choice. Both are for
-//! recordings from power-on.
+//! [`explain`] writes the fewest lost ACKs and restarts that lead to the bound, as marks, and the
+//! rows after them. [`replay`] reads such marks and rows, and follows them without any choice. Both
+//! are for recordings from power-on. Each returns an [`Outcome`](mdb_text::Outcome).
 #![tactic(auto)]
 
 mod entry;

@@ -1,5 +1,5 @@
-//! Imports rows in other forms: turns exports of recorders and spreadsheets into the rows that
-//! `mdbcheck` reads.
+//! Imports rows in other forms: [`import_rows`] turns exports of recorders and spreadsheets into
+//! the rows that `mdbcheck` reads.
 //!
 //! Each record of an export is a row, a header, or refused. Outside the part that is asked for, a
 //! bad record may also be passed over, and is counted. Nothing is guessed. The rows before a

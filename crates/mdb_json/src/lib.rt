@@ -1,4 +1,4 @@
-//! Answers as JSON, for programs: one object on one line.
+//! Answers as JSON, for programs: [`json_of`] is one object on one line.
 //!
 //! - Verdicts, rules, devices, accounts and their sides have the same words as in the text.
 //! - Money is in the smallest unit of its device. The decimal places of that unit stand next to it.

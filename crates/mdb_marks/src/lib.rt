@@ -1,8 +1,8 @@
-//! Marks: choices about acts that the recording leaves open, for example that an ACK was lost.
+//! Marks: choices about acts that the recording leaves open. A [`Mark`] on a row states that its
+//! ACK was lost, or that its reply reports a restart.
 //!
-//! With all its [`Mark`]s, a recording from power-on has only one run. An explanation has the
-//! fewest marks that lead to a bound of a report. A [`Replay`] follows the run that has given
-//! marks.
+//! With all its marks, a recording from power-on has only one run. [`explain_run`] finds the fewest
+//! marks that lead to a bound of a report. A [`Replay`] follows the run that has given marks.
 #![tactic(auto)]
 
 mod explain;

@@ -26,8 +26,8 @@ use mdb_words::{Event, Time};
 pub enum ReplayFault {
     /// The first row that is impossible with these marks.
     Offence(Offence),
-    /// A mark that can't stand at this row, counted from 1. The row ends no act, or an act that is
-    /// neither an ACK nor a reply that can report a restart.
+    /// A mark that can't stand at this row, counted from 1. The row ends no act, or an act of
+    /// another kind than the mark needs: an ACK, or a reply that can report a restart.
     Mark(u64),
 }
 

@@ -1,5 +1,5 @@
-//! Imports the table that an asynchronous serial analyser exports, with nine bits a word: turns it
-//! into the rows that `mdbcheck` reads.
+//! Imports the table that an asynchronous serial analyser exports, with nine bits a word:
+//! [`import_saleae`] turns it into the rows that `mdbcheck` reads.
 //!
 //! The first record of a table is its header. Each other record is a row, or is refused. Nothing is
 //! guessed. The rows before a refused record are written. Times are in microseconds.

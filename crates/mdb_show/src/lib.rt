@@ -1,7 +1,8 @@
 //! What was sent on the bus, line by line.
 //!
 //! A line is an act with its rows, the words of a block that was cut, or the first row that breaks
-//! a rule of the link. The lines are text for people, or JSON for programs.
+//! a rule of the link. [`show`] and [`show_scoped`] write the lines as text, for people.
+//! [`show_json`] writes them as JSON, for programs.
 #![tactic(auto)]
 
 mod form;

@@ -1,10 +1,9 @@
-//! Reads the trace that sigrok-cli writes of its decoder `uart`, and returns the rows that
-//! `mdbcheck` reads.
+//! Reads the trace that sigrok-cli writes of its decoder `uart`, as the rows that `mdbcheck` reads.
 //!
 //! sigrok-cli reads what a logic analyser recorded. Its trace has two records for each thing that
-//! the decoder saw on a line: where that begins, and where it ends. The rows are those of both
-//! lines, and no others. A trace with any other record is refused as a whole, with a
-//! [`SigrokFault`]. Times are in microseconds.
+//! the decoder saw on a line: where that begins, and where it ends. [`rows_of_trace`] returns the
+//! rows of both lines, and no others. [`import_sigrok`] writes them. A trace with any other record
+//! is refused as a whole, with a [`SigrokFault`]. Times are in microseconds.
 #![tactic(auto)]
 
 mod cut;

@@ -1,8 +1,9 @@
 //! The verdict: whether a recording is possible, and the bounds of the money if it is.
 //!
-//! [`check`] reads a recording as CSV rows from a reader, and returns an [`Outcome`] with its text.
-//! [`check_joined`] does so for a recording that begins while the machine was running, and
-//! [`check_scoped`] for any scope. [`RunFault`] is the reason if there is no verdict.
+//! [`check`] reads a recording from a reader, writes the text of the answer to a writer, and
+//! returns the answer, an [`Outcome`]. [`check_joined`] does so for a recording that begins while
+//! the machine was running, and [`check_scoped`] for any scope. If there is no verdict,
+//! [`RunFault`] is the reason.
 //!
 //! Crates that show or explain a recording read it in the same way, by [`read_rows`]. Money is in
 //! the smallest unit of its device, and times are in microseconds.
