@@ -79,7 +79,7 @@ unheeded_knowing tables conduct act before false each = λ begins past choice af
     (λ facts. each facts choice after gains stands)
 
 -- facts that may be are those of the value, with a guess
-as_guessing : {Setup Asked M : Type 0} (value facts : Facts Setup Asked M)
+pub as_guessing : {Setup Asked M : Type 0} (value facts : Facts Setup Asked M)
     → facts.setup ≡ value.setup → facts.past.enabled ≡ value.past.enabled
     → facts.past.reset_owed ≡ value.past.reset_owed
     → facts ≡ guessing value facts.last_asked facts.past.last_kept
@@ -94,7 +94,7 @@ as_guessing {Setup} {Asked} {M} value facts setup enabled owed =
     } = cc (setup, past) in
     same
 
-and_back : {Setup Asked M : Type 0} (value facts : Facts Setup Asked M)
+pub and_back : {Setup Asked M : Type 0} (value facts : Facts Setup Asked M)
     → facts ≡ guessing value facts.last_asked facts.past.last_kept
     → value ≡ guessing facts value.last_asked value.past.last_kept
 and_back value facts is =

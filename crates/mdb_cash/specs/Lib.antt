@@ -15,6 +15,7 @@ pub mod KeeperValues
 pub mod Kept
 pub mod Known
 pub mod Machine
+pub mod MidSession
 pub mod Pair
 pub mod Past
 pub mod PastValues

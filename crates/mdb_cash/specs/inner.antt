@@ -11,3 +11,4 @@ pub mod PastWays
 pub mod PlainKept
 pub mod Sizes
 pub mod StepWays
+pub mod ToldWays

@@ -1,27 +1,49 @@
 //! Laws of kept messages, and of what counts of the acts so far. Each function's contract is the
 //! law.
 
-ghost use Rattle.std.specs.Prelude.{◌≡◌, ◌↔◌, true, List, [], ◌∷◌, All};
+ghost use Rattle.std.specs.Prelude.{◌≡◌, ◌≢◌, ◌⊎◌, ◌↔◌, ℕ, Bool, true, false, List, [], ◌∷◌, All};
+ghost use Rattle.mdb_msgs.specs.declared.command.BillCommand.{BillCommand};
+ghost use Rattle.mdb_msgs.specs.declared.command.BillCommand.TheVariants as bill_commands;
+ghost use Rattle.mdb_msgs.specs.declared.command.ChangerCommand.{ChangerCommand};
+ghost use Rattle.mdb_msgs.specs.declared.command.ChangerCommand.TheVariants as changer_commands;
 ghost use Rattle.mdb_msgs.specs.declared.command.Command.{Command};
+ghost use Rattle.mdb_msgs.specs.declared.command.Command.TheVariants as commands;
 ghost use Rattle.mdb_msgs.specs.declared.command.Device.{Device};
 ghost use Rattle.mdb_msgs.specs.declared.command.Device.TheVariants as devices;
-ghost use Rattle.mdb_msgs.specs.Changer.{IsChangerMsg};
+ghost use Rattle.mdb_msgs.specs.declared.reply.Reply.{Reply};
 ghost use Rattle.mdb_msgs.specs.declared.reply.changer.ChangerMsg.{ChangerMsg};
-ghost use Rattle.mdb_cash.specs.declared.changer.activity.ChangerActivity.{ChangerActivity};
+ghost use Rattle.mdb_msgs.specs.declared.setups.Setups.{Setups};
+ghost use Rattle.mdb_msgs.specs.Changer.{IsChangerMsg};
 ghost use Rattle.mdb_bus.specs.declared.act.Act.{Act};
+ghost use Rattle.mdb_bus.specs.declared.act.Act.TheVariants as acts;
+ghost use Rattle.mdb_bus.specs.declared.scope.Beginning.{Beginning};
+ghost use Rattle.mdb_bus.specs.declared.scope.Beginning.TheVariants.{PowerOn, Joined};
+ghost use Rattle.mdb_bus.specs.LeavingOut.{has_part};
+ghost use Rattle.mdb_cash.specs.declared.bill.state.BillState.{BillState};
+ghost use Rattle.mdb_cash.specs.declared.changer.activity.ChangerActivity.{ChangerActivity};
+ghost use Rattle.mdb_cash.specs.declared.changer.state.ChangerState.{ChangerState};
+ghost use Rattle.mdb_cash.specs.declared.choice.Choice.{Choice};
+ghost use Rattle.mdb_cash.specs.declared.choice.Choice.TheVariants.{Plain};
+ghost use Rattle.mdb_cash.specs.declared.gains.Gains.{Gains};
 ghost use Rattle.mdb_cash.specs.declared.kept.Part.{Part};
 ghost use Rattle.mdb_cash.specs.declared.kept.Part.TheVariants as part;
 ghost use Rattle.mdb_cash.specs.declared.past.Effect.{Effect};
-ghost use Rattle.mdb_bus.specs.declared.scope.Beginning.{Beginning};
 ghost use Rattle.mdb_cash.specs.Bill as bill_machine;
 ghost use Rattle.mdb_cash.specs.BillFacts as bill;
+ghost use Rattle.mdb_cash.specs.BillMessages as bill_messages;
 ghost use Rattle.mdb_cash.specs.Changer as changer_machine;
+ghost use Rattle.mdb_cash.specs.Changer.{dispensed_value};
 ghost use Rattle.mdb_cash.specs.ChangerFacts as changer;
-ghost use Rattle.mdb_bus.specs.LeavingOut.{has_part};
-ghost use Rattle.mdb_cash.specs.Pair.{IsActOf, IsBreak, own_acts};
+ghost use Rattle.mdb_cash.specs.ChangerMessages as changer_messages;
+ghost use Rattle.mdb_cash.specs.ChangerMessages.{first_byte, part_of};
+ghost use Rattle.mdb_cash.specs.Gains.{controller_gains, no_gains};
+ghost use Rattle.mdb_cash.specs.Keeper.{AllowsFacts};
+ghost use Rattle.mdb_cash.specs.Kept.{kept_of};
+ghost use Rattle.mdb_cash.specs.MidSession.{AsksNone, IsSettled, TellsHeldFirst, TellsNone};
+ghost use Rattle.mdb_cash.specs.MidSession.{facts_recorded};
+ghost use Rattle.mdb_cash.specs.Pair.{IsActOf, IsBreak, Stays, own_acts};
 ghost use Rattle.mdb_cash.specs.Past.{past_of};
 ghost use Rattle.mdb_cash.specs.PastValues.{past_with};
-ghost use Rattle.mdb_cash.specs.ChangerMessages.{first_byte, part_of};
 
 /// Two kept messages of the changer say the same where their first bytes are the same.
 pub fn kept_messages_say_what_their_first_bytes_are()
@@ -88,4 +110,114 @@ pub fn breaks_tell_nothing_of_the_validator()
         → (bill.known_of begins acts).setup ≡ (bill.known_of begins []).setup }
     ensures unvalued { (begins : Beginning) (acts : List Act)
         → All IsBreak (own_acts devices.Bill acts) → bill_machine.unvalued begins acts ≡ 0 }
+{}
+
+/// From power-on all is known of the changer: the facts are those that the acts leave, and each
+/// step is one after them.
+pub fn from_power_on_all_is_known_of_the_changer()
+    ensures facts { (so_far : List Act) (holds : Bool) (facts : changer.Facts)
+        → AllowsFacts (changer.known_of PowerOn so_far) holds facts
+        ↔ (facts ≡ changer.facts_of so_far) }
+    ensures steps { (so_far : List Act) (act : Act) (choice : Choice) (before after : ChangerState)
+        (gains : Gains)
+        → (changer_machine.machine PowerOn).Step so_far act choice before after gains
+        ↔ changer_machine.ChangerStep (changer.facts_of so_far) act choice before after gains }
+{}
+
+/// From power-on all is known of the validator: the facts are those that the acts leave, and each
+/// step is one after them.
+pub fn from_power_on_all_is_known_of_the_validator()
+    ensures facts { (so_far : List Act) (holds : Bool) (facts : bill.Facts)
+        → AllowsFacts (bill.known_of PowerOn so_far) holds facts ↔ (facts ≡ bill.facts_of so_far) }
+    ensures steps { (so_far : List Act) (act : Act) (choice : Choice) (before after : BillState)
+        (gains : Gains)
+        → (bill_machine.machine PowerOn).Step so_far act choice before after gains
+        ↔ bill_machine.BillStep (bill.facts_of so_far) act choice before after gains }
+{}
+
+/// Where a recording begins in mid-session, the changer has these ways and no other. It replies
+/// while it holds messages of before: some of the reply's kept messages, from the first on, are
+/// these, and the rest are new (`held`); without a kept message it leaves all as it is (`silent`),
+/// and that is no answer to POLL (`poll`). A DISPENSE may be the one that is owed from before, or
+/// another (`owed`); where none is owed it is new (`free`). Any other act leads where it does after
+/// the facts that the acts tell (`settled`).
+pub fn in_mid_session_the_changer_has_these_ways_alone()
+    ensures held { (setups : Setups) (so_far : List Act) (command : ChangerCommand) (reply : Reply)
+        (before after : ChangerState) (gains : Gains)
+        → TellsNone changer.tables so_far → before.holds ≡ true
+        → kept_of (changer_messages.parts_of reply) ≢ []
+        → (changer_machine.machine (Joined setups)).Step so_far
+        (acts.Reply (commands.Changer command) reply) Plain before after gains
+        ↔ ((count : ℕ) × TellsHeldFirst changer_machine.conduct
+        (facts_recorded changer.tables setups so_far) (changer_messages.parts_of reply) count before
+        after gains) }
+    ensures poll { (setups : Setups) (so_far : List Act) (reply : Reply)
+        (before after : ChangerState) (gains : Gains)
+        → TellsNone changer.tables so_far → before.holds ≡ true
+        → kept_of (changer_messages.parts_of reply) ≡ []
+        → (changer_machine.machine (Joined setups)).Step so_far
+        (acts.Reply (commands.Changer changer_commands.Poll) reply) Plain before after gains → ⊥ }
+    ensures silent { (setups : Setups) (so_far : List Act) (command : ChangerCommand)
+        (reply : Reply) (before after : ChangerState) (gains : Gains)
+        → TellsNone changer.tables so_far → before.holds ≡ true
+        → changer.is_poll command ≡ false → kept_of (changer_messages.parts_of reply) ≡ []
+        → (changer_machine.machine (Joined setups)).Step so_far
+        (acts.Reply (commands.Changer command) reply) Plain before after gains
+        ↔ Stays before after gains }
+    ensures owed { (setups : Setups) (so_far : List Act) (coins : ℕ) (choice : Choice)
+        (before after : ChangerState) (gains : Gains)
+        → AsksNone changer.tables so_far → before.dispense_owed ≡ true
+        → (changer_machine.machine (Joined setups)).Step so_far
+        (acts.Ask (commands.Changer (changer_commands.Dispense coins))) choice before after gains
+        ↔ (after ≡ before) × ((gains ≡ no_gains) ⊎ (gains ≡ controller_gains 0
+        (dispensed_value (facts_recorded changer.tables setups so_far).setup coins))) }
+    ensures free { (setups : Setups) (so_far : List Act) (coins : ℕ) (choice : Choice)
+        (before after : ChangerState) (gains : Gains)
+        → before.dispense_owed ≡ false
+        → (changer_machine.machine (Joined setups)).Step so_far
+        (acts.Ask (commands.Changer (changer_commands.Dispense coins))) choice before after gains
+        ↔ (after ≡ record before { dispense_owed = true }) × (gains ≡ controller_gains 0
+        (dispensed_value (facts_recorded changer.tables setups so_far).setup coins)) }
+    ensures settled { (setups : Setups) (so_far : List Act) (act : Act) (choice : Choice)
+        (before after : ChangerState) (gains : Gains)
+        → IsSettled changer.tables changer_machine.conduct so_far act choice before
+        → (changer_machine.machine (Joined setups)).Step so_far act choice before after gains
+        ↔ changer_machine.ChangerStep (facts_recorded changer.tables setups so_far) act choice
+        before after gains }
+{}
+
+/// Where a recording begins in mid-session, the validator has these ways and no other. It replies
+/// while it holds messages of before: some of the reply's kept messages, from the first on, are
+/// these, and the rest are new (`held`); without a kept message it leaves all as it is (`silent`),
+/// and that is no answer to POLL (`poll`). Any other act leads where it does after the facts that
+/// the acts tell (`settled`).
+pub fn in_mid_session_the_validator_has_these_ways_alone()
+    ensures held { (setups : Setups) (so_far : List Act) (command : BillCommand) (reply : Reply)
+        (before after : BillState) (gains : Gains)
+        → TellsNone bill.tables so_far → before.holds ≡ true
+        → kept_of (bill_messages.parts_of reply) ≢ []
+        → (bill_machine.machine (Joined setups)).Step so_far
+        (acts.Reply (commands.Bill command) reply) Plain before after gains
+        ↔ ((count : ℕ) × TellsHeldFirst bill_machine.conduct
+        (facts_recorded bill.tables setups so_far) (bill_messages.parts_of reply) count before after
+        gains) }
+    ensures poll { (setups : Setups) (so_far : List Act) (reply : Reply)
+        (before after : BillState) (gains : Gains)
+        → TellsNone bill.tables so_far → before.holds ≡ true
+        → kept_of (bill_messages.parts_of reply) ≡ []
+        → (bill_machine.machine (Joined setups)).Step so_far
+        (acts.Reply (commands.Bill bill_commands.Poll) reply) Plain before after gains → ⊥ }
+    ensures silent { (setups : Setups) (so_far : List Act) (command : BillCommand)
+        (reply : Reply) (before after : BillState) (gains : Gains)
+        → TellsNone bill.tables so_far → before.holds ≡ true
+        → bill.is_poll command ≡ false → kept_of (bill_messages.parts_of reply) ≡ []
+        → (bill_machine.machine (Joined setups)).Step so_far
+        (acts.Reply (commands.Bill command) reply) Plain before after gains
+        ↔ Stays before after gains }
+    ensures settled { (setups : Setups) (so_far : List Act) (act : Act) (choice : Choice)
+        (before after : BillState) (gains : Gains)
+        → IsSettled bill.tables bill_machine.conduct so_far act choice before
+        → (bill_machine.machine (Joined setups)).Step so_far act choice before after gains
+        ↔ bill_machine.BillStep (facts_recorded bill.tables setups so_far) act choice before after
+        gains }
 {}
