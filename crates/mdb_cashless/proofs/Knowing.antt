@@ -327,7 +327,7 @@ replies_fronts facts command reply choice before after gains = (forth, back)
 
 -- What a step by an act that is settled depends on is known: so a step with one guess is one with
 -- another that may be.
-abbrev Same : ReaderUnit → Option Transaction → Option Transaction → List ReaderActivity
+abbrev pub Same : ReaderUnit → Option Transaction → Option Transaction → List ReaderActivity
     → Option Transaction → Option Transaction → List ReaderActivity → Act → Type 0
 Same unit a t k b u l (acts.Ask command) =
     (its : ReaderCommand) → own unit command ≡ Some its → (b ≡ a) ⊎ (transaction_of its ≡ None)
@@ -345,7 +345,7 @@ for_its_own : (found : Option ReaderCommand)
 for_its_own None One Other before after gains each step = step
 for_its_own (Some c) One Other before after gains each step = each c refl step
 
-step_same : (unit : ReaderUnit) (facts : Facts) (a b t u : Option Transaction)
+pub step_same : (unit : ReaderUnit) (facts : Facts) (a b t u : Option Transaction)
     (k l : List ReaderActivity) (act : Act) (choice : Choice) (before after : ReaderState)
     (gains : Gains) → Same unit a t k b u l act
     → ReaderStep unit (guessing facts a t k) act choice before after gains

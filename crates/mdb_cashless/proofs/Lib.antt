@@ -6,6 +6,7 @@ pub mod KeptAcked
 pub mod Knowing
 pub mod KnownAfter
 pub mod Listed
+pub mod MidSession
 pub mod PowerOn
 pub mod Resets
 pub mod Said

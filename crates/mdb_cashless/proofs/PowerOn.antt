@@ -1,5 +1,5 @@
 -- From power-on all is known of a reader.
-use Rattle.std.proofs.Common.{◌≡◌, ◌∙◌, ◌↔◌, ◌&&◌, ◌||◌, not, Bool, true, false, List, [], ◌∷◌, Option, Some, None, option_map, refl, ap, sym, unwrap_or, if◌then◌else◌}
+use Rattle.std.proofs.Common.{◌≡◌, ◌∙◌, ◌↔◌, ◌&&◌, ◌||◌, not, Bool, true, false, List, [], ◌∷◌, Option, Some, None, option_map, refl, ap, subst, sym, unwrap_or, if◌then◌else◌}
 use Rattle.mdb_msgs.specs.declared.command.ReaderUnit.{ReaderUnit}
 use Rattle.std.proofs.Math.Path.{fun_ext}
 use Rattle.mdb_bus.specs.declared.act.Act.{Act}
@@ -8,6 +8,10 @@ use Rattle.mdb_cash.specs.Known.{Allows, AllowsKept, known_by}
 use Rattle.mdb_cash.specs.declared.past.Effect.TheVariants as effects
 use Rattle.mdb_cash.specs.Past.{enables, last_list, last_told, or_else, past_of}
 use Rattle.mdb_cash.specs.inner.PastWays.{same_past}
+use Rattle.mdb_cash.specs.declared.choice.Choice.{Choice}
+use Rattle.mdb_cash.specs.declared.gains.Gains.{Gains}
+use Rattle.mdb_cashless.specs.declared.reader.state.ReaderState.{ReaderState}
+use Rattle.mdb_cashless.specs.Reader.{ReaderStep, StepKnowing}
 use Rattle.mdb_cashless.specs.ReaderFacts.{AllowsFacts, Facts, asked_by, config_by, effect_of, ends_transactions, facts_of, known_of, last_taken, parts_by, taken_told, transaction_taken_by}
 use Rattle.mdb_cashless.specs.declared.reader.transaction.Transaction.{Transaction}
 use Rattle.mdb_cashless.proofs.Knowing.{same_facts}
@@ -34,7 +38,7 @@ one_taken true its last told same = refl
 one_taken false (Some t) last told same = refl
 one_taken false None last told same = same
 
-last_taken_is : (unit : ReaderUnit) (acts : List Act)
+pub last_taken_is : (unit : ReaderUnit) (acts : List Act)
     → last_taken unit acts ≡ unwrap_or (last_told (taken_told unit) acts) None
 last_taken_is unit [] = refl
 last_taken_is unit (act ∷ acts) = one_taken (ends_transactions unit act)
@@ -82,3 +86,18 @@ power_on_known unit acts holds facts =
         };
       },
     )
+
+-- so a step is the one after the facts that the acts leave
+pub power_on_steps : (unit : ReaderUnit) (so_far : List Act) (act : Act) (choice : Choice)
+    (before after : ReaderState) (gains : Gains)
+    → StepKnowing unit (known_of PowerOn unit so_far) act choice before after gains
+    ↔ ReaderStep unit (facts_of unit so_far) act choice before after gains
+power_on_steps unit so_far act choice before after gains = (
+  λ step. subst (λ f. ReaderStep unit f act choice before after gains)
+      ((power_on_known unit so_far before.holds step.facts).0 step.allowed) step.step,
+  λ step. record {
+    facts = facts_of unit so_far;
+    allowed = (power_on_known unit so_far before.holds (facts_of unit so_far)).1 refl;
+    step = step;
+  },
+)

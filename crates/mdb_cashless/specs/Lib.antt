@@ -1,3 +1,4 @@
+pub mod MidSession
 pub mod Reader
 pub mod ReaderDevice
 pub mod ReaderFacts

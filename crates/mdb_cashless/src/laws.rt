@@ -8,21 +8,25 @@ ghost use Rattle.mdb_msgs.specs.declared.command.ReaderCommand.{ReaderCommand};
 ghost use Rattle.mdb_msgs.specs.declared.command.ReaderCommand.TheVariants as readers;
 ghost use Rattle.mdb_msgs.specs.declared.command.ReaderUnit.{ReaderUnit};
 ghost use Rattle.mdb_msgs.specs.declared.command.ReaderUnit.TheVariants.{First, Second};
+ghost use Rattle.mdb_msgs.specs.declared.reply.Reply.{Reply};
+ghost use Rattle.mdb_msgs.specs.declared.setups.Setups.{Setups};
 ghost use Rattle.mdb_bus.specs.declared.act.Act.{Act};
 ghost use Rattle.mdb_bus.specs.declared.act.Act.TheVariants as acts;
 ghost use Rattle.mdb_bus.specs.declared.scope.Beginning.{Beginning};
-ghost use Rattle.mdb_bus.specs.declared.scope.Beginning.TheVariants.{PowerOn};
+ghost use Rattle.mdb_bus.specs.declared.scope.Beginning.TheVariants.{PowerOn, Joined};
 ghost use Rattle.mdb_cash.specs.declared.choice.Choice.{Choice};
 ghost use Rattle.mdb_cash.specs.declared.gains.Gains.{Gains};
 ghost use Rattle.mdb_cash.specs.Pair.{IsBreak, own_acts};
 ghost use Rattle.mdb_cashless.specs.declared.reader.state.ReaderState.{ReaderState};
 ghost use Rattle.mdb_cashless.specs.declared.reader.transaction.Transaction.{Transaction};
-ghost use Rattle.mdb_cashless.specs.Reader.{machine, unvalued};
+ghost use Rattle.mdb_cashless.specs.MidSession.{AckWay, IsSettled, ReplyWay, SendsNone};
+ghost use Rattle.mdb_cashless.specs.MidSession.{facts_recorded};
+ghost use Rattle.mdb_cashless.specs.Reader.{AskStep, ReaderStep, machine, unvalued};
 ghost use Rattle.mdb_cashless.specs.ReaderFacts.{AllowsFacts, Facts, facts_of, known_of};
-ghost use Rattle.mdb_cashless.specs.inner.SaleViews.{AcksLastReply, MayTellOfSale};
 ghost use Rattle.mdb_cashless.specs.Sales.{IsApproved, MayBeRequestedBefore};
 ghost use Rattle.mdb_cashless.specs.Transactions.{is_same, transaction_of};
 ghost use Rattle.mdb_cashless.specs.Units.{own};
+ghost use Rattle.mdb_cashless.specs.inner.SaleViews.{AcksLastReply, MayTellOfSale};
 
 /// Two transaction commands are the same where all their fields are.
 pub fn transactions_with_the_same_fields_are_the_same()
@@ -70,11 +74,15 @@ pub fn views_allow_approved_sales_alone()
     transactions_with_the_same_fields_are_the_same();
 }
 
-/// From power-on all is known of a reader: a step after acts is one after the facts that they
-/// leave.
+/// From power-on all is known of a reader: the facts are those that the acts leave, and each step
+/// is one after them.
 pub fn from_power_on_all_is_known_of_a_reader()
-    ensures { (unit : ReaderUnit) (so_far : List Act) (holds : Bool) (facts : Facts)
+    ensures facts { (unit : ReaderUnit) (so_far : List Act) (holds : Bool) (facts : Facts)
         → AllowsFacts (known_of PowerOn unit so_far) holds facts ↔ (facts ≡ facts_of unit so_far) }
+    ensures steps { (unit : ReaderUnit) (so_far : List Act) (act : Act) (choice : Choice)
+        (before after : ReaderState) (gains : Gains)
+        → (machine unit PowerOn).Step so_far act choice before after gains
+        ↔ ReaderStep unit (facts_of unit so_far) act choice before after gains }
 {}
 
 /// What is known of a reader after acts, and the amounts without a value that they tell of it,
@@ -98,3 +106,38 @@ pub fn breaks_tell_nothing_of_a_reader()
         → All IsBreak (own_acts (devices.Reader unit) so_far)
         → unvalued unit begins so_far ≡ 0 }
 {}
+
+/// Where a recording begins in mid-session, a reader has these ways and no other. A transaction
+/// command may be the last one sent, if none was sent since (`sent`). A transaction that it takes
+/// while it holds messages is the last one again or another, and of a reply's kept messages some,
+/// from the first on, are those that it holds (`acked`, `replied`). Any other act leads where it
+/// does after the facts that the acts tell (`settled`).
+pub fn in_mid_session_a_reader_has_these_ways_alone()
+    ensures sent { (unit : ReaderUnit) (setups : Setups) (so_far : List Act)
+        (command : ReaderCommand) (choice : Choice) (before after : ReaderState) (gains : Gains)
+        → SendsNone unit so_far
+        → (machine unit (Joined setups)).Step so_far (acts.Ask (commands.Reader unit command))
+        choice before after gains
+        ↔ AskStep (record (facts_recorded unit setups so_far) { asked = transaction_of command })
+        command before after gains }
+    ensures acked { (unit : ReaderUnit) (setups : Setups) (so_far : List Act)
+        (command : ReaderCommand) (choice : Choice) (before after : ReaderState) (gains : Gains)
+        → (machine unit (Joined setups)).Step so_far (acts.Ack (commands.Reader unit command))
+        choice before after gains
+        ↔ AckWay unit so_far (facts_recorded unit setups so_far) command choice before after
+        gains }
+    ensures replied { (unit : ReaderUnit) (setups : Setups) (so_far : List Act)
+        (command : ReaderCommand) (reply : Reply) (choice : Choice) (before after : ReaderState)
+        (gains : Gains)
+        → (machine unit (Joined setups)).Step so_far
+        (acts.Reply (commands.Reader unit command) reply) choice before after gains
+        ↔ ReplyWay unit so_far (facts_recorded unit setups so_far) command reply choice before
+        after gains }
+    ensures settled { (unit : ReaderUnit) (setups : Setups) (so_far : List Act) (act : Act)
+        (choice : Choice) (before after : ReaderState) (gains : Gains)
+        → IsSettled unit so_far act
+        → (machine unit (Joined setups)).Step so_far act choice before after gains
+        ↔ ReaderStep unit (facts_recorded unit setups so_far) act choice before after gains }
+{
+    transactions_with_the_same_fields_are_the_same();
+}

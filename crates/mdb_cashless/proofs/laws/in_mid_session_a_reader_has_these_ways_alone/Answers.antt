@@ -1,0 +1,14 @@
+use Rattle.mdb_cashless.proofs.MidSession.{acked, replied, sent, settled_way}
+use Rattle.mdb_cashless.proofs.laws.in_mid_session_a_reader_has_these_ways_alone.Goals as goal
+
+pub returns-clause-sent : goal.returns-clause-sent
+returns-clause-sent c = sent
+
+pub returns-clause-acked : goal.returns-clause-acked
+returns-clause-acked c = acked c.transactions_with_the_same_fields_are_the_same.ensures
+
+pub returns-clause-replied : goal.returns-clause-replied
+returns-clause-replied c = replied c.transactions_with_the_same_fields_are_the_same.ensures
+
+pub returns-clause-settled : goal.returns-clause-settled
+returns-clause-settled c = settled_way
