@@ -36,22 +36,49 @@ static FILES: [&str; 21] = [
     "least.cases",
 ];
 
-/// What stands in front of each case of a file, and of its name.
+/// The files of what cases share: rows that many begin with, and the lines of a report.
+const FRONTS: &str = "fronts";
+
+const REPORT: &str = "report";
+
+/// What stands in front of each case of a file, and of its name; and in front of each front.
 const NEXT_CASE: &str = "\ncase ";
+
+const NEXT_FRONT: &str = "\nfront ";
+
+/// A transcript with a name: a front, or that of a case.
+#[derive(Drop)]
+struct Rows {
+    name: String,
+    transcript: Vec<u8>,
+    // The time of the last row that a line of `rows` or `again` has added; 0 before it.
+    time: u64,
+}
+
+/// What a case may name.
+#[derive(Drop)]
+struct Shared {
+    // The fronts, and after them the earlier cases of its file.
+    known: Vec<Rows>,
+    fronts: usize,
+    // The lines of a report at their defaults, of a recording from power-on and in mid-session.
+    report: String,
+    joined: String,
+}
 
 /// A transcript, and what the program has to make of it.
 #[derive(Drop)]
 struct Case<'a> {
     name: &'a str,
+    rows: Rows,
     // The words after the program's name, parted by single blanks; between two ' stands one word.
     words: &'a str,
-    transcript: Vec<u8>,
-    // The time of the last row that a line of `rows` or `again` has added; 0 before it.
-    time: u64,
     // The exit status, as it is written.
     status: &'a str,
-    // Standard output and standard error, whole.
+    // The lines of standard output that stand unless the case gives others, and those it gives.
+    defaults: String,
     out: String,
+    // Standard error, whole.
     err: String,
 }
 
@@ -62,46 +89,39 @@ struct Tally {
     differing: u64,
 }
 
-impl<'a> Case<'a> {
-    /// A case of which only the name is known.
-    fn named(alloc: Global, name: &'a str) -> Case<'a> {
-        Case {
-            name,
-            words: "check",
+impl Rows {
+    /// Rows of which only the name is known.
+    fn named(alloc: Global, name: &str) -> Result<Rows, AllocError> {
+        Ok(Rows {
+            name: String::from_str(alloc, name)?,
             transcript: Vec::new(alloc),
             time: 0,
-            status: "",
-            out: String::new(alloc),
-            err: String::new(alloc),
-        }
-    }
-
-    /// Takes a further line of the case, and answers whether it is one.
-    fn take(&mut self, line: &'a str) -> io::Result<bool> {
-        let Some((word, rest)) = line.split_once(' ') else {
-            return Ok(says_nothing(line));
-        };
-        match word {
-            "again" => return self.add_again(rest),
-            "words" => self.words = rest,
-            "status" => self.status = rest,
-            "why" => {}
-            _ => return self.add(word, rest),
-        }
-        Ok(true)
+        })
     }
 
     /// Adds what stands after the first word of a line, and answers whether it is such a line.
-    fn add(&mut self, word: &str, rest: &str) -> io::Result<bool> {
-        let added = match word {
-            "rows" => self.add_rows(rest),
-            "text" => add_text(&mut self.transcript, rest.as_bytes()),
-            "out" => add_line(&mut self.out, rest),
-            "err" => add_line(&mut self.err, rest),
+    fn add(&mut self, word: &str, rest: &str, known: &[Rows]) -> io::Result<bool> {
+        match word {
+            "again" => return self.add_again(rest),
+            "after" => return self.add_front(rest, known),
+            "rows" => self.add_rows(rest)?,
+            "text" => add_text(&mut self.transcript, rest.as_bytes())?,
             _ => return Ok(word.starts_with('#')),
-        };
-        added?;
+        }
         Ok(true)
+    }
+
+    /// Adds the rows that have a name, and answers whether any have it.
+    fn add_front(&mut self, name: &str, known: &[Rows]) -> io::Result<bool> {
+        for rows in known {
+            if rows.name.as_str() == name {
+                self.transcript
+                    .extend_from_slice(rows.transcript.as_slice())?;
+                self.time = rows.time;
+                return Ok(true);
+            }
+        }
+        Ok(false)
     }
 
     /// Adds the rows of a line, which single blanks part, each with a line feed.
@@ -142,6 +162,75 @@ impl<'a> Case<'a> {
         }
         Ok(true)
     }
+}
+
+impl Shared {
+    /// The lines of a report at their defaults, of a command line with these words.
+    fn report_for(&self, words: &str) -> &str {
+        for word in words.split(' ') {
+            if word == "--joined" {
+                return self.joined.as_str();
+            }
+        }
+        self.report.as_str()
+    }
+}
+
+impl<'a> Case<'a> {
+    /// A case of which only the name is known.
+    fn named(alloc: Global, name: &'a str) -> Result<Case<'a>, AllocError> {
+        Ok(Case {
+            name,
+            rows: Rows::named(alloc, name)?,
+            words: "check",
+            status: "",
+            defaults: String::new(alloc),
+            out: String::new(alloc),
+            err: String::new(alloc),
+        })
+    }
+
+    /// Takes a further line of the case, and answers whether it is one.
+    fn take(&mut self, line: &'a str, shared: &Shared) -> io::Result<bool> {
+        let Some((word, rest)) = line.split_once(' ') else {
+            return Ok(says_nothing(line));
+        };
+        match word {
+            "words" => self.words = rest,
+            "status" => self.status = rest,
+            "why" => {}
+            "yes" => self.add_yes(rest, shared)?,
+            "no" => return self.add_no(rest),
+            "out" => add_line(&mut self.out, rest)?,
+            "err" => add_line(&mut self.err, rest)?,
+            _ => return self.rows.add(word, rest, shared.known.as_slice()),
+        }
+        Ok(true)
+    }
+
+    /// Wants a report on so many rows, with its other lines at their defaults.
+    fn add_yes(&mut self, rows: &str, shared: &Shared) -> io::Result<()> {
+        self.status = "0";
+        self.defaults.push_str(shared.report_for(self.words))?;
+        writeln!(self.out, "rows {rows}")?;
+        Ok(())
+    }
+
+    /// Wants the four lines of a no. Answers whether the line has its row, rule and blame.
+    fn add_no(&mut self, line: &str) -> io::Result<bool> {
+        let Some((row, rest)) = line.split_once(' ') else {
+            return Ok(false);
+        };
+        let Some((rule, blame)) = rest.split_once(' ') else {
+            return Ok(false);
+        };
+        self.status = "1";
+        writeln!(
+            self.out,
+            "verdict no\nrow {row}\nrule {rule}\nblame {blame}"
+        )?;
+        Ok(true)
+    }
 
     /// Runs the case, and answers whether it came out as wanted. Where it didn't, what came is
     /// printed.
@@ -149,15 +238,16 @@ impl<'a> Case<'a> {
         let words = command_line(rt.alloc(), self.words)?;
         let mut out = Vec::new(rt.alloc());
         let mut err = Vec::new(rt.alloc());
-        let transcript = self.transcript.as_slice();
+        let transcript = self.rows.transcript.as_slice();
         let status = mdb_check::run(rt.alloc(), words, transcript, &mut out, &mut err);
         self.judge(rt, status, out.as_slice(), err.as_slice())
     }
 
     /// Answers whether this is what the case wants, and prints it where it isn't.
     fn judge(&self, rt: &HostRuntime, status: u8, out: &[u8], err: &[u8]) -> io::Result<bool> {
+        let wanted = merged(rt.alloc(), self.defaults.as_str(), self.out.as_str())?;
         let is_wanted = self.status.parse().ok() == Some(status)
-            && out == self.out.as_str().as_bytes()
+            && out == wanted.as_str().as_bytes()
             && err == self.err.as_str().as_bytes();
         if !is_wanted {
             println!(rt; "{}: status {status}", self.name)?;
@@ -201,6 +291,41 @@ fn command_line(alloc: Global, words: &str) -> Result<Vec<String>, AllocError> {
 fn add_line(text: &mut String, line: &str) -> Result<(), AllocError> {
     text.push_str(line)?;
     text.push_str("\n")
+}
+
+/// The first word of a line.
+fn first_word(line: &str) -> &str {
+    line.split_once(' ').unwrap_or((line, "")).0
+}
+
+/// The lines of a report at their defaults, but each line that a case gives in the place of the one
+/// with its first word, in the same order. Lines with other first words stand after the report.
+fn merged(alloc: Global, defaults: &str, given: &str) -> Result<String, AllocError> {
+    let mut text = String::new(alloc);
+    let mut rest = given;
+    for line in defaults.split('\n') {
+        rest = add_default(&mut text, line, rest)?;
+    }
+    text.push_str(rest)?;
+    Ok(text)
+}
+
+/// Adds a line of a report at its default, or the first of the lines that a case gives where it has
+/// the same first word. Answers what is left of these.
+fn add_default<'a>(text: &mut String, line: &str, given: &'a str) -> Result<&'a str, AllocError> {
+    if line.is_empty() {
+        return Ok(given);
+    }
+    match given.split_once('\n') {
+        Some((first, behind)) if first_word(first) == first_word(line) => {
+            add_line(text, first)?;
+            Ok(behind)
+        }
+        _ => {
+            add_line(text, line)?;
+            Ok(given)
+        }
+    }
 }
 
 /// Adds the words of a line, which single blanks part. What stands between two `'` is one word, as
@@ -270,28 +395,23 @@ fn add_text(transcript: &mut Vec<u8>, line: &[u8]) -> Result<(), AllocError> {
     Ok(())
 }
 
-/// Runs a case: its name, and its lines.
-fn run_case(rt: &HostRuntime, file: &str, text: &str, tally: &mut Tally) -> io::Result<()> {
-    let (name, lines) = text.split_once('\n').unwrap_or((text, ""));
-    let mut case = Case::named(rt.alloc(), name);
-    take_lines(rt, file, &mut case, lines, tally)?;
-    tally.count(case.run(rt)?);
-    Ok(())
-}
-
-/// Gives lines to a case, and prints each that it doesn't take.
-fn take_lines<'a>(
+/// Runs a case: its name, and its lines. Later cases may then name its rows.
+fn run_case(
     rt: &HostRuntime,
     file: &str,
-    case: &mut Case<'a>,
-    lines: &'a str,
+    text: &str,
+    shared: &mut Shared,
     tally: &mut Tally,
 ) -> io::Result<()> {
+    let (name, lines) = text.split_once('\n').unwrap_or((text, ""));
+    let mut case = Case::named(rt.alloc(), name)?;
     for line in lines.split('\n') {
-        if !case.take(line)? {
+        if !case.take(line, shared)? {
             tally.tell(rt, file, line)?;
         }
     }
+    tally.count(case.run(rt)?);
+    shared.known.push(case.rows)?;
     Ok(())
 }
 
@@ -307,13 +427,76 @@ fn skip_lines(rt: &HostRuntime, file: &str, lines: &str, tally: &mut Tally) -> i
 
 /// Runs the cases of a file's text, which has one at least, and in front of which no line says
 /// anything.
-fn run_text(rt: &HostRuntime, file: &str, text: &str, tally: &mut Tally) -> io::Result<()> {
+fn run_text(
+    rt: &HostRuntime,
+    file: &str,
+    text: &str,
+    shared: &mut Shared,
+    tally: &mut Tally,
+) -> io::Result<()> {
     let (head, cases) = text.split_once(NEXT_CASE).unwrap_or((text, ""));
     skip_lines(rt, file, head, tally)?;
     for case in cases.split(NEXT_CASE) {
-        run_case(rt, file, case, tally)?;
+        run_case(rt, file, case, shared, tally)?;
     }
     Ok(())
+}
+
+/// Reads the fronts, each of which may name those before it.
+fn read_fronts(rt: &HostRuntime, tally: &mut Tally) -> io::Result<Vec<Rows>> {
+    let text = fs::read_to_string(rt, FRONTS)?;
+    let (head, fronts) = text
+        .as_str()
+        .split_once(NEXT_FRONT)
+        .unwrap_or((text.as_str(), ""));
+    skip_lines(rt, FRONTS, head, tally)?;
+    let mut known = Vec::new(rt.alloc());
+    for front in fronts.split(NEXT_FRONT) {
+        known.push(read_front(rt, front, known.as_slice(), tally)?)?;
+    }
+    Ok(known)
+}
+
+/// Reads a front: its name, and its lines.
+fn read_front(rt: &HostRuntime, text: &str, known: &[Rows], tally: &mut Tally) -> io::Result<Rows> {
+    let (name, lines) = text.split_once('\n').unwrap_or((text, ""));
+    let mut rows = Rows::named(rt.alloc(), name)?;
+    for line in lines.split('\n') {
+        let is_taken = match line.split_once(' ') {
+            Some((word, rest)) => rows.add(word, rest, known)?,
+            None => says_nothing(line),
+        };
+        if !is_taken {
+            tally.tell(rt, FRONTS, line)?;
+        }
+    }
+    Ok(rows)
+}
+
+/// Reads what all files share.
+fn read_shared(rt: &HostRuntime, tally: &mut Tally) -> io::Result<Shared> {
+    let known = read_fronts(rt, tally)?;
+    let mut report = String::new(rt.alloc());
+    let mut joined = String::new(rt.alloc());
+    let text = fs::read_to_string(rt, REPORT)?;
+    for line in text.as_str().split('\n') {
+        match line.split_once(' ') {
+            Some(("out", rest)) => {
+                add_line(&mut report, rest)?;
+                add_line(&mut joined, rest)?;
+            }
+            Some(("joined", rest)) => add_line(&mut joined, rest)?,
+            _ if says_nothing(line) => {}
+            _ => tally.tell(rt, REPORT, line)?,
+        }
+    }
+    let fronts = known.len();
+    Ok(Shared {
+        known,
+        fronts,
+        report,
+        joined,
+    })
 }
 
 /// Runs the cases of all files, and prints how many there are.
@@ -322,9 +505,11 @@ fn run_files(rt: &HostRuntime) -> io::Result<()> {
         cases: 0,
         differing: 0,
     };
+    let mut shared = read_shared(rt, &mut tally)?;
     for file in &FILES {
         let text = fs::read_to_string(rt, *file)?;
-        run_text(rt, *file, text.as_str(), &mut tally)?;
+        run_text(rt, *file, text.as_str(), &mut shared, &mut tally)?;
+        shared.known.truncate(shared.fronts);
     }
     let cases = tally.cases;
     match tally.differing {

@@ -1,0 +1,149 @@
+"""The worked cases of crates/conformance/data, as Python reads them: for all scripts of tests/.
+
+The page beside the cases (README) says how a case is written. The proved reader of the same language
+is crates/conformance/src/main.rt; there is no third.
+"""
+
+import pathlib
+
+FOLDER = pathlib.Path(__file__).resolve().parent.parent / "crates" / "conformance" / "data"
+ESCAPES = {"n": "\n", "r": "\r", "m": "\xef\xbb\xbf", "x": "\xff", "\\": "\\"}
+
+
+class BadCase(Exception):
+    """A line that the page beside the cases doesn't know."""
+
+
+def words_of(text):
+    """The words of a command line: what stands between two ' is one."""
+    words, parts = [], text.split("'")
+    for i, part in enumerate(parts):
+        words += [part] if i % 2 else part.split()
+    return words
+
+
+def text_of(escaped):
+    """A text without its escapes."""
+    out, characters = [], iter(escaped)
+    for character in characters:
+        out.append(ESCAPES[next(characters)] if character == "\\" else character)
+    return "".join(out)
+
+
+def lines_of(path):
+    """The lines of a file that say something. Each character stands for one byte."""
+    for line in path.read_bytes().decode("latin-1").split("\n"):
+        if line and not line.startswith("#"):
+            yield line
+
+
+class Rows:
+    """A named transcript, as far as its lines were read: a front, or the rows of a case."""
+
+    def __init__(self, name):
+        # Each part is a word (rows, again or text), how many times it is said, and what is said.
+        self.name, self.parts = name, []
+
+    def add(self, line, known):
+        """Takes a further line. What stands in front of others is found in `known`, by its name."""
+        word, _, rest = line.partition(" ")
+        if word == "rows":
+            self.parts.append(("rows", 1, rest.split(" ")))
+        elif word == "again":
+            count, *rows = rest.split(" ")
+            self.parts.append(("again", int(count), rows))
+        elif word == "text":
+            self.parts.append(("text", 1, [text_of(rest)]))
+        elif word == "after" and rest in known:
+            self.parts += known[rest].parts
+        else:
+            raise BadCase(f"{self.name}: {line}")
+
+    def input(self):
+        """The transcript, whole."""
+        out, time = [], 0
+        for word, count, pieces in self.parts:
+            for piece in pieces * count:
+                first, _, rest = piece.partition(",")
+                if word == "again":
+                    time += int(first)
+                    piece = f"{time},{rest}"
+                elif word == "rows" and first.isdigit():
+                    time = int(first)
+                out.append(piece if word == "text" else piece + "\n")
+        return "".join(out)
+
+
+class Case(Rows):
+    """A worked case, as far as its lines were read."""
+
+    def __init__(self, name, file):
+        super().__init__(name)
+        self.file, self.why, self.words, self.status = file, "", ["check"], None
+        # The lines of a report that stand unless the case says otherwise, and those that it says.
+        self.defaults, self.lines, self.errors = [], [], ""
+
+    def add(self, line, known):
+        word, _, rest = line.partition(" ")
+        if word == "why":
+            self.why = rest
+        elif word == "words":
+            self.words = words_of(rest)
+        elif word == "status":
+            self.status = int(rest)
+        elif word == "yes":
+            self.status, self.defaults = 0, report("--joined" in self.words)
+            self.lines.append(f"rows {rest}")
+        elif word == "no":
+            row, rule, blame = rest.split(" ")
+            self.status = 1
+            self.lines += ["verdict no", f"row {row}", f"rule {rule}", f"blame {blame}"]
+        elif word == "out":
+            self.lines.append(rest)
+        elif word == "err":
+            self.errors += rest + "\n"
+        else:
+            super().add(line, known)
+
+    def output(self):
+        """Standard output, whole: each line that is said in place of the default of its first word,
+        and the others behind the report."""
+        out, said = [], list(self.lines)
+        for line in self.defaults:
+            is_said = said and said[0].partition(" ")[0] == line.partition(" ")[0]
+            out.append(said.pop(0) if is_said else line)
+        return "".join(line + "\n" for line in out + said)
+
+
+def report(is_joined):
+    """The lines of a report at their defaults, of a recording from power-on or in mid-session."""
+    kinds = ("out", "joined") if is_joined else ("out",)
+    parted = (line.partition(" ") for line in lines_of(FOLDER / "report"))
+    return [rest for kind, _, rest in parted if kind in kinds]
+
+
+def fronts():
+    """The rows that stand in front of those of many cases, by their names."""
+    known, front = {}, None
+    for line in lines_of(FOLDER / "fronts"):
+        if line.startswith("front "):
+            front = Rows(line.removeprefix("front "))
+        else:
+            front.add(line, known)
+        known[front.name] = front
+    return known
+
+
+def all_cases():
+    """The cases of all files, in the order of the files' names."""
+    shared = fronts()
+    for path in sorted(FOLDER.glob("*.cases")):
+        known, read, case = dict(shared), [], None
+        for line in lines_of(path):
+            if line.startswith("case "):
+                case = Case(line.removeprefix("case "), path.name)
+                read.append(case)
+            else:
+                case.add(line, known)
+            known[case.name] = case
+        yield from read
