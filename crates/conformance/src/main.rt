@@ -12,7 +12,7 @@ use std::io::Write;
 use std::{fs, io};
 
 /// The files of cases, one for each subject.
-static FILES: [&str; 21] = [
+static FILES: [&str; 22] = [
     "rows.cases",
     "times.cases",
     "commands.cases",
@@ -31,6 +31,7 @@ static FILES: [&str; 21] = [
     "explain.cases",
     "without.cases",
     "joined.cases",
+    "joined-levels.cases",
     "json.cases",
     "worked.cases",
     "least.cases",
