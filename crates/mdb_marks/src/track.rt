@@ -12,9 +12,9 @@ use mdb_bus::{Act, Beginning};
 use mdb_cash::{Choice, Pair};
 use mdb_follow::{Account, Cell};
 
-/// A device and the controller, as a replay follows them in a recording from power-on: what is
-/// known after the acts so far, the state, what the accounts have come to, as ranges of one value
-/// each, and how many amounts without a value were told.
+/// A device and the controller, as a replay follows them in a recording from power-on. It keeps
+/// what is known after the acts so far, the state, the bounds of the accounts, each with one value,
+/// and the number of amounts without a value.
 #[derive(Drop)]
 pub(crate) struct Track<F: Drop, S: Drop> {
     pub(crate) facts: F,

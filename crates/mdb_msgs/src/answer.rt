@@ -120,9 +120,9 @@ impl Command {
     }
 }
 
-/// Whether answers to this command may tell of sessions and sales: to a reader, POLL and the five
-/// commands of a session, VEND REQUEST to SESSION COMPLETE (12 and 13 00 to 13 04 to the first, 62
-/// and 63 00 to 63 04 to the second; this profile).
+/// Whether answers to this command may report sessions and sales (this profile). The commands are a
+/// reader's POLL and the five commands of a session, VEND REQUEST to SESSION COMPLETE. They are 12
+/// and 13 00 to 13 04, or 62 and 63 00 to 63 04.
 pub(crate) fn may_tell_of_sales(command: &Command) -> bool
     ensures { result ≡ may_tell_of_sales command.now }
 {

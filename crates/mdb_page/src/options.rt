@@ -34,8 +34,8 @@ pub struct PageOptions {
     pub setups: [PageSetup; 4],
 }
 
-/// The scope that the options name; `None` where an answer to SETUP is none, is that of a device
-/// that is left out, or is given though the recording began at power-on.
+/// The scope that the options name. `None` if an answer to SETUP is none, if it is that of a device
+/// that is left out, or if it is given for a recording from power-on.
 pub(crate) fn taken_so(options: &PageOptions) -> Option<Scope>
     ensures { IfSome result (IsTakenSo options.now) }
 {

@@ -1,7 +1,7 @@
-//! Comparisons that end a test where something is otherwise than wanted. They are functions, and
-//! tables are statics that tests go over by reference: the proof of a test grows with what stands
-//! in it, and each `assert_eq!`, and each entry of a table that is a constant or made in the test,
-//! cost it seconds.
+//! Comparisons that end a test if something isn't as expected. They are functions, and tables are
+//! statics that tests read by reference. The proof of a test grows with its text: each `assert_eq!`
+//! in it costs seconds, and so does each entry of a table that is a constant or is made in the
+//! test.
 
 use super::streams::{Pieces, words_of};
 use mdb_check::{LinkFault, Outcome, RunFault, check, run, show};

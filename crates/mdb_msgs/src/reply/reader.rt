@@ -165,15 +165,18 @@ impl Model for ReaderList {
 }
 
 impl ReaderList {
-    /// The list of these messages, with the 29 bytes of the message `PeripheralId` and the text of
-    /// the message `Display`; each is blank, all 0 or empty, where no message has it.
+    /// The list of these messages. `id` has the 29 bytes of the message `PeripheralId`, and `text`
+    /// the text of the message `Display`. Without such a message, `id` is all 0 and `text` is
+    /// empty.
     ///
     /// # Errors
     ///
-    /// The first of these: `Length` where there is no message, or all bytes are more than 35, which
-    /// a block can't carry (MDB/ICP 4.3, block format); `Message` where a display request isn't
-    /// last (this profile), a display text has more than 32 bytes, or a text stands beside the
-    /// messages without its message. `write_reply` has the same faults in the same order.
+    /// The first of these, which are those of `write_reply` in the same order:
+    ///
+    /// - `Length`: there is no message, or the bytes are more than the 35 that a block carries
+    ///   (MDB/ICP 4.3, block format).
+    /// - `Message`: a display request isn't last (this profile), a display text has more than 32
+    ///   bytes, or `id` or `text` is given without its message.
     pub fn new(messages: &[ReaderMsg], id: &[u8; 29], text: &[u8]) -> Result<Self, MsgFault>
         ensures exactly { IsOk result ↔ IsReaderBlock
             (record { messages = messages.now; id = id.now; text = text.now }) }
