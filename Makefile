@@ -1,18 +1,22 @@
-# Installs the programs that are built, their man pages, completions for bash and the pages of docs/.
-# For these it builds nothing: README.md says how to get the program. And it builds the page for a
-# browser, out/mdbcheck.html, and the library for C, out/c, which proves what these stand on
-# (docs/bench/page.md, docs/programs/library.md); and the worked cases as one file, out/vectors.jsonl.
+# Proves and builds the programs, renews release/, and installs.
 #
+#     make               proves and builds the programs (needs the toolchain; docs/testing.md)
 #     make install [PREFIX=/usr/local] [DESTDIR=..]
 #     make uninstall [PREFIX=/usr/local] [DESTDIR=..]
-#     make page
-#     make c-library
-#     make vectors
+#     make page          builds the page for a browser, out/mdbcheck.html
+#     make c-library     builds the library for C, out/c
+#     make vectors       writes the worked cases to out/vectors.jsonl
+#     make release       renews release/ from what tests/run has proved and built
+#
+# `make install` installs the programs that were built here, and where none were, those of release/:
+# them, the page, the man pages, completions for bash, docs/ and examples/. It builds nothing.
 
 PREFIX = /usr/local
 DESTDIR =
-PROGRAM = crates/mdbcheck/out/mdbcheck
-IMPORT = crates/mdbimport/out/mdbimport
+built = $(or $(wildcard crates/$(1)/out/$(1)),release/$(1))
+PROGRAM = $(call built,mdbcheck)
+IMPORT = $(call built,mdbimport)
+PAGE = $(or $(wildcard out/mdbcheck.html),release/mdbcheck.html)
 
 bin = $(DESTDIR)$(PREFIX)/bin
 man = $(DESTDIR)$(PREFIX)/share/man/man1
@@ -21,11 +25,11 @@ doc = $(DESTDIR)$(PREFIX)/share/doc/mdbcheck
 
 names = mdbcheck mdbimport
 
+programs:
+	tools/prove
+
 help:
-	@echo 'make install [PREFIX=/usr/local] [DESTDIR=..] installs the built program, make uninstall takes it away'
-	@echo 'make page builds out/mdbcheck.html, the page for a browser'
-	@echo 'make c-library builds out/c, the library for C'
-	@echo 'make vectors writes the worked cases to out/vectors.jsonl'
+	@sed -n '3,9s/^#     //p' Makefile
 
 page:
 	page/build
@@ -36,12 +40,16 @@ c-library:
 vectors:
 	python3 tests/make_vectors.py out/vectors.jsonl
 
-# Only what is built and what has a page or completions here. The second program may be missing.
+release:
+	tools/release
+
+# Only what has a page or completions here. The second program and the page may be missing.
 install:
 	$(if $(wildcard $(PROGRAM)),,$(error there is no $(PROGRAM): build it as README.md says, or name it with PROGRAM=))
 	install -d '$(bin)' '$(man)' '$(completions)' '$(doc)/examples' '$(doc)/docs'
 	install -m 755 '$(PROGRAM)' '$(bin)/mdbcheck'
 	$(if $(wildcard $(IMPORT)),install -m 755 '$(IMPORT)' '$(bin)/mdbimport')
+	$(if $(wildcard $(PAGE)),install -m 644 '$(PAGE)' '$(doc)/mdbcheck.html')
 	for name in $(names); do \
 	    [ ! -e man/$$name.1 ] || install -m 644 man/$$name.1 '$(man)' || exit 1; \
 	    [ ! -e completions/$$name.bash ] || \
@@ -58,4 +66,4 @@ uninstall:
 	for name in $(names); do rm -f '$(bin)'/$$name '$(man)'/$$name.1 '$(completions)'/$$name || exit 1; done
 	rm -rf '$(doc)'
 
-.PHONY: help c-library install page uninstall vectors
+.PHONY: c-library help install page programs release uninstall vectors
