@@ -127,6 +127,23 @@ def time_of(field, unit):
     return "a time of at most 15 digits of microseconds" if time > LAST_TIME else time
 
 
+def word_of(field):
+    """The word that a field tells, or None."""
+    found = WORD.fullmatch(field)
+    word = int(found[1] or found[2], 16) if found else 0x200
+    return word if word <= 0x1FF else None
+
+
+def is_header(record, names):
+    """Whether no field of a record has the form of a time or names a line or a break, and the last
+    is no word."""
+    fields = fields_of(record)
+    for field in fields:
+        if field in names or number_of(field) is not None or time_of_day(field) is not None:
+            return False
+    return word_of(fields[-1]) is None
+
+
 def row_of(record, unit, names, before):
     """The row of a record: (time, line, value), or a text that says what was wanted."""
     fields = fields_of(record)
@@ -147,13 +164,13 @@ def row_of(record, unit, names, before):
             return "the length of the break"
         value = str(microseconds(length, unit))
     else:
-        found = WORD.fullmatch(value)
-        word = int(found[1] or found[2], 16) if found else 0x200
-        if word > 0x1FF:
+        word = word_of(value)
+        if word is None:
             return "a word in hexadecimal digits, at most 1FF"
         value = f"{word:03X}"
     if before is not None and time <= before:
-        return "a time after that of the row before it"
+        what = "the same" if time == before else "earlier"
+        return f"a time after that of the row before it, and it is {what}"
     return (time, line, value)
 
 
@@ -168,7 +185,7 @@ def read(text, unit=None, controller=None, peripheral=None, first=None, last=Non
     before, lines, marked = None, set(), False
     for number, record in enumerate(records_of(plain(text)), 1):
         time = fields_of(record)[0]
-        if number == 1 and number_of(time) is None and time_of_day(time) is None:
+        if number == 1 and is_header(record, names):
             header = True
             continue
         row = row_of(record, unit, names, before)

@@ -51,7 +51,7 @@ no_prefix_digit x (inl is) digit = let P : ℕ → Type 0 = λ y. digit_value y 
 no_prefix_digit x (inr is) digit = let P : ℕ → Type 0 = λ y. digit_value y < 16 in
     absurd (omega (arith, subst P is digit))
 
-no_suffix_digit : (h : ℕ) → (h ≡ 104) ⊎ (h ≡ 72) → digit_value h < 16 → ⊥
+pub no_suffix_digit : (h : ℕ) → (h ≡ 104) ⊎ (h ≡ 72) → digit_value h < 16 → ⊥
 no_suffix_digit h (inl is) digit = let P : ℕ → Type 0 = λ y. digit_value y < 16 in
     absurd (omega (arith, subst P is digit))
 no_suffix_digit h (inr is) digit = let P : ℕ → Type 0 = λ y. digit_value y < 16 in
@@ -63,11 +63,11 @@ apart x h (inl a) (inr b) same = absurd (omega (arith, a, b, same))
 apart x h (inr a) (inl b) same = absurd (omega (arith, a, b, same))
 apart x h (inr a) (inr b) same = absurd (omega (arith, a, b, same))
 
-last_digit : (ds : List ℕ) (h : ℕ) → AllDigits 16 (ds ++ h ∷ []) → digit_value h < 16
+pub last_digit : (ds : List ℕ) (h : ℕ) → AllDigits 16 (ds ++ h ∷ []) → digit_value h < 16
 last_digit [] h all = all.0
 last_digit (d ∷ ds) h all = last_digit ds h all.1
 
-last_same : (ds es : List ℕ) (h k : ℕ) → ds ++ h ∷ [] ≡ es ++ k ∷ [] → ds ≡ es
+pub last_same : (ds es : List ℕ) (h k : ℕ) → ds ++ h ∷ [] ≡ es ++ k ∷ [] → ds ≡ es
 last_same [] [] h k is = refl
 last_same [] (e ∷ []) h k is = absurd (cc)
 last_same [] (e ∷ f ∷ es) h k is = absurd (cc)

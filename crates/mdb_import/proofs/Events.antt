@@ -2,15 +2,16 @@
 use Rattle.std.proofs.Common.{arith, refl, cond, length, append_assoc, ap, sym, subst, inl, inr}
 use Rattle.std.proofs.Common.{◌∙◌, ◌≡◌, ◌≤◌, ◌↔◌, ℕ, Bool, true, false, not, List, [], ◌∷◌, ◌++◌}
 use Rattle.std.proofs.Common.{Option, Some, None, map, IsTrue, IsSome, IfSome, IfErr, Result, Ok}
-use Rattle.std.proofs.Common.{Err}
+use Rattle.std.proofs.Common.{Err, IfNone}
+use Rattle.std.specs.Option.{is_some}
 use Rattle.std.proofs.Math.ListN.{length-map}
 use Rattle.std.proofs.lemmas.List.{append-nil}
 use Rattle.mdb_words.specs.Event.{start_of}
 use Rattle.mdb_words.specs.declared.event.Event.{Event}
 use Rattle.mdb_words.specs.declared.event.Event.TheVariants.{Word, Break}
 use Rattle.mdb_words.specs.declared.word.Line.{Line}
-use Rattle.mdb_import.specs.Fields.{bare, line_fields, parts_of, separator_of}
-use Rattle.mdb_import.specs.Rows.{AreOf, IsHeaderOf, IsLine, IsRowOf}
+use Rattle.mdb_import.specs.Fields.{bare, has_byte, line_fields, parts_of, separator_of}
+use Rattle.mdb_import.specs.Rows.{AreOf, IsHeaderOf, IsLine, IsRowOf, IsTitle}
 use Rattle.mdb_import.specs.Times.{IsLength, IsSeconds, IsTime, IsTimeForm}
 use Rattle.mdb_import.specs.Values.{IsWord}
 use Rattle.mdb_import.specs.declared.options.RowsOptions.{RowsOptions}
@@ -21,6 +22,8 @@ use Rattle.mdb_import.specs.Exports.{last_start, row_line, rows_text, taken_of, 
 use Rattle.mdb_import.specs.Rows.{AreEvents, AreEventsWith, AreRows, IsAfter, IsExportedRow}
 use Rattle.mdb_import.specs.Rows.{IsHeader, IsPassed, TellsTime, last_with}
 use Rattle.mdb_import.specs.inner.Steps.{part_line}
+use Rattle.mdb_import.specs.declared.options.Unit.{Unit}
+use Rattle.mdb_import.proofs.Parts.{some_parts, split_at, split_none}
 use Rattle.mdb_import.proofs.Readings.{time_same}
 
 -- the time of an event is its first field
@@ -56,33 +59,67 @@ start_same options fields one two first second =
     (time_at options first.time first.line first.value one first.are))
     (time_at options second.time second.line second.value two second.are)
 
--- the header's test
-pub header_is : (line first : List ℕ) (separator : ℕ) → separator ≡ separator_of line
-    → ((others : List (List ℕ)) × (parts_of separator line ≡ first ∷ others)) → (field : List ℕ)
-    → field ≡ bare first → (form : Bool)
-    → (IsTrue form ↔ IsTimeForm field) → IsTrue (not form) ↔ IsHeaderOf (line_fields line)
-header_is line first separator is parts field is_bare form tells =
-    let fields : line_fields line ≡ bare first ∷ map bare parts.0 =
-    ap (map bare) (ap (λ s. parts_of s line) (sym is) ∙ parts.1) in (
-      λ no_form. record {
-        first = bare first;
-        others = map bare parts.0;
-        some = fields;
-        no_time = λ time. neither form no_form (tells.1 (subst IsTimeForm (sym is_bare) time));
-      },
-      λ header. no_longer form (λ holds. header.no_time
-          (let both : bare first ∷ map bare parts.0 ≡ header.first ∷ header.others = sym fields
-          ∙ header.some in let same : bare first ≡ header.first = cc in
-          subst IsTimeForm (is_bare ∙ same) (tells.0 holds))),
-    )
+-- the fields of a line that has a separator, and of what stands behind it
+parts_more : (separator : ℕ) (line first after : List ℕ) → line ≡ first ++ separator ∷ after
+    → has_byte separator first ≡ false
+    → (next : List ℕ) × (others : List (List ℕ))
+    × (map bare (parts_of separator line) ≡ bare first ∷ next ∷ others)
+    × (map bare (parts_of separator after) ≡ next ∷ others)
+parts_more separator line first after is lacks =
+    some (parts_of separator after) (some_parts separator after)
+    (ap (map bare) (split_at separator line first after is lacks))
   where
-    neither : (b : Bool) → not b ≡ true → b ≡ true → ⊥
-    neither true denied holds = absurd (cc)
-    neither false denied holds = absurd (cc)
+    some : (parts : List (List ℕ)) → 1 ≤ length parts
+        → map bare (parts_of separator line) ≡ bare first ∷ map bare parts
+        → (next : List ℕ) × (others : List (List ℕ))
+        × (map bare (parts_of separator line) ≡ bare first ∷ next ∷ others)
+        × (map bare parts ≡ next ∷ others)
+    some [] few all = absurd (omega (arith, few))
+    some (part ∷ parts) few all = (bare part, map bare parts, all, refl)
 
-    no_longer : (b : Bool) → (b ≡ true → ⊥) → not b ≡ true
-    no_longer true none = absurd (none refl)
-    no_longer false none = refl
+-- behind a title stands a header's rest, and before a header's rest a title
+pub title_more : (options : RowsOptions) (separator : ℕ) (line first after field : List ℕ)
+    → line ≡ first ++ separator ∷ after → has_byte separator first ≡ false → field ≡ bare first
+    → IsTitle options field
+    → IsHeaderOf options (map bare (parts_of separator line))
+    ↔ IsHeaderOf options (map bare (parts_of separator after))
+title_more options separator line first after field is lacks is_bare title =
+    let parts = parts_more separator line first after is lacks in
+    let P : List (List ℕ) → Type 0 = IsHeaderOf options in (
+      λ header. subst P (sym parts.3) (subst P parts.2 header).1,
+      λ rest. subst P (sym parts.2) (subst (IsTitle options) is_bare title, subst P parts.3 rest),
+    )
+
+-- a field that can be no title stands in no header
+pub no_title : (options : RowsOptions) (separator : ℕ) (line first after field : List ℕ)
+    → line ≡ first ++ separator ∷ after → has_byte separator first ≡ false → field ≡ bare first
+    → (IsTitle options field → ⊥) → IsHeaderOf options (map bare (parts_of separator line)) → ⊥
+no_title options separator line first after field is lacks is_bare none header =
+    let parts = parts_more separator line first after is lacks in
+    let P : List (List ℕ) → Type 0 = IsHeaderOf options in
+    none (subst (IsTitle options) (sym is_bare) (subst P parts.2 header).0)
+
+-- the last field of a line
+pub last_field : (separator : ℕ) (line field : List ℕ) → has_byte separator line ≡ false
+    → field ≡ bare line → map bare (parts_of separator line) ≡ field ∷ []
+last_field separator line field lacks is_bare =
+    ap (map bare) (split_none separator line lacks) ∙ ap (λ f. f ∷ []) (sym is_bare)
+
+-- a line whose last field is a title is a header's exactly where that is no word
+pub header_last : (options : RowsOptions) (fields : List (List ℕ)) (field : List ℕ)
+    (word : Option ℕ) (is : Bool) → fields ≡ field ∷ [] → IsTitle options field
+    → IfSome word (IsWord field) → IfNone word ((w : ℕ) → IsWord field w → ⊥)
+    → is_some word ≡ not is → IsTrue is ↔ IsHeaderOf options fields
+header_last options fields field None true fields_are title some none is = (
+  λ holds. subst (IsHeaderOf options) (sym fields_are) (title, none),
+  λ header. refl,
+)
+header_last options fields field None false fields_are title some none is = absurd (cc)
+header_last options fields field (Some w) true fields_are title some none is = absurd (cc)
+header_last options fields field (Some w) false fields_are title some none is = (
+  λ holds. absurd (cc),
+  λ header. absurd ((subst (IsHeaderOf options) fields_are header).1 w some),
+)
 
 -- the row of a line
 pub row_of : (options : RowsOptions) (line a b c : List ℕ) (separator : ℕ)
@@ -91,19 +128,36 @@ pub row_of : (options : RowsOptions) (line a b c : List ℕ) (separator : ℕ)
 row_of options line a b c separator is parts =
     ap (map bare) (ap (λ s. parts_of s line) (sym is) ∙ parts)
 
--- a row's first field has the form of a time, so it is no header
-pub row_no_header : (options : RowsOptions) (fields : List (List ℕ)) (event : Event)
-    → IsRowOf options fields event → IsHeaderOf fields → ⊥
-row_no_header options fields event row header =
-    let both : row.time ∷ row.line ∷ row.value ∷ [] ≡ header.first ∷ header.others =
-    sym row.three ∙ header.some in
-    let same : row.time ≡ header.first = cc in
-    let time = time_at options row.time row.line row.value event row.are in
-    header.no_time (subst IsTimeForm same (form time.seconds))
+-- the first field of a header has no form of a time
+titled : (options : RowsOptions) (first : List ℕ) (others : List (List ℕ))
+    → IsHeaderOf options (first ∷ others) → IsTitle options first
+titled options first [] header = header.0
+titled options first (next ∷ others) header = header.0
+
+time_form : (told : Option Unit) (field : List ℕ) (at : ℕ) → IsTime told field at
+    → IsTimeForm field
+time_form told field at time = form time.seconds
   where
-    form : {n d : ℕ} → IsSeconds options.unit row.time n d → IsTimeForm row.time
-    form {n} {d} (inl is) = (n, is.1, inl is.3)
-    form {n} {d} (inr is) = (n, is.0, inr is.1)
+    form : IsSeconds told field time.n time.d → IsTimeForm field
+    form (inl is) = (time.n, is.1, inl is.3)
+    form (inr is) = (time.n, is.0, inr is.1)
+
+pub tells_no_header : (options : RowsOptions) (fields : List (List ℕ)) (at : ℕ)
+    → TellsTime options fields at → IsHeaderOf options fields → ⊥
+tells_no_header options fields at tells header =
+    (titled options tells.first tells.others (subst (IsHeaderOf options) tells.some header)).no_time
+    (time_form options.unit tells.first at tells.time)
+
+-- a row's first field has that form, so it is no header
+pub row_no_header : (options : RowsOptions) (fields : List (List ℕ)) (event : Event)
+    → IsRowOf options fields event → IsHeaderOf options fields → ⊥
+row_no_header options fields event row =
+    tells_no_header options fields (start_of event) (record {
+      first = row.time;
+      others = row.line ∷ row.value ∷ [];
+      some = row.three;
+      time = time_at options row.time row.line row.value event row.are;
+    })
 
 -- a record more
 rows_more : (options : RowsOptions) (last : Option ℕ) (done : List (List (List ℕ)))
@@ -214,7 +268,7 @@ line_tells_none options line first separator is parts field is_bare none at tell
 -- the first record is a header
 pub events_header : (options : RowsOptions) (header : Bool) (done : List (List (List ℕ)))
     (events : List Event) (first : List (List ℕ)) → length done ≡ 0
-    → AreEventsWith options header done events → IsHeader first
+    → AreEventsWith options header done events → IsHeader options first
     → AreEventsWith options true (done ++ first ∷ []) events
 events_header options false [] events first none are is = (is, are)
 events_header options true [] events first none are is = absurd are

@@ -144,7 +144,7 @@ read_passed options done events row count before after counted few read is passe
 
 read_header : (options : RowsOptions) (done : List (List (List ℕ))) (events : List Event)
     (row : List (List ℕ)) (before after : Imported) → length done ≡ 0
-    → AreRead options done events before → IsHeader row → after.passed ≡ before.passed
+    → AreRead options done events before → IsHeader options row → after.passed ≡ before.passed
     → after.header ≡ true → AreRead options (done ++ row ∷ []) events after
 read_header options done events row before after none read is passed header =
     let P : Bool → Type 0 = λ h. AreEventsWith options h (done ++ row ∷ []) events in
@@ -223,7 +223,8 @@ pub passed_header : (options : RowsOptions) (old new : Importing) (before now : 
     (done : List (List (List ℕ))) (events : List Event) (row : List (List ℕ)) (count : ℕ)
     → length done ≡ count → HasImported options old before now done events
     → new.last ≡ old.last → count ≡ 0 → IsTold options events new.tally
-    → new.tally.passed ≡ old.tally.passed → new.tally.header ≡ true → IsHeaderOf (export_fields row)
+    → new.tally.passed ≡ old.tally.passed → new.tally.header ≡ true
+    → IsHeaderOf options (export_fields row)
     → (more : List Event) × HasImported options new before now (done ++ row ∷ []) more
 passed_header options old new before now done events row count counted has same none told passed is
     header = (

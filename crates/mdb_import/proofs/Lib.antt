@@ -9,3 +9,6 @@ pub mod Outputs
 pub mod Imports
 pub mod Decodings
 pub mod Orders
+pub mod PlainRecords
+pub mod PlainRows
+pub mod OneImport

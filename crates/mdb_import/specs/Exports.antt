@@ -66,7 +66,7 @@ pub record IsRefusedRecord (options : RowsOptions) (done : List (List (List ℕ)
     : Type 0 where
   pub no_row : (event : Event) → IsExportedRow options named event
       → IsAfter (last_start options None events) event → ⊥
-  pub no_header : done ≡ [] → IsHeader named → ⊥
+  pub no_header : done ≡ [] → IsHeader options named → ⊥
   pub not_passed : (at : ℕ) → TellsTime options (export_fields named) at → is_in options at ≡ true
   pub own_time : IfSome own (TellsTime options (export_fields named))
   pub no_time : IfNone own ((at : ℕ) → TellsTime options (export_fields named) at → ⊥)

@@ -3,6 +3,7 @@ pub mod Exports
 pub mod Fields
 pub mod Numbers
 pub mod Part
+pub mod ReadBack
 pub mod Refusals
 pub mod Rows
 pub mod Times

@@ -20,12 +20,14 @@ IsLetterOf capital small field = (field ≡ capital ∷ []) ⊎ (field ≡ small
 abbrev pub IsNamed : ℕ → ℕ → Option (List ℕ) → List ℕ → Type 0
 IsNamed capital small name field = IsLetterOf capital small field ⊎ (name ≡ Some field)
 
--- a field that names a line: M or m, S or s, or the name that was told
+-- a field that names a line: M or m, S or s, or the name that was told. Where it could name both,
+-- it names the controller's.
 abbrev pub IsLine : RowsOptions → List ℕ → Line → Type 0
 IsLine options field Controller =
     IsNamed 77 109 (option_map string_bytes options.controller) field
 IsLine options field Peripheral =
     IsNamed 83 115 (option_map string_bytes options.peripheral) field
+    × (IsNamed 77 109 (option_map string_bytes options.controller) field → ⊥)
 
 -- a field that says that the row is of a break: B or b
 abbrev pub IsBreak : List ℕ → Type 0
@@ -48,20 +50,26 @@ pub record IsRowOf (options : RowsOptions) (fields : List (List ℕ)) (event : E
   pub three : fields ≡ time ∷ line ∷ value ∷ []
   pub are : AreOf options time line value event
 
--- the fields of a header: the first has no form of a time
-pub record IsHeaderOf (fields : List (List ℕ)) : Type 0 where
-  pub first : List ℕ
-  pub others : List (List ℕ)
-  pub some : fields ≡ first ∷ others
-  pub no_time : IsTimeForm first → ⊥
+-- a field that can be a title: it has no form of a time, and names neither a line nor a break
+pub record IsTitle (options : RowsOptions) (field : List ℕ) : Type 0 where
+  pub no_time : IsTimeForm field → ⊥
+  pub no_line : (on : Line) → IsLine options field on → ⊥
+  pub no_break : IsBreak field → ⊥
+
+-- the fields of a header: each can be a title, and the last is no word
+abbrev pub IsHeaderOf : RowsOptions → List (List ℕ) → Type 0
+IsHeaderOf options [] = ⊥
+IsHeaderOf options (last ∷ []) = IsTitle options last × ((word : ℕ) → IsWord last word → ⊥)
+IsHeaderOf options (title ∷ next ∷ fields) =
+    IsTitle options title × IsHeaderOf options (next ∷ fields)
 
 -- a record that stands for an event
 abbrev pub IsExportedRow : RowsOptions → List (List ℕ) → Event → Type 0
 IsExportedRow options row event = IsRowOf options (export_fields row) event
 
 -- a record that is a header
-abbrev pub IsHeader : List (List ℕ) → Type 0
-IsHeader header = IsHeaderOf (export_fields header)
+abbrev pub IsHeader : RowsOptions → List (List ℕ) → Type 0
+IsHeader options header = IsHeaderOf options (export_fields header)
 
 -- an event starts after the one before it, if there is one
 abbrev pub IsAfter : Option ℕ → Event → Type 0
@@ -101,7 +109,7 @@ AreRows options last (row ∷ rows) events =
 abbrev pub AreRowsAfterHeader : RowsOptions → List (List (List ℕ)) → List Event → Type 0
 AreRowsAfterHeader options [] events = ⊥
 AreRowsAfterHeader options (header ∷ rows) events =
-    IsHeader header × AreRows options None rows events
+    IsHeader options header × AreRows options None rows events
 
 -- the records of an export that has a header or has none, and all events that they stand for
 abbrev pub AreEventsWith : RowsOptions → Bool → List (List (List ℕ)) → List Event → Type 0

@@ -287,7 +287,7 @@ fn next_in(
             Err(fault) => Err(fault),
         },
         Err(fault) => {
-            if first && is_header(line) {
+            if first && is_header(options, line) {
                 Ok(None)
             } else {
                 Err(fault)

@@ -7,11 +7,11 @@ ghost use Rattle.mdb_words.specs.declared.word.Line.{Line};
 ghost use Rattle.mdb_import.specs.Fields.{line_fields};
 ghost use Rattle.mdb_import.specs.Refusals.{IsFieldsFault, IsNoRow};
 ghost use Rattle.mdb_import.specs.Rows.{AreOf, IsBreak, IsHeaderOf, IsLetterOf, IsLine, IsNamed};
-ghost use Rattle.mdb_import.specs.Rows.{IsRowOf, TellsTime};
+ghost use Rattle.mdb_import.specs.Rows.{IsRowOf, IsTitle, TellsTime};
 ghost use Rattle.mdb_import.specs.Times.{IsTime};
 
 use super::fault::RecordFault;
-use super::fields::{bare, first_part, separator_of, three_parts};
+use super::fields::{bare, first_part, parted, separator_of, three_parts};
 use super::options::RowsOptions;
 use super::times::{is_time_form, read_length, read_time};
 use super::values::read_word;
@@ -41,11 +41,28 @@ pub(crate) fn time_in(options: &RowsOptions, line: &[u8]) -> Option<u64>
     }
 }
 
-/// Whether a line is that of a header.
-pub(crate) fn is_header(line: &[u8]) -> bool
-    ensures { IsTrue result ↔ IsHeaderOf (line_fields line.now) }
+/// Whether a line is that of a header: no field has the form of a time or names a line or a break,
+/// and the last is no word.
+pub(crate) fn is_header(options: &RowsOptions, line: &[u8]) -> bool
+    ensures { IsTrue result ↔ IsHeaderOf options.now (line_fields line.now) }
 {
-    !is_time_form(bare(first_part(line, separator_of(line))))
+    let separator = separator_of(line);
+    let mut rest = line;
+    while let Some((title, others)) = parted(rest, separator) {
+        if !is_title(options, bare(title)) {
+            return false;
+        }
+        rest = others;
+    }
+    let last = bare(rest);
+    is_title(options, last) && read_word(last).is_none()
+}
+
+/// Whether a field can be a title.
+fn is_title(options: &RowsOptions, field: &[u8]) -> bool
+    ensures { IsTrue result ↔ IsTitle options.now field.now }
+{
+    !is_time_form(field) && line_of(options, field).is_none() && !is_break(field)
 }
 
 /// The event of three fields, or what is wrong with them.

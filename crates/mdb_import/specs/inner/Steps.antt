@@ -23,10 +23,10 @@ abbrev pub IsNext : RowsOptions → Bool → Option ℕ → List (List ℕ)
     → Result (Option Event) RecordFault → Type 0
 IsNext options first last fields (Ok (Some event)) =
     IsRowOf options fields event × IsAfter last event
-IsNext options first last fields (Ok None) = (first ≡ true) × IsHeaderOf fields
+IsNext options first last fields (Ok None) = (first ≡ true) × IsHeaderOf options fields
 IsNext options first last fields (Err fault) =
     ((event : Event) → IsRowOf options fields event → IsAfter last event → ⊥)
-    × (first ≡ true → IsHeaderOf fields → ⊥)
+    × (first ≡ true → IsHeaderOf options fields → ⊥)
     × IsFault options last fields fault
 
 -- what is written of an event: its row, if it is in the part that was asked for
