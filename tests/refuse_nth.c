@@ -2,11 +2,12 @@
  * from 1, is in REFUSE_NTH, of those that REFUSE names: `memory` (allocations), `read` (of standard input) or `write` (to
  * standard output). It then writes a byte to the file descriptor 3. All others are passed on to glibc, and where reads or
  * writes are named, each of them goes on with 7 bytes at most. With `wait` none is refused, and standard input is one
- * that doesn't wait for bytes (O_NONBLOCK).
+ * that doesn't wait for bytes (O_NONBLOCK). With `interrupt` every second write to standard output is interrupted by a
+ * signal before it has moved a byte, and a byte goes to the file descriptor 3; the others go on with 7 bytes at most.
  * It is used by tests/refused-memory and tests/failing-streams alone, and is no part of the product. */
 typedef unsigned long size_t;
 
-enum { EIO = 5, F_SETFL = 4, O_NONBLOCK = 04000, PIECE = 7 };
+enum { EINTR = 4, EIO = 5, F_SETFL = 4, O_NONBLOCK = 04000, PIECE = 7 };
 
 extern void *__libc_malloc(size_t size);
 extern void *__libc_realloc(void *old, size_t size);
@@ -47,6 +48,16 @@ static int is_refused(void)
     return 1;
 }
 
+/* Whether the next write is to be interrupted: the first, the third and so on. */
+static int is_interrupted(void)
+{
+    calls++;
+    if (calls % 2 == 0)
+        return 0;
+    __write(3, "x", 1);
+    return 1;
+}
+
 void *malloc(size_t size)
 {
     return is_named("memory") && is_refused() ? 0 : __libc_malloc(size);
@@ -72,10 +83,11 @@ long read(int from, void *bytes, size_t count)
 
 long write(int to, const void *bytes, size_t count)
 {
-    if (to != 1 || !is_named("write"))
+    int interrupts = is_named("interrupt");
+    if (to != 1 || (!interrupts && !is_named("write")))
         return __write(to, bytes, count);
-    if (is_refused()) {
-        *__errno_location() = EIO;
+    if (interrupts ? is_interrupted() : is_refused()) {
+        *__errno_location() = interrupts ? EINTR : EIO;
         return -1;
     }
     return __write(to, bytes, count < PIECE ? count : PIECE);
