@@ -20,11 +20,13 @@ class Refusal(NamedTuple):
 
     record: int  # the record's number, counted from 1: it stands one line further down
     time: "int | None"  # its time in whole microseconds, where it has one
-    why: str
+    why: str  # what was wanted
+    line: "str | None" = None  # M or S, where the record is on one of them
 
     def __str__(self):
         at = "" if self.time is None else f" at {self.time}"
-        return f"record {self.record}{at}: {self.why}"
+        on = "" if self.line is None else f" on {self.line}"
+        return f"record {self.record}{at}{on}: wanted {self.why}"
 
 
 class Refused(Exception):
@@ -52,6 +54,11 @@ NAMES = {
 LAST_TIME = 10**15 - 1
 LONGEST_BREAK = 10**9 - 1
 
+# What is wanted in more places than one.
+NO_BREAK = "a stop bit after the word: a framing error that is no break"
+EARLY = "a time after that of the row before it on this line"
+OTHER_KIND = "something of RX or TX that was asked for: see the annotations (-A)"
+
 
 def whole(millionths):
     """Whole microseconds, the nearest; the half goes up."""
@@ -66,40 +73,44 @@ def records_of(text):
         lines.pop()
     lines = [line[:-1] if line.endswith(b"\r") else line for line in lines]
     if not lines or lines[0] != HEAD:
-        raise Refused(0, None, 'no trace: its first line isn\'t {"traceEvents": [')
+        why = 'a trace, whose first line is {"traceEvents": [, and it is another one'
+        raise Refused(0, None, why)
     opened = None  # the first record of a pair, until its second comes
     number = 0
     next_is = "record"  # or the "end" of the trace, or "nothing"
     for line in lines[1:]:
         if next_is == "nothing":
-            raise Refused(number + 1, None, "the trace goes on after its end")
+            raise Refused(number + 1, None, "nothing after the line ]}, where the trace ends")
         if next_is == "end":
             if line != TAIL or opened is not None:
-                raise Refused(number + 1, None, "no record, and not the end of a trace")
+                why = "the last line of a trace, ]}, after a record without a comma"
+                raise Refused(number + 1, None, why)
             next_is = "nothing"
             continue
         number += 1
         found = RECORD.fullmatch(line)
         if not found:
-            raise Refused(number, None, "no record as sigrok-cli writes it for this decoder")
+            raise Refused(number, None, "a record as sigrok-cli writes it for its decoder uart-1")
         phase, units, parts, tid, name, comma = found.groups()
         units = units.lstrip(b"0")
         time = int(units + parts) if len(units) <= 15 else None
         if time is None or whole(time) > LAST_TIME:
-            raise Refused(number, None, "a time of more than 15 digits")
+            raise Refused(number, None, "a time of at most 15 digits of microseconds")
         next_is = "record" if comma else "end"
         if opened is None:
             if phase != b"B":
-                raise Refused(number, whole(time), "an end without a beginning")
+                why = "the beginning of something (B), and it is an end (E)"
+                raise Refused(number, whole(time), why)
             opened = (number, time, tid, name)
             continue
         first, start, tid_before, name_before = opened
         if phase != b"E" or (tid, name) != (tid_before, name_before):
-            raise Refused(first, whole(start), "a beginning without its end")
+            why = "the end of what begins there as the next record"
+            raise Refused(first, whole(start), why)
         opened = None
         yield (first, tid, name, start, time)
     if next_is != "nothing":
-        raise Refused(number + 1, None, "the trace is cut: its end is missing")
+        raise Refused(number + 1, None, "more records, or the last line ]}: the trace is cut")
 
 
 class Line:
@@ -116,7 +127,10 @@ class Line:
     def no_break(self):
         """There was a frame error, and what comes now is no break."""
         if self.wrong is not None:
-            raise Refused(*self.wrong, f"a framing error on line {self.name} that is no break")
+            self.refuse(*self.wrong, NO_BREAK)
+
+    def refuse(self, number, time, why):
+        raise Refused(number, time, why, self.name)
 
     def take(self, number, kind, name, start, end):
         time = whole(start)
@@ -124,43 +138,42 @@ class Line:
             self.no_break()
         if kind == START:
             if self.start is not None:
-                why = f"a start bit without a word on line {self.name}"
-                raise Refused(self.opened, self.start, why)
-            if self.rows and time == self.rows[-1][0]:
-                raise Refused(number, time, f"two words at one time on line {self.name}")
-            if self.rows and time < self.rows[-1][0]:
-                raise Refused(number, time, f"a time that goes back on line {self.name}")
+                why = "the word of the start bit before the next start bit"
+                self.refuse(self.opened, self.start, why)
+            if self.rows and time <= self.rows[-1][0]:
+                self.refuse(number, time, EARLY)
             self.start, self.opened, self.zero = time, number, False
         elif kind == DATA:
             if self.start is None:
-                raise Refused(number, time, f"a word without a start bit on line {self.name}")
+                self.refuse(number, time, "a start bit right before the word")
             if len(name) != 3:
-                why = "a word that isn't three hexadecimal digits: decode with nine data bits"
-                raise Refused(number, time, why)
+                why = "a word of three hexadecimal digits: decode with nine data bits"
+                self.refuse(number, time, why)
             if int(name, 16) > 0x1FF:
-                raise Refused(number, time, "a word above 1FF")
+                self.refuse(number, time, "a word of at most 1FF: decode with nine data bits")
             self.rows.append((self.start, self.name, name.decode()))
             self.start, self.zero = None, name == b"000"
         elif kind == FRAME:
             if not self.zero:
-                raise Refused(number, time, f"a framing error on line {self.name} that is no break")
+                self.refuse(number, time, NO_BREAK)
             self.wrong, self.zero = (number, time), False
         elif kind == PARITY:
-            raise Refused(number, time, f"a parity error on line {self.name}")
+            self.refuse(number, time, "no parity: decode with parity=none")
         else:
             if self.wrong is None:
-                why = f"a break without its framing error on line {self.name}"
-                raise Refused(number, time, why)
+                why = "a word 000 and its framing error right before the break"
+                self.refuse(number, time, why)
             if self.name != "M":
-                raise Refused(number, time, f"a break on line {self.name}")
+                why = "no break on the line of the devices: are the lines exchanged (--swap)?"
+                self.refuse(number, time, why)
             if end < start:
-                raise Refused(number, time, "a break that ends before it begins")
+                self.refuse(number, time, "the end of the break after its beginning")
             length = whole(end - start)
             if length > LONGEST_BREAK:
-                raise Refused(number, time, "a break of more than 999999999 microseconds")
+                self.refuse(number, time, "a break of at most 999999999 microseconds")
             self.rows.pop()
             if self.rows and time <= self.rows[-1][0]:
-                raise Refused(number, time, f"a time that goes back on line {self.name}")
+                self.refuse(number, time, EARLY)
             self.rows.append((time, "B", str(length)))
             self.wrong = None
 
@@ -176,9 +189,10 @@ def read_sigrok(text: bytes, swap: bool = False):
             if kind is None and rest == b"" and HEXADECIMAL.fullmatch(name):
                 kind = DATA
             if line is None or kind is None:
-                if line is not None:
-                    line.no_break()
-                raise Refused(number, whole(start), "a record of another kind than those asked for")
+                if line is None:
+                    raise Refused(number, whole(start), OTHER_KIND)
+                line.no_break()
+                line.refuse(number, whole(start), OTHER_KIND)
             line.take(number, kind, name, start, end)
         controller.no_break()
         device.no_break()
