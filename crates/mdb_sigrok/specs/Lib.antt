@@ -2,6 +2,7 @@ pub mod Import
 pub mod Order
 pub mod Part
 pub mod Record
+pub mod Refusals
 pub mod Rows
 pub mod Text
 pub mod Trace

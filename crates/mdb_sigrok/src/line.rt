@@ -2,6 +2,7 @@
 
 ghost use Rattle.std.specs.Prelude.{◌≡◌, ◌++◌, ◌∷◌, [], List, IfOk, IfErr, OnOk, Ok, Err, None};
 ghost use Rattle.mdb_words.specs.declared.event.Event.{Event};
+ghost use Rattle.mdb_sigrok.specs.Refusals.{IsNoBreak};
 ghost use Rattle.mdb_sigrok.specs.Rows.{IsBreak, IsStart, LineRows, break_of};
 ghost use Rattle.mdb_sigrok.specs.inner.Steps.{Blocks, EndsWith, IsOpen, IsPlace, open_pairs, told_by};
 
@@ -240,6 +241,7 @@ fn break_row(place: &Place, pair: &Pair) -> Result<Event, OrderFault>
     ensures ok { IfOk result (λ _. IsBreak place.now.earliest place.now.line pair.now) }
     ensures row { IfOk result (λ row. row ≡ break_of pair.now) }
     ensures err { IfErr result (λ _. IsBreak place.now.earliest place.now.line pair.now → ⊥) }
+    ensures why { IfErr result (IsNoBreak place.now.earliest place.now.line pair.now) }
 {
     if pair.what != What::BreakEnd {
         return Err(OrderFault::NoBreak);

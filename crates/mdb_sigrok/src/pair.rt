@@ -6,6 +6,7 @@ ghost use Rattle.mdb_words.specs.Digits.{hex_word};
 ghost use Rattle.mdb_words.specs.declared.word.Line.{Line};
 ghost use Rattle.mdb_sigrok.specs.declared.pair.What.{What};
 ghost use Rattle.mdb_sigrok.specs.Record.{IsName, TellsWhat, channel_of, row_of};
+ghost use Rattle.mdb_sigrok.specs.Refusals.{IsNoKind, IsNoName};
 
 use super::cut::{after, is_text};
 use super::fault::OrderFault;
@@ -70,6 +71,7 @@ pub(crate) fn what_of(row: &[u8], name: &[u8]) -> Result<What, OrderFault>
     ensures ok { IfOk result (λ what. (row.now ≡ row_of what) × IsName what name.now) }
     ensures err { IfErr result (λ _. (what : What) →
         row.now ≡ row_of what → IsName what name.now → ⊥) }
+    ensures why { IfErr result (IsNoKind row.now name.now) }
 {
     if is_text(row, b"") {
         return word_or_start(name);
@@ -88,6 +90,7 @@ fn word_or_start(name: &[u8]) -> Result<What, OrderFault>
     ensures ok { IfOk result (λ what. ([] ≡ row_of what) × IsName what name.now) }
     ensures err { IfErr result (λ _. (what : What) →
         [] ≡ row_of what → IsName what name.now → ⊥) }
+    ensures why { IfErr result (IsNoName name.now) }
 {
     if is_text(name, b"Start bit") {
         return Ok(What::Start);
@@ -99,7 +102,9 @@ fn word_or_start(name: &[u8]) -> Result<What, OrderFault>
 }
 
 /// Why a name is none of a word or its start.
-fn fault_of_name(name: &[u8]) -> OrderFault {
+fn fault_of_name(name: &[u8]) -> OrderFault
+    ensures { IsNoName name.now result }
+{
     if is_text(name, b"Parity error") {
         return OrderFault::Parity;
     }

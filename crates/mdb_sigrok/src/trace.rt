@@ -6,6 +6,7 @@ ghost use Rattle.mdb_sigrok.specs.Text.{lines_of};
 ghost use Rattle.mdb_sigrok.specs.inner.Fronts.{HasLine, HasTwo};
 ghost use Rattle.mdb_sigrok.specs.inner.Pairs.{BeginsWith, IsNext, IsOfTrace, MakesPair};
 ghost use Rattle.mdb_sigrok.specs.Record.{AreNames, IsRecord};
+ghost use Rattle.mdb_sigrok.specs.Refusals.{wire_of};
 ghost use Rattle.mdb_sigrok.specs.Trace.{Refutes};
 
 use super::cut::{is_text, next_line};
@@ -136,7 +137,9 @@ pub(crate) fn order(number: u64, time: Moment, line: FaultLine, fault: OrderFaul
 }
 
 /// A line, as it is told.
-pub(crate) fn fault_line(line: Line) -> FaultLine {
+pub(crate) fn fault_line(line: Line) -> FaultLine
+    ensures { result ≡ wire_of line }
+{
     match line {
         Line::Controller => FaultLine::Controller,
         Line::Peripheral => FaultLine::Devices,
