@@ -3,7 +3,7 @@
 ghost use Rattle.std.specs.Prelude.{◌≡◌, ◌<◌, ◌-◌, ◌^◌, [], List, ℕ, IfErr, IfOk, IfSome, OnOk};
 ghost use Rattle.std.specs.Prelude.{None, Some, length, true};
 ghost use Rattle.csv.specs.Records.{fields_of};
-ghost use Rattle.mdb_records.specs.ToCome.{ToCome};
+ghost use Rattle.mdb_records.specs.ToCome.{ToCome, limit_of};
 ghost use Rattle.mdb_words.specs.Event.{start_of};
 ghost use Rattle.mdb_import.specs.Exports.{AreRead, Exports, HasFailed, IsExported, IsTold};
 ghost use Rattle.mdb_import.specs.Exports.{export_records};
@@ -76,10 +76,12 @@ pub fn import_rows<R: Read + Drop, W: Write>(
     import_records(alloc, options, &mut records, writer)
 }
 
-/// The records of the text that a reader has left.
+/// The records of the text that a reader has left, however long it is.
 pub fn records_of<R: Read + Drop>(alloc: Global, reader: R) -> Records<Decoded<R>>
-    ensures { IfSome (R.remaining reader) (λ text.
+    ensures records { IfSome (R.remaining reader) (λ text.
         ToCome (decoded_remaining R.remaining) result (export_records text)) }
+    // No export is too long.
+    ensures limit { limit_of result ≡ 2 ^ 64 - 1 }
 {
     Records::new(alloc, Decoded::new(reader), u64::MAX)
 }

@@ -3,4 +3,4 @@ use Rattle.mdb_import.specs.Exports.{export_records}
 use Rattle.mdb_importer.proofs.program.run_rows.Goals as goal
 
 pub returns : goal.returns
-returns g c = IfSome_then _ c.records_of-records.ensures (λ text to_come. c.import_records-answer.ensures.exports (export_records text) to_come)
+returns g c = IfSome_then _ c.records_of-records.ensures.records (λ text to_come. c.import_records-answer.ensures.exports (export_records text) to_come)

@@ -5,10 +5,10 @@ use Rattle.mdb_saleae.proofs.importing.import_saleae.Goals as goal
 
 pub returns-clause-exported : goal.returns-clause-exported
 returns-clause-exported g c =
-    IfSome_then _ c.records_of-records.ensures (λ text to_come. exported_ok c.args.options.now text
+    IfSome_then _ c.records_of-records.ensures.records (λ text to_come. exported_ok c.args.options.now text
     (g.W.Write.contents c.args.writer.now) (g.W.Write.contents c.import_table.new.writer)
     c.import_table.result (c.import_table.ensures.exports (export_records text) to_come))
 
 pub returns-clause-exports : goal.returns-clause-exports
-returns-clause-exports g c = IfSome_then _ c.records_of-records.ensures
+returns-clause-exports g c = IfSome_then _ c.records_of-records.ensures.records
     (λ text to_come. c.import_table.ensures.exports (export_records text) to_come)
