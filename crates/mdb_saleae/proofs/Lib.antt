@@ -7,3 +7,4 @@ pub mod Refused
 pub mod Taken
 pub mod Outputs
 pub mod Imports
+pub mod OneTable

@@ -1,4 +1,4 @@
-use Rattle.std.proofs.Common.{arith, ap, sym, subst, refl, inl, inr, ◌∙◌, ◌+◌, ◌∷◌, Bool, Err, Some}
+use Rattle.std.proofs.Common.{arith, ap, sym, subst, refl, inl, inr, ◌∙◌, ◌∷◌, Bool, Err, Some}
 use Rattle.std.proofs.Common.{[]}
 use Rattle.csv.specs.Records.{fields_of}
 use Rattle.mdb_records.specs.ToCome.{Advances}
