@@ -1,6 +1,5 @@
 -- The first fault of a table, from what stops its reading.
-use Rattle.std.proofs.Common.{◌≡◌, inl, inr, ◌<◌, ◌≤◌, ◌+◌, ◌-◌, ◌^◌, ◌++◌, Bool, false, ℕ, length, length-append, List, [], ◌∷◌, refl, sym, ap, subst, ◌∙◌, Option, arith}
-use Rattle.mdb_words.specs.declared.event.Event.{Event}
+use Rattle.std.proofs.Common.{◌≡◌, inl, inr, ◌≤◌, ◌-◌, ◌^◌, ◌++◌, false, ℕ, length, length-append, List, [], ◌∷◌, refl, sym, ap, subst, ◌∙◌, Option, arith}
 use Rattle.mdb_words.specs.declared.word.Line.{Line}
 use Rattle.mdb_words.specs.declared.word.Line.TheVariants.{Controller, Peripheral}
 use Rattle.mdb_records.specs.declared.Records.{Records}
@@ -9,21 +8,16 @@ use Rattle.mdb_edges.specs.declared.fault.EdgesFault.{EdgesFault}
 use Rattle.mdb_edges.specs.declared.fault.EdgesFault.TheVariants as told
 use Rattle.mdb_edges.specs.declared.fault.FormFault.{FormFault}
 use Rattle.mdb_edges.specs.declared.fault.FormFault.TheVariants as form
-use Rattle.mdb_edges.specs.declared.fault.LineFault.{LineFault}
-use Rattle.mdb_edges.specs.declared.fault.OrderFault.{OrderFault}
 use Rattle.mdb_edges.specs.declared.fault.Stop.{Stop}
 use Rattle.mdb_edges.specs.declared.fault.Stop.TheVariants as stop
 use Rattle.mdb_edges.specs.declared.fault.Wrong.{Wrong}
 use Rattle.mdb_edges.specs.declared.lines.Lines.{Lines}
-use Rattle.mdb_edges.specs.declared.lines.Wave.{Wave}
 use Rattle.mdb_edges.specs.declared.moment.Moment.{Moment}
 use Rattle.mdb_edges.specs.declared.options.EdgesOptions.{EdgesOptions}
-use Rattle.mdb_edges.specs.Faults.{AreFine, IsFineUntil, IsFirstFault, IsMisformed, IsNoHeader, HasNoHeader, IsOfLine, IsReached, IsShown, IsShownAtEnd, IsTooEarly, line_of}
-use Rattle.mdb_edges.specs.Levels.{AreRowsOfLine, micros_of}
+use Rattle.mdb_edges.specs.Faults.{AreFine, IsFineUntil, IsFirstFault, IsMisformed, IsNoHeader, HasNoHeader, IsOfLine, IsReached, IsShown, IsTooEarly}
 use Rattle.mdb_edges.specs.Table.{IsHeader, IsMoment, end_of, level_at}
-use Rattle.mdb_edges.specs.inner.Standing.{IsWrongBy, IsWrongInEnd}
 use Rattle.mdb_edges.specs.inner.Stops.{IsEarly, IsMet, IsOfRecord, IsTellOf}
-use Rattle.mdb_edges.specs.inner.Waves.{AreShown, AreShownInEnd, HasHeard, HasRead, HaveHeard, IsFineBy, IsShownBy, IsShownInEnd, IsWhole}
+use Rattle.mdb_edges.specs.inner.Waves.{AreShown, AreShownInEnd, HasRead, HaveHeard, IsFineBy, IsShownBy}
 use Rattle.mdb_edges.proofs.Records.{moments_more, moments_rise}
 use Rattle.mdb_edges.proofs.Tables.{SoFar}
 use Rattle.mdb_edges.proofs.Waves.{IsRising, end_more, fine_by, fits_at, shows_at}

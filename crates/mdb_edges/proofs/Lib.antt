@@ -14,3 +14,4 @@ pub mod Faults
 pub mod PartRows
 pub mod Refusals
 pub mod OneTable
+pub mod ReadBack

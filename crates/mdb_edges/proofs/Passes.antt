@@ -1,10 +1,10 @@
 -- Over words and breaks, from where nothing is open.
-use Rattle.std.proofs.Common.{◌≡◌, ◌⊎◌, inl, inr, ◌<◌, ◌≤◌, ◌+◌, ◌-◌, ◌^◌, Bool, true, false, ℕ, refl, sym, ap, subst, ◌∙◌, arith}
+use Rattle.std.proofs.Common.{◌≡◌, ◌⊎◌, inl, inr, ◌<◌, ◌≤◌, ◌-◌, ◌^◌, Bool, true, false, ℕ, refl, sym, subst, arith}
 use Rattle.mdb_words.specs.declared.word.Line.{Line}
-use Rattle.mdb_words.specs.declared.word.Line.TheVariants.{Controller, Peripheral}
+use Rattle.mdb_words.specs.declared.word.Line.TheVariants.{Controller}
 use Rattle.mdb_edges.specs.declared.fault.LineFault.{LineFault}
 use Rattle.mdb_edges.specs.declared.fault.LineFault.TheVariants.{BadLevel, Glitch, Framing, DeviceBreak, LongBreak, Cut}
-use Rattle.mdb_edges.specs.Faults.{Begins, IsHeldLow, IsMixed, IsWrong, Passes, over_break, over_word, there}
+use Rattle.mdb_edges.specs.Faults.{Begins, IsHeldLow, IsWrong, Passes, over_break, over_word, there}
 use Rattle.mdb_edges.specs.Levels.{Falls, IsBreak, IsFrame, Rises, micros_of, middle_of}
 use Rattle.mdb_edges.specs.inner.Standing.{Holds}
 use Rattle.mdb_edges.proofs.Orders.{compared, differ}

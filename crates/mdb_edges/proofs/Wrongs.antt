@@ -1,5 +1,5 @@
 -- Nothing is wrong with a line that its levels show up to where it stands, and what is wrong else.
-use Rattle.std.proofs.Common.{◌≡◌, ◌⊎◌, inl, inr, ◌<◌, ◌≤◌, ◌+◌, ◌-◌, ◌^◌, Bool, true, false, ℕ, List, refl, sym, ap, subst, ◌∙◌, arith}
+use Rattle.std.proofs.Common.{◌≡◌, inl, inr, ◌<◌, ◌≤◌, ◌+◌, ◌-◌, Bool, true, false, ℕ, List, refl, sym, ap, subst, ◌∙◌, arith}
 use Rattle.mdb_words.specs.declared.event.Event.{Event}
 use Rattle.mdb_words.specs.declared.word.Line.{Line}
 use Rattle.mdb_edges.specs.declared.fault.LineFault.{LineFault}
@@ -8,11 +8,11 @@ use Rattle.mdb_edges.specs.declared.fault.Wrong.{Wrong}
 use Rattle.mdb_edges.specs.declared.frame.Frame.{Frame}
 use Rattle.mdb_edges.specs.declared.receiver.State.{State}
 use Rattle.mdb_edges.specs.declared.receiver.State.TheVariants.{Unknown, Idle, Framed, Low}
-use Rattle.mdb_edges.specs.Faults.{Begins, IsFineUntil, IsHeldLow, IsMixed, IsWrong, IsWrongAtEnd, Passes, over_break, over_word, there}
-use Rattle.mdb_edges.specs.Levels.{Falls, IsBreak, IsFrame, Rises, micros_of, middle_of}
+use Rattle.mdb_edges.specs.Faults.{Begins, IsFineUntil, IsHeldLow, IsWrong, IsWrongAtEnd, Passes, over_break, over_word, there}
+use Rattle.mdb_edges.specs.Levels.{Falls, micros_of, middle_of}
 use Rattle.mdb_edges.specs.inner.Standing.{Holds, IsFramed, IsGlitch, IsIdle, IsLow, IsNoBreak, IsWrongBy, IsWrongInEnd, Leads, Stands}
 use Rattle.mdb_edges.proofs.Orders.{compared, differ, zero_or}
-use Rattle.mdb_edges.proofs.Passes.{one_end, one_fall, seen_late, wrong_behind}
+use Rattle.mdb_edges.proofs.Passes.{one_fall, seen_late, wrong_behind}
 
 begins_at : (line : Line) (level : ℕ → Bool) (rows : List Event) (from start : ℕ) → Leads line level rows from → Falls level from start → Begins line level start
 begins_at line level rows from start leads falls = record { first = leads.first; from = from; rises = leads.rises; passes = leads.passes; falls = falls }

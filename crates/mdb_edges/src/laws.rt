@@ -3,7 +3,9 @@
 ghost use Rattle.std.specs.Prelude.{◌≡◌, ℕ, List};
 ghost use Rattle.std.specs.List.{AllPairs};
 ghost use Rattle.mdb_words.specs.declared.event.Event.{Event};
+ghost use Rattle.mdb_import.specs.ReadBack.{AreReadBack};
 ghost use Rattle.mdb_sigrok.specs.Order.{Precedes};
+ghost use Rattle.mdb_edges.specs.Import.{part_of};
 ghost use Rattle.mdb_edges.specs.Table.{AreRowsOfTable};
 ghost use Rattle.mdb_edges.specs.declared.options.EdgesOptions.{EdgesOptions};
 
@@ -18,4 +20,10 @@ pub fn rows_are_the_only_ones()
 pub fn rows_stand_in_order()
     ensures { (options : EdgesOptions) (records : List (List (List ℕ))) (rows : List Event) →
         AreRowsOfTable options records rows → AllPairs Precedes rows }
+{}
+
+/// What is written of a table is read as just the rows that were written.
+pub fn rows_are_read_back()
+    ensures { (options : EdgesOptions) (records : List (List (List ℕ))) (rows : List Event) →
+        AreRowsOfTable options records rows → AreReadBack (part_of options rows) }
 {}
