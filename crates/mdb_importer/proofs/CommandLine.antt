@@ -26,15 +26,14 @@ use Rattle.mdb_sigrok.specs.declared.options.SigrokOptions.{SigrokOptions}
 use Rattle.mdb_saleae.specs.declared.options.SaleaeOptions.{SaleaeOptions}
 use Rattle.mdb_edges.specs.declared.options.EdgesOptions.{EdgesOptions}
 use Rattle.mdb_importer.specs.Options.{AreOptions, IsOneOf, Uses, chosen, is_used}
-use Rattle.mdb_importer.specs.Program.{AskForEdges, AskForRows, AskForSaleae, AskForSigrok, AskTheSame, AskTheSameOfEdges, AskTheSameOfTable, IsLength, IsLineName, IsUnit, NameEdges, NameRows, NameSaleae, NameSigrok, NameTask, NamesEdges, NamesRows, NamesSaleae, NamesSigrok, TellNames, TellsOnce, TellsUnit, edges_flags, edges_names, rows_names, saleae_names, sigrok_flags, sigrok_names}
+use Rattle.mdb_importer.specs.Program.{AskForEdges, AskForRows, AskForSaleae, AskForSigrok, AskTheSame, AskTheSameOfEdges, AskTheSameOfTable, IsLength, IsLineName, IsUnit, NameEdges, NameRows, NameSaleae, NameSigrok, NamesEdges, NamesRows, NamesSaleae, NamesSigrok, TellNames, TellsOnce, TellsUnit, edges_flags, edges_names, rows_names, saleae_names, sigrok_flags, sigrok_names}
 use Rattle.mdb_importer.specs.inner.CommandLine.{AskFor, FindEdges, FindRows, FindSaleae, FindSigrok, edges_app, mdbimport, rows_app, saleae_app, sigrok_app, values_of}
 use Rattle.mdb_importer.specs.declared.command_line.Task.{Task}
 use Rattle.mdb_importer.specs.declared.command_line.Task.TheVariants.{Edges, Rows, Saleae, Sigrok}
 use Rattle.mdb_importer.proofs.Found.{row_found, values_found}
 use Rattle.mdb_importer.proofs.OptionRules.{has_options, help, takes_no_word}
-use Rattle.mdb_importer.proofs.Options.{AreUses, HasOptions, TakesNoWord, finds_uses, found_after, takes_uses}
+use Rattle.mdb_importer.proofs.Options.{HasOptions, TakesNoWord, finds_uses, found_after, takes_uses}
 use Rattle.mdb_importer.proofs.Refusals.{TakesNothing, after_dashes, both_pass, is_dashes, is_met, none_or_one, one_of_both, one_of_more}
-use Rattle.std.specs.Prelude.{string_bytes}
 use Rattle.mdb_words.specs.Digits.{IsDecimal}
 use Rattle.mdb_importer.proofs.Values.{one_length, one_name, one_time, one_unit, one_unit_told}
 use Rattle.mdb_importer.proofs.Spellings.{AreSpelled, options_used, uses_are}

@@ -1,21 +1,17 @@
 -- What is found of an option: after uses of options, and in the matches.
 use Rattle.std.proofs.Common.{ap, ap₂, refl, sym, true, false, ◌∙◌, ◌≡◌, ◌||◌, Bool, List, [], ◌∷◌, ◌++◌, append_assoc, inl, inr, Option, Some, None, map, option_map, true≢false, unwrap_or}
 use Rattle.std.proofs.lemmas.List.{append-nil}
-use Rattle.std.specs.Prelude.{find, if◌then◌else◌, is_some, option_and_then, slice_get}
-use Rattle.std.specs.Option.{option_map_or}
+use Rattle.std.specs.Prelude.{find, if◌then◌else◌, is_some}
 use Rattle.std.specs.Str.{bytes_eq}
 use Rattle.std.proofs.lemmas.Bool.{cases_Bool}
 use Rattle.std.proofs.lemmas.Slice.Eq.{bytes_eq-Decides}
 use Rattle.std.specs.Borrow.{Bor}
 use Rattle.clap.proofs.WalkLemmas.{raw_values-rows}
 use Rattle.clap.specs.Matches.{matched_of, raw_values}
-use Rattle.clap.specs.Facts.{explicit_source}
-use Rattle.clap.specs.Takes.{is_given}
-use Rattle.clap.specs.Walk.{Row, Text, first_of, has_row, rows_of, stronger}
+use Rattle.clap.specs.Walk.{Row, Text, has_row, rows_of, stronger}
 use Rattle.clap.specs.declared.parser.matches.Found.{Found}
 use Rattle.clap.specs.declared.builder.value_parser.Reading.TheVariants.{AsWritten}
-use Rattle.clap.specs.declared.parser.matches.ValueSource.{ValueSource}
-use Rattle.clap.specs.declared.parser.matches.ValueSource.TheVariants.{CommandLine, DefaultValue}
+use Rattle.clap.specs.declared.parser.matches.ValueSource.TheVariants.{CommandLine}
 use Rattle.mdb_importer.specs.inner.CommandLine.{values_of}
 use Rattle.mdb_importer.specs.Options.{Uses, chosen, is_used}
 use Rattle.mdb_importer.proofs.Options.{found_after, found_with}

@@ -8,3 +8,4 @@ pub mod Spellings
 pub mod CommandLine
 pub mod Values
 pub mod Status
+pub mod ReadBack

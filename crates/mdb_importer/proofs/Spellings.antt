@@ -1,5 +1,5 @@
 -- Options as they are spelled, and as `clap` reads them.
-use Rattle.std.proofs.Common.{ap, refl, subst, sym, ◌∙◌, ◌≡◌, ℕ, List, [], ◌∷◌, ◌++◌, codes, inl, inr, Option, Some, None}
+use Rattle.std.proofs.Common.{subst, sym, ◌≡◌, List, [], ◌∷◌, ◌++◌, codes, Some, None}
 use Rattle.clap.specs.Lexer.{long_of}
 use Rattle.clap.specs.Walk.{Text}
 use Rattle.mdb_importer.specs.Options.{AreOptions, IsOneOf, Uses}

@@ -1,5 +1,5 @@
 -- The values of an option, at most one.
-use Rattle.std.proofs.Common.{arith, ap, refl, subst, sym, false, true, ◌∙◌, ◌≡◌, ◌==◌, ◌≤◌, ◌<◌, ℕ, Bool, List, [], ◌∷◌, codes, length, map, Option, Some, None, IfSome, option_map, slice_index_or, unwrap_or}
+use Rattle.std.proofs.Common.{arith, ap, refl, subst, sym, false, true, ◌∙◌, ◌≡◌, ◌==◌, ◌≤◌, ◌<◌, ℕ, Bool, List, [], ◌∷◌, codes, length, map, Option, Some, None, option_map, slice_index_or, unwrap_or}
 use Rattle.std.specs.Prelude.{option_to_list}
 use Rattle.std.specs.Borrow.{Bor}
 use Rattle.std.proofs.lemmas.Bool.{eqb-true}

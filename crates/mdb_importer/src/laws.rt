@@ -1,7 +1,13 @@
-//! Laws of command lines. Each function's contract is the law, and its body is empty.
+//! Laws of command lines and of what is written. Each function's contract is the law, and its body is empty.
 
 ghost use Rattle.std.specs.Prelude.{◌≡◌, ◌⊎◌, List, ℕ};
+ghost use Rattle.mdb_words.specs.declared.event.Event.{Event};
+ghost use Rattle.mdb_import.specs.Exports.{rows_text};
+ghost use Rattle.mdb_import.specs.ReadBack.{AreReadBack};
 ghost use Rattle.mdb_import.specs.declared.options.RowsOptions.{RowsOptions};
+ghost use Rattle.mdb_sigrok.specs.Import.{rows_text as rows_text_of_trace};
+ghost use Rattle.mdb_sigrok.specs.Part.{part_of};
+ghost use Rattle.mdb_sigrok.specs.Trace.{AreRowsOfTrace};
 ghost use Rattle.mdb_sigrok.specs.declared.options.SigrokOptions.{SigrokOptions};
 ghost use Rattle.mdb_saleae.specs.declared.options.SaleaeOptions.{SaleaeOptions};
 ghost use Rattle.mdb_edges.specs.declared.options.EdgesOptions.{EdgesOptions};
@@ -27,4 +33,13 @@ pub fn command_lines_name_one_task()
         → NamesSaleae words ⊎ NamesEdges words → ⊥ }
     ensures saleae_alone { (words : List (List ℕ)) → NamesSaleae words
         → NamesEdges words → ⊥ }
+{}
+
+/// What is written of a trace is read as just the rows that were written, as is what is written of
+/// an export or a table.
+pub fn rows_of_traces_are_read_back()
+    ensures read { (options : SigrokOptions) (text : List ℕ) (rows : List Event)
+        → AreRowsOfTrace options.swap text rows → AreReadBack (part_of options rows) }
+    // Rows of a trace or a table of edges have the text that rows of an export have.
+    ensures text { (rows : List Event) → rows_text_of_trace rows ≡ rows_text rows }
 {}

@@ -1,6 +1,6 @@
 -- The command line of the program, as `clap` takes it. This file serves private functions and
 -- proofs: no public clause cites it.
-use Rattle.std.specs.Prelude.{ℕ, List, [], ◌∷◌, Some, codes, true, unwrap_or}
+use Rattle.std.specs.Prelude.{ℕ, List, [], Some, codes, true, unwrap_or}
 use Rattle.clap.specs.Walk.{has_row}
 use Rattle.clap.specs.Words.{App, Row, Rule, all_of, new_app, new_rule, with_rule, with_subcommand}
 use Rattle.clap.specs.declared.builder.action.ArgAction.TheVariants.{Append}
