@@ -1,15 +1,11 @@
 -- Why a reading ended.
-use Rattle.std.specs.Prelude.{◌≡◌}
-use Rattle.std.specs.IoError as io
-use Rattle.std.specs.declared.io.ErrorKind.TheVariants as io_kind
-use Rattle.csv.specs.declared.error.ErrorKind.{ErrorKind}
-use Rattle.csv.specs.declared.error.ErrorKind.TheVariants as kind
+use Rattle.std.specs.Prelude.{◌≡◌, Some}
+use Rattle.std.specs.declared.io.ErrorKind.TheVariants.{WouldBlock}
+use Rattle.csv.specs.Reading.{reader_source}
+use Rattle.mdb_records.specs.ToCome.{IsPastLimit}
+use Rattle.mdb_records.specs.declared.Records.{Records}
 
--- the reader underneath has no byte yet, and doesn't wait for one
-abbrev pub IsBlocked : ErrorKind → Type 0
-IsBlocked (kind.Io e) = io.error_kind e ≡ io_kind.WouldBlock
-IsBlocked (kind.UnequalLengths pos expected len) = ⊥
-IsBlocked (kind.Utf8 pos err) = ⊥
-IsBlocked kind.OutOfMemory = ⊥
-IsBlocked (kind.Serialize text) = ⊥
-IsBlocked (kind.Deserialize pos err) = ⊥
+-- the reader underneath had no byte yet, and didn't wait for one: so its last failure was, and the
+-- text was not seen to go on past the limit
+abbrev pub HasBlocked : {R : Type 0} → Records R → Type 0
+HasBlocked value = (IsPastLimit value → ⊥) × ((reader_source value.reader).failed ≡ Some WouldBlock)

@@ -8,7 +8,6 @@
 ghost use Rattle.std.specs.Prelude.{◌≡◌, ◌<◌, ◌≤◌, ◌+◌, ◌-◌, ◌^◌, ◌↔◌, ◌⊎◌, min, ℕ, All, List, [], None, length, true, IfErr, IfOk, OnOk, IfSome, IsSome, IsTrue, Some, Err, if◌then◌else◌};
 ghost use Rattle.csv.specs.Reading.{default_config, error_kind, is_io, records, stops_reader, strip_bom};
 ghost use Rattle.csv.specs.Records.{fields_of, partial_of};
-ghost use Rattle.mdb_records.specs.Cause.{IsBlocked};
 ghost use Rattle.mdb_records.specs.SetUp.{IsSetUp};
 
 mod limited;
@@ -53,12 +52,11 @@ pub struct Records<R> {
     row: ByteRecord,
     // The fault that ended the reading.
     fault: Option<ReadFault>,
-    // Whether that was a reader that would block.
-    blocked: bool,
     ghost set_up: { fault ≡ None → IsSetUp reader },
 }
 
 impl<R: Read + Drop> Records<R> {
+    ghost use Rattle.mdb_records.specs.Cause.{HasBlocked};
     ghost use Rattle.mdb_records.specs.ToCome.{Advances, IsOverLimit, IsUncut, ToCome};
     ghost use Rattle.mdb_records.specs.ToCome.{IsPastLimit, current_fields, fault_of, given_by, limit_of};
 
@@ -87,7 +85,6 @@ impl<R: Read + Drop> Records<R> {
                 .from_reader(alloc, Limited::new(reader, limit)),
             row: empty_row(alloc),
             fault: None,
-            blocked: false,
         }
     }
 
@@ -117,7 +114,6 @@ impl<R: Read + Drop> Records<R> {
                 Ok(found)
             }
             Err(e) => {
-                self.blocked = is_blocked(&e);
                 let fault = fault_by(e);
                 self.fault = Some(fault);
                 Err(fault)
@@ -126,17 +122,19 @@ impl<R: Read + Drop> Records<R> {
     }
 
     /// Why the reading ended, where it ended by [`ReadFault::Read`]: the limit exactly where a byte
-    /// past it was read. Nothing is said of it elsewhere.
+    /// past it was read, and a reader that would block exactly where it was the last to fail.
+    /// Nothing is said of it elsewhere.
     pub fn cause(&self) -> ReadCause
         ensures over { result ≡ ReadCause.OverLimit ↔ IsPastLimit self.now }
+        ensures blocked { result ≡ ReadCause.WouldBlock ↔ HasBlocked self.now }
     {
-        if self.reader.get_ref().is_past() {
+        let source = self.reader.get_ref();
+        if source.is_past() {
             return ReadCause::OverLimit;
         }
-        if self.blocked {
-            ReadCause::WouldBlock
-        } else {
-            ReadCause::Failed
+        match source.failed() {
+            Some(io::ErrorKind::WouldBlock) => ReadCause::WouldBlock,
+            _ => ReadCause::Failed,
         }
     }
 
@@ -191,16 +189,6 @@ fn empty_row(alloc: Global) -> ByteRecord
 fn see_bytes(_bytes: &[u8])
     ensures { All (λ b. b < 256) _bytes.now }
 {}
-
-// Whether csv's error is that of a reader that would block.
-fn is_blocked(error: &csv::Error) -> bool
-    ensures { IsTrue result ↔ IsBlocked (error_kind error.now) }
-{
-    match error.kind() {
-        ErrorKind::Io(cause) => cause.kind() == io::ErrorKind::WouldBlock,
-        _ => false,
-    }
-}
 
 // The fault that csv's error is, where it ends the reading.
 fn fault_by(error: csv::Error) -> ReadFault

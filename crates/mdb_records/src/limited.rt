@@ -1,6 +1,6 @@
 // A reader up to a limit.
 
-ghost use Rattle.std.specs.Prelude.{◌≡◌, ◌≤◌, ◌-◌, ◌+◌, ◌^◌, ◌↔◌, min, None, IfErr, IfOk, IsSome, IsTrue, OnErr};
+ghost use Rattle.std.specs.Prelude.{◌≡◌, ◌≤◌, ◌-◌, ◌+◌, ◌^◌, ◌↔◌, ◌⊎◌, min, None, Some, IfErr, IfOk, IsSome, IsTrue, OnErr};
 ghost use Rattle.std.specs.Io.{ReadsAtMost};
 ghost use Rattle.std.specs.Io.KnownBytes.{ReadConsumes};
 ghost use Rattle.std.specs.IoError.{error_kind};
@@ -18,6 +18,8 @@ pub(crate) struct Limited<R> {
     left: u64,
     // The first byte past the limit, once it was read.
     held: Option<u8>,
+    // How the last read of `inner` that failed did so.
+    failed: Option<ErrorKind>,
     ghost within: { left ≤ limit },
     ghost spent: { IsSome held → left ≡ 0 },
 }
@@ -29,12 +31,14 @@ impl<R> Limited<R> {
         ensures limit { result.limit ≡ limit }
         ensures left { result.left ≡ limit }
         ensures held { result.held ≡ None }
+        ensures failed { result.failed ≡ None }
     {
         Limited {
             inner,
             limit,
             left: limit,
             held: None,
+            failed: None,
         }
     }
 
@@ -52,6 +56,13 @@ impl<R> Limited<R> {
     {
         self.limit - self.left
     }
+
+    /// How the last read of the reader that failed did so.
+    pub(crate) fn failed(&self) -> Option<ErrorKind>
+        ensures { result ≡ self.now.failed }
+    {
+        self.failed
+    }
 }
 
 // The error of a text that goes on past the limit.
@@ -59,6 +70,21 @@ fn past_the_limit() -> Error
     ensures { error_kind result ≡ ErrorKind.InvalidData }
 {
     Error::from(ErrorKind::InvalidData)
+}
+
+// Reads of a reader, and keeps how that failed, if it did.
+fn ask<R: Read>(reader: &mut R, failed: &mut Option<ErrorKind>, buf: &mut [u8]) -> Result<usize>
+    ensures bound { ReadsAtMost result buf.new }
+    ensures bytes { ReadConsumes (R.remaining reader.old) (R.remaining reader.new) result buf.new }
+    ensures failed { IfErr result (λ e. failed.new ≡ Some (error_kind e)) }
+{
+    match reader.read(buf) {
+        Ok(count) => Ok(count),
+        Err(e) => {
+            *failed = Some(e.kind());
+            Err(e)
+        }
+    }
 }
 
 impl<R: Read> Read for Limited<R> {
@@ -78,6 +104,9 @@ impl<R: Read> Read for Limited<R> {
         // Past the limit a read fails for that alone.
         ensures past { IsSome self.new.held → IfErr result
             (λ e. error_kind e ≡ ErrorKind.InvalidData) }
+        // Up to it one fails as the reader did, and for nothing else.
+        ensures cause { IfErr result
+            (λ e. IsSome self.new.held ⊎ (self.new.failed ≡ Some (error_kind e))) }
     {
         if buf.is_empty() {
             return Ok(0);
@@ -87,14 +116,14 @@ impl<R: Read> Read for Limited<R> {
         }
         if self.left == 0 {
             let mut next = [0];
-            if self.inner.read(&mut next)? == 0 {
+            if ask(&mut self.inner, &mut self.failed, &mut next)? == 0 {
                 return Ok(0);
             }
             self.held = Some(next[0]);
             return Err(past_the_limit());
         }
         let room = self.left.min(buf.len() as u64) as usize;
-        let given = self.inner.read(&mut buf[..room])?;
+        let given = ask(&mut self.inner, &mut self.failed, &mut buf[..room])?;
         self.left -= given as u64;
         Ok(given)
     }
