@@ -1,7 +1,7 @@
 -- What is answered, by how the reading of entries ended.
-use Rattle.std.proofs.Common.{arith, ap, sym, subst, ◌∙◌, ◌≡◌, inl, inr, ℕ, List, [], ◌∷◌, ◌++◌, map, Result, Ok, Err, length, append_assoc}
+use Rattle.std.proofs.Common.{arith, ap, sym, subst, ◌∙◌, ◌≡◌, ◌≢◌, inl, inr, ℕ, List, [], ◌∷◌, ◌++◌, map, Option, Result, Ok, Err, length, append_assoc}
 use Rattle.std.proofs.lemmas.List.{append-nil}
-use Rattle.std.specs.Prelude.{IsErrAnd}
+use Rattle.std.specs.Prelude.{IfErr, IsErrAnd}
 use Rattle.mdb_words.specs.declared.event.Event.{Event}
 use Rattle.mdb_bus.specs.declared.scope.Scope.{Scope}
 use Rattle.mdb_follow.specs.declared.follower.TheConstants.{ROWS_MAX}
@@ -15,7 +15,8 @@ use Rattle.mdb_verdict.specs.declared.fault.RunFault.{RunFault}
 use Rattle.mdb_verdict.specs.declared.fault.RunFault.TheVariants as run
 use Rattle.mdb_explain.specs.declared.replaying.Replaying.{Replaying}
 use Rattle.mdb_explain.specs.Replay.{AreMarkRows, CanBe, InputPart, IsReplayAnswer, LeadUpToPart, StopsAt, all_marks}
-use Rattle.mdb_verdict.specs.Verdict.{AreRows}
+use Rattle.mdb_records.specs.declared.ReadFault.{ReadFault}
+use Rattle.mdb_verdict.specs.Verdict.{AreRows, HasCause}
 use Rattle.mdb_verdict.specs.Batch.{AreAll}
 use Rattle.mdb_verdict.specs.Ending.{AreRead, HasEnded, IsStopped, IsTakenWhole}
 use Rattle.mdb_explain.specs.inner.Entries.{IsEntry, IsNoEntry}
@@ -145,3 +146,13 @@ pub refused : (scope : Scope) (all : List (List (List ℕ))) (taker : Replaying)
     → (answer : Result Outcome RunFault) → IsErrAnd answer (λ told. told ≡ fault) → IsReplayAnswer scope ROWS_MAX all answer
 refused scope all taker Stops fault ended (Ok outcome) handed = absurd handed
 refused scope all taker Stops fault ended (Err told) handed = subst (λ f. IsReplayAnswer scope ROWS_MAX all (Err f)) (sym handed) (refused_by scope all taker Stops fault ended)
+
+-- A failed read is told as such alone.
+
+pub cause_of_stop : (stop : Result Offence RunFault) (fault : RunFault) (met : Option ReadFault) → stop ≢ Err run.Read → stop ≡ Err fault → (answer : Result Outcome RunFault) → IsErrAnd answer (λ told. told ≡ fault) → IfErr answer (HasCause met)
+cause_of_stop stop fault met no_read is (Ok outcome) handed = absurd handed
+cause_of_stop stop fault met no_read is (Err told) handed = λ read. absurd (no_read (is ∙ ap Err (sym handed ∙ read)))
+
+pub cause_unread : (answer : Result Outcome RunFault) (met : Option ReadFault) → IfErr answer (λ fault. fault ≢ run.Read) → IfErr answer (HasCause met)
+cause_unread (Ok outcome) met unread = tt
+cause_unread (Err fault) met unread = λ read. absurd (unread read)

@@ -245,9 +245,9 @@ fed scope old new taken event mark has at few stands reached counted kept same_m
 
 -- Where it stops.
 
-stop_at : (scope : Scope) (taker : Replaying) (taken : List Entry) (entry : Entry) (stop : Result Offence RunFault) (has : HasReplayed scope taker taken) → ((fields : List (List ℕ)) → IsEntry fields entry → IsStopAt scope ROWS_MAX has.part fields stop) → stop ≢ Err run.Write
+stop_at : (scope : Scope) (taker : Replaying) (taken : List Entry) (entry : Entry) (stop : Result Offence RunFault) (has : HasReplayed scope taker taken) → ((fields : List (List ℕ)) → IsEntry fields entry → IsStopAt scope ROWS_MAX has.part fields stop) → stop ≢ Err run.Write → stop ≢ Err run.Read
     → IsStoppedAt scope taken entry stop
-stop_at scope taker taken entry stop has is no_write = record { part = has.part; are = has.are; can_be = has.can_be; is = is; no_write = no_write }
+stop_at scope taker taken entry stop has is no_write no_read = record { part = has.part; are = has.are; can_be = has.can_be; is = is; no_write = no_write; no_read = no_read }
 
 -- at a row that cannot be with its mark
 offends : (scope : Scope) (taker : Replaying) (taken : List Entry) (event : Event) (mark : Option Mark) (offence : Offence) (has : HasReplayed scope taker taken) → mark ≡ mark_at (rows_of taker.replay + 1) has.part.later → rows_of taker.replay < ROWS_MAX
@@ -261,7 +261,7 @@ offends scope taker taken event mark offence has at few is =
       is_row = is_row;
       few = omega (arith, has.counted, few);
       is = subst (Fault scope) (subst At has.counted at) (subst (λ s. Fault s mark) has.in_scope is);
-    }) (λ same. cc)
+    }) (λ same. cc) (λ same. cc)
 
 -- at a row where its mark may not stand
 misplaced : (scope : Scope) (taker : Replaying) (taken : List Entry) (event : Event) (mark : Option Mark) (row : ℕ) (has : HasReplayed scope taker taken) → mark ≡ mark_at (rows_of taker.replay + 1) has.part.later → rows_of taker.replay < ROWS_MAX
@@ -275,7 +275,7 @@ misplaced scope taker taken event mark row has at few is =
       is_row = is_row;
       few = omega (arith, has.counted, few);
       is = subst (Fault scope) (subst At has.counted at) (subst (λ s. Fault s mark) has.in_scope is);
-    })) (λ same. cc)
+    })) (λ same. cc) (λ same. cc)
 
 pub faulted : (scope : Scope) (taker : Replaying) (taken : List Entry) (event : Event) (mark : Option Mark) (fault : ReplayFault) (stop : Result Offence RunFault) (has : HasReplayed scope taker taken) → mark ≡ mark_at (rows_of taker.replay + 1) has.part.later → rows_of taker.replay < ROWS_MAX
     → IsReplayFault (scope_of taker.replay) has.part.rows has.part.passed event mark fault → stop ≡ stop_by fault → IsStoppedAt scope taken (entries.Row event) stop
@@ -288,7 +288,7 @@ refused : (scope : Scope) (taker : Replaying) (taken : List Entry) (entry : Entr
 refused scope taker taken entry fault told has is told_is =
     let At : RunFault → Type 0 = λ f. IsStoppedAt scope taken entry (Err f) in
     let number : length taker.marks.items + rows_of taker.replay + 1 ≡ records_in has.part + 1 = omega (arith, ap length has.marks, has.counted) in
-    subst At (sym told_is) (stop_at scope taker taken entry (Err (run.BadRow (length taker.marks.items + rows_of taker.replay + 1) fault)) has (λ fields own. (number, is fields own)) (λ same. cc))
+    subst At (sym told_is) (stop_at scope taker taken entry (Err (run.BadRow (length taker.marks.items + rows_of taker.replay + 1) fault)) has (λ fields own. (number, is fields own)) (λ same. cc) (λ same. cc))
 
 -- there are rows
 some_rows : (scope : Scope) (taker : Replaying) (taken : List Entry) (has : HasReplayed scope taker taken) → 0 < rows_of taker.replay → has.part.rows ≡ [] → ⊥
@@ -337,7 +337,7 @@ bad_mark scope taker taken fault told has none few told_is =
 
 -- memory is refused
 pub no_room : (scope : Scope) (taker : Replaying) (taken : List Entry) (entry : Entry) (has : HasReplayed scope taker taken) → IsStoppedAt scope taken entry (Err run.Memory)
-no_room scope taker taken entry has = stop_at scope taker taken entry (Err run.Memory) has (λ fields own. tt) (λ same. cc)
+no_room scope taker taken entry has = stop_at scope taker taken entry (Err run.Memory) has (λ fields own. tt) (λ same. cc) (λ same. cc)
 
 -- After entries that were taken.
 

@@ -1,14 +1,14 @@
 //! The explanation of an end of a range: marks of a run that comes to it, and the rows.
 
-ghost use Rattle.std.specs.Prelude.{◌≡◌, ◌≢◌, ◌<◌, ◌≤◌, List, [], ℕ, OnOk, IfOk, IfErr, IfSome, Err, length};
+ghost use Rattle.std.specs.Prelude.{◌≡◌, ◌≢◌, ◌<◌, ◌≤◌, List, [], ℕ, OnOk, IfOk, IfErr, IfSome, IsSome, None, Err, length};
 ghost use Rattle.std.specs.Io.KnownBytes.{Appends};
 ghost use Rattle.csv.specs.Reading.{default_config, records, strip_bom};
-ghost use Rattle.mdb_records.specs.ToCome.{IsOverLimit, ToCome};
+ghost use Rattle.mdb_records.specs.ToCome.{IsOverLimit, ToCome, fault_of};
 ghost use Rattle.mdb_bus.specs.Scopes.{leaving_out, power_on};
 ghost use Rattle.mdb_explain.specs.Explain.{IsCutExplanation, IsExplainedIn, explanation_text};
 ghost use Rattle.mdb_verdict.specs.Headline.{IfNo, IfYes};
 ghost use Rattle.mdb_text.specs.Text.{report_text};
-ghost use Rattle.mdb_verdict.specs.Verdict.{AreRows, IsAnswer, IsNoYes};
+ghost use Rattle.mdb_verdict.specs.Verdict.{AreRows, HasCause, IsAnswer, IsNoYes};
 ghost use Rattle.mdb_verdict.specs.Written.{HasTaken};
 ghost use Rattle.mdb_verdict.specs.declared.verdict.TheConstants.{BYTES_MAX};
 ghost use Rattle.mdb_explain.specs.inner.Explaining.{HasKept, IsNoText, IsRowsText, IsTold, marks_text, rows_text, sheet_output};
@@ -124,6 +124,8 @@ pub fn explain_records<R: Read + Drop, W: Write>(
     ensures answer { (all : List (List (List ℕ))) → ToCome R.remaining records.old all
         → IsAnswer (leaving_out without) ROWS_MAX all result }
     ensures whole { IsOverLimit R.remaining records.old → IsNoYes result }
+    ensures heard { IfErr result (HasCause (fault_of records.new)) }
+    ensures met { fault_of records.old ≡ None → IsSome (fault_of records.new) → IsNoYes result }
     ensures written { (all : List (List (List ℕ))) → ToCome R.remaining records.old all
         → IfOk result (IsExplainedIn (leaving_out without) goal.now all (W.contents writer.old)
         (W.contents writer.new)) }
@@ -165,6 +167,8 @@ fn kept_outcome<R: Read + Drop>(
     ensures few { IfOk result (λ outcome. IfYes outcome (λ report.
         length keeping.new.rows.items ≤ ROWS_MAX)) }
     ensures whole { IsOverLimit R.remaining records.old → IsNoYes result }
+    ensures heard { IfErr result (HasCause (fault_of records.new)) }
+    ensures met { fault_of records.old ≡ None → IsSome (fault_of records.new) → IsNoYes result }
     ensures not_write { IfErr result (λ fault. fault ≢ RunFault.Write) }
 {
     laws::followers_stand_for_reached_rows();

@@ -1,13 +1,13 @@
 //! The replay of a transcript with given marks.
 
-ghost use Rattle.std.specs.Prelude.{◌≡◌, ◌≢◌, ◌<◌, List, ℕ, IfOk, IfErr, IfSome, Err, Ok, length};
+ghost use Rattle.std.specs.Prelude.{◌≡◌, ◌≢◌, ◌<◌, List, ℕ, IfOk, IfErr, IfSome, IsSome, None, Err, Ok, length};
 ghost use Rattle.std.specs.Io.KnownBytes.{Appends};
 ghost use Rattle.csv.specs.Reading.{default_config, records, strip_bom};
-ghost use Rattle.mdb_records.specs.ToCome.{IsOverLimit, ToCome};
+ghost use Rattle.mdb_records.specs.ToCome.{IsOverLimit, ToCome, fault_of};
 ghost use Rattle.mdb_bus.specs.Scopes.{leaving_out, power_on};
 ghost use Rattle.mdb_explain.specs.Replay.{IsCutReplay, IsReplayAnswer};
 ghost use Rattle.mdb_text.specs.Text.{report_text};
-ghost use Rattle.mdb_verdict.specs.Verdict.{IsNoYes};
+ghost use Rattle.mdb_verdict.specs.Verdict.{HasCause, IsNoYes};
 ghost use Rattle.mdb_verdict.specs.declared.verdict.TheConstants.{BYTES_MAX};
 ghost use Rattle.mdb_follow.specs.declared.follower.TheConstants.{ROWS_MAX};
 
@@ -99,6 +99,8 @@ pub fn replay_records<R: Read + Drop, W: Write>(
     ensures answer { (all : List (List (List ℕ))) → ToCome R.remaining records.old all
         → IsReplayAnswer (leaving_out without) ROWS_MAX all result }
     ensures whole { IsOverLimit R.remaining records.old → IsNoYes result }
+    ensures heard { IfErr result (HasCause (fault_of records.new)) }
+    ensures met { fault_of records.old ≡ None → IsSome (fault_of records.new) → IsNoYes result }
     ensures written { IfOk result (λ outcome. Appends (W.contents writer.old)
         (W.contents writer.new) (report_text (leaving_out without) outcome)) }
     ensures nothing_written { IfErr result (λ fault. fault ≢ RunFault.Write
@@ -131,6 +133,8 @@ pub fn replay_outcome<R: Read + Drop>(
     ensures answer { (all : List (List (List ℕ))) → ToCome R.remaining records.old all
         → IsReplayAnswer (leaving_out without) ROWS_MAX all result }
     ensures whole { IsOverLimit R.remaining records.old → IsNoYes result }
+    ensures heard { IfErr result (HasCause (fault_of records.new)) }
+    ensures met { fault_of records.old ≡ None → IsSome (fault_of records.new) → IsNoYes result }
     ensures not_write { IfErr result (λ fault. fault ≢ RunFault.Write) }
 {
     let mut taker = Replaying::new(alloc, without);

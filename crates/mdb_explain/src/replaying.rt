@@ -191,6 +191,7 @@ impl Replaying {
         ensures finishes { (scope : Scope) (taken : List Entry)
             → HasReplayed scope self.now taken → Finishes scope taken result }
         ensures not_write { IfErr result (λ fault. fault ≢ RunFault.Write) }
+        ensures not_read { IfErr result (λ fault. fault ≢ RunFault.Read) }
     {
         if let Some((row, _)) = self.marks.get(self.passed) {
             return Err(RunFault::Mark { row: *row });

@@ -1,14 +1,14 @@
 //! The answer to the records of an input, written as JSON.
 
-ghost use Rattle.std.specs.Prelude.{◌≡◌, ◌≢◌, ◌≤◌, List, ℕ, IfOk, IfErr, Err, string_bytes};
+ghost use Rattle.std.specs.Prelude.{◌≡◌, ◌≢◌, ◌≤◌, List, ℕ, IfOk, IfErr, IsSome, None, Err, string_bytes};
 ghost use Rattle.std.specs.Io.KnownBytes.{Appends};
 ghost use Rattle.mdb_bus.specs.Scopes.{leaving_out};
 ghost use Rattle.mdb_explain.specs.Replay.{IsReplayAnswer};
 ghost use Rattle.mdb_follow.specs.declared.follower.TheConstants.{ROWS_MAX};
 ghost use Rattle.mdb_json.specs.Json.{IsCutJson, IsCutReplayJson, json_line};
-ghost use Rattle.mdb_records.specs.ToCome.{IsOverLimit, ToCome};
+ghost use Rattle.mdb_records.specs.ToCome.{IsOverLimit, ToCome, fault_of};
 ghost use Rattle.mdb_verdict.specs.Headline.{Headline};
-ghost use Rattle.mdb_verdict.specs.Verdict.{IsAnswer, IsNoYes};
+ghost use Rattle.mdb_verdict.specs.Verdict.{HasCause, HasNoRoom, IsAnswer, IsNoYes};
 
 use super::outcome::json_of;
 use mdb_bus::Scope;
@@ -45,6 +45,11 @@ pub fn check_json_records<R: Read + Drop, W: Write>(
     ensures headline { (all : List (List (List ℕ))) → ToCome R.remaining records.old all
         → IfOk result (Headline scope.now rows_max all) }
     ensures whole { IsOverLimit R.remaining records.old → IsNoYes result }
+    ensures heard { IfErr result (HasCause (fault_of records.new)) }
+    ensures met { fault_of records.old ≡ None → IsSome (fault_of records.new) → IsNoYes result }
+    ensures room { (all : List (List (List ℕ))) → ToCome R.remaining records.old all
+        → result ≡ Err RunFault.Memory
+        → HasNoRoom scope.now rows_max all (fault_of records.new) }
     ensures written { IfOk result (λ outcome. Appends (W.contents writer.old)
         (W.contents writer.new) (json_line scope.now outcome)) }
     ensures nothing_written { IfErr result (λ fault. fault ≢ RunFault.Write
@@ -78,6 +83,8 @@ pub fn replay_json_records<R: Read + Drop, W: Write>(
     ensures answer { (all : List (List (List ℕ))) → ToCome R.remaining records.old all
         → IsReplayAnswer (leaving_out without) ROWS_MAX all result }
     ensures whole { IsOverLimit R.remaining records.old → IsNoYes result }
+    ensures heard { IfErr result (HasCause (fault_of records.new)) }
+    ensures met { fault_of records.old ≡ None → IsSome (fault_of records.new) → IsNoYes result }
     ensures written { IfOk result (λ outcome. Appends (W.contents writer.old)
         (W.contents writer.new) (json_line (leaving_out without) outcome)) }
     ensures nothing_written { IfErr result (λ fault. fault ≢ RunFault.Write

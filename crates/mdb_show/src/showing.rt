@@ -1,9 +1,9 @@
 //! The acts of a transcript.
 
-ghost use Rattle.std.specs.Prelude.{◌≡◌, ◌≢◌, ◌<◌, List, [], ℕ, Err, IfErr, IfSome, None, Ok, Some, length};
+ghost use Rattle.std.specs.Prelude.{◌≡◌, ◌≢◌, ◌<◌, List, [], ℕ, Err, IfErr, IfSome, None, Ok, length};
 ghost use Rattle.csv.specs.Reading.{default_config, records, strip_bom};
 ghost use Rattle.mdb_records.specs.ToCome.{IsOverLimit, ToCome, fault_of};
-ghost use Rattle.mdb_records.specs.declared.ReadFault.{ReadFault};
+ghost use Rattle.mdb_verdict.specs.Verdict.{HasCause};
 ghost use Rattle.mdb_verdict.specs.declared.verdict.TheConstants.{BYTES_MAX};
 ghost use Rattle.mdb_bus.specs.Bus.{scope_of};
 ghost use Rattle.mdb_bus.specs.declared.scope.Scope.{Scope};
@@ -113,6 +113,7 @@ pub fn show_records<R: Read + Drop, W: Write>(
     ensures shows { (all : List (List (List ℕ))) → ToCome R.remaining records.old all
         → Shows scope.now all (W.contents writer.old) (W.contents writer.new) result }
     ensures whole { IsOverLimit R.remaining records.old → result ≢ Ok None }
+    ensures heard { IfErr result (HasCause (fault_of records.new)) }
 {
     show_in(alloc, scope, TextForm, records, writer)
 }
@@ -132,6 +133,7 @@ pub fn show_json_records<R: Read + Drop, W: Write>(
     ensures shows { (all : List (List (List ℕ))) → ToCome R.remaining records.old all
         → ShowsJson scope.now all (W.contents writer.old) (W.contents writer.new) result }
     ensures whole { IsOverLimit R.remaining records.old → result ≢ Ok None }
+    ensures heard { IfErr result (HasCause (fault_of records.new)) }
 {
     show_in(alloc, scope, JsonForm, records, writer)
 }
@@ -147,6 +149,7 @@ fn show_in<F: Form, R: Read + Drop, W: Write>(
     ensures shows { (all : List (List (List ℕ))) → ToCome R.remaining records.old all
         → ShowsIn F.lines scope.now all (W.contents writer.old) (W.contents writer.new) result }
     ensures whole { IsOverLimit R.remaining records.old → result ≢ Ok None }
+    ensures heard { IfErr result (HasCause (fault_of records.new)) }
 {
     let mut showing = Showing::new(alloc, scope, form);
     let answer = show_rows(records, &mut showing, writer);
@@ -168,8 +171,7 @@ fn show_rows<F: Form, R: Read + Drop, W: Write>(
         → PutsShowing F.lines (scope_of showing.old.lines.bus) all (begun (W.contents writer.old))
         (output (W.contents writer.new) showing.new.page) result }
     ensures whole { IsOverLimit R.remaining records.old → result ≢ Ok None }
-    ensures heard { IfErr result (λ fault. fault ≡ RunFault.Read
-        → fault_of records.new ≡ Some ReadFault.Read) }
+    ensures heard { IfErr result (HasCause (fault_of records.new)) }
     ensures met { fault_of records.old ≡ None → IfSome (fault_of records.new)
         (λ fault. IsShownAs fault result) }
 {

@@ -1,7 +1,7 @@
 -- What the verdict is, by how the reading of rows ended.
-use Rattle.std.proofs.Common.{arith, ap, sym, subst, ◌∙◌, ◌≡◌, ◌+◌, ℕ, List, ◌∷◌, ◌++◌, ◌≢◌, Option, Some, None, Result, Ok, Err, length, length-append, append_assoc}
+use Rattle.std.proofs.Common.{arith, ap, sym, subst, ◌∙◌, ◌≡◌, ◌+◌, ℕ, List, ◌∷◌, ◌++◌, ◌≢◌, Option, Some, None, Result, Ok, Err, inl, length, length-append, append_assoc}
 use Rattle.std.proofs.lemmas.List.{append-nil}
-use Rattle.std.specs.Prelude.{IfErr, IfOk, IfSome, IsErrAnd}
+use Rattle.std.specs.Prelude.{IfErr, IfOk, IfSome, IsErrAnd, IsSome}
 use Rattle.std.specs.Result.{result_err}
 use Rattle.mdb_words.specs.declared.event.Event.{Event}
 use Rattle.mdb_words.specs.Row.{IsRefusal, IsRow}
@@ -17,7 +17,7 @@ use Rattle.mdb_verdict.specs.declared.fault.RunFault.{RunFault}
 use Rattle.mdb_verdict.specs.declared.fault.RunFault.TheVariants.{BadRow, TooLong, Read, Write, Memory, Mark}
 use Rattle.mdb_records.specs.declared.ReadFault.{ReadFault}
 use Rattle.mdb_verdict.specs.Ending.{AreRead, HasEnded, HasFollowed, HasTaken, IsHeard, IsStopped, IsTakenWhole, IsToldEnd}
-use Rattle.mdb_verdict.specs.Verdict.{AreRows, HasMet, IsAnswer, IsImpossible, IsNoYes, IsToldAs, IsYes, run_fault_of}
+use Rattle.mdb_verdict.specs.Verdict.{AreRows, HasCause, HasMet, HasNoRoom, IsAnswer, IsImpossible, IsNoYes, IsToldAs, IsYes, run_fault_of}
 use Rattle.mdb_verdict.proofs.Rows.{IsReadUpTo, are_rows, read_up_to}
 use Rattle.mdb_bus.specs.declared.scope.Scope.{Scope}
 
@@ -156,3 +156,36 @@ no_ok P (Err other) fault on = tt
 pub write_answers : (scope : Scope) (limit : ℕ) (all : List (List (List ℕ))) (answer : Result Outcome RunFault) (fault : RunFault) → fault ≡ Write → IsErrAnd answer (λ other. other ≡ fault) → IsAnswer scope limit all answer
 write_answers scope limit all (Ok outcome) fault is on = absurd on
 write_answers scope limit all (Err other) fault is on = subst (λ f. IsAnswer scope limit all (Err f)) (sym (on ∙ is)) tt
+
+-- A fault of reading has its cause.
+
+met_cause : (met : Option ReadFault) (fault : RunFault) → HasMet met fault → HasCause met fault
+met_cause met fault has = λ is. subst (HasMet met) is has
+
+pub cause_heard : (told answer : Result Outcome RunFault) (fault : RunFault) (met : Option ReadFault) → IfErr told (HasMet met) → told ≡ Err fault → IsErrAnd answer (λ other. other ≡ fault) → IfErr answer (HasCause met)
+cause_heard told (Ok outcome) fault met heard is on = absurd on
+cause_heard told (Err other) fault met heard is on = met_cause met other (subst (λ t. IfErr t (HasMet met)) (is ∙ ap Err (sym on)) heard)
+
+-- where the writer failed, nothing is said to be read
+pub cause_of_write : (answer : Result Outcome RunFault) (fault : RunFault) (met : Option ReadFault) → fault ≡ Write → IsErrAnd answer (λ other. other ≡ fault) → IfErr answer (HasCause met)
+cause_of_write (Ok outcome) fault met is on = absurd on
+cause_of_write (Err other) fault met is on = λ read. let clash : Write ≡ Read = sym (on ∙ is) ∙ read in cc clash
+
+-- a fault that was met is no yes
+pub no_yes_met : (met : Option ReadFault) (answer : Result Outcome RunFault) → IfSome met (λ failed. IsToldAs failed answer) → IsSome met → IsNoYes answer
+no_yes_met None answer told some = cc some
+no_yes_met (Some failed) (Ok (Yes report)) told some = absurd told
+no_yes_met (Some failed) (Ok (No offence)) told some = tt
+no_yes_met (Some failed) (Err fault) told some = tt
+
+-- memory is out where the reading met that
+pub room_heard : (scope : Scope) (limit : ℕ) (all : List (List (List ℕ))) (told answer : Result Outcome RunFault) (fault : RunFault) (met : Option ReadFault) → IfErr told (HasMet met) → told ≡ Err fault → IsErrAnd answer (λ other. other ≡ fault) → answer ≡ Err Memory
+    → HasNoRoom scope limit all met
+room_heard scope limit all told answer fault met heard is on out =
+    inl (subst (λ t. IfErr t (HasMet met)) (handed_on told answer fault is on ∙ out) heard)
+
+pub no_room_of_write : (scope : Scope) (limit : ℕ) (all : List (List (List ℕ))) (answer : Result Outcome RunFault) (fault : RunFault) (met : Option ReadFault) → fault ≡ Write → IsErrAnd answer (λ other. other ≡ fault) → answer ≡ Err Memory → HasNoRoom scope limit all met
+no_room_of_write scope limit all (Ok outcome) fault met is on out = absurd on
+no_room_of_write scope limit all (Err other) fault met is on out =
+    let same : other ≡ Memory = cc out in
+    let clash : Write ≡ Memory = sym (on ∙ is) ∙ same in cc clash

@@ -1,5 +1,5 @@
 -- What is answered to the records of a text, where it may have so many rows (`limit`).
-use Rattle.std.specs.Prelude.{◌≡◌, ◌+◌, ◌<◌, ◌≤◌, ℕ, List, [], ◌∷◌, ◌++◌, length, ⊤, Option, Some, Result, Ok, Err}
+use Rattle.std.specs.Prelude.{◌≡◌, ◌⊎◌, ◌+◌, ◌<◌, ◌≤◌, ℕ, List, [], ◌∷◌, ◌++◌, length, ⊤, Option, Some, Result, Ok, Err}
 use Rattle.mdb_words.specs.declared.event.Event.{Event}
 use Rattle.mdb_words.specs.declared.row.RowFault.{RowFault}
 use Rattle.mdb_words.specs.Row.{IsRow, IsRefusal}
@@ -104,6 +104,16 @@ abbrev pub IsNoYes : Result Outcome RunFault → Type 0
 IsNoYes (Ok (Yes report)) = ⊥
 IsNoYes (Ok (No offence)) = ⊤
 IsNoYes (Err fault) = ⊤
+
+-- an input is answered that it can't be read only where the reading of its records met that
+abbrev pub HasCause : Option ReadFault → RunFault → Type 0
+HasCause met fault = fault ≡ Read → met ≡ Some reading.Read
+
+-- memory is out only where the reading of the records met that, or where they have a verdict, which
+-- can't be written then
+abbrev pub HasNoRoom : Scope → ℕ → List (List (List ℕ)) → Option ReadFault → Type 0
+HasNoRoom scope limit records met = (met ≡ Some reading.Memory)
+    ⊎ ((outcome : Outcome) × IsAnswer scope limit records (Ok outcome))
 
 -- The rest serves private functions: the fault of a run whose reading failed.
 abbrev pub run_fault_of : ReadFault → RunFault

@@ -1,13 +1,13 @@
 //! The verdict on a recording.
 
-ghost use Rattle.std.specs.Prelude.{◌≡◌, ◌≢◌, ◌<◌, ◌≤◌, List, ℕ, IfOk, IfErr, IfSome, None, Ok, Err, length};
+ghost use Rattle.std.specs.Prelude.{◌≡◌, ◌≢◌, ◌<◌, ◌≤◌, List, ℕ, IfOk, IfErr, IfSome, IsSome, None, Ok, Err, length};
 ghost use Rattle.std.specs.Io.KnownBytes.{Appends};
 ghost use Rattle.csv.specs.Reading.{default_config, records, strip_bom};
 ghost use Rattle.mdb_records.specs.ToCome.{IsOverLimit, IsUncut, ToCome, fault_of, limit_of};
 ghost use Rattle.mdb_verdict.specs.Headline.{Headline};
 ghost use Rattle.mdb_text.specs.Text.{report_text};
 ghost use Rattle.mdb_verdict.specs.CutReport.{IsCutReport};
-ghost use Rattle.mdb_verdict.specs.Verdict.{IsAnswer, IsYes, HasMet, IsNoYes, IsToldAs};
+ghost use Rattle.mdb_verdict.specs.Verdict.{HasCause, HasNoRoom, IsAnswer, IsYes, HasMet, IsNoYes, IsToldAs};
 ghost use Rattle.mdb_verdict.specs.Ending.{HasFollowed};
 ghost use Rattle.mdb_follow.specs.Follower.{StandsFor, rows_of, scope_of};
 ghost use Rattle.mdb_follow.specs.Offences.{HasOffence};
@@ -215,6 +215,11 @@ pub fn check_records<R: Read + Drop, W: Write>(
     ensures headline { (all : List (List (List ℕ))) → ToCome R.remaining records.old all
         → IfOk result (Headline scope.now rows_max all) }
     ensures whole { IsOverLimit R.remaining records.old → IsNoYes result }
+    ensures heard { IfErr result (HasCause (fault_of records.new)) }
+    ensures met { fault_of records.old ≡ None → IsSome (fault_of records.new) → IsNoYes result }
+    ensures room { (all : List (List (List ℕ))) → ToCome R.remaining records.old all
+        → result ≡ Err RunFault.Memory
+        → HasNoRoom scope.now rows_max all (fault_of records.new) }
     ensures written { IfOk result (λ outcome. Appends (W.contents writer.old)
         (W.contents writer.new) (report_text scope.now outcome)) }
     ensures nothing_written { IfErr result (λ fault. fault ≢ RunFault.Write

@@ -47,6 +47,7 @@ pub record IsStoppedAt (scope : Scope) (taken : List Entry) (entry : Entry)
   pub is : (fields : List (List ℕ)) → IsEntry fields entry
       → IsStopAt scope ROWS_MAX part fields stop
   pub no_write : stop ≢ Err run.Write
+  pub no_read : stop ≢ Err run.Read
 
 -- the next entry is taken, or stopped at
 abbrev pub HasTakenNext : Scope → Replaying → List Entry → Entry → Option (Result Offence RunFault)

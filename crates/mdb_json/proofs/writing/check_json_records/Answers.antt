@@ -1,4 +1,4 @@
-use Rattle.std.proofs.Common.{◌∙◌, subst}
+use Rattle.std.proofs.Common.{◌∙◌, inr, subst}
 use Rattle.mdb_verdict.specs.Written.{HasTaken}
 use Rattle.mdb_json.proofs.writing.check_json_records.Goals as goal
 
@@ -13,3 +13,6 @@ returns-in_err-write_text-clause-cut g c all to_come refused =
       is = c.in_ok-outcome.ensures.answer all to_come;
       taken = subst (HasTaken (held c.args.writer.now) (held c.write_text.new.writer)) (c.as_bytes.ensures.value ∙ c.in-Ok.ensures) c.write_text.ensures.front;
     }
+
+pub returns-in_default-clause-room : goal.returns-in_default-clause-room
+returns-in_default-clause-room g c all to_come out = inr (c.in_ok-outcome.outcome, c.in_ok-outcome.ensures.answer all to_come)

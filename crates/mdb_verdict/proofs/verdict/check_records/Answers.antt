@@ -1,6 +1,7 @@
-use Rattle.std.proofs.Common.{◌∙◌, ◌≢◌, refl, subst}
+use Rattle.std.proofs.Common.{◌∙◌, ◌≢◌, inr, refl, subst}
 use Rattle.std.specs.Prelude.{IfErr}
 use Rattle.std.specs.Io.KnownBytes.{Appends}
+use Rattle.mdb_records.specs.ToCome.{fault_of}
 use Rattle.mdb_verdict.specs.declared.fault.RunFault.TheVariants.{Write}
 use Rattle.mdb_verdict.specs.Verdict.{IsAnswer, IsNoYes}
 use Rattle.mdb_verdict.specs.Written.{HasTaken}
@@ -59,3 +60,31 @@ pub returns-clause-written : goal.returns-clause-written
 returns-clause-written g c =
     let held = g.W.Write.contents in
     subst (Appends (held c.args.writer.now) (held c.write_text.new.writer)) (c.as_slice.ensures.value ∙ c.in-Ok.ensures) c.in_ok-write_text.ensures.whole
+
+pub returns-in_err-outcome-clause-heard : goal.returns-in_err-outcome-clause-heard
+returns-in_err-outcome-clause-heard g c =
+    verdicts.cause_heard c.verdict_on.result c.from_residual.result c.in_err-outcome.field-0.0 (fault_of c.verdict_on.new.records) c.verdict_on.ensures.heard c.in_err-outcome.was c.from_residual.ensures.1
+
+pub returns-in_err-outcome-clause-met : goal.returns-in_err-outcome-clause-met
+returns-in_err-outcome-clause-met g c none some = verdicts.no_yes c.in_err-outcome.field-0.0 c.from_residual.result c.from_residual.ensures.1
+
+pub returns-in_err-outcome-clause-room : goal.returns-in_err-outcome-clause-room
+returns-in_err-outcome-clause-room g c all to_come =
+    verdicts.room_heard c.args.scope.now c.args.rows_max all c.verdict_on.result c.from_residual.result c.in_err-outcome.field-0.0 (fault_of c.verdict_on.new.records) c.verdict_on.ensures.heard c.in_err-outcome.was c.from_residual.ensures.1
+
+pub returns-in_err-write_text-clause-heard : goal.returns-in_err-write_text-clause-heard
+returns-in_err-write_text-clause-heard g c =
+    verdicts.cause_of_write c.from_residual-in_err-write_text.result c.in_err-write_text.field-0.0 (fault_of c.verdict_on.new.records) c.in_err-write_text.ensures.refused c.from_residual-in_err-write_text.ensures.1
+
+pub returns-in_err-write_text-clause-met : goal.returns-in_err-write_text-clause-met
+returns-in_err-write_text-clause-met g c none some = verdicts.no_yes c.in_err-write_text.field-0.0 c.from_residual-in_err-write_text.result c.from_residual-in_err-write_text.ensures.1
+
+pub returns-in_err-write_text-clause-room : goal.returns-in_err-write_text-clause-room
+returns-in_err-write_text-clause-room g c all to_come =
+    verdicts.no_room_of_write c.args.scope.now c.args.rows_max all c.from_residual-in_err-write_text.result c.in_err-write_text.field-0.0 (fault_of c.verdict_on.new.records) c.in_err-write_text.ensures.refused c.from_residual-in_err-write_text.ensures.1
+
+pub returns-clause-met : goal.returns-clause-met
+returns-clause-met g c none some = subst IsNoYes c.in_ok-outcome.was (verdicts.no_yes_met (fault_of c.verdict_on.new.records) c.verdict_on.result (c.verdict_on.ensures.met none) some)
+
+pub returns-in_default-clause-room : goal.returns-in_default-clause-room
+returns-in_default-clause-room g c all to_come out = inr (c.in_ok-outcome.outcome, c.in_ok-outcome.ensures.answer all to_come)
