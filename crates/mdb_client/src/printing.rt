@@ -1,6 +1,6 @@
 //! The verdict on a recording that lies in memory as text.
 
-ghost use Rattle.std.specs.Prelude.{◌≡◌, Err, IfErr, IfOk};
+ghost use Rattle.std.specs.Prelude.{◌≡◌, Err, IfErr, IfOk, Ok};
 ghost use Rattle.csv.specs.Reading.{default_config, records, strip_bom};
 ghost use Rattle.mdb_follow.specs.declared.follower.TheConstants.{ROWS_MAX};
 ghost use Rattle.mdb_text.specs.Text.{report_text};
@@ -19,6 +19,7 @@ use std::alloc::Global;
 /// Why there is no verdict.
 pub fn printed(alloc: Global, scope: &Scope, text: &[u8]) -> Result<Vec<u8>, RunFault>
     ensures printed { IfOk result (λ printed. (outcome : Outcome)
+        × IsAnswer scope.now ROWS_MAX (records default_config (strip_bom text.now)) (Ok outcome)
         × Headline scope.now ROWS_MAX (records default_config (strip_bom text.now)) outcome
         × (printed.items ≡ report_text scope.now outcome)) }
     ensures fault { IfErr result (λ fault.
