@@ -15,11 +15,18 @@ enum Task {
     Show,
 }
 
-/// Which of its calls fail: reads that give so many bytes at most, for this reason, or writes.
+/// Which of its calls fail, and for which reason: reads that give so many bytes at most, or writes.
 #[derive(Clone, Copy)]
 enum Calls {
     Reads(usize, ErrorKind),
-    Writes,
+    Writes(ErrorKind),
+}
+
+impl Calls {
+    /// Whether such a call is made again: a write that was interrupted is, and a read isn't.
+    fn is_tried_again(self) -> bool {
+        matches!(self, Calls::Writes(ErrorKind::Interrupted))
+    }
 }
 
 /// How a run ended: the fault, if there was one, and whether the answer is that of a plain run.
@@ -52,13 +59,13 @@ fn show_ends(alloc: Global, reader: &mut Pieces, out: &mut Sheet) -> Ended {
 /// where a read of `check` fails nothing, and where one of `show` fails whole lines.
 fn is_told(task: Task, calls: Calls, fault: Option<RunFault>, text: &[u8], wanted: &[u8]) -> bool {
     let is_front = match (calls, task) {
-        (Calls::Writes, _) => true,
+        (Calls::Writes(_), _) => true,
         (_, Task::Check) => text.is_empty(),
         (_, Task::Show) => matches!(text.last(), None | Some(b'\n')),
     };
     let told = match calls {
         Calls::Reads(..) => RunFault::Read,
-        Calls::Writes => RunFault::Write,
+        Calls::Writes(_) => RunFault::Write,
     };
     fault == Some(told) && is_front && wanted.starts_with(text)
 }
@@ -79,7 +86,10 @@ fn fail_one(alloc: Global, recording: &Recording, task: Task, calls: Calls, numb
             Pieces::failing(rows, most, number, kind),
             Sheet::whole(alloc),
         ),
-        Calls::Writes => (Pieces::new(rows, usize::MAX), Sheet::failing(alloc, number)),
+        Calls::Writes(kind) => (
+            Pieces::new(rows, usize::MAX),
+            Sheet::failing(alloc, number, kind),
+        ),
     };
     let (ended, wanted) = match task {
         Task::Check => (
@@ -92,7 +102,7 @@ fn fail_one(alloc: Global, recording: &Recording, task: Task, calls: Calls, numb
     let text = out.text.as_slice();
     Ran {
         has_failed,
-        is_as_wanted: if has_failed {
+        is_as_wanted: if has_failed && !calls.is_tried_again() {
             is_told(task, calls, ended.fault, text, wanted)
         } else {
             ended.is_plain && text == wanted
@@ -102,9 +112,9 @@ fn fail_one(alloc: Global, recording: &Recording, task: Task, calls: Calls, numb
 }
 
 /// Lets the first call fail, then the second, and so on up to the run in which none is left to
-/// fail. Each has to be told, after which no less stands written than after the one before it, and
-/// the last run is as any other. Where the last read of `show` fails, all lines are written.
-/// Answers how many failed, or the number of the first run that is otherwise.
+/// fail. Each is told, or else made again. No less stands written then than after the one before
+/// it, and the last run is as any other. Where the last read of `show` fails, all lines are
+/// written. Answers how many failed, or the number of the first run that is otherwise.
 fn fail_each(alloc: Global, recording: &Recording, task: Task, calls: Calls) -> Result<u64, u64> {
     let mut longest = 0;
     for number in 1..CALLS {
@@ -129,7 +139,7 @@ fn fail_each(alloc: Global, recording: &Recording, task: Task, calls: Calls) -> 
 /// What is run.
 static TASKS: [Task; 2] = [Task::Check, Task::Show];
 
-/// Ends the test where a call isn't told, or none fails.
+/// Ends the test where a call isn't told or made again, or none fails.
 fn are_told(rt: &impl Abort, alloc: Global, recording: &Recording, calls: Calls) {
     for task in &TASKS {
         let failed = fail_each(alloc, recording, *task, calls);
@@ -138,13 +148,13 @@ fn are_told(rt: &impl Abort, alloc: Global, recording: &Recording, calls: Calls)
     }
 }
 
-/// The reads that fail: of a part of a row, and of several rows.
+/// The calls that fail: reads of a part of a row and of several rows, and writes.
 static FAILING: [Calls; 5] = [
     Calls::Reads(7, ErrorKind::BrokenPipe),
     Calls::Reads(7, ErrorKind::Interrupted),
     Calls::Reads(100, ErrorKind::BrokenPipe),
     Calls::Reads(100, ErrorKind::Interrupted),
-    Calls::Writes,
+    Calls::Writes(ErrorKind::BrokenPipe),
 ];
 
 #[test]
@@ -153,6 +163,14 @@ fn each_failed_read_and_write_is_told(rt: HostRuntime) {
         for calls in &FAILING {
             are_told(&rt, rt.alloc(), recording, *calls);
         }
+    }
+}
+
+#[test]
+fn each_interrupted_write_is_tried_again(rt: HostRuntime) {
+    for recording in &recordings() {
+        let writes = Calls::Writes(ErrorKind::Interrupted);
+        are_told(&rt, rt.alloc(), recording, writes);
     }
 }
 

@@ -14,6 +14,8 @@ mod endless;
 #[cfg(test)]
 mod events;
 #[cfg(test)]
+mod explaining;
+#[cfg(test)]
 mod faults;
 #[cfg(test)]
 mod limits;

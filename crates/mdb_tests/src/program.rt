@@ -625,8 +625,8 @@ fn fails_to_write(
     (is_output, told): (bool, &[u8]),
 ) {
     let list = words_of(alloc, words).expect(rt, "memory");
-    let mut out = Sheet::failing(alloc, u64::from(is_output));
-    let mut err = Sheet::failing(alloc, u64::from(!is_output));
+    let mut out = Sheet::failing(alloc, u64::from(is_output), ErrorKind::BrokenPipe);
+    let mut err = Sheet::failing(alloc, u64::from(!is_output), ErrorKind::BrokenPipe);
     let status = run(alloc, list, text, &mut out, &mut err);
     let failed = (out.has_failed(), err.has_failed());
     same_at(rt, words, (status, failed), (2, (is_output, !is_output)));

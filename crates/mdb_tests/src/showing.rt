@@ -82,7 +82,7 @@ fn is_written_in_pages(rt: &impl Abort, alloc: Global, text: &[u8], wanted: &[u8
 /// Ends the test where a refused write doesn't end the showing, or what was written before it isn't
 /// the first part of the lines.
 fn ends_by_a_refused_write(rt: &impl Abort, alloc: Global, text: &[u8], wanted: &[u8]) {
-    let mut out = Sheet::failing(alloc, 10_000);
+    let mut out = Sheet::failing(alloc, 10_000, ErrorKind::BrokenPipe);
     same(rt, show(alloc, text, &mut out), Err(RunFault::Write));
     assert!(rt; wanted.starts_with(out.text.as_slice()));
 }

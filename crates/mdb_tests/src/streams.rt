@@ -178,16 +178,18 @@ pub(crate) struct Sheet {
     pub(crate) writes: u64,
     // The number of the write that fails, from 1; 0 for none.
     failing: u64,
+    kind: ErrorKind,
 }
 
 impl Sheet {
-    /// One that takes a few bytes at a time.
-    pub(crate) fn failing(alloc: Global, failing: u64) -> Sheet {
+    /// One that takes a few bytes at a time, and fails for this reason.
+    pub(crate) fn failing(alloc: Global, failing: u64, kind: ErrorKind) -> Sheet {
         Sheet {
             text: Vec::new(alloc),
             most: 3,
             writes: 0,
             failing,
+            kind,
         }
     }
 
@@ -198,6 +200,7 @@ impl Sheet {
             most: usize::MAX,
             writes: 0,
             failing: 0,
+            kind: ErrorKind::Other,
         }
     }
 
@@ -210,7 +213,7 @@ impl Write for Sheet {
     fn write(&mut self, buf: &[u8]) -> io::Result<usize> {
         self.writes = self.writes.saturating_add(1);
         if self.writes == self.failing {
-            return Err(io::Error::from(ErrorKind::BrokenPipe));
+            return Err(io::Error::from(self.kind));
         }
         let count = buf.len().min(self.most);
         self.text.extend_from_slice(&buf[..count])?;
