@@ -1,14 +1,13 @@
 //! What standard error is told where there is no answer.
 
-ghost use Rattle.std.specs.Prelude.{◌≡◌, ◌++◌, codes};
-ghost use Rattle.std.specs.Fmt.{decimal};
-ghost use Rattle.mdb_follow.specs.declared.follower.TheConstants.{ROWS_MAX};
-ghost use Rattle.mdb_check.specs.Complaint.{cause_text};
+ghost use Rattle.std.specs.Prelude.{◌≡◌};
+ghost use Rattle.mdb_verdict.specs.Written.{HasTaken};
+ghost use Rattle.mdb_check.specs.Complaint.{IsToldCause, cause_line, excess_line};
 
 use csv::ByteRecord;
 use mdb_records::{ReadCause, Records};
 use mdb_text::hex_digit;
-use mdb_verdict::RunFault;
+use mdb_verdict::{RunFault, write_text};
 use mdb_words::RowFault;
 use std::alloc::{AllocError, Global};
 use std::io::{Read, Write};
@@ -27,24 +26,37 @@ pub(crate) enum Wanted {
 }
 
 /// Writes one line on a fault: at a record that is none of what it may be the form that is wanted
-/// and what stands there, where the reading failed its cause. The records are those that the fault was met with.
-/// Where the line is refused, nothing more is tried.
+/// and what stands there, where the reading failed its cause. The records are those that the fault
+/// was met with. Where the line is refused, nothing more is tried.
 pub(crate) fn complain<R: Read + Drop, E: Write>(
     alloc: Global,
     fault: RunFault,
     wanted: Wanted,
     records: &Records<R>,
     err: &mut E,
-) {
-    let _ = match fault {
-        RunFault::BadRow { .. } => complain_of_row(alloc, fault, wanted, records.row(), err),
-        RunFault::TooLong => writeln!(err, "mdbcheck: {}", text_of_excess()),
-        RunFault::Read => writeln!(err, "mdbcheck: {}", text_of_cause(records.cause())),
-        RunFault::Write | RunFault::Memory | RunFault::Mark { .. } => writeln!(
-            err,
-            "mdbcheck: {fault}"
-        ),
-    };
+)
+    ensures excess { fault ≡ RunFault.TooLong
+        → HasTaken (E.contents err.old) (E.contents err.new) excess_line }
+    ensures read { fault ≡ RunFault.Read
+        → IsToldCause records.now (E.contents err.old) (E.contents err.new) }
+{
+    match fault {
+        RunFault::BadRow { .. } => {
+            let _ = complain_of_row(alloc, fault, wanted, records.row(), err);
+        }
+        RunFault::TooLong => tell(err, text_of_excess()),
+        RunFault::Read => tell(err, text_of_cause(records.cause())),
+        RunFault::Write | RunFault::Memory | RunFault::Mark { .. } => {
+            let _ = writeln!(err, "mdbcheck: {fault}");
+        }
+    }
+}
+
+/// Writes a line, or a front of it where that fails.
+fn tell<E: Write>(err: &mut E, line: &str)
+    ensures { HasTaken (E.contents err.old) (E.contents err.new) line.now }
+{
+    let _ = write_text(err, line.as_bytes());
 }
 
 /// Writes the line on a record that is no row. Without memory it leaves out what stands there.
@@ -83,21 +95,23 @@ fn form_of(fault: RunFault, wanted: Wanted, row: &ByteRecord) -> &'static str {
     }
 }
 
-/// That there are more rows than the program reads.
+/// The line on more rows than the program reads.
 fn text_of_excess() -> &'static str
-    ensures { result.now ≡ codes "more than " ++ decimal ROWS_MAX ++ codes " rows" }
+    ensures { result.now ≡ excess_line }
 {
-    "more than 100000000 rows"
+    "mdbcheck: more than 100000000 rows\n"
 }
 
-/// Why the input can't be read.
+/// The line on an input that can't be read.
 fn text_of_cause(cause: ReadCause) -> &'static str
-    ensures { result.now ≡ cause_text cause }
+    ensures { result.now ≡ cause_line cause }
 {
     match cause {
-        ReadCause::Failed => "the input can't be read",
-        ReadCause::WouldBlock => "the input can't be read: it would have to be waited for",
-        ReadCause::OverLimit => "the input has more than 6400000000 bytes",
+        ReadCause::Failed => "mdbcheck: the input can't be read\n",
+        ReadCause::WouldBlock => {
+            "mdbcheck: the input can't be read: it would have to be waited for\n"
+        }
+        ReadCause::OverLimit => "mdbcheck: the input has more than 6400000000 bytes\n",
     }
 }
 
