@@ -12,7 +12,7 @@ use std::io::Write;
 use std::{fs, io};
 
 /// The files of cases, one for each subject.
-static FILES: [&str; 22] = [
+static FILES: [&str; 23] = [
     "rows.cases",
     "times.cases",
     "commands.cases",
@@ -28,6 +28,7 @@ static FILES: [&str; 22] = [
     "decimals.cases",
     "show.cases",
     "replay.cases",
+    "told-faults.cases",
     "explain.cases",
     "without.cases",
     "joined.cases",
