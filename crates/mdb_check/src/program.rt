@@ -44,29 +44,34 @@ const NO_VERDICT: u8 = 2;
 const CHECK_ALONE: &str = "--joined and --setup go with check alone: show, explain and replay take \
 recordings from power-on";
 
-/// Runs the program over its words, the program's name first, and answers its exit status.
+/// Runs the program for the words of its command line, the program's name first, and returns its
+/// exit status.
 ///
 /// `check`:
-/// - 0: the transcript can have been, and its report is on `out`.
-/// - 1: it cannot, and the report on `out` says why.
+///
+/// - 0: the recording is possible, and its report is on `out`.
+/// - 1: it is impossible, and the report on `out` shows why.
 ///
 /// `show`:
-/// - 0: each act of the transcript has a line on `out`.
-/// - 1: a row breaks a rule of the link. The last line on `out` tells of it, those before it of the
-///   acts.
+///
+/// - 0: each act of the recording has a line on `out`.
+/// - 1: a row breaks a rule of the link. The last line on `out` reports it, and the lines before it
+///   are those of the acts.
 ///
 /// `explain`:
-/// - 0: the transcript can have been, and an explanation of the goal is on `out`: marks, and then the
+///
+/// - 0: the recording is possible, and an explanation of the goal is on `out`: marks, and then the
 ///   rows.
-/// - 1: it cannot, and the report on `out` says why.
+/// - 1: it is impossible, and the report on `out` shows why.
 ///
 /// `replay`:
-/// - 0: the transcript has a run with the marks before it, and its report is on `out`.
-/// - 1: it has none, and the report on `out` says why.
 ///
-/// And 2: there is no such answer, for the fault that the task met, or because the words
-/// aren't a command of the program, which goes for those that ask for help or for the version too.
-/// One line on `err` says so; where `err` refuses the line, the status is the same.
+/// - 0: the recording has a run with the marks before it, and its report is on `out`.
+/// - 1: it has none, and the report on `out` shows why.
+///
+/// With status 2 there is no such answer. Either the task met a fault, or the words aren't a
+/// command of the program. Words that ask for help or for the version count as none too. One line
+/// on `err` shows why. If `err` refuses the line, the status is the same.
 ///
 /// With `--json`, `check` and `replay` write their report as one line of JSON, and `show` a line of
 /// JSON for each act.

@@ -35,22 +35,23 @@ use mdb_words::Event;
 use std::alloc::Global;
 use std::io::{Read, Write};
 
-/// Reads a transcript, as [`check`](super::check) does, and where its verdict is yes, writes what
-/// explains an end of a range of its report: the marks of a run that comes to it, and then the rows
-/// of the transcript. No run goes further, and none that comes there has fewer marks. Of a no it
-/// writes what `check` writes. Recording began at power-on or at a break, and all devices are
-/// followed: this is [`explain_scoped`] of [`DeviceSet::NONE`].
+/// Reads a recording, as [`check`](super::check) does, and returns the same answer. If it is yes,
+/// this writes an explanation of a bound of the report: the marks of a run that reaches the bound,
+/// and then the rows of the recording. No run goes further, and none that reaches the bound has
+/// fewer marks. If the answer is no, this writes what `check` writes. The recording begins at
+/// power-on or at a break, and all devices are followed: this is [`explain_scoped`] of
+/// [`DeviceSet::NONE`].
 ///
-/// What is written of a yes is an input of [`replay`](super::replay). Each mark has a line with the
-/// number of its row, `L` where an ACK was lost or `R` where a reply tells of a restart, and `-`;
-/// their numbers rise. Each row has one as it was read, with numbers as short as they can be and a
-/// word in three hexadecimal digits. The answer is that of `check`.
+/// An explanation is an input of [`replay`](super::replay). Each mark has a line: the number of its
+/// row, `L` for a lost ACK or `R` for a reply that reports a restart, and `-`. The numbers rise.
+/// Each row has a line as it was read, with numbers as short as they can be and a word in three
+/// hexadecimal digits.
 ///
 /// # Errors
 ///
-/// Those of `check`; `Memory` also where the rows or the marks can't be kept. Nothing has been
-/// written then, but at `Write`: there the writer took a front of the text that there is, and
-/// nothing else.
+/// Those of `check`. `Memory` also if the rows or the marks can't be kept. With `Write`, the writer
+/// took a front of the text that there is, and nothing else. With any other error nothing was
+/// written.
 pub fn explain<R: Read + Drop, W: Write>(
     alloc: Global,
     reader: R,
@@ -75,12 +76,8 @@ pub fn explain<R: Read + Drop, W: Write>(
     explain_scoped(alloc, DeviceSet::NONE, reader, writer, goal)
 }
 
-/// Does as [`explain`] does, where these devices are left out, as for
+/// Does what [`explain`] does, with these devices left out, as for
 /// [`check_scoped`](super::check_scoped) of [`Scope::leaving_out`].
-///
-/// # Errors
-///
-/// Those of `explain`.
 pub fn explain_scoped<R: Read + Drop, W: Write>(
     alloc: Global,
     without: DeviceSet,
@@ -108,12 +105,8 @@ pub fn explain_scoped<R: Read + Drop, W: Write>(
     explain_records(alloc, without, &mut records, writer, goal)
 }
 
-/// Explains the records that are still to come, and writes the text of that. What the records tell
-/// of where the reading ended is still to be asked then.
-///
-/// # Errors
-///
-/// Those of [`explain`], where the records have their own limit of bytes.
+/// Explains the records that are still to come, and writes the text of that. Afterwards `records`
+/// can still be asked where reading ended.
 pub fn explain_records<R: Read + Drop, W: Write>(
     alloc: Global,
     without: DeviceSet,

@@ -20,25 +20,30 @@ use mdb_verdict::{BYTES_MAX, Batch, RunFault, read_rows, records_of, text_scoped
 use std::alloc::Global;
 use std::io::{Read, Write};
 
-/// Reads marks and then a transcript, and writes what the run of the transcript with these marks
-/// tells, or why there is none: the text of `check`, where each range has one value. Recording
-/// began at power-on or at a break, and all devices are followed: this is [`replay_scoped`] of
-/// [`DeviceSet::NONE`].
+/// Reads marks and then a recording, and follows the run that has these marks. It writes what that
+/// run leads to, or why there is none: the text of `check`, in which each range has one value. The
+/// recording begins at power-on or at a break, and all devices are followed: this is
+/// [`replay_scoped`] of [`DeviceSet::NONE`].
 ///
-/// A mark row has three fields: the number of a row of the transcript in 1 to 15 digits, `L` or
-/// `R`, and `-`. `L` stands on an ACK of a device or of the controller: its receiver didn't hear it.
-/// `R` stands on the last row of a reply that tells of a restart. Without a mark an ACK was heard,
-/// and there was no restart. The numbers rise, and all mark rows come first. A record with another
-/// number of fields, or with another second field, is a row of the transcript, as for `check`.
+/// A mark row has three fields: the number of a row of the recording in 1 to 15 digits, `L` or `R`,
+/// and `-`. `L` is a mark on an ACK of a device or of the controller: its receiver didn't hear it.
+/// `R` is a mark on the last row of a reply that reports a restart. Without a mark an ACK was
+/// heard, and there was no restart. The numbers rise, and all mark rows come first. A record with
+/// another number of fields, or with another second field, is a row of the recording, as for
+/// `check`.
 ///
 /// # Errors
 ///
-/// The first of these: `BadRow` for the first record that is neither, with its number among all
-/// records, and with `BadLine` for a mark row after a row; `TooLong` for a mark row past
-/// [`ROWS_MAX`](super::ROWS_MAX) of them, or for a row past as many; `Mark` for a mark whose number
-/// is 0 or doesn't rise, at a row where it may not stand, and past the last row; `Read` and
-/// `Memory` as for `check`. Nothing has been written then. `Write` where the writer failed: then it
-/// took a front of the text that there is, and nothing else.
+/// The first of these:
+///
+/// - `BadRow`: the first record that is neither, with its number among all records. A mark row
+///   after a row has the fault `BadLine`.
+/// - `TooLong`: more than [`ROWS_MAX`](super::ROWS_MAX) mark rows, or more than as many rows.
+/// - `Mark`: a mark whose number is 0 or doesn't rise, a mark on a row where it can't stand, or a
+///   mark past the last row.
+/// - `Read` and `Memory`: as for `check`.
+/// - `Write`: the writer failed. It took a front of the text that there is, and nothing else. With
+///   any other error nothing was written.
 pub fn replay<R: Read + Drop, W: Write>(
     alloc: Global,
     reader: R,

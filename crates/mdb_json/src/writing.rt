@@ -22,16 +22,18 @@ use mdb_verdict::{RunFault, verdict_on, write_text};
 use std::alloc::{AllocError, Global};
 use std::io::{Read, Write};
 
-/// Checks the records that are still to come, at most so many, and writes the verdict as a line of
-/// JSON. What the records tell of where the reading ended is still to be asked then.
+/// Checks the records that are still to come, at most `rows_max`, and writes the verdict as a line
+/// of JSON. Afterwards `records` can still be asked where reading ended.
 ///
 /// # Errors
 ///
-/// `BadRow` for the first record that is no row, if no row before it is impossible; `TooLong` for a
-/// record past `rows_max`; `Read` where the reader failed, or for an input of more bytes than the
-/// records may have that isn't answered before; `Memory` where memory was refused. Nothing has been
-/// written then. `Write` where the writer failed: then it took a front of the line that there is,
-/// and nothing else.
+/// - `BadRow`: the first record that is no row, if no row before it is impossible.
+/// - `TooLong`: a record past `rows_max`.
+/// - `Read`: the reader failed, or the input has more bytes than the records may have, and no row
+///   before that ended the reading.
+/// - `Memory`: memory was refused.
+/// - `Write`: the writer failed. It took a front of the line that there is, and nothing else. With
+///   any other error nothing was written.
 pub fn check_json_records<R: Read + Drop, W: Write>(
     alloc: Global,
     scope: &Scope,
@@ -67,13 +69,13 @@ pub fn check_json_records<R: Read + Drop, W: Write>(
     Ok(outcome)
 }
 
-/// Replays the records that are still to come, and writes what that tells as a line of JSON. What
-/// the records tell of where the reading ended is still to be asked then.
+/// Replays the records that are still to come, and writes the answer as a line of JSON. Afterwards
+/// `records` can still be asked where reading ended.
 ///
 /// # Errors
 ///
-/// Those of [`mdb_explain::replay`]: nothing has been written then, but at `Write`, where the
-/// writer took a front of the line that there is, and nothing else.
+/// Those of [`mdb_explain::replay`]. With `Write`, the writer took a front of the line that there
+/// is, and nothing else. With any other error nothing was written.
 pub fn replay_json_records<R: Read + Drop, W: Write>(
     alloc: Global,
     without: DeviceSet,

@@ -22,23 +22,28 @@ use mdb_words::Event;
 use std::alloc::Global;
 use std::io::{Read, Write};
 
-/// Reads a transcript, and writes a line for each act that was done, as it reads: its first and its
-/// last row, and the act with the bytes of its block. A block that a break or the end of the
-/// transcript cuts has a line too, and so has the first row that breaks a rule of the link. That
-/// row ends the reading, and is answered. Recording began at power-on or at a break, and all devices
-/// are followed: this is [`show_scoped`] of [`Scope::POWER_ON`].
+/// Reads a recording, and writes a line for each act while it reads: the act's first and last row,
+/// and the act with the bytes of its block. A block that a break or the end of the recording cuts
+/// has a line too. So has the first row that breaks a rule of the link. That row ends the reading,
+/// and its fault is returned. The recording begins at power-on or at a break, and all devices are
+/// followed: this is [`show_scoped`] of [`Scope::POWER_ON`].
 ///
-/// The rows are those of `check`. Nothing is said of coins, bills and sales: a transcript that is
-/// shown to its end may still be one that cannot have been.
+/// The rows are those of `check`. Coins, bills and sales aren't checked: a recording that is shown
+/// to its end may still be impossible.
 ///
 /// # Errors
 ///
-/// `BadRow` for the first record that is no row, if no row before it breaks a rule of the link;
-/// `TooLong` for a record past [`ROWS_MAX`]; `Read` where the reader failed, or for an input of
-/// more than [`BYTES_MAX`] bytes that isn't answered before; `Memory` where
-/// memory was refused. Then the lines of the acts so far were written, and of the tails that a
-/// break cut: at `BadRow` and `TooLong` those of all rows before that record. `Write` where the
-/// writer failed: then it took a front of what is written where it doesn't fail, and nothing else.
+/// - `BadRow`: the first record that is no row, if no row before it breaks a rule of the link.
+/// - `TooLong`: a record past [`ROWS_MAX`].
+/// - `Read`: the reader failed, or the input has more than [`BYTES_MAX`] bytes, and no row before
+///   that ended the reading.
+/// - `Memory`: memory was refused.
+/// - `Write`: the writer failed. It took a front of what is written if it doesn't fail, and nothing
+///   else.
+///
+/// With the errors other than `Write`, the lines of the acts so far were written, and of the blocks
+/// that a break cut. With `BadRow` and `TooLong` these are the lines of all rows before that
+/// record.
 pub fn show<R: Read + Drop, W: Write>(
     alloc: Global,
     reader: R,

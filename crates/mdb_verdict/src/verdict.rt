@@ -33,20 +33,23 @@ use std::io::{Read, Write};
 /// The most bytes that an input may have (this profile).
 pub const BYTES_MAX: u64 = 6_400_000_000;
 
-/// Reads a transcript, writes the text of its verdict, and answers it. Recording began at power-on
-/// or at a break, and all devices are followed: this is [`check_scoped`] of [`Scope::POWER_ON`].
+/// Reads a recording, writes the text of its verdict, and returns the verdict. The recording begins
+/// at power-on or at a break, and all devices are followed: this is [`check_scoped`] of
+/// [`Scope::POWER_ON`].
 ///
 /// The rows are the records of the input as `csv` reads them, without a header: start in
-/// microseconds, line (`M`, `S` or `B`), and word or length of the break. The first record that is
-/// no row, or the first row that cannot follow the rows before it, ends the reading.
+/// microseconds, line (`M`, `S` or `B`), and word or length of the break. Reading ends at the first
+/// record that is no row, or at the first impossible row.
 ///
 /// # Errors
 ///
-/// `BadRow` for the first record that is no row, if no row before it is impossible; `TooLong` for a
-/// record past [`ROWS_MAX`]; `Read` where the reader failed, or for an input of more than
-/// [`BYTES_MAX`] bytes that isn't answered before; `Memory` where memory was refused. Nothing has
-/// been written then. `Write` where the writer failed: then it took a front of the text of the
-/// verdict that there is, and nothing else.
+/// - `BadRow`: the first record that is no row, if no row before it is impossible.
+/// - `TooLong`: a record past [`ROWS_MAX`].
+/// - `Read`: the reader failed, or the input has more than [`BYTES_MAX`] bytes, and no row before
+///   that ended the reading.
+/// - `Memory`: memory was refused.
+/// - `Write`: the writer failed. It took a front of the text of the verdict, and nothing else. With
+///   any other error nothing was written.
 pub fn check<R: Read + Drop, W: Write>(
     alloc: Global,
     reader: R,
@@ -68,12 +71,12 @@ pub fn check<R: Read + Drop, W: Write>(
     check_scoped(alloc, &Scope::POWER_ON, reader, writer)
 }
 
-/// Does as [`check`] does, of a recording that begins in mid-session, of which nothing is known
-/// from elsewhere: this is [`check_scoped`] of [`Scope::joined`] with [`Setups::NONE`] and
+/// Does what [`check`] does, for a recording that begins while the machine was running. Nothing is
+/// known from elsewhere: this is [`check_scoped`] of [`Scope::joined`] with [`Setups::NONE`] and
 /// [`DeviceSet::NONE`].
 ///
-/// What was said before isn't known, and each device may be in any state. The text of a yes has one
-/// line more, its last: how often money moved on each device whose value isn't known.
+/// What was sent before isn't known, and each device may be in any state. The text of a yes has one
+/// more line, its last: for each device, how many amounts have no known value.
 ///
 /// # Errors
 ///
@@ -100,14 +103,14 @@ pub fn check_joined<R: Read + Drop, W: Write>(
     check_scoped(alloc, &scope, reader, writer)
 }
 
-/// Does as [`check`] does, with other limits: at most `rows_max` rows and `bytes_max` bytes, where
-/// `check` allows [`ROWS_MAX`] and [`BYTES_MAX`].
+/// Does what [`check`] does, with other limits: at most `rows_max` rows and `bytes_max` bytes, in
+/// place of [`ROWS_MAX`] and [`BYTES_MAX`].
 ///
 /// # Errors
 ///
-/// Those of `check`. `TooLong` is for a record past `rows_max`, whatever it holds: it may be no
-/// row, and a row that cannot be. `Read` is also for an input of more than `bytes_max` bytes that
-/// isn't answered before.
+/// Those of `check`. `TooLong` is for a record past `rows_max`, whatever it contains: it may be no
+/// row, or an impossible row. `Read` is also for an input of more than `bytes_max` bytes, if no row
+/// before that ended the reading.
 pub fn check_within<R: Read + Drop, W: Write>(
     alloc: Global,
     reader: R,
@@ -133,11 +136,13 @@ pub fn check_within<R: Read + Drop, W: Write>(
     check_scoped_within(alloc, &Scope::POWER_ON, reader, writer, rows_max, bytes_max)
 }
 
-/// Does as [`check`] does, of a recording that is taken as `scope` says: what is said to a device
-/// that is left out, and what it answers, is foreign traffic, whatever it is, and the text of a yes
-/// names that device in one line more, its last. Where recording began in mid-session, as for
-/// [`check_joined`], the line of what has no value stands before it, and, where setup data are
-/// known from elsewhere, a line that names their devices.
+/// Does what [`check`] does, for a recording with this scope. All words to and from a device that
+/// is left out are foreign traffic. The text of a yes has these lines more, in this order:
+///
+/// - for a recording that begins while the machine was running, how many amounts of each device
+///   have no known value, as for [`check_joined`];
+/// - for such a recording, if setup data are known from elsewhere, the devices that they belong to;
+/// - if devices are left out, their names.
 ///
 /// # Errors
 ///
@@ -164,11 +169,7 @@ pub fn check_scoped<R: Read + Drop, W: Write>(
     check_scoped_within(alloc, scope, reader, writer, ROWS_MAX, BYTES_MAX)
 }
 
-/// Does as [`check_scoped`] does, with other limits, as [`check_within`] has them.
-///
-/// # Errors
-///
-/// Those of `check_within`.
+/// Does what [`check_scoped`] does, with the other limits of [`check_within`].
 pub fn check_scoped_within<R: Read + Drop, W: Write>(
     alloc: Global,
     scope: &Scope,
@@ -196,12 +197,8 @@ pub fn check_scoped_within<R: Read + Drop, W: Write>(
     check_records(alloc, scope, &mut records, writer, rows_max)
 }
 
-/// Checks the records that are still to come, at most so many, and writes the text of the verdict.
-/// What the records tell of where the reading ended is still to be asked then.
-///
-/// # Errors
-///
-/// Those of [`check_within`], where the records have their own limit of bytes.
+/// Checks the records that are still to come, at most `rows_max`, and writes the text of the
+/// verdict. Afterwards `records` can still be asked where reading ended.
 pub fn check_records<R: Read + Drop, W: Write>(
     alloc: Global,
     scope: &Scope,
@@ -251,13 +248,9 @@ pub fn records_of<R: Read + Drop>(alloc: Global, reader: R, bytes_max: u64) -> R
     Records::new(alloc, reader, bytes_max)
 }
 
-/// The verdict on the records that are still to come, at most so many. Nothing is written: this is
-/// what [`check_records`] writes the text of. What the records tell of where the reading ended is
-/// still to be asked then.
-///
-/// # Errors
-///
-/// Those of [`check_records`], but for `Write` and for memory that its text takes.
+/// The verdict on the records that are still to come, at most `rows_max`. Nothing is written:
+/// [`check_records`] writes the text of this verdict. Afterwards `records` can still be asked where
+/// reading ended.
 pub fn verdict_on<R: Read + Drop>(
     scope: &Scope,
     records: &mut Records<R>,
