@@ -8,6 +8,7 @@ pub mod LastMark
 pub mod MarkedFronts
 pub mod MarkedRuns
 pub mod Merging
+pub mod NothingLeftOut
 pub mod OneReplayFault
 pub mod OneStep
 pub mod OwnMarks

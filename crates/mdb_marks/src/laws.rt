@@ -1,22 +1,26 @@
 //! What follows from the definitions of marks, of replays and of explanations.
 
-ghost use Rattle.std.specs.Prelude.{◌≡◌, ◌↔◌, ◌+◌, ℕ, List, ◌++◌, All, Contains, Option, length};
+ghost use Rattle.std.specs.Prelude.{◌≡◌, ◌↔◌, ◌+◌, ℕ, List, ◌++◌, All, Contains, Option, Some, length};
 ghost use Rattle.mdb_words.specs.declared.event.Event.{Event};
 ghost use Rattle.mdb_msgs.specs.declared.command.Device.{Device};
 ghost use Rattle.mdb_msgs.specs.declared.command.Device.TheVariants as devices;
 ghost use Rattle.mdb_msgs.specs.declared.command.ReaderUnit.TheVariants.{First, Second};
 ghost use Rattle.mdb_bus.specs.ActLists.{ArePieces, Piece, acts_of, events_of};
 ghost use Rattle.mdb_bus.specs.declared.scope.Beginning.TheVariants.{PowerOn};
+ghost use Rattle.mdb_bus.specs.LinkFaults.{blame_on};
+ghost use Rattle.mdb_bus.specs.Scopes.{IsFollowed};
 ghost use Rattle.mdb_bus.specs.declared.scope.Scope.{Scope};
 ghost use Rattle.mdb_follow.specs.Choosing.{Choices};
 ghost use Rattle.mdb_follow.specs.Follower.{StandsFor, scope_of};
 ghost use Rattle.mdb_follow.specs.declared.goal.Goal.{Goal};
 ghost use Rattle.mdb_marks.specs.declared.mark.Mark.{Mark};
+ghost use Rattle.mdb_follow.specs.LeavingOut.{HasNothingLeftOut};
+ghost use Rattle.mdb_follow.specs.declared.offence.Offence.{Offence};
 ghost use Rattle.mdb_follow.specs.declared.report.Report.{Report};
 ghost use Rattle.mdb_marks.specs.Marks.{MarkedRun, Rise, StandsWithin, marks_of, own_marks};
 ghost use Rattle.mdb_follow.specs.Ends.{end_of, side_range};
 ghost use Rattle.mdb_marks.specs.Goals.{Explains};
-ghost use Rattle.mdb_marks.specs.ReplayFaults.{HasMarkedRun, IsReplayFault, SplitAt};
+ghost use Rattle.mdb_marks.specs.ReplayFaults.{HasMarkedRun, IsReplayFault, IsReplayOffence, SplitAt};
 ghost use Rattle.mdb_marks.specs.Replays.{IsReplayReport};
 ghost use Rattle.mdb_marks.specs.Replays as replays;
 ghost use Rattle.mdb_marks.specs.declared.replay.Replay.{Replay};
@@ -26,6 +30,7 @@ ghost use Rattle.mdb_follow.specs.Runs.{AllSums};
 
 use mdb_bus::laws;
 use mdb_cash::laws as cash_laws;
+use mdb_cashless::laws as cashless_laws;
 use mdb_follow::laws as follow_laws;
 
 /// Marks tell what is chosen of each act: choices with the same marks are the same.
@@ -133,6 +138,31 @@ pub fn rows_with_a_marked_run_have_a_replay_report()
     laws::transcripts_have_one_act_list();
     follow_laws::ways_split_with_choices();
     marks_tell_what_is_chosen();
+}
+
+/// No offence of a replay is blamed on a device that is left out.
+pub fn replay_offences_are_blamed_on_devices_that_are_followed()
+    ensures { (scope : Scope) (rows : List Event) (marks : List (ℕ × Mark)) (row : Event)
+        (mark : Option Mark) (offence : Offence) (device : Device)
+        → IsReplayOffence scope rows marks row mark offence
+        → offence.blame ≡ blame_on (Some device) → IsFollowed scope device }
+{
+    laws::acts_name_devices_that_are_followed();
+    laws::faults_are_blamed_on_devices_that_are_followed();
+}
+
+/// A report of a replay has nothing of the devices that are left out, but for decimal places that
+/// are known from elsewhere.
+pub fn replay_reports_have_nothing_of_devices_left_out()
+    ensures { (scope : Scope) (rows : List Event) (marks : List (ℕ × Mark)) (report : Report)
+        → IsReplayReport scope rows marks report → HasNothingLeftOut scope report }
+{
+    laws::acts_name_devices_that_are_followed();
+    laws::devices_left_out_have_a_part_in_breaks_alone();
+    cash_laws::breaks_tell_nothing_of_the_changer();
+    cash_laws::breaks_tell_nothing_of_the_validator();
+    cashless_laws::breaks_tell_nothing_of_a_reader();
+    follow_laws::runs_add_nothing_of_devices_left_out();
 }
 
 /// Where marks explain a goal, the report of a replay with them comes to the end that the report on
