@@ -1,4 +1,5 @@
-//! Laws of command lines and of what is written. Each function's contract is the law, and its body is empty.
+//! Laws of command lines and of what is written. Each function's contract is the law, and its body
+//! is empty.
 
 ghost use Rattle.std.specs.Prelude.{◌≡◌, ◌⊎◌, List, ℕ};
 ghost use Rattle.mdb_words.specs.declared.event.Event.{Event};
