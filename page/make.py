@@ -15,6 +15,8 @@ import sys
 
 HERE = pathlib.Path(__file__).resolve().parent
 RULES = "Order Speaker Mode Early Late Spacing Length Sum Break Answer Message Same Profile Changer Bill Cashless".split()
+# The page's scripts, in the order in which they stand in the page. What a script runs at once, needs the ones before it.
+SCRIPTS = ("words elements texts report options runs card fault money timeline statement acts setup main").split()
 LEADS = {"At the bench": "bench", "The row": "row", "Blame": "blame", "Look at": "look"}
 
 
@@ -65,7 +67,7 @@ def main():
     module, page = map(pathlib.Path, sys.argv[1:])
     wasm = module.read_bytes()
     style = (HERE / "page.css").read_text()
-    parts = [(HERE / name).read_text() for name in ("words.js", "page.js")]
+    parts = [(HERE / f"{name}.js").read_text() for name in SCRIPTS]
     constants = [
         '"use strict";',
         f"const RULES = {in_script(rule_texts())};",

@@ -3,13 +3,54 @@
 const DEVICES = ["", "changer", "bill", "cashless", "cashless-2"];
 const DEVICE_NAMES = ["", "coin changer", "bill validator", "card reader at 10H", "card reader at 60H"];
 const KINDS = ["ask", "ack", "nak", "reply", "vmc-ack", "vmc-nak", "vmc-ret", "repeat", "foreign", "break", "cut"];
-const ASK = 0, ACK = 1, NAK = 2, REPLY = 3, VMC_ACK = 4, VMC_NAK = 5, VMC_RET = 6, REPEAT = 7, FOREIGN = 8, BREAK = 9, CUT = 10;
-const CHANGER_COMMANDS = { 8: "RESET", 9: "SETUP", 10: "TUBE STATUS", 11: "POLL", 12: "COIN TYPE", 13: "DISPENSE" };
-const BILL_COMMANDS = { 0x30: "RESET", 0x31: "SETUP", 0x32: "SECURITY", 0x33: "POLL", 0x34: "BILL TYPE", 0x35: "ESCROW", 0x36: "STACKER" };
+const ASK = 0, ACK = 1, NAK = 2, REPLY = 3, VMC_ACK = 4, VMC_NAK = 5, VMC_RET = 6, REPEAT = 7, FOREIGN = 8, BREAK = 9,
+      CUT = 10;
+const CHANGER_COMMANDS = {
+  8: "RESET",
+  9: "SETUP",
+  10: "TUBE STATUS",
+  11: "POLL",
+  12: "COIN TYPE",
+  13: "DISPENSE"
+};
+const BILL_COMMANDS = {
+  0x30: "RESET",
+  0x31: "SETUP",
+  0x32: "SECURITY",
+  0x33: "POLL",
+  0x34: "BILL TYPE",
+  0x35: "ESCROW",
+  0x36: "STACKER"
+};
 const VENDS = ["VEND REQUEST", "VEND CANCEL", "VEND SUCCESS", "VEND FAILURE", "SESSION COMPLETE", "CASH SALE"];
 const SWITCHES = ["READER DISABLE", "READER ENABLE", "READER CANCEL"];
-const CHANGER_STATUS = { 1: "escrow request", 2: "payout busy", 3: "no credit", 4: "defective tube sensor", 5: "double arrival", 6: "acceptor unplugged", 7: "tube jam", 8: "ROM checksum error", 9: "coin routing error", 10: "busy", 12: "coin jam", 13: "possible credited coin removal" };
-const BILL_STATUS = { 1: "defective motor", 2: "sensor problem", 3: "busy", 4: "ROM checksum error", 5: "jammed", 7: "bill removed", 8: "cash box out of position", 9: "disabled", 10: "escrow request that isn't valid", 11: "bill rejected", 12: "possible credited bill removal" };
+const CHANGER_STATUS = {
+  1: "escrow request",
+  2: "payout busy",
+  3: "no credit",
+  4: "defective tube sensor",
+  5: "double arrival",
+  6: "acceptor unplugged",
+  7: "tube jam",
+  8: "ROM checksum error",
+  9: "coin routing error",
+  10: "busy",
+  12: "coin jam",
+  13: "possible credited coin removal"
+};
+const BILL_STATUS = {
+  1: "defective motor",
+  2: "sensor problem",
+  3: "busy",
+  4: "ROM checksum error",
+  5: "jammed",
+  7: "bill removed",
+  8: "cash box out of position",
+  9: "disabled",
+  10: "escrow request that isn't valid",
+  11: "bill rejected",
+  12: "possible credited bill removal"
+};
 
 const hex = (byte) => byte.toString(16).toUpperCase().padStart(2, "0");
 const two = (bytes, i) => bytes[i] * 256 + bytes[i + 1];
@@ -17,7 +58,10 @@ const two = (bytes, i) => bytes[i] * 256 + bytes[i + 1];
 // A whole number of smallest units, with the point where the device has it.
 function money(units, decimals) {
   let digits = String(units), sign = "";
-  if (digits[0] === "-") { sign = "−"; digits = digits.slice(1); }
+  if (digits[0] === "-") {
+    sign = "−";
+    digits = digits.slice(1);
+  }
   if (!decimals) return sign + digits;
   digits = digits.padStart(decimals + 1, "0");
   return `${sign}${digits.slice(0, -decimals)}.${digits.slice(-decimals)}`;
@@ -26,22 +70,48 @@ function money(units, decimals) {
 // The acts as they lie in memory, 80 bytes each.
 class Acts {
   constructor(buffer, count) {
-    this.words = new Uint32Array(buffer); this.bytes8 = new Uint8Array(buffer); this.count = count;
+    this.words = new Uint32Array(buffer);
+    this.bytes8 = new Uint8Array(buffer);
+    this.count = count;
     // Answers to SETUP: the act from which on one counts, and what it says; by device.
     this.setups = [[], [], [], [], []];
     this.command = new Uint8Array(0);
   }
-  u64(i, place) { const at = i * 20 + place; return this.words[at] + this.words[at + 1] * 4294967296; }
-  first(i) { return this.u64(i, 0); }
-  last(i) { return this.u64(i, 2); }
-  start(i) { return this.u64(i, 4); }
-  end(i) { return this.u64(i, 6); }
-  length(i) { return this.u64(i, 8); }
-  kind(i) { return this.bytes8[i * 80 + 40]; }
-  device(i) { return this.bytes8[i * 80 + 41]; }
-  bytes(i) { const at = i * 80; return this.bytes8.subarray(at + 43, at + 43 + this.bytes8[at + 42]); }
-  byte(i, k) { return this.bytes8[i * 80 + 43 + k]; }
-  hex(i) { return Array.from(this.bytes(i), hex).join(" "); }
+  u64(i, place) {
+    const at = i * 20 + place;
+    return this.words[at] + this.words[at + 1] * 4294967296;
+  }
+  first(i) {
+    return this.u64(i, 0);
+  }
+  last(i) {
+    return this.u64(i, 2);
+  }
+  start(i) {
+    return this.u64(i, 4);
+  }
+  end(i) {
+    return this.u64(i, 6);
+  }
+  length(i) {
+    return this.u64(i, 8);
+  }
+  kind(i) {
+    return this.bytes8[i * 80 + 40];
+  }
+  device(i) {
+    return this.bytes8[i * 80 + 41];
+  }
+  bytes(i) {
+    const at = i * 80;
+    return this.bytes8.subarray(at + 43, at + 43 + this.bytes8[at + 42]);
+  }
+  byte(i, k) {
+    return this.bytes8[i * 80 + 43 + k];
+  }
+  hex(i) {
+    return Array.from(this.bytes(i), hex).join(" ");
+  }
   // As `mdbcheck show` writes it.
   line(i) {
     const kind = this.kind(i), words = [`${this.first(i)}-${this.last(i)}`, KINDS[kind]];
@@ -51,11 +121,25 @@ class Acts {
     return words.join(" ");
   }
   // The ask that an act belongs to: the one before it, if nothing else stands between.
-  askOf(i) { while (i >= 0) { const kind = this.kind(i); if (kind === ASK) return i; if (kind >= FOREIGN) return -1; i--; } return -1; }
+  askOf(i) {
+    while (i >= 0) {
+      const kind = this.kind(i);
+      if (kind === ASK) return i;
+      if (kind >= FOREIGN) return -1;
+      i--;
+    }
+    return -1;
+  }
   setupAt(device, i) {
     const all = this.setups[device];
     let low = 0, high = all.length;
-    while (low < high) { const mid = (low + high) >> 1; if (all[mid].from <= i) low = mid + 1; else high = mid; }
+    while (low < high) {
+      const mid = (low + high) >> 1;
+      if (all[mid].from <= i)
+        low = mid + 1;
+      else
+        high = mid;
+    }
     return low ? all[low - 1] : null;
   }
 }
@@ -63,11 +147,27 @@ class Acts {
 // What a device's answer to SETUP says of values; null where the bytes are no such answer.
 function readSetup(device, bytes) {
   const n = bytes.length - 1;
-  if (device === 1 && n >= 7) return { scale: bytes[3], decimals: bytes[4], credits: Array.from(bytes.slice(7, n)), level: bytes[0], code: hex(bytes[1]) + hex(bytes[2]) };
-  if (device === 2 && n >= 11) return { scale: two(bytes, 3), decimals: bytes[5], credits: Array.from(bytes.slice(11, n)), level: bytes[0], code: hex(bytes[1]) + hex(bytes[2]) };
+  if (device === 1 && n >= 7)
+    return {
+      scale: bytes[3],
+      decimals: bytes[4],
+      credits: Array.from(bytes.slice(7, n)),
+      level: bytes[0],
+      code: hex(bytes[1]) + hex(bytes[2])
+    };
+  if (device === 2 && n >= 11)
+    return {
+      scale: two(bytes, 3),
+      decimals: bytes[5],
+      credits: Array.from(bytes.slice(11, n)),
+      level: bytes[0],
+      code: hex(bytes[1]) + hex(bytes[2])
+    };
   if (device > 2) {
     let found = null;
-    for (const m of readerMessages(bytes)) if (m[0] === 1 && m.length === 8) found = { scale: m[4], decimals: m[5], response: m[6], level: m[1], code: hex(m[2]) + hex(m[3]) };
+    for (const m of readerMessages(bytes))
+      if (m[0] === 1 && m.length === 8)
+        found = {scale: m[4], decimals: m[5], response: m[6], level: m[1], code: hex(m[2]) + hex(m[3])};
     return found;
   }
   return null;
@@ -76,7 +176,11 @@ function readSetup(device, bytes) {
 // The messages of a reader's list: the block without its sum, cut.
 function readerMessages(bytes) {
   const found = [], sizes = [1, 8, 99, 3, 1, 3, 1, 1, 1, 30, 2, 1], n = bytes.length - 1;
-  for (let i = 0; i < n;) { const size = sizes[bytes[i]] ?? 1; found.push(bytes.slice(i, Math.min(n, i + size))); i += size; }
+  for (let i = 0; i < n;) {
+    const size = sizes[bytes[i]] ?? 1;
+    found.push(bytes.slice(i, Math.min(n, i + size)));
+    i += size;
+  }
   return found;
 }
 
@@ -94,22 +198,41 @@ function worthWords(setup, type) {
   return money(units, setup.decimals);
 }
 
-function amountWords(setup, raw) { return setup ? money(raw * setup.scale, setup.decimals) : `${raw} (value not known)`; }
+function amountWords(setup, raw) {
+  return setup ? money(raw * setup.scale, setup.decimals) : `${raw} (value not known)`;
+}
 
-const types = (mask) => { const all = []; for (let i = 0; i < 16; i++) if (mask >> i & 1) all.push(i); return all.length === 16 ? "all types" : all.length ? "types " + all.join(", ") : "no type"; };
+const types = (mask) => {
+  const all = [];
+  for (let i = 0; i < 16; i++)
+    if (mask >> i & 1) all.push(i);
+  return all.length === 16 ? "all types" : all.length ? "types " + all.join(", ") : "no type";
+};
 
 // The name of a command by its first bytes.
 function commandName(bytes) {
   const a = bytes[0], b = bytes[1];
-  if (a >= 8 && a <= 0x0F) return a === 0x0F ? ["EXPANSION identification", "EXPANSION feature enable"][b] ?? "EXPANSION" : CHANGER_COMMANDS[a];
-  if (a >= 0x30 && a <= 0x37) return a === 0x37 ? ["EXPANSION identification", "EXPANSION feature enable", "EXPANSION identification with options"][b] ?? "EXPANSION" : BILL_COMMANDS[a];
+  if (a >= 8 && a <= 0x0F)
+    return a === 0x0F ? ["EXPANSION identification", "EXPANSION feature enable"][b] ?? "EXPANSION" :
+                        CHANGER_COMMANDS[a];
+  if (a >= 0x30 && a <= 0x37)
+    return a === 0x37 ?
+        ["EXPANSION identification", "EXPANSION feature enable", "EXPANSION identification with options"][b] ??
+            "EXPANSION" :
+        BILL_COMMANDS[a];
   switch (a & 7) {
-    case 0: return "RESET";
-    case 1: return b ? "SETUP prices" : "SETUP config data";
-    case 2: return "POLL";
-    case 3: return VENDS[b];
-    case 4: return SWITCHES[b];
-    default: return "EXPANSION request ID";
+    case 0:
+      return "RESET";
+    case 1:
+      return b ? "SETUP prices" : "SETUP config data";
+    case 2:
+      return "POLL";
+    case 3:
+      return VENDS[b];
+    case 4:
+      return SWITCHES[b];
+    default:
+      return "EXPANSION request ID";
   }
 }
 
@@ -120,9 +243,13 @@ function askWords(bytes, setup) {
   if (a === 0x32) return `${name}: high security ${types(two(bytes, 1))}`;
   if (a === 0x34) return `${name}: accept ${types(two(bytes, 1))}; hold in escrow ${types(two(bytes, 3))}`;
   if (a === 0x35) return `${name}: ${bytes[1] & 1 ? "stack the bill" : "return the bill"}`;
-  if (a === 0x11 || a === 0x61) return bytes[1] ? `${name}: greatest ${amountWords(setup, two(bytes, 2))}, least ${amountWords(setup, two(bytes, 4))}` : `${name}: level ${bytes[2]}, display ${bytes[3]} × ${bytes[4]}`;
+  if (a === 0x11 || a === 0x61)
+    return bytes[1] ?
+        `${name}: greatest ${amountWords(setup, two(bytes, 2))}, least ${amountWords(setup, two(bytes, 4))}` :
+        `${name}: level ${bytes[2]}, display ${bytes[3]} × ${bytes[4]}`;
   if (a === 0x13 || a === 0x63) {
-    if (bytes[1] === 0 || bytes[1] === 5) return `${name}: ${amountWords(setup, two(bytes, 2))} for item ${two(bytes, 4)}`;
+    if (bytes[1] === 0 || bytes[1] === 5)
+      return `${name}: ${amountWords(setup, two(bytes, 2))} for item ${two(bytes, 4)}`;
     if (bytes[1] === 2) return `${name}: item ${two(bytes, 2)} was sold`;
   }
   return name;
@@ -135,38 +262,67 @@ function pollMessages(device, bytes, add) {
   for (let i = 0; i < n; i++) {
     const b = bytes[i], type = b & 15;
     if (device === 2) {
-      if (b >= 0x80 && b <= 0x8F) add("stacked", type, 1);
-      else if (b >= 0x90 && b <= 0x9F) add("in escrow", type, 1);
-      else if (b >= 0xA0 && b <= 0xAF) add("returned", type, 1);
-      else if (b >= 0xC0 && b <= 0xCF) add("rejected, its type is disabled", type, 1);
-      else if (b >= 0x40 && b <= 0x5F) add(`${b & 31} tried while none was accepted`);
-      else if (b === 6) add("was reset");
-      else add(`status ${hex(b)}${BILL_STATUS[b] ? ", " + BILL_STATUS[b] : ""}`);
-    } else if (b >= 0x80) { add("dispensed by hand", type, b >> 4 & 7, bytes[++i]);
-    } else if (b >= 0x50 && b <= 0x5F) { add("deposited to tube", type, 1, bytes[++i]);
-    } else if (b >= 0x40 && b <= 0x4F) { add("deposited to cash box", type, 1, bytes[++i]);
-    } else if (b >= 0x70 && b <= 0x7F) { add("rejected", type, 1, bytes[++i]);
-    } else if (b >= 0x20 && b <= 0x3F) { add(`${b & 31} slugs`);
-    } else if (b === 0x0B) { add("was reset");
-    } else add(`status ${hex(b)}${CHANGER_STATUS[b] ? ", " + CHANGER_STATUS[b] : ""}`);
+      if (b >= 0x80 && b <= 0x8F)
+        add("stacked", type, 1);
+      else if (b >= 0x90 && b <= 0x9F)
+        add("in escrow", type, 1);
+      else if (b >= 0xA0 && b <= 0xAF)
+        add("returned", type, 1);
+      else if (b >= 0xC0 && b <= 0xCF)
+        add("rejected, its type is disabled", type, 1);
+      else if (b >= 0x40 && b <= 0x5F)
+        add(`${b & 31} tried while none was accepted`);
+      else if (b === 6)
+        add("was reset");
+      else
+        add(`status ${hex(b)}${BILL_STATUS[b] ? ", " + BILL_STATUS[b] : ""}`);
+    } else if (b >= 0x80) {
+      add("dispensed by hand", type, b >> 4 & 7, bytes[++i]);
+    } else if (b >= 0x50 && b <= 0x5F) {
+      add("deposited to tube", type, 1, bytes[++i]);
+    } else if (b >= 0x40 && b <= 0x4F) {
+      add("deposited to cash box", type, 1, bytes[++i]);
+    } else if (b >= 0x70 && b <= 0x7F) {
+      add("rejected", type, 1, bytes[++i]);
+    } else if (b >= 0x20 && b <= 0x3F) {
+      add(`${b & 31} slugs`);
+    } else if (b === 0x0B) {
+      add("was reset");
+    } else
+      add(`status ${hex(b)}${CHANGER_STATUS[b] ? ", " + CHANGER_STATUS[b] : ""}`);
   }
 }
 
 function readerWords(m, setup) {
   switch (m[0]) {
-    case 0: return "just reset";
-    case 1: return `config: level ${m[1]}, country or currency ${hex(m[2])}${hex(m[3])}, scale ${m[4]}, ${m[5]} decimals, answers within ${m[6]} s`;
-    case 2: return `display for ${m[1] / 10} s: “${Array.from(m.slice(2), (b) => b >= 32 && b < 127 ? String.fromCharCode(b) : "·").join("")}”`;
-    case 3: return `begin session, funds ${two(m, 1) === 65535 ? "not told" : amountWords(setup, two(m, 1))}`;
-    case 4: return "asks to end the session";
-    case 5: return `vend approved, ${amountWords(setup, two(m, 1))}`;
-    case 6: return "vend denied";
-    case 7: return "end session";
-    case 8: return "cancelled";
-    case 9: return "peripheral ID";
-    case 10: return `malfunction ${hex(m[1])}`;
-    case 11: return "command out of sequence";
-    default: return hex(m[0]);
+    case 0:
+      return "just reset";
+    case 1:
+      return `config: level ${m[1]}, country or currency ${hex(m[2])}${hex(m[3])}, scale ${m[4]}, ${
+          m[5]} decimals, answers within ${m[6]} s`;
+    case 2:
+      return `display for ${m[1] / 10} s: “${
+          Array.from(m.slice(2), (b) => b >= 32 && b < 127 ? String.fromCharCode(b) : "·").join("")}”`;
+    case 3:
+      return `begin session, funds ${two(m, 1) === 65535 ? "not told" : amountWords(setup, two(m, 1))}`;
+    case 4:
+      return "asks to end the session";
+    case 5:
+      return `vend approved, ${amountWords(setup, two(m, 1))}`;
+    case 6:
+      return "vend denied";
+    case 7:
+      return "end session";
+    case 8:
+      return "cancelled";
+    case 9:
+      return "peripheral ID";
+    case 10:
+      return `malfunction ${hex(m[1])}`;
+    case 11:
+      return "command out of sequence";
+    default:
+      return hex(m[0]);
   }
 }
 
@@ -179,17 +335,26 @@ function replyWords(device, ask, bytes, setup) {
   if (name === "SETUP") {
     const told = readSetup(device, bytes);
     if (!told) return name;
-    return `${name}: level ${told.level}, country or currency ${told.code}, scale ${told.scale}, ${told.decimals} decimals; values ${told.credits.map((c, i) => c === 255 ? "token" : money(c * told.scale, told.decimals)).join(", ") || "none"}`;
+    return `${name}: level ${told.level}, country or currency ${told.code}, scale ${told.scale}, ${
+        told.decimals} decimals; values ${
+        told.credits.map((c, i) => c === 255 ? "token" : money(c * told.scale, told.decimals)).join(", ") || "none"}`;
   }
-  if (name === "TUBE STATUS") return `${name}: full ${types(two(bytes, 0))}; coins ${Array.from(bytes.slice(2, n)).join(", ") || "not told"}`;
+  if (name === "TUBE STATUS")
+    return `${name}: full ${types(two(bytes, 0))}; coins ${Array.from(bytes.slice(2, n)).join(", ") || "not told"}`;
   if (name === "STACKER") return `${name}: ${two(bytes, 0) & 32767} bills${bytes[0] & 128 ? ", full" : ""}`;
   if (name === "POLL") {
     const said = [];
-    pollMessages(device, bytes, (what, type, count, left) => said.push(type === undefined ? what
-      : `${count === 1 ? "" : count + " × "}${worthWords(setup, type)} ${what}${left === undefined ? "" : `, ${left} in it`}`));
+    pollMessages(
+        device, bytes,
+        (what, type, count, left) => said.push(
+            type === undefined ? what :
+                                 `${count === 1 ? "" : count + " × "}${worthWords(setup, type)} ${what}${
+                                     left === undefined ? "" : `, ${left} in it`}`));
     return `${name}: ${said.join("; ")}`;
   }
-  if (name.startsWith("EXPANSION")) return `${name}: ${Array.from(bytes.slice(0, n), (b) => b >= 32 && b < 127 ? String.fromCharCode(b) : "·").join("")}`;
+  if (name.startsWith("EXPANSION"))
+    return `${name}: ${
+        Array.from(bytes.slice(0, n), (b) => b >= 32 && b < 127 ? String.fromCharCode(b) : "·").join("")}`;
   return name;
 }
 
@@ -201,14 +366,22 @@ function actWords(acts, i) {
   if (kind === CUT) return "words of a block that a break or the end cuts";
   const setup = acts.setupAt(device, i), at = acts.askOf(i), ask = at >= 0 ? acts.bytes(at) : null;
   switch (kind) {
-    case ASK: return askWords(acts.bytes(i), setup);
-    case ACK: return `${ask ? commandName(ask) + ": " : ""}acknowledged, nothing to tell`;
-    case NAK: return `${ask ? commandName(ask) + ": " : ""}refused (NAK)`;
-    case REPLY: return replyWords(device, ask, acts.bytes(i), setup);
-    case REPEAT: return `told again: ${replyWords(device, ask, acts.bytes(i), setup)}`;
-    case VMC_ACK: return "the controller acknowledges it";
-    case VMC_NAK: return "the controller didn't receive it well (NAK)";
-    default: return "the controller asks for it again (RET)";
+    case ASK:
+      return askWords(acts.bytes(i), setup);
+    case ACK:
+      return `${ask ? commandName(ask) + ": " : ""}acknowledged, nothing to tell`;
+    case NAK:
+      return `${ask ? commandName(ask) + ": " : ""}refused (NAK)`;
+    case REPLY:
+      return replyWords(device, ask, acts.bytes(i), setup);
+    case REPEAT:
+      return `told again: ${replyWords(device, ask, acts.bytes(i), setup)}`;
+    case VMC_ACK:
+      return "the controller acknowledges it";
+    case VMC_NAK:
+      return "the controller didn't receive it well (NAK)";
+    default:
+      return "the controller asks for it again (RET)";
   }
 }
 
@@ -227,29 +400,53 @@ function seconds(micros) {
 }
 
 // What the acts tell of money, resets, breaks and silences, in one walk. `given` has what --setup
-// told. From the act `hole` on those are listed that stand behind others that aren't.
+// told. Each entry has its first and last row, and when it was (`at`, or `from` and `to`). From the act `hole` on those
+// are listed that stand behind others that aren't.
 function digest(acts, given, hole) {
-  const found = { money: [], resets: [], breaks: [], silences: [], kinds: new Array(11).fill(0) };
-  for (let d = 1; d < 5; d++) acts.setups[d] = given[d] ? [{ ...given[d], from: -1 }] : [];
+  const found = {money: [], resets: [], breaks: [], silences: [], kinds: new Array(11).fill(0)};
+  for (let d = 1; d < 5; d++) acts.setups[d] = given[d] ? [{...given[d], from: -1}] : [];
+  const rowsOf = (i) => ({first: acts.first(i), last: acts.last(i)});
   const quiet = [null, null, null, null, null], limits = [0, 2e6, 5e6, 5e6, 5e6];
-  const add = (i, device, what, type, units, decimals, more) => found.money.push({ act: i, at: acts.end(i), device, what, type, units, decimals, ...more });
-  const stop = (d) => { const q = quiet[d]; if (q && q.last - q.from > limits[d]) found.silences.push({ device: d, from: q.from, to: q.last, asks: q.asks }); quiet[d] = null; };
+  const add = (i, device, what, type, units, decimals, more) =>
+      found.money.push({...rowsOf(i), at: acts.end(i), device, what, type, units, decimals, ...more});
+  const stop = (d) => {
+    const q = quiet[d];
+    if (q && q.last - q.from > limits[d])
+      found.silences.push({first: q.first, last: q.lastRow, device: d, from: q.from, to: q.last, asks: q.asks});
+    quiet[d] = null;
+  };
   for (let i = 0; i < acts.count; i++) {
     const kind = acts.kind(i), d = acts.device(i);
     found.kinds[kind]++;
-    if (i === hole) for (let k = 1; k < 5; k++) stop(k);
-    if (kind === BREAK) { found.breaks.push({ at: acts.start(i), length: acts.length(i), act: i }); for (let k = 1; k < 5; k++) stop(k); continue; }
+    if (i === hole)
+      for (let k = 1; k < 5; k++) stop(k);
+    if (kind === BREAK) {
+      found.breaks.push({...rowsOf(i), at: acts.start(i), length: acts.length(i)});
+      for (let k = 1; k < 5; k++) stop(k);
+      continue;
+    }
     if (kind === ASK) {
       const q = quiet[d], end = acts.end(i);
-      if (q) { q.last = end; q.asks++; } else quiet[d] = { from: end, last: end, asks: 1 };
+      if (q) {
+        q.last = end;
+        q.lastRow = acts.last(i);
+        q.asks++;
+      } else
+        quiet[d] = {first: acts.first(i), lastRow: acts.last(i), from: end, last: end, asks: 1};
       const a = acts.byte(i, 0), b = acts.byte(i, 1);
-      if (a === 0x08 || a === 0x30 || a === 0x10 || a === 0x60) found.resets.push({ act: i, at: end, device: d, what: "RESET" });
+      if (a === 0x08 || a === 0x30 || a === 0x10 || a === 0x60)
+        found.resets.push({...rowsOf(i), at: end, device: d, what: "RESET"});
       const setup = acts.setupAt(d, i), bytes = acts.bytes(i);
       const next = i + 1 < acts.count ? acts.kind(i + 1) : -1, heard = next === ACK || next === REPLY;
-      if (a === 0x0D) { const value = worth(setup, b & 15); add(i, d, "coins ordered (DISPENSE)", b & 15, value === null ? null : value * (b >> 4), setup?.decimals, { count: b >> 4, acknowledged: heard }); }
+      if (a === 0x0D) {
+        const value = worth(setup, b & 15);
+        add(i, d, "coins ordered (DISPENSE)", b & 15, value === null ? null : value * (b >> 4), setup?.decimals,
+            {count: b >> 4, acknowledged: heard});
+      }
       if ((a === 0x13 || a === 0x63) && (b === 0 || b === 2 || b === 5)) {
         const price = b === 2 ? null : setup ? two(bytes, 2) * setup.scale : null;
-        add(i, d, ["vend request", "", "vend success", "", "", "cash sale"][b], "item " + two(bytes, b === 2 ? 2 : 4), price, setup?.decimals, { acknowledged: heard, noAmount: b === 2 });
+        add(i, d, ["vend request", "", "vend success", "", "", "cash sale"][b], "item " + two(bytes, b === 2 ? 2 : 4),
+            price, setup?.decimals, {acknowledged: heard, noAmount: b === 2});
       }
       continue;
     }
@@ -259,26 +456,47 @@ function digest(acts, given, hole) {
     const at = acts.askOf(i), ask = at >= 0 ? acts.byte(at, 0) : 0, bytes = acts.bytes(i);
     const next = i + 1 < acts.count ? acts.kind(i + 1) : -1;
     let acknowledged = next === VMC_ACK;
-    for (let k = i + 1; !acknowledged && k < acts.count && k < i + 12; k++) { const w = acts.kind(k); if (w === VMC_ACK) { acknowledged = true; } else if (w !== VMC_RET && w !== REPEAT && w !== VMC_NAK) break; }
+    for (let k = i + 1; !acknowledged && k < acts.count && k < i + 12; k++) {
+      const w = acts.kind(k);
+      if (w === VMC_ACK) {
+        acknowledged = true;
+      } else if (w !== VMC_RET && w !== REPEAT && w !== VMC_NAK)
+        break;
+    }
     if (d > 2) {
       const told = readSetup(d, bytes);
-      if (told) { acts.setups[d].push({ ...told, from: i }); if (told.response > 5) limits[d] = told.response * 1e6; else limits[d] = 5e6; }
+      if (told) {
+        acts.setups[d].push({...told, from: i});
+        if (told.response > 5)
+          limits[d] = told.response * 1e6;
+        else
+          limits[d] = 5e6;
+      }
       const setup = acts.setupAt(d, i);
       for (const m of readerMessages(bytes)) {
-        if (m[0] === 0) found.resets.push({ act: i, at: acts.end(i), device: d, what: "was reset" });
-        if (m[0] === 5) add(i, d, "vend approved", "", setup ? two(m, 1) * setup.scale : null, setup?.decimals, { acknowledged });
-        if (m[0] === 6) add(i, d, "vend denied", "", null, 0, { acknowledged, noAmount: true });
+        if (m[0] === 0) found.resets.push({...rowsOf(i), at: acts.end(i), device: d, what: "was reset"});
+        if (m[0] === 5)
+          add(i, d, "vend approved", "", setup ? two(m, 1) * setup.scale : null, setup?.decimals, {acknowledged});
+        if (m[0] === 6) add(i, d, "vend denied", "", null, 0, {acknowledged, noAmount: true});
       }
       continue;
     }
-    if ((d === 1 && ask === 9) || (d === 2 && ask === 0x31)) { const told = readSetup(d, bytes); if (told) acts.setups[d].push({ ...told, from: i }); continue; }
+    if ((d === 1 && ask === 9) || (d === 2 && ask === 0x31)) {
+      const told = readSetup(d, bytes);
+      if (told) acts.setups[d].push({...told, from: i});
+      continue;
+    }
     if ((d === 1 && ask === 0x0B) || (d === 2 && ask === 0x33)) {
       const setup = acts.setupAt(d, i);
       pollMessages(d, bytes, (what, type, count) => {
-        if (type === undefined) { if (what === "was reset") found.resets.push({ act: i, at: acts.end(i), device: d, what }); return; }
+        if (type === undefined) {
+          if (what === "was reset") found.resets.push({...rowsOf(i), at: acts.end(i), device: d, what});
+          return;
+        }
         if (!count || what.startsWith("rejected")) return;
         const value = worth(setup, type);
-        add(i, d, (d === 1 ? (count === 1 ? "coin " : "coins ") : "bill ") + what, type, value === null ? null : value * count, setup?.decimals, { count, acknowledged });
+        add(i, d, (d === 1 ? (count === 1 ? "coin " : "coins ") : "bill ") + what, type,
+            value === null ? null : value * count, setup?.decimals, {count, acknowledged});
       });
     }
   }
@@ -294,8 +512,8 @@ function findSetups(acts) {
     const d = acts.device(i), at = acts.askOf(i);
     if (at < 0) continue;
     const ask = acts.bytes(at), bytes = acts.bytes(i);
-    const isSetup = (d === 1 && ask[0] === 9) || (d === 2 && ask[0] === 0x31)
-      || (d > 2 && readSetup(d, bytes) && readerMessages(bytes).every((m) => ![3, 5, 6, 7].includes(m[0])));
+    const isSetup = (d === 1 && ask[0] === 9) || (d === 2 && ask[0] === 0x31) ||
+        (d > 2 && readSetup(d, bytes) && readerMessages(bytes).every((m) => ![3, 5, 6, 7].includes(m[0])));
     if (isSetup) found[d] = acts.hex(i);
   }
   return found;

@@ -13,7 +13,7 @@ function places(length) {
   const options = Math.ceil(Number(call.__heap_base.value) / 8) * 8, told = options + 160;
   const answer = told + 32, text = answer + ANSWER, acts = text + Math.ceil(length / 8) * 8 + 8;
   const room = Math.min(MOST, Math.floor(length / 8) + 2);
-  return { options, told, answer, text, acts, room, end: acts + room * ACT };
+  return {options, told, answer, text, acts, room, end: acts + room * ACT};
 }
 
 function grow(bytes) {
@@ -21,10 +21,14 @@ function grow(bytes) {
   if (bytes > have) call.memory.grow(BigInt(Math.ceil((bytes - have) / PAGE)));
 }
 
-function tell(doing, part, most) { postMessage({ told: "progress", doing, part, most }); }
+function tell(doing, part, most) {
+  postMessage({told: "progress", doing, part, most});
+}
 
 function load(file) {
-  size = file.size; at = places(size); grow(at.end);
+  size = file.size;
+  at = places(size);
+  grow(at.end);
   const reader = new FileReaderSync(), begin = performance.now();
   for (let i = 0; i < size; i += CHUNK) {
     tell("Reading", i / size);
@@ -36,7 +40,7 @@ function load(file) {
 
 function told() {
   const v = new DataView(call.memory.buffer, at.told), u64 = (i) => Number(v.getBigUint64(i, true));
-  return { row: u64(0), offset: u64(8), fault: u64(16), acts: u64(24) };
+  return {row: u64(0), offset: u64(8), fault: u64(16), acts: u64(24)};
 }
 
 // Checks so many bytes of the text.
@@ -45,7 +49,8 @@ function check(length) {
 }
 
 function list(skip, place, room) {
-  return call.mdb_page_acts(BigInt(at.options), BigInt(at.text), BigInt(size), BigInt(skip), BigInt(at.told), BigInt(place), BigInt(room));
+  return call.mdb_page_acts(
+      BigInt(at.options), BigInt(at.text), BigInt(size), BigInt(skip), BigInt(at.told), BigInt(place), BigInt(room));
 }
 
 // The lines about a place in the text: up to six in front of it, that one, and up to four behind it.
@@ -53,7 +58,7 @@ function lines(offset, row) {
   const text = new Uint8Array(call.memory.buffer, at.text, size), found = [], FAR = 65536, LONG = 200;
   const cut = (from, to) => {
     while (to > from && (text[to - 1] === 10 || text[to - 1] === 13)) to--;
-    return { bytes: text.slice(from, Math.min(to, from + LONG)), whole: to - from <= LONG, length: to - from };
+    return {bytes: text.slice(from, Math.min(to, from + LONG)), whole: to - from <= LONG, length: to - from};
   };
   let to = offset;
   const low = Math.max(0, offset - FAR);
@@ -62,8 +67,11 @@ function lines(offset, row) {
     while (from > low && text[from - 1] !== 10) from--;
     if (from === low && low > 0) break;
     const line = cut(from, to);
-    if (from === 0 && line.bytes[0] === 0xEF && line.bytes[1] === 0xBB && line.bytes[2] === 0xBF) { line.bytes = line.bytes.slice(3); line.length -= 3; }
-    if (line.length > 0) found.unshift({ ...line, row: row - found.length - 1 });
+    if (from === 0 && line.bytes[0] === 0xEF && line.bytes[1] === 0xBB && line.bytes[2] === 0xBF) {
+      line.bytes = line.bytes.slice(3);
+      line.length -= 3;
+    }
+    if (line.length > 0) found.unshift({...line, row: row - found.length - 1});
     to = from;
   }
   let from = offset, number = row;
@@ -71,7 +79,7 @@ function lines(offset, row) {
     let end = text.indexOf(10, from);
     if (end < 0) end = size;
     const line = cut(from, end);
-    if (line.length > 0) found.push({ ...line, row: number++ });
+    if (line.length > 0) found.push({...line, row: number++});
     if (end - from > FAR) break;
     from = end + 1;
   }
@@ -90,7 +98,8 @@ function judge(options) {
     const begin = performance.now();
     check(FRONT);
     tell("Checking", 0, (performance.now() - begin) * (size / FRONT));
-  } else tell("Checking", 0, 0);
+  } else
+    tell("Checking", 0, 0);
   const begin = performance.now();
   const answer = check(size), end = told();
   const text = answer < 2 ? answerText() : "";
@@ -106,13 +115,29 @@ function judge(options) {
   const acts = new Uint8Array(call.memory.buffer, at.acts, listed * ACT).slice().buffer;
   const done = performance.now();
   const stops = answer === 1 || answer === 2 || answer === 3 || answer === 4;
-  postMessage({ told: "done", answer, text, before, row: end.row, offset: end.offset, fault: end.fault,
-    lines: stops ? lines(end.offset, end.row) : [], acts, listed, all: link.acts, hole: hole ? HALF : -1,
-    link: { answer: linkAnswer, row: link.row }, size,
-    ms: { read, check: checked - begin, before: summed - checked, list: done - summed }, memory: call.memory.buffer.byteLength }, [acts]);
+  postMessage(
+      {
+        told: "done",
+        answer,
+        text,
+        before,
+        row: end.row,
+        offset: end.offset,
+        fault: end.fault,
+        lines: stops ? lines(end.offset, end.row) : [],
+        acts,
+        listed,
+        all: link.acts,
+        hole: hole ? HALF : -1,
+        link: {answer: linkAnswer, row: link.row},
+        size,
+        ms: {read, check: checked - begin, before: summed - checked, list: done - summed},
+        memory: call.memory.buffer.byteLength
+      },
+      [acts]);
 }
 
-onmessage = async ({ data }) => {
+onmessage = async ({data}) => {
   try {
     if (data.module) {
       call = (await WebAssembly.instantiate(data.module)).exports;
@@ -120,6 +145,6 @@ onmessage = async ({ data }) => {
     }
     judge(data.options);
   } catch (fault) {
-    postMessage({ told: "fault", words: String(fault) });
+    postMessage({told: "fault", words: String(fault)});
   }
 };

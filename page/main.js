@@ -1,0 +1,60 @@
+// What is shown of an answer, and the page's own events.
+function show(it) {
+  const acts = new Acts(it.acts, it.listed);
+  it.list = acts;
+  it.found = digest(acts, it.way.given, it.hole);
+  it.report = it.answer < 2 ? readReport(it.text) : null;
+  const parts = [];
+  showVerdict(it);
+  if (it.lines.length) parts.push(faultSection(it));
+  if (it.answer === ANSWERS.YES) parts.push(moneySection(it.report), devicesSection(it.report));
+  if (it.before && it.row > 1) parts.push(beforeSection(it));
+  if (it.listed) parts.push(timeSection(it), tellSection(it), actsSection(it));
+  parts.push(textSection(it));
+  by("told").replaceChildren(...parts);
+  by("main").classList.add("shown");
+  document.title = `${it.answer === 0 ? "yes" : it.answer === 1 ? "no" : "no verdict"} – ${it.name} – mdbcheck`;
+}
+
+function figures(it) {
+  const s = (ms) => (ms / 1000).toFixed(2) + " s";
+  return `${number(it.size)} bytes, read in ${s(it.ms.read)}, checked in ${s(it.ms.check)}${
+      it.before ? `, the rows before row ${number(it.row)} in ${s(it.ms.before)}` : ""}, acts listed in ${
+      s(it.ms.list)}, shown after ${s(it.ms.all)}; ${number(Math.round(it.memory / 1048576))} MB of memory.`;
+}
+
+// Emptied, since choosing the same file again is no change else.
+function chosen(input, then) {
+  input.addEventListener("change", () => {
+    const [given] = input.files;
+    input.value = "";
+    if (given) then(given);
+  });
+}
+
+function droppable(element, then) {
+  element.addEventListener("dragover", (e) => {
+    e.preventDefault();
+    element.classList.add("over");
+  });
+  element.addEventListener("dragleave", () => element.classList.remove("over"));
+  element.addEventListener("drop", (e) => {
+    e.preventDefault();
+    e.stopPropagation();
+    for (const it of document.querySelectorAll(".over")) it.classList.remove("over");
+    const [given] = e.dataTransfer.files;
+    if (given) then(given);
+  });
+}
+
+chosen(by("file"), run);
+chosen(by("setup-file"), readSetups);
+droppable(by("drop-setup"), readSetups);
+droppable(document.documentElement, run);
+by("again").addEventListener("click", () => run());
+by("stop").addEventListener("click", stop);
+by("ways").addEventListener("change", showWay);
+showWay();
+start().then((made) => {
+  module = made;
+}, (fault) => trouble(fault.message));

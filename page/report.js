@@ -1,0 +1,59 @@
+// The lines of the verdict's text, as values.
+const ACCOUNTS = {
+  "coins-in": {title: "Coins in", device: "changer", owner: "The changer", did: "took coins", counted: "counted"},
+  "bills-in":
+      {title: "Bills in", device: "bill", owner: "The bill validator", did: "stacked bills", counted: "counted"},
+  "paid-out": {
+    title: "Coins paid out",
+    device: "changer",
+    owner: "The changer",
+    did: "paid out",
+    counted: "counted as paid out"
+  },
+  approved: {
+    title: "Approved by the reader at 10H",
+    device: "cashless",
+    owner: "The reader",
+    did: "approved",
+    counted: "knows as approved"
+  },
+  sold: {
+    title: "Sold by the reader at 10H",
+    device: "cashless",
+    owner: "The reader",
+    did: "booked as sold",
+    counted: "counted as sold"
+  },
+  "approved-2": {
+    title: "Approved by the reader at 60H",
+    device: "cashless-2",
+    owner: "The reader",
+    did: "approved",
+    counted: "knows as approved"
+  },
+  "sold-2": {
+    title: "Sold by the reader at 60H",
+    device: "cashless-2",
+    owner: "The reader",
+    did: "booked as sold",
+    counted: "counted as sold"
+  },
+};
+
+function readReport(text) {
+  const report = {accounts: {}, decimals: {}, silences: {}, unvalued: null, setup: [], without: []};
+  for (const line of text.trimEnd().split("\n")) {
+    const [word, ...rest] = line.split(" ");
+    if (word in ACCOUNTS) {
+      const range = (i) => rest[i].split("..").map(BigInt);
+      report.accounts[word] = {device: range(1), controller: range(3), difference: range(5)};
+    } else if (word === "decimals" || word === "silences" || word === "unvalued") {
+      report[word] ??= {};
+      for (let i = 0; i < rest.length; i += 2) report[word][rest[i]] = rest[i + 1] === "-" ? null : Number(rest[i + 1]);
+    } else if (word === "setup" || word === "without")
+      report[word] = rest;
+    else
+      report[word] = rest.join(" ");
+  }
+  return report;
+}

@@ -1,0 +1,33 @@
+// Names, and how numbers and lines of a recording are written.
+const BLAMES = {
+  controller: "the controller (VMC)",
+  changer: "the coin changer",
+  bill: "the bill validator",
+  cashless: "the card reader at 10H",
+  "cashless-2": "the card reader at 60H",
+  other: "a peripheral that nobody had asked"
+};
+const number = (n) => String(n).replace(/\B(?=(\d{3})+$)/g, ",");
+const capital = (words) => words[0].toUpperCase() + words.slice(1);
+const small = (words) => words[0].toLowerCase() + words.slice(1);
+
+// The text of a line, as the program tells it: what isn't printed as \x and two digits.
+function shown(line) {
+  let text = "";
+  for (const b of line.bytes)
+    text += b === 0x22 || b === 0x5C ? "\\" + String.fromCharCode(b) :
+        b >= 32 && b < 127           ? String.fromCharCode(b) :
+                                       "\\x" + hex(b);
+  return text + (line.whole ? "" : "..");
+}
+
+// What the program says it found in a row that is none: bytes until 48 or more characters stand there.
+function foundText(line) {
+  let text = "", used = 0;
+  for (const b of line.bytes) {
+    if (text.length >= 48) break;
+    text += shown({bytes: [b], whole: true});
+    used++;
+  }
+  return text + (used < line.length ? ".." : "");
+}
