@@ -19,7 +19,7 @@ function wayWords(it) {
 function showVerdict(it) {
   const r = it.report, card = by("verdict"), inner = [];
   card.removeAttribute("data-unfollowed");
-  const name = h("p", {class: "soft"}, "Recording: ", h("strong", {id: "name"}, it.name), `. ${wayWords(it)}`);
+  const name = h("p", {class: "soft"}, "Recording: ", nameShown(it.name), `. ${wayWords(it)}`);
   if (it.answer === ANSWERS.YES) {
     card.className = "card yes";
     const isIdle = r.rows !== "0" && isUnfollowed(it);
@@ -61,21 +61,7 @@ function showVerdict(it) {
               r.blame}). All rows before it are possible together; what comes after it isn't judged.`));
     if (r.rule === "Profile")
       inner.push(h("p", {}, "This rule is about the checker's limits, and shows no fault of anybody."));
-    if (isPerhapsLate(it))
-      inner.push(
-          h("p", {}, h("strong", {}, "Was the machine running already when the recording began?"),
-            " No reset of a device stands before this row. If so, blame nobody for this: ",
-            h("button", {
-              type: "button",
-              class: "noprint",
-              onclick: () => {
-                by("joined").checked = true;
-                by("ways").open = true;
-                showWay();
-                run();
-              }
-            },
-              "Check as one that was running")));
+    inner.push(...lateNotes(it));
   } else if (it.answer === ANSWERS.BAD_ROW) {
     card.className = "card none";
     const line = it.lines.find((l) => l.row === it.row);
@@ -101,14 +87,6 @@ function showVerdict(it) {
     inner.push(h("p", {}, "The bytes of a --setup are no answer of their device to SETUP."));
   }
   card.replaceChildren(...inner, name);
-}
-
-// Whether a no may come of a recording that began late: of a device's rule, or at its first row, where no device was
-// reset.
-function isPerhapsLate(it) {
-  const {rule} = it.report, isOfDevice = ["Changer", "Bill", "Cashless"].includes(rule),
-        isFirst = it.row === 1 && ["Speaker", "Mode"].includes(rule);
-  return !it.way.bytes[0] && (isOfDevice || isFirst) && !it.found.resets.length;
 }
 
 // Whether no act that is listed is one of a device that is followed.

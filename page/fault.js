@@ -65,7 +65,7 @@ function faultSection(it) {
       inner.push(h(
           "p", {}, h("strong", {}, "In row 1"),
           " it is noise before the first block, a start inside a block, exchanged lines, or a recorder without a ninth bit."));
-    if (["Changer", "Bill", "Cashless"].includes(r.rule) && !it.way.bytes[0])
+    if (isPerhapsLate(it) && DEVICE_RULES.includes(r.rule))
       inner.push(
           h("p", {}, h("strong", {}, "Did the recording begin at power-on?"),
             " If the machine was running already, tick so under “How the recording is taken”, and check again."));

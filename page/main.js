@@ -10,10 +10,9 @@ function show(it) {
   if (it.answer === ANSWERS.YES) parts.push(moneySection(it.report), devicesSection(it.report));
   if (it.before && it.row > 1) parts.push(beforeSection(it));
   if (it.listed) parts.push(timeSection(it), tellSection(it), actsSection(it));
-  parts.push(textSection(it));
+  parts.push(recordSection(it));
   by("told").replaceChildren(...parts);
   by("main").classList.add("shown");
-  document.title = `${it.answer === 0 ? "yes" : it.answer === 1 ? "no" : "no verdict"} – ${it.name} – mdbcheck`;
 }
 
 function figures(it) {
@@ -32,16 +31,26 @@ function chosen(input, then) {
   });
 }
 
-function droppable(element, then) {
+function unmark() {
+  for (const it of document.querySelectorAll(".over")) it.classList.remove("over");
+}
+
+// Takes what is dropped on an element. `zone` shows while something is over it that it can be dropped.
+function droppable(element, zone, then) {
   element.addEventListener("dragover", (e) => {
     e.preventDefault();
-    element.classList.add("over");
+    e.stopPropagation();
+    if (zone.classList.contains("over")) return;
+    unmark();
+    zone.classList.add("over");
   });
-  element.addEventListener("dragleave", () => element.classList.remove("over"));
+  element.addEventListener("dragleave", (e) => {
+    if (!element.contains(e.relatedTarget)) unmark();
+  });
   element.addEventListener("drop", (e) => {
     e.preventDefault();
     e.stopPropagation();
-    for (const it of document.querySelectorAll(".over")) it.classList.remove("over");
+    unmark();
     const [given] = e.dataTransfer.files;
     if (given) then(given);
   });
@@ -49,12 +58,13 @@ function droppable(element, then) {
 
 chosen(by("file"), run);
 chosen(by("setup-file"), readSetups);
-droppable(by("drop-setup"), readSetups);
-droppable(document.documentElement, run);
+droppable(by("drop-setup"), by("drop-setup"), readSetups);
+droppable(document.documentElement, by("drop"), run);
 by("again").addEventListener("click", () => run());
 by("stop").addEventListener("click", stop);
 by("ways").addEventListener("change", showWay);
+by("setups").addEventListener("input", () => showSetupFault(null));
 showWay();
 start().then((made) => {
   module = made;
-}, (fault) => trouble(fault.message));
+}, (fault) => trouble(fault.message, false));

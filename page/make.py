@@ -16,7 +16,7 @@ import sys
 HERE = pathlib.Path(__file__).resolve().parent
 RULES = "Order Speaker Mode Early Late Spacing Length Sum Break Answer Message Same Profile Changer Bill Cashless".split()
 # The page's scripts, in the order in which they stand in the page. What a script runs at once, needs the ones before it.
-SCRIPTS = ("words elements texts report options runs card fault money timeline statement acts setup main").split()
+SCRIPTS = ("words elements texts report options runs late card fault money timeline statement acts evidence setup main").split()
 LEADS = {"At the bench": "bench", "The row": "row", "Blame": "blame", "Look at": "look"}
 
 

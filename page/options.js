@@ -1,23 +1,36 @@
 // How a recording is taken: the fields, the module's options, and the program's words.
+
+// Bytes of a set-up that can't be used, and the device whose field has them.
+class SetupFault extends Error {
+  constructor(device, words) {
+    super(words);
+    this.device = device;
+  }
+}
+
+const NO_SETUP = "These bytes are no answer of the device to SETUP. Copy a whole answer, with its sum at the end.";
+
 function setupBytes(device) {
   const text = by("setup-" + device).value.trim().toUpperCase();
   if (!text) return null;
   const bare = text.startsWith(device.toUpperCase() + " ") ? text.slice(device.length + 1) : text;
   if (!/^[0-9A-F]{2}( [0-9A-F]{2})*$/.test(bare))
-    throw new Error(`--setup of ${
-        device}: wanted bytes as show writes them, two hexadecimal digits each with single blanks between them.`);
+    throw new SetupFault(
+        device,
+        "These aren't bytes. Write two hexadecimal digits for each byte and one blank between two bytes, for example 02 00 01.");
   const bytes = bare.split(" ").map((it) => parseInt(it, 16));
+  if (bytes.length > 36 || bytes.length < 2) throw new SetupFault(device, NO_SETUP);
   const sum = bytes.slice(0, -1).reduce((a, b) => a + b, 0) & 255;
-  if (bytes.length > 36 || bytes.length < 2)
-    throw new Error(`--setup of ${device}: these are no answer of the device to SETUP.`);
-  if (sum !== bytes.at(-1)) throw new Error(`--setup of ${device}: the last byte isn't the sum of the others.`);
+  if (sum !== bytes.at(-1))
+    throw new SetupFault(
+        device,
+        `The last byte has to be the sum of the others. It is ${hex(bytes.at(-1))}, and their sum is ${hex(sum)}.`);
   return bytes;
 }
 
 // The options as the module takes them, and as the program's command line has them.
-function options() {
+function optionsAs(joined) {
   const bytes = new Uint8Array(153), words = [], given = [null, null, null, null, null];
-  const joined = by("joined").checked;
   if (joined) {
     bytes[0] = 1;
     words.push("--joined");
@@ -39,6 +52,35 @@ function options() {
   return {bytes, words, given};
 }
 
+// The options for a machine that was running already, where the fields don't say so. Bytes that can't be used don't
+// count.
+function lateOptions() {
+  try {
+    return optionsAs(true);
+  } catch {
+    return null;
+  }
+}
+
+// What the fields say now: the options, and `late`, those of a machine that was running already.
+function options() {
+  const joined = by("joined").checked, way = optionsAs(joined);
+  return {...way, key: wayKey(), late: joined ? null : lateOptions()};
+}
+
+// Says beside a field of a set-up what is wrong with its bytes, and goes there. Of the other fields nothing is said.
+function showSetupFault(fault) {
+  for (const device of DEVICES.slice(1)) {
+    const isWrong = fault?.device === device;
+    by(`setup-${device}-fault`).textContent = isWrong ? fault.message : "";
+    by("setup-" + device).setAttribute("aria-invalid", isWrong);
+  }
+  if (!fault) return;
+  by("ways").open = true;
+  showWay();
+  by("setup-" + fault.device).focus();
+}
+
 function showWay() {
   const joined = by("joined").checked;
   const out = DEVICES.slice(1).filter((it) => by("without-" + it).checked);
@@ -46,8 +88,8 @@ function showWay() {
       (joined ? "in mid-session" : "from power-on") + (out.length ? ", without " + out.join(", ") : ", all devices");
   by("setups").hidden = !joined;
   for (const device of DEVICES.slice(1)) by("setup-" + device).disabled = by("without-" + device).checked;
-  by("again").disabled = !state && !file;
-  by("stale").hidden = !state || wayKey() === state.key;
+  by("again").disabled = !file || isWorking;
+  by("stale").hidden = !state || isWorking || wayKey() === state.key;
 }
 
 // The options as a text, to tell whether they are those of the answer that is shown.

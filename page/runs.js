@@ -1,4 +1,5 @@
-// A run: a recording is given to the module in its worker, and what that answers is shown.
+// A run: a recording is given to the module in its worker, and what that answers is shown. What is shown is of the
+// newest run alone, and of the file and the options that it was made with.
 const ANSWERS = {
   YES: 0,
   NO: 1,
@@ -8,7 +9,13 @@ const ANSWERS = {
   BAD_OPTIONS: 5,
   NO_ROOM: 6
 };
-let module, worker, file, state, timer, times = 0;
+// The file that was chosen last, the recording that it holds, and the worker that has read it.
+let module, file = null, recording = null, checker = null;
+// The answer that is shown: null if there is none.
+let state = null;
+// The number of the newest run; whether it works; the options of the one before.
+let newest = 0, isWorking = false, lastKey = null;
+let timer, times = 0;
 
 // A module with a memory of 64-bit addresses, and nothing else.
 const MEMORY64 = [0, 97, 115, 109, 1, 0, 0, 0, 5, 3, 1, 4, 1];
@@ -21,35 +28,81 @@ async function start() {
   return WebAssembly.compile(Uint8Array.from(atob(MODULE), (c) => c.charCodeAt(0)));
 }
 
-function newWorker() {
-  const url = URL.createObjectURL(new Blob([WORKER], {type: "text/javascript"}));
-  const made = new Worker(url);
-  URL.revokeObjectURL(url);
-  return made;
-}
-
-function ask(made, message, progress) {
-  return new Promise((done, failed) => {
-    made.onmessage = ({data}) => {
-      if (data.told === "progress")
-        progress?.(data);
-      else if (data.told === "done")
-        done(data);
-      else
-        failed(new Error(data.words));
-    };
-    made.onerror = (e) => {
+// A worker with one recording. It reads the recording at the first message, and keeps it for the next ones. A message
+// has a number, which the worker gives back: what comes with another number answers nothing that is waited for.
+class Checker {
+  constructor(recording) {
+    const url = URL.createObjectURL(new Blob([WORKER], {type: "text/javascript"}));
+    this.worker = new Worker(url);
+    URL.revokeObjectURL(url);
+    this.first = {module, file: recording};
+    this.waiting = new Map();
+    this.number = 0;
+    this.worker.onmessage = ({data}) => this.hear(data);
+    this.worker.onerror = (e) => {
       e.preventDefault?.();
-      failed(new Error(e.message || "the worker ended"));
+      for (const {failed} of this.waiting.values()) failed(new Error(e.message || "the worker ended"));
+      this.waiting.clear();
     };
-    made.postMessage(message);
-  });
+  }
+  hear(data) {
+    const asked = this.waiting.get(data.number);
+    if (!asked) return;
+    if (data.told === "progress") {
+      asked.progress?.(data);
+      return;
+    }
+    this.waiting.delete(data.number);
+    if (data.told === "done")
+      asked.done(data);
+    else
+      asked.failed(data.device ? new SetupFault(DEVICES[data.device], NO_SETUP) : new Error(data.words));
+  }
+  ask(message, progress) {
+    const number = ++this.number, first = this.first;
+    this.first = {};
+    return new Promise((done, failed) => {
+      this.waiting.set(number, {done, failed, progress});
+      this.worker.postMessage({...first, ...message, number});
+    });
+  }
+  end() {
+    this.worker.terminate();
+  }
 }
 
-// The bar: how much was read; while the module works, as much of the time that it will probably take.
+// What the module answers to a recording. A no that a late beginning may explain is asked a second time, as of a
+// machine that was running already.
+async function answerOf(checker, way, progress) {
+  const told = await checker.ask({options: way.bytes}, progress);
+  const late = asksLate(told, way) ? await checker.ask({late: way.late.bytes, isDevice: told.row > 1}, progress) : null;
+  return {...told, late, way};
+}
+
+// Checks a recording in a worker of its own. Nothing that is shown changes.
+async function check(recording, way, progress) {
+  module ??= await start();
+  const mine = new Checker(recording);
+  try {
+    return {...await answerOf(mine, way, progress), file: recording, name: shownName(recording.name)};
+  } finally {
+    mine.end();
+  }
+}
+
+// The recording that a chosen file holds.
+async function recordingOf(given) {
+  return given;
+}
+
+// Shows how far a run is: how much was read; while the module works, as much of the time as it will probably take.
 function progress({doing, part, most}) {
   clearInterval(timer);
-  by("doing").textContent = doing;
+  if (by("doing").textContent !== doing) {
+    by("doing").textContent = doing;
+    const wait = most > 2000 ? `, about ${Math.ceil(most / 1000)} s` : "";
+    announce(`${doing} ${shownName(file.name)}${wait}`);
+  }
   by("bar").value = part;
   if (!most) return;
   const begin = performance.now();
@@ -58,67 +111,123 @@ function progress({doing, part, most}) {
   }, 100);
 }
 
+// While a run works, what an earlier answer offers can't be meant.
 function working(on) {
+  const main = by("main");
+  isWorking = on;
   by("work").hidden = !on;
-  by("give").setAttribute("aria-busy", on);
-  if (!on) clearInterval(timer);
+  main.setAttribute("aria-busy", on);
+  main.inert = on;
+  if (on) {
+    for (const it of main.querySelectorAll("button, input, select")) it.disabled = true;
+    by("doing").textContent = "Reading";
+    by("bar").value = 0;
+  } else
+    clearInterval(timer);
+  showWay();
 }
 
+function endChecker() {
+  checker?.end();
+  checker = null;
+}
+
+// The answer for the file that was chosen, as the fields say; null where a newer run or a stop came in between.
+async function answerNow(isNow) {
+  module ??= await start();
+  if (!isNow()) return null;
+  const rows = recording ?? await recordingOf(file);
+  if (!isNow()) return null;
+  recording = rows;
+  const way = options(), isKept = way.words.length > 0 && lastKey === way.key;
+  lastKey = way.key;
+  checker ??= new Checker(rows);
+  const told = await answerOf(checker, way, (it) => {
+    if (isNow()) progress(it);
+  });
+  return isNow() ? {...told, file, key: way.key, isKept, name: shownName(file.name), when: new Date()} : null;
+}
+
+// Checks the file that is given, or the last one again if none is, and shows the answer. Each button that checks
+// again has the focus on the card after it.
 async function run(given) {
-  let way;
-  try {
-    way = options();
-    module ??= await start();
-  } catch (fault) {
-    trouble(fault.message);
-    return null;
-  }
-  const key = wayKey(), isKept = Boolean(given && way.words.length && key === state?.key);
+  const mine = ++newest, isNow = () => mine === newest, begin = performance.now();
+  if (given || isWorking) endChecker();
   if (given) {
     file = given;
-    worker?.terminate();
-    worker = null;
+    recording = null;
   }
+  showSetupFault(null);
   working(true);
-  const begin = performance.now();
+  if (!given) by("work").focus();
   try {
-    const fresh = !worker;
-    worker ??= newWorker();
-    const message = fresh ? {module, file, options: way.bytes} : {options: way.bytes};
-    const told = await ask(worker, message, progress);
+    const told = await answerNow(isNow);
+    if (!told) return null;
     working(false);
-    state = {...told, name: file.name, way, key, isKept};
+    state = {...told, isKept: Boolean(given && told.isKept)};
     show(state);
     state.ms.all = performance.now() - begin;
     by("figures").textContent = figures(state);
-    showWay();
-    count();
+    settle(!given);
     return state;
   } catch (fault) {
-    working(false);
-    worker?.terminate();
-    worker = null;
-    trouble(`There is no verdict: ${fault.message}`);
+    if (isNow()) failed(fault, !given);
     return null;
   }
 }
 
-function stop() {
-  worker?.terminate();
-  worker = null;
+// Shows why a run failed.
+function failed(fault, isButton) {
+  endChecker();
   working(false);
-  trouble("Stopped. There is no verdict.");
+  if (!(fault instanceof SetupFault)) {
+    trouble(`There is no verdict: ${fault.message}`, isButton);
+    return;
+  }
+  trouble(`The set-up bytes of the ${DEVICE_NAMES[DEVICES.indexOf(fault.device)]} can't be used.`, false);
+  showSetupFault(fault);
 }
 
-function trouble(words) {
+function stop() {
+  if (!isWorking) return;
+  newest++;
+  endChecker();
+  working(false);
+  trouble("You stopped the check. There is no verdict.", true);
+}
+
+// Shows that there is no verdict, of which file, and why. No earlier answer is left.
+function trouble(words, isButton) {
   const verdict = by("verdict");
+  state = null;
   verdict.className = "card none";
+  verdict.removeAttribute("data-unfollowed");
   verdict.replaceChildren(h("p", {class: "word"}, "No verdict"), h("p", {}, words));
+  if (file) verdict.append(h("p", {class: "soft"}, "Recording: ", nameShown(shownName(file.name))));
   by("told").replaceChildren();
-  count();
+  settle(isButton);
 }
 
-// How often the page has answered, for whoever waits for that.
-function count() {
+// After an answer or a failure: the title, the settings and the live region are of what is shown now, and the card is
+// in sight.
+function settle(isButton) {
+  const word = state?.answer === ANSWERS.YES ? "yes" : state?.answer === ANSWERS.NO ? "no" : "no verdict";
+  document.title = file ? `${word} – ${shownName(file.name)} – mdbcheck` : "mdbcheck";
+  const said = by("verdict").querySelector(".word").textContent;
+  announce(file ? `${shownName(file.name)}: ${said}` : said);
+  showWay();
+  reachCard(isButton);
   document.documentElement.dataset.shown = ++times;
+}
+
+// Brings the card into sight. After a button it gets the focus too, since the button is gone.
+function reachCard(isButton) {
+  const card = by("verdict"), {top} = card.getBoundingClientRect();
+  if (isButton) card.focus({preventScroll: true});
+  if (top < 0 || top > innerHeight - 160) card.scrollIntoView({block: "start"});
+}
+
+// Says one sentence to whoever can't see the page.
+function announce(words) {
+  by("announced").textContent = words;
 }

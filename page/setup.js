@@ -1,23 +1,50 @@
 // An earlier recording, for what it shows of the set-up.
+let newestSetup = 0;
+
+// What an earlier recording says of the set-up of each device, put into the fields; in words.
+function takeSetups(told, name) {
+  if (told.answer > ANSWERS.NO) return `${name}: ${unreadWords(told)} Nothing was taken from it.`;
+  const found = findSetups(new Acts(told.acts, told.listed)), names = [];
+  for (let d = 1; d < 5; d++)
+    if (found[d]) {
+      by("setup-" + DEVICES[d]).value = found[d];
+      names.push(DEVICES[d]);
+    }
+  if (names.length) showSetupFault(null);
+  return names.length ? `${name} shows the set-up of ${names.join(", ")}.` :
+                        `${name} shows no answer to SETUP. The bytes below are as they were.`;
+}
+
+// Why a recording couldn't be read, with its row.
+function unreadWords(told) {
+  const row = number(told.row);
+  if (told.answer === ANSWERS.BAD_ROW) {
+    const line = told.lines.find((l) => l.row === told.row);
+    return `row ${row} is no row. ${ROW_FAULTS[told.fault]}: wanted TIME,LINE,VALUE, found "${foundText(line)}".`;
+  }
+  if (told.answer === ANSWERS.UNREAD) return `row ${row} has a quote (") or a CR alone, and this page can't read it.`;
+  return "it has more than 100,000,000 rows.";
+}
+
+const FROM_POWER_ON = {
+  bytes: new Uint8Array(153),
+  words: [],
+  given: [],
+  late: null
+};
+
 async function readSetups(given) {
-  by("setup-told").textContent = "Reading …";
-  const made = newWorker();
+  const mine = ++newestSetup, say = (words) => {
+    if (mine === newestSetup) by("setup-told").replaceChildren(h("bdi", {}, words));
+  };
+  const name = shownName(given.name);
+  say(`Reading ${name}`);
   try {
-    module ??= await start();
-    const told = await ask(made, {module, file: given, options: new Uint8Array(153)});
-    const found = findSetups(new Acts(told.acts, told.listed));
-    const names = [];
-    for (let d = 1; d < 5; d++)
-      if (found[d]) {
-        by("setup-" + DEVICES[d]).value = found[d];
-        names.push(DEVICES[d]);
-      }
-    by("setup-told").textContent = names.length ?
-        `${given.name} shows the set-up of ${names.join(", ")}.` :
-        `${given.name} shows no answer to SETUP: nothing was taken from it, and the bytes below are as they were.`;
+    const told = await check(await recordingOf(given), FROM_POWER_ON);
+    if (mine !== newestSetup) return;
+    say(takeSetups(told, name));
     showWay();
   } catch (fault) {
-    by("setup-told").textContent = fault.message;
+    say(`${name}: ${fault.message}`);
   }
-  made.terminate();
 }

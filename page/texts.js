@@ -11,6 +11,13 @@ const number = (n) => String(n).replace(/\B(?=(\d{3})+$)/g, ",");
 const capital = (words) => words[0].toUpperCase() + words.slice(1);
 const small = (words) => words[0].toLowerCase() + words.slice(1);
 
+// A file's name, with what can't be seen or turns the text around it written out.
+const shownName = (name) => name.replace(/[\p{Cc}\p{Cf}\p{Cs}\p{Zl}\p{Zp}]/gu, (it) => {
+  const code = it.codePointAt(0).toString(16).toUpperCase();
+  return code.length > 4 ? `\\u{${code}}` : `\\u${code.padStart(4, "0")}`;
+});
+const nameShown = (name) => h("strong", {}, h("bdi", {id: "name"}, name));
+
 // The text of a line, as the program tells it: what isn't printed as \x and two digits.
 function shown(line) {
   let text = "";

@@ -6,7 +6,7 @@ const PAGE = 65536, CHUNK = 1 << 24, ACT = 80, OPTIONS = 153, ANSWER = 2056;
 const MOST = 800000, HALF = MOST / 2;
 // So many bytes are checked first, to know how quick this computer is.
 const FRONT = 1 << 20;
-let call, at, size, read;
+let call, at, size, read, number, last = Promise.resolve();
 
 // Places in the module's memory, each a multiple of 8 above what the module has for itself.
 function places(length) {
@@ -21,8 +21,13 @@ function grow(bytes) {
   if (bytes > have) call.memory.grow(BigInt(Math.ceil((bytes - have) / PAGE)));
 }
 
+// What goes to the page has the number of the message that it answers.
+function say(words, moved = []) {
+  postMessage({number, ...words}, moved);
+}
+
 function tell(doing, part, most) {
-  postMessage({told: "progress", doing, part, most});
+  say({told: "progress", doing, part, most});
 }
 
 function load(file) {
@@ -30,11 +35,15 @@ function load(file) {
   at = places(size);
   grow(at.end);
   const reader = new FileReaderSync(), begin = performance.now();
-  for (let i = 0; i < size; i += CHUNK) {
-    tell("Reading", i / size);
-    const part = new Uint8Array(reader.readAsArrayBuffer(file.slice(i, i + CHUNK)));
-    new Uint8Array(call.memory.buffer, at.text + i, part.length).set(part);
-  }
+  let done = 0;
+  // A file of no bytes is read too, and as a whole: Chromium shows so a file that is gone, and a slice of it can be read.
+  do {
+    tell("Reading", size ? done / size : 0);
+    const part = new Uint8Array(reader.readAsArrayBuffer(size ? file.slice(done, done + CHUNK) : file));
+    if (part.length !== Math.min(CHUNK, size - done)) throw new Error("The file changed while it was read.");
+    new Uint8Array(call.memory.buffer, at.text + done, part.length).set(part);
+    done += part.length;
+  } while (done < size);
   read = performance.now() - begin;
 }
 
@@ -92,8 +101,12 @@ function answerText() {
   return new TextDecoder().decode(new Uint8Array(call.memory.buffer, at.answer + 8, count).slice());
 }
 
-function judge(options) {
+function setOptions(options) {
   new Uint8Array(call.memory.buffer, at.options, OPTIONS).set(options);
+}
+
+function judge(options) {
+  setOptions(options);
   if (size > 8 * FRONT) {
     const begin = performance.now();
     check(FRONT);
@@ -115,36 +128,81 @@ function judge(options) {
   const acts = new Uint8Array(call.memory.buffer, at.acts, listed * ACT).slice().buffer;
   const done = performance.now();
   const stops = answer === 1 || answer === 2 || answer === 3 || answer === 4;
-  postMessage(
-      {
-        told: "done",
-        answer,
-        text,
-        before,
-        row: end.row,
-        offset: end.offset,
-        fault: end.fault,
-        lines: stops ? lines(end.offset, end.row) : [],
-        acts,
-        listed,
-        all: link.acts,
-        hole: hole ? HALF : -1,
-        link: {answer: linkAnswer, row: link.row},
-        size,
-        ms: {read, check: checked - begin, before: summed - checked, list: done - summed},
-        memory: call.memory.buffer.byteLength
-      },
+  say({
+    told: "done",
+    answer,
+    text,
+    before,
+    row: end.row,
+    offset: end.offset,
+    fault: end.fault,
+    lines: stops ? lines(end.offset, end.row) : [],
+    acts,
+    listed,
+    all: link.acts,
+    hole: hole ? HALF : -1,
+    link: {answer: linkAnswer, row: link.row},
+    size,
+    ms: {read, check: checked - begin, before: summed - checked, list: done - summed},
+    memory: call.memory.buffer.byteLength
+  },
       [acts]);
 }
 
-onmessage = async ({data}) => {
-  try {
-    if (data.module) {
-      call = (await WebAssembly.instantiate(data.module)).exports;
-      load(data.file);
-    }
-    judge(data.options);
-  } catch (fault) {
-    postMessage({told: "fault", words: String(fault)});
+// The device whose set-up the options have, and whose answer to SETUP that isn't; 0 if there is none.
+function badSetup(options) {
+  for (let d = 0; d < 4; d++) {
+    const alone = new Uint8Array(OPTIONS), from = 5 + 37 * d;
+    alone[0] = 1;
+    alone.set(options.subarray(from, from + 37), from);
+    setOptions(alone);
+    if (check(0) === 5) return d + 1;
   }
+  return 0;
+}
+
+// Checks the recording once more with other options, for the answer alone. `isFollowed` is whether a device speaks, or
+// is spoken to; where a device broke a rule in the first reading (`isDevice`), one does.
+function judgeLate(options, isDevice) {
+  setOptions(options);
+  if (check(0) === 5) setOptions(options.fill(0, 5));
+  tell("Checking", 0, 0);
+  const answer = check(size), end = told(), text = answer < 2 ? answerText() : "";
+  let isFollowed = isDevice;
+  if (!isDevice && answer === 0) {
+    list(0, at.acts, at.room);
+    const count = Math.min(told().acts, at.room), acts = new Uint8Array(call.memory.buffer, at.acts, count * ACT);
+    for (let i = 0; i < count && !isFollowed; i++) isFollowed = acts[i * ACT + 41] > 0;
+  }
+  say({told: "done", answer, text, row: end.row, isFollowed});
+}
+
+async function prepare(module) {
+  call = (await WebAssembly.instantiate(module)).exports;
+  at = places(0);
+  grow(at.end);
+}
+
+async function take({number: mine, module, file, options, late, isDevice}) {
+  number = mine;
+  try {
+    if (module) await prepare(module);
+    const device = late ? 0 : badSetup(options);
+    if (device) {
+      say({told: "fault", device});
+      return;
+    }
+    if (file) load(file);
+    if (late)
+      judgeLate(late, isDevice);
+    else
+      judge(options);
+  } catch (fault) {
+    say({told: "fault", words: fault.message ? `${fault.name}: ${fault.message}` : String(fault)});
+  }
+}
+
+// One message after the other.
+onmessage = ({data}) => {
+  last = last.then(() => take(data));
 };

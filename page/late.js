@@ -1,0 +1,68 @@
+// Whether a no may come of a recording that began late. The module is asked for that: as of a machine that was running
+// already, the same recording has another answer, or the same.
+const DEVICE_RULES = ["Changer", "Bill", "Cashless"];
+
+// Whether an answer is a plain no of a device's rule, or in row 1.
+function asksLate(told, way) {
+  if (told.answer !== ANSWERS.NO || !way.late) return false;
+  return told.row === 1 || DEVICE_RULES.includes(readReport(told.text).rule);
+}
+
+// The number of the device that the row is about: the blamed one, or the one that the controller's row speaks to.
+function deviceOfRow(it) {
+  const {blame} = it.report;
+  if (blame !== "controller") return Math.max(0, DEVICES.indexOf(blame));
+  const at = actAtRow(it, it.row);
+  return at >= 0 && it.list.first(at) <= it.row && it.list.last(at) >= it.row ? it.list.device(at) : 0;
+}
+
+// Whether the recording has a start of the row's device before the row: a break, or a reset of it.
+function isStartedBefore(it) {
+  const device = deviceOfRow(it), isBefore = ({last}) => last < it.row;
+  return it.found.breaks.some(isBefore) || it.found.resets.some((r) => r.device === device && isBefore(r));
+}
+
+// Whether the same row is impossible whether or not the machine was running already.
+function isSameLate({late, row, report}) {
+  if (late.answer !== ANSWERS.NO || late.row !== row) return false;
+  const {rule, blame} = readReport(late.text);
+  return rule === report.rule && blame === report.blame;
+}
+
+// Whether it has to be asked if the machine was running already.
+function isPerhapsLate(it) {
+  if (!it.late || isSameLate(it)) return false;
+  return it.late.answer === ANSWERS.YES || !isStartedBefore(it);
+}
+
+// What the recording would give if the machine was running already.
+function lateWords(it) {
+  const {late} = it, row = number(late.row);
+  if (isSameLate(it))
+    return "It makes no difference whether the machine was running already: this row can't be in either case.";
+  if (late.answer === ANSWERS.YES)
+    return late.isFollowed ?
+        "Taken as running already it would be a yes." :
+        "Taken as running already it would be a yes, but nothing would be followed: most likely the two lines are exchanged.";
+  if (late.answer === ANSWERS.NO) {
+    const {rule, blame} = readReport(late.text);
+    return `Taken as running already, row ${row} would be the one that cannot be: it breaks the rule ${rule}, and ${
+        BLAMES[blame]} sent it.`;
+  }
+  return `Taken as running already there would be no verdict: row ${row} can't be read.`;
+}
+
+// What the card says of a machine that was running already, with the button for it.
+function lateNotes(it) {
+  if (!it.late) return [];
+  if (!isPerhapsLate(it)) return [h("p", {id: "late"}, lateWords(it))];
+  const again = () => {
+    by("joined").checked = true;
+    run();
+  };
+  return [h(
+      "p", {id: "late"}, h("strong", {}, "Was the machine running already when the recording began?"),
+      isStartedBefore(it) || it.row === 1 ? " " : " No reset of this device stands before the row. ",
+      "If so, blame nobody for this. ", lateWords(it), " ",
+      h("button", {type: "button", class: "noprint", onclick: again}, "Check as one that was running"))];
+}
