@@ -15,6 +15,25 @@ function actAtRow(it, row) {
   return low < acts.count ? low : acts.count - 1;
 }
 
+// Why a row isn't among the acts that are listed; null where it is.
+function missingRow(it, row) {
+  const acts = it.list, {count} = acts, end = count ? acts.last(count - 1) : 0;
+  if (!Number.isInteger(row) || row < 1) return "Rows have whole numbers, from 1 on.";
+  if (row > end) return `Row ${number(row)} isn't listed: the list ends with row ${number(end)}.`;
+  if (it.hole < 0) return null;
+  const from = acts.last(it.hole - 1) + 1, to = acts.first(it.hole) - 1;
+  if (row < from || row > to) return null;
+  return `Row ${number(row)} isn't listed: of so long a recording the rows ${number(from)} to ${number(to)} aren't.`;
+}
+
+// Goes to a row's act, or says why it can't.
+function seekRow(it, text) {
+  const row = Number(text), words = text === "" ? null : missingRow(it, row);
+  by("act-row-told").textContent = words ?? "";
+  by("act-row").setAttribute("aria-invalid", words !== null);
+  if (text !== "" && words === null) jumpTo(it, actAtRow(it, row));
+}
+
 // Whether an act comes after the row that cannot be.
 function isUnjudged(it, {first}) {
   return it.answer === ANSWERS.NO && first > it.row;
@@ -122,13 +141,12 @@ function actsSection(it) {
             type: "number",
             id: "act-row",
             min: 1,
-            onchange: (e) => {
-              if (e.target.value) jumpTo(it, actAtRow(it, Number(e.target.value)));
-            }
+            "aria-describedby": "act-row-told",
+            onchange: (e) => seekRow(it, e.target.value)
           })),
         h("button", {type: "button", id: "act-back", onclick: step(-1)}, "Earlier"),
         h("button", {type: "button", id: "act-more", onclick: step(1)}, "Later")),
-      h("p", {id: "act-count", role: "status"}),
+      h("p", {id: "act-row-told", class: "fault", role: "status"}), h("p", {id: "act-count", role: "status"}),
       h("div", {class: "scroll"},
         h("table", {}, h("caption", {}, "The bytes are those of the whole block, its sum at the end"),
           h("thead", {}, h("tr", {}, ACT_HEADS.map(([words, kind]) => h("th", {scope: "col", class: kind}, words)))),
@@ -138,15 +156,4 @@ function actsSection(it) {
     made.insertBefore(h("p", {class: "soft"}, "The acts after the fault aren't judged."), made.children[1]);
   queueMicrotask(() => drawActs(it));
   return made;
-}
-
-function textSection(it) {
-  const inner = [];
-  if (it.text)
-    inner.push(
-        h("p", {}, "Byte for byte what the program prints:"), h("pre", {id: "text", tabindex: 0}, it.text),
-        h("p", {class: "noprint"},
-          h("code", {}, `mdbcheck check${it.way.words.length ? " " + it.way.words.join(" ") : ""} < FILE`)));
-  inner.push(h("p", {id: "figures", class: "soft"}));
-  return section("For the record", "record", ...inner);
 }
