@@ -1,0 +1,508 @@
+#!/usr/bin/env python3
+"""tests/page_orders.py [--firefox] [ORDERS [SEED]]: whether each answer on the page is that of the
+file and the settings beside it, whatever was clicked.
+
+Chooses, drops, ticks, checks, stops and presses the card's buttons in so many random orders (300 if
+not said), with short files and with files of some MB, whose check is still running at the next
+click. After each order the page has to show
+
+- the file that was given last, and the settings at the time when the last check began, on the card
+  and in the program's command;
+- the text that the program prints for that file and that command; after a stop, a file that can't
+  be read or set-up bytes that can't be used: no verdict, and why;
+- a title that says the same as the card.
+
+Then it plays what once showed a wrong answer, each by itself. tests/page calls this, too. Ends with
+status 1 at the first difference.
+"""
+
+import json
+import pathlib
+import random
+import shlex
+import subprocess
+import sys
+import tempfile
+import time
+
+sys.dont_write_bytecode = True
+
+from browser import Browser  # noqa: E402
+from firefox import Firefox  # noqa: E402
+from programs import MDBCHECK as PROGRAM  # noqa: E402
+
+TOP = pathlib.Path(__file__).resolve().parent.parent
+PAGE = TOP / "out" / "mdbcheck.html"
+EXAMPLES = TOP / "examples"
+# A file that has gone by the time that it is read.
+GONE = "gone.csv"
+DEVICES = ["changer", "bill", "cashless", "cashless-2"]
+SETUP = "02 00 01 05 02 00 07 01 02 05 19"
+
+READ = """(() => {
+  const text = (it) => it ? it.textContent : null, card = document.getElementById("verdict"), all = (q) => [...document.querySelectorAll(q)];
+  const stale = document.getElementById("stale"), focus = document.activeElement;
+  return JSON.stringify({
+    card: card.className, word: text(card.querySelector(".word")), verdict: text(card), name: text(document.getElementById("name")),
+    text: text(document.getElementById("text")), command: text(document.getElementById("command")), told: text(document.getElementById("told")),
+    title: document.title, isStale: !stale.hidden, isWorking: document.getElementById("main").getAttribute("aria-busy") === "true",
+    isState: state !== null, isWay: state !== null && card.textContent.includes(wayWords(state)), again: !document.getElementById("again").disabled,
+    live: all("#main button, #main input, #main select").filter((it) => !it.disabled).length, inert: document.getElementById("main").inert,
+    focus: focus.id || focus.tagName, top: card.getBoundingClientRect().top, high: innerHeight, announced: text(document.getElementById("announced")),
+    faults: all("#setups .fault").map(text).filter((it) => it), setupTold: text(document.getElementById("setup-told")),
+    late: text(document.getElementById("late")), badRow: text(document.getElementById("bad-row")), buttons: all("#verdict button").map(text),
+    rowTold: text(document.getElementById("act-row-told")), acts: text(document.getElementById("act-count")),
+  });
+})()"""
+# Notes what the fields say each time that the page reads them, as words of a command, whatever their bytes are.
+NOTE = """(() => {
+  const read = options, all = ["changer", "bill", "cashless", "cashless-2"];
+  window.fieldsNow = () => {
+    const joined = by("joined").checked, words = joined ? ["--joined"] : [];
+    for (const it of all) {
+      const value = by("setup-" + it).value.trim();
+      if (by("without-" + it).checked) words.push("--without", it);
+      else if (joined && value) words.push("--setup", it + " " + value);
+    }
+    return words;
+  };
+  window.options = () => {
+    window.noted = fieldsNow();
+    return read();
+  };
+  return 1;
+})()"""
+
+
+class Wrong(Exception):
+    """The page shows something else than is wanted."""
+
+
+def want(is_so, words):
+    if not is_so:
+        raise Wrong(words)
+
+
+def rows_of(name):
+    return (EXAMPLES / f"{name}.csv").read_text().splitlines()
+
+
+def moved(rows, by):
+    """Rows, later by so many microseconds."""
+    return [f"{int(at) + by},{rest}" for at, rest in (row.split(",", 1) for row in rows)]
+
+
+def text_of(rows):
+    return "".join(row + "\n" for row in rows)
+
+
+VALIDATOR_RESET = ["1000,M,130", "2200,M,030", "4200,S,100"]
+
+
+def make_files(folder):
+    """Makes the files that are given; their names."""
+    late, twice = rows_of("coin-in-mid-session"), rows_of("coin-told-twice")
+    end = int(late[-1].split(",")[0])
+    cycle = [*late, f"{end + 100_000},B,150000", *moved(twice, end + 500_000)]
+    long = subprocess.run([sys.executable, TOP / "bench" / "generate", "mixed", "170000"], capture_output=True, check=True).stdout.decode().splitlines()
+    last = int(long[-1].split(",")[0])
+    made = {
+        "told twice.csv": text_of(twice),
+        "begins late.csv": text_of(late),
+        "late, then a cycle.csv": text_of(cycle),
+        "late beside a validator.csv": text_of([*VALIDATOR_RESET, *moved(late, 100_000)]),
+        "never approved.csv": text_of(rows_of("sale-never-approved")),
+        "level 3.csv": text_of(rows_of("coins-beside-a-level-3-reader")),
+        "no row.csv": text_of(twice[:9]) + "1.5,M,108\n",
+        "long.csv": text_of(long),
+        "long, with a no.csv": text_of([*long, *moved(rows_of("sale-never-approved"), last + 500_000)]),
+        GONE: "1000,M,108\n",
+    }
+    for name, text in made.items():
+        (folder / name).write_text(text)
+    return list(made)
+
+
+class Orders:
+    """The page, and what it should show: the answer for the file that was given last, unless that was stopped."""
+
+    def __init__(self, browser, work):
+        self.browser, self.work, self.answers = browser, work, {}
+        self.names = make_files(work)
+        self.fresh()
+
+    def fresh(self):
+        """The page as it is when it was opened, with a field for each file, so that a script can drop it."""
+        self.name, self.is_stopped = None, False
+        self.browser.open(PAGE.as_uri())
+        self.browser.value(NOTE)
+        self.browser.value("""(() => { for (let i = 0; i < %d; i++) {
+            const it = document.createElement("input"); it.type = "file"; it.id = "test-" + i; it.hidden = true; document.body.append(it); }
+            return 1; })()""" % len(self.names))
+        (self.work / GONE).write_text("1000,M,108\n")
+        for i, name in enumerate(self.names):
+            self.browser.choose(f"#test-{i}", self.work / name)
+        (self.work / GONE).unlink()
+
+    def value(self, code):
+        return json.loads(self.browser.value(f"JSON.stringify({code})"))
+
+    def read(self):
+        return json.loads(self.browser.value(READ))
+
+    def settled(self, most=120):
+        """What is shown when nothing works any more."""
+        end = time.monotonic() + most
+        while True:
+            came = self.read()
+            if not came["isWorking"] and not (came["setupTold"] or "").startswith("Reading "):
+                return came
+            want(time.monotonic() < end, f"it still works after {most} s")
+            time.sleep(0.01)
+
+    def give(self, name, begin):
+        """Gives a file, and waits for its run to begin."""
+        before = self.value("newest")
+        begin()
+        end = time.monotonic() + 20
+        while self.value("newest") == before:
+            want(time.monotonic() < end, f"{name} was given, and no run began")
+            time.sleep(0.002)
+        self.name, self.is_stopped = name, False
+
+    def choose(self, name):
+        self.give(name, lambda: self.browser.choose("#file", self.work / name))
+
+    def drop(self, name):
+        self.give(name, lambda: self.value("""(() => { const data = new DataTransfer(); data.items.add(by("test-%d").files[0]);
+            for (const kind of ["dragover", "drop"]) by("main").dispatchEvent(new DragEvent(kind, {dataTransfer: data, bubbles: true, cancelable: true}));
+            return 1; })()""" % self.names.index(name)))
+
+    def click(self, code):
+        """Clicks an element, if there is one; whether a run began, or ended, by it."""
+        return self.value("(() => { const before = newest; (%s)?.click(); return newest !== before; })()" % code)
+
+    def press(self, code):
+        """Clicks a button that checks again."""
+        if self.click(code):
+            self.is_stopped = False
+
+    def stop(self):
+        if self.click("by('stop')"):
+            self.is_stopped = True
+
+    def bytes(self, value, device="changer"):
+        self.value("""(() => { const it = by("setup-%s"); it.value = "%s";
+            for (const kind of ["input", "change"]) it.dispatchEvent(new Event(kind, {bubbles: true})); return 1; })()""" % (device, value))
+
+    def program(self, name, words):
+        """What the program answers."""
+        key = name, *words
+        if key not in self.answers:
+            with (self.work / name).open("rb") as file:
+                ran = subprocess.run([PROGRAM, "check", *words], stdin=file, capture_output=True)
+            self.answers[key] = ran.returncode, ran.stdout.decode(), ran.stderr.decode()
+        return self.answers[key]
+
+    def compare(self, came=None):
+        """Compares what is shown with what the program prints; answers what that is."""
+        came, name = came or self.settled(), self.name
+        if name is None:
+            want(came["name"] is None and came["title"] == "mdbcheck" and not came["again"], f"nothing was given: {came['verdict']!r}")
+            return "nothing"
+        word = {"card yes": "yes", "card no": "no"}.get(came["card"], "no verdict")
+        want(came["name"] == name, f"the card names {came['name']}: {came['verdict']!r}")
+        want(came["title"] == f"{word} – {name} – mdbcheck", f"the card is {came['card']}, the title {came['title']!r}")
+        want(came["announced"] == f"{name}: {came['word']}", f"announced is {came['announced']!r}")
+        want(not came["inert"] and came["again"], "the controls are off")
+        words = self.value("window.noted ?? null")
+        is_wrong = any("zz" in it for it in words or [])
+        if self.is_stopped or is_wrong or name == GONE:
+            reason = "You stopped" if self.is_stopped else "set-up bytes" if is_wrong else "There is no verdict: "
+            want(came["card"] == "card none" and reason in came["verdict"], f"wanted {reason!r}: {came['verdict']!r}")
+            want(not came["isState"] and not came["told"] and not came["isStale"], "something is left of an answer")
+            return reason.lower().strip(": ")
+        self.compare_answer(came, words, word)
+        return word
+
+    def compare_answer(self, came, words, word):
+        status, text, err = self.program(self.name, words)
+        want(shlex.split(came["command"]) == ["mdbcheck", "check", *words, "<", "FILE"], f"the command is {came['command']!r}, wanted {words}")
+        want(came["isWay"], f"the card names other settings than {words}: {came['verdict']!r}")
+        want(came["isStale"] == (self.value("fieldsNow()") != words), f"the note on other settings: {came['isStale']}")
+        if status == 2:
+            want(came["badRow"] and came["badRow"] in err, f"{came['verdict']!r}, wanted {err!r}")
+        else:
+            want(came["text"] == text, f"{words}: the text is {came['text']!r}, wanted {text!r}")
+            want(word == text.split()[1], f"the card is {came['card']}")
+
+
+def button(words):
+    """The button on the page that begins with these words."""
+    return "[...document.querySelectorAll('#main button')].find((it) => it.textContent.startsWith(%s))" % json.dumps(words)
+
+
+STEPS = ("choose", "choose", "drop", "drop", "tick", "tick", "bytes", "again", "again", "stop", "late", "leave", "earlier", "row")
+
+
+def take_step(page, dice):
+    """One random step; in words."""
+    kind = dice.choice(STEPS)
+    if kind in ("choose", "drop"):
+        name = dice.choice([it for it in page.names if it != GONE or kind == "drop"])
+        (page.choose if kind == "choose" else page.drop)(name)
+        return f"{kind} {name}"
+    if kind == "tick":
+        box = dice.choice(["joined", "joined", *("without-" + it for it in DEVICES)])
+        page.click(f"by('{box}')")
+        return box
+    if kind == "bytes":
+        value = dice.choice(("", "", SETUP, SETUP, "zz"))
+        page.bytes(value)
+        return f"bytes {value}"
+    if kind == "stop":
+        page.stop()
+    elif kind == "earlier":
+        page.browser.choose("#setup-file", page.work / dice.choice(["told twice.csv", "never approved.csv", "no row.csv"]))
+    elif kind == "row":
+        page.value("(() => { const it = by('act-row'); if (it) { it.value = %d; it.dispatchEvent(new Event('change')); } return 1; })()" % dice.randrange(1, 120))
+    else:
+        page.press({"again": "by('again')", "late": button("Check as"), "leave": button("Leave out")}[kind])
+    return kind
+
+
+def try_order(page, dice):
+    """One random order of steps, and what is shown after it."""
+    steps = []
+    try:
+        for _ in range(dice.randrange(3, 10)):
+            steps.append(take_step(page, dice))
+            time.sleep(dice.choice((0, 0, 0, 0.005, 0.02, 0.06, 0.15, 0.4)))
+            came = page.read()
+            if came["isWorking"]:
+                want(came["inert"] and not came["live"] and not came["again"] and not came["isStale"], "something can be pressed while it works")
+            if dice.random() < 0.2:
+                page.settled()
+        return page.compare()
+    except Wrong as wrong:
+        raise Wrong(f"{steps}: {wrong}") from None
+
+
+def try_orders(page, number, seed):
+    counts, begin = {}, time.monotonic()
+    for index in range(number):
+        dice = random.Random(f"orders {seed} {index}")
+        if dice.random() < 0.2:
+            page.fresh()
+        try:
+            word = try_order(page, dice)
+        except Wrong as wrong:
+            raise Wrong(f"order {index} of seed {seed}: {wrong}") from None
+        counts[word] = counts.get(word, 0) + 1
+    said = ", ".join(f"{n} {word}" for word, n in sorted(counts.items()))
+    print(f"{number} orders of clicks, files and stops, each with the answer of its file and settings ({said}; {time.monotonic() - begin:.0f} s)")
+
+
+def try_again_while_working(page):
+    """Another check is asked for while one runs, by a script that doesn't care what can be pressed: the answer is that
+    of the later settings. The controls are off while it works, and a late answer of another number is dropped."""
+    page.fresh()
+    page.choose("long, with a no.csv")
+    page.value("(() => { by('joined').checked = true; showWay(); run(); return 1; })()")
+    page.compare()
+    page.choose("long.csv")
+    page.value("(() => { by('joined').checked = false; by('without-changer').checked = true; showWay(); run(); run(); return 1; })()")
+    page.compare()
+    page.value("(() => { checker.hear({told: 'done', number: 1, answer: 1, text: 'verdict no\\n'}); return 1; })()")
+    page.compare()
+
+
+def try_started_before(page):
+    """Only a start of the row's device before the row counts: not one after it, and not one of another device."""
+    page.fresh()
+    for name in ("begins late.csv", "late, then a cycle.csv", "late beside a validator.csv"):
+        page.choose(name)
+        came = page.settled()
+        page.compare(came)
+        want("Was the machine running already" in came["late"] and "it would be a yes" in came["late"], f"{name}: {came['late']!r}")
+        want("broke the protocol here" not in came["verdict"], f"{name}: {came['verdict']!r}")
+        want(page.program(name, ["--joined"])[0] == 0, name)
+        page.press(button("Check as one that was running"))
+        came = page.settled()
+        page.compare(came)
+        want(came["card"] == "card yes" and came["focus"] == "verdict" and 0 <= came["top"] < came["high"], f"{name}: {came['focus']}, {came['top']}")
+        page.value("(() => { by('joined').checked = false; showWay(); return 1; })()")
+    page.choose("never approved.csv")
+    came = page.settled()
+    status, text, _ = page.program("never approved.csv", ["--joined"])
+    want(status == 1 and text == came["text"] and "It makes no difference" in came["late"], came["late"])
+    want("broke the protocol here" in came["verdict"] and not came["buttons"], came["verdict"])
+
+
+def try_failures(page):
+    """After a stop and a file that can't be read nothing of the answer before is left: the title, the answer, the note."""
+    page.fresh()
+    for fail in ("stop", GONE):
+        page.choose("told twice.csv")
+        page.compare()
+        page.click("by('joined')")
+        if fail == "stop":
+            page.choose("long.csv")
+            page.stop()
+            want(page.settled()["focus"] == "verdict", "after a stop the card has the focus")
+        else:
+            page.drop(GONE)
+        page.compare()
+        page.click("by('joined')")
+
+
+def try_wrong_bytes(page):
+    """Bytes of a set-up that can't be used: the file stays chosen, and the reason stands beside the field."""
+    page.fresh()
+    page.choose("told twice.csv")
+    page.compare()
+    page.click("by('joined')")
+    for value, words in (("zz", "aren't bytes"), ("02 00 01", "their sum is 02"), ("02 02", "no answer of the device to SETUP"), ("02 00 02", "no answer of the device to SETUP")):
+        page.bytes(value)
+        page.choose("begins late.csv")
+        came = page.settled()
+        want(came["name"] == "begins late.csv" and "set-up bytes" in came["verdict"] and not came["isState"], came["verdict"])
+        want(len(came["faults"]) == 1 and words in came["faults"][0], f"{value}: {came['faults']}")
+        want(came["focus"] == "setup-changer", f"the focus is on {came['focus']}")
+        page.bytes("")
+        want(not page.read()["faults"], "what is wrong stays beside the field")
+        page.press("by('again')")
+        came = page.settled()
+        want(came["focus"] == "verdict", f"after the button the focus is on {came['focus']}")
+        page.compare(came)
+
+
+def try_missing_rows(page):
+    """A row that isn't listed is said so."""
+    page.fresh()
+    page.choose("told twice.csv")
+    page.settled()
+    count = len(rows_of("coin-told-twice"))
+
+    def seek(row):
+        page.value("(() => { const it = by('act-row'); it.value = %s; it.dispatchEvent(new Event('change')); return 1; })()" % json.dumps(str(row)))
+        return page.read()["rowTold"]
+
+    want(seek(count) == "", "the last row")
+    want(seek(99_999) == f"Row 99,999 isn't listed: the list ends with row {count}.", page.read()["rowTold"])
+    want(seek(0) != "" and seek(1.5) != "" and seek(4) == "", "row 0")
+    # A long list, played: as if the acts from number 5 on came after others.
+    played = page.value("(() => { state.hole = 5; return [state.list.last(4), state.list.first(5)]; })()")
+    page.value("(() => { const w = state.list.words; for (let i = 5; i < state.list.count; i++) { w[i * 20] += 1000; w[i * 20 + 2] += 1000; } return 1; })()")
+    want("isn't listed: of so long a recording" in seek(500), page.read()["rowTold"])
+    want(seek(played[0]) == "" and seek(played[1] + 1000) == "", "the rows about the hole")
+
+
+TURNED = "day \u202egnp.1.csv"
+
+
+def try_names(page):
+    """A name can't turn the text round it: what does that is written out."""
+    page.fresh()
+    (page.work / TURNED).write_text(text_of(rows_of("coin-told-twice")))
+    shown = TURNED.replace("\u202e", "\\u202E")
+    page.browser.choose("#file", page.work / TURNED)
+    came = page.settled()
+    for _ in range(500):
+        if came["isState"]:
+            break
+        came = page.settled()
+    want(came["name"] == shown and came["title"] == f"yes – {shown} – mdbcheck", f"{came['name']!r}, {came['title']!r}")
+    want(page.value("by('name').tagName") == "BDI", "the name isn't by itself")
+    want("\u202e" not in page.value("document.body.textContent"), "the name's sign is on the page")
+    page.browser.choose("#setup-file", page.work / TURNED)
+    for _ in range(500):
+        told = page.settled()["setupTold"]
+        if told:
+            break
+    want(told == f"{shown} shows the set-up of changer.", told)
+
+
+def try_earlier(page):
+    """An earlier recording that can't be read says which row is none, and nothing is taken of it."""
+    page.fresh()
+    page.click("by('joined')")
+    page.bytes(SETUP)
+    err = page.program("no row.csv", [])[2].removeprefix("mdbcheck: ").strip()
+    page.browser.choose("#setup-file", page.work / "no row.csv")
+    for _ in range(500):
+        told = page.settled()["setupTold"]
+        if told:
+            break
+    want("no row.csv: row 10 is no row. " in told and err.split(": ", 1)[1] in told, f"{told!r}, {err!r}")
+    want(page.value("by('setup-changer').value") == SETUP, "bytes were taken of it")
+
+
+def try_apart(page):
+    """`check` answers for a file without a change of what is shown, while another one is checked, too."""
+    page.fresh()
+    page.choose("told twice.csv")
+    page.settled()
+    page.value("(() => { window.apart = null; check(by('test-%d').files[0], options()).then((it) => { window.apart = it; }); return 1; })()" % page.names.index("begins late.csv"))
+    page.choose("never approved.csv")
+    page.compare()
+    for _ in range(1000):
+        apart = page.value("apart && [apart.name, apart.text, apart.late.answer]")
+        if apart:
+            break
+        time.sleep(0.01)
+    want(apart == ["begins late.csv", page.program("begins late.csv", [])[1], 0], apart)
+    page.compare()
+
+
+def try_dropping(page):
+    """While something is over the page, the place for it shows that."""
+    page.fresh()
+    over = """(() => { const at = by("%s"), data = new DataTransfer(); at.dispatchEvent(new DragEvent("%s", {dataTransfer: data, bubbles: true, cancelable: true}));
+        return [...document.querySelectorAll(".over")].map((it) => it.id); })()"""
+    rest = page.value("getComputedStyle(by('drop')).borderTopColor")
+    want(page.value(over % ("main", "dragover")) == ["drop"], "the place for a recording")
+    want(page.value("getComputedStyle(by('drop')).borderTopColor") != rest, "it looks as at rest")
+    want(page.value(over % ("drop-setup", "dragover")) == ["drop-setup"], "the place for an earlier recording")
+    want(page.value(over % ("drop-setup", "dragleave")) == [], "what has left")
+
+
+def try_announced(page):
+    """Whoever can't see the page hears that it reads and checks, and what comes of it; the card is no live region."""
+    page.fresh()
+    page.value("(() => { window.heard = []; new MutationObserver(() => heard.push(by('announced').textContent)).observe(by('announced'), {childList: true}); return 1; })()")
+    page.choose("long.csv")
+    came = page.settled()
+    heard = page.value("heard")
+    want(heard[0].startswith("Reading long.csv") or heard[0].startswith("Checking long.csv"), heard)
+    want(any(it.startswith("Checking long.csv") for it in heard) and heard[-1] == f"long.csv: {came['word']}", heard)
+    want(page.value("document.querySelectorAll('[role=status] button, [aria-live] button').length") == 0, "buttons in a live region")
+
+
+def try_all(browser, work, number, seed):
+    page = Orders(browser, work)
+    for one in (try_again_while_working, try_started_before, try_failures, try_wrong_bytes, try_missing_rows, try_names, try_earlier, try_apart, try_dropping, try_announced):
+        try:
+            one(page)
+        except Wrong as wrong:
+            raise Wrong(f"{one.__name__}: {wrong}") from None
+    print("what once was a wrong answer: each is right")
+    try_orders(page, number, seed)
+
+
+def main():
+    given = [int(it) for it in sys.argv[1:] if it != "--firefox"]
+    number, seed = (given + [300, 1][len(given):])[:2]
+    with tempfile.TemporaryDirectory() as work:
+        browser = Firefox() if "--firefox" in sys.argv else Browser()
+        try:
+            try_all(browser, pathlib.Path(work), number, seed)
+            want(not browser.complaints(), f"the console has {browser.complaints()[:2]}")
+        except Wrong as wrong:
+            sys.exit(f"page_orders: {wrong}")
+        finally:
+            browser.close()
+
+
+if __name__ == "__main__":
+    main()
