@@ -393,12 +393,6 @@ function speaker(acts, i) {
   return device || "–";
 }
 
-function seconds(micros) {
-  if (micros < 60e6) return (micros / 1e6).toFixed(6) + " s";
-  const whole = Math.floor(micros / 1e6), h = Math.floor(whole / 3600), m = Math.floor(whole / 60) % 60, s = whole % 60;
-  return `${h}:${String(m).padStart(2, "0")}:${String(s).padStart(2, "0")}.${String(micros % 1e6).padStart(6, "0")}`;
-}
-
 // What the acts tell of money, resets, breaks and silences, in one walk. `given` has what --setup
 // told. Each entry has its first and last row, and when it was (`at`, or `from` and `to`). From the act `hole` on those
 // are listed that stand behind others that aren't.
