@@ -17,6 +17,8 @@ HERE = pathlib.Path(__file__).resolve().parent
 RULES = "Order Speaker Mode Early Late Spacing Length Sum Break Answer Message Same Profile Changer Bill Cashless".split()
 # The page's scripts, in the order in which they stand in the page. What a script runs at once, needs the ones before it.
 SCRIPTS = ("words elements texts report options runs late card fault money timeline statement acts evidence setup main").split()
+# Those of the worker.
+WORKERS = "sha256 worker".split()
 LEADS = {"At the bench": "bench", "The row": "row", "Blame": "blame", "Look at": "look"}
 
 
@@ -67,11 +69,12 @@ def main():
     module, page = map(pathlib.Path, sys.argv[1:])
     wasm = module.read_bytes()
     style = (HERE / "page.css").read_text()
+    worker = "\n".join((HERE / f"{name}.js").read_text() for name in WORKERS)
     parts = [(HERE / f"{name}.js").read_text() for name in SCRIPTS]
     constants = [
         '"use strict";',
         f"const RULES = {in_script(rule_texts())};",
-        f"const WORKER = {in_script((HERE / 'worker.js').read_text())};",
+        f"const WORKER = {in_script(worker)};",
         f'const MODULE = "{base64.b64encode(wasm).decode()}";',
     ]
     script = "\n".join(["", *constants, *parts])

@@ -28,7 +28,9 @@ async function start() {
   return WebAssembly.compile(Uint8Array.from(atob(MODULE), (c) => c.charCodeAt(0)));
 }
 
-// A worker with one recording. It reads the recording at the first message, and keeps it for the next ones. A message
+// A worker with one recording. It reads the recording at the first message, and keeps it for the next ones. Its
+// checksum
+// (`sum`) comes some time after the first answer. A message
 // has a number, which the worker gives back: what comes with another number answers nothing that is waited for.
 class Checker {
   constructor(recording) {
@@ -38,6 +40,9 @@ class Checker {
     this.first = {module, file: recording};
     this.waiting = new Map();
     this.number = 0;
+    this.sum = new Promise((done) => {
+      this.summed = done;
+    });
     this.worker.onmessage = ({data}) => this.hear(data);
     this.worker.onerror = (e) => {
       e.preventDefault?.();
@@ -46,6 +51,7 @@ class Checker {
     };
   }
   hear(data) {
+    if (data.told === "sum") this.summed(data.sha256);
     const asked = this.waiting.get(data.number);
     if (!asked) return;
     if (data.told === "progress") {
@@ -145,7 +151,8 @@ async function answerNow(isNow) {
   const told = await answerOf(checker, way, (it) => {
     if (isNow()) progress(it);
   });
-  return isNow() ? {...told, file, key: way.key, isKept, name: shownName(file.name), when: new Date()} : null;
+  if (!isNow()) return null;
+  return {...told, file, key: way.key, isKept, name: shownName(file.name), when: new Date(), sum: checker.sum};
 }
 
 // Checks the file that is given, or the last one again if none is, and shows the answer. Each button that checks
@@ -169,6 +176,7 @@ async function run(given) {
     state.ms.all = performance.now() - begin;
     by("figures").textContent = figures(state);
     settle(!given);
+    showSum(state);
     return state;
   } catch (fault) {
     if (isNow()) failed(fault, !given);

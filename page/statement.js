@@ -26,13 +26,6 @@ function csv(it) {
   return rows.map((row) => row.map(field).join(",")).join("\r\n") + "\r\n";
 }
 
-function save(name, text) {
-  const url = URL.createObjectURL(new Blob([text], {type: "text/csv"}));
-  const link = h("a", {href: url, download: name});
-  link.click();
-  setTimeout(() => URL.revokeObjectURL(url), 10000);
-}
-
 function tellSection(it) {
   const all = it.found.money, some = all.slice(0, MOST_MONEY), isNo = it.answer === ANSWERS.NO;
   const rows = some.map(
@@ -67,6 +60,6 @@ function tellSection(it) {
           ],
           rows),
       h("p", {class: "noprint"},
-        h("button", {type: "button", id: "save", onclick: () => save("coins-bills-sales.csv", csv(it))},
+        h("button", {type: "button", id: "save", onclick: () => save(savedName(it, "-money.csv"), csv(it), "text/csv")},
           "Save as CSV")));
 }

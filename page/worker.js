@@ -1,9 +1,10 @@
 // Runs the checker's module on one recording. The text stays in the module's memory, so that it can
 // be checked again in another way.
-"use strict";
 const PAGE = 65536, CHUNK = 1 << 24, ACT = 80, OPTIONS = 153, ANSWER = 2056;
 // So many acts are listed, the first and the last ones if there are more.
 const MOST = 800000, HALF = MOST / 2;
+// So many bytes are summed up between two messages.
+const PIECE = 1 << 22;
 // So many bytes are checked first, to know how quick this computer is.
 const FRONT = 1 << 20;
 let call, at, size, read, number, last = Promise.resolve();
@@ -36,7 +37,8 @@ function load(file) {
   grow(at.end);
   const reader = new FileReaderSync(), begin = performance.now();
   let done = 0;
-  // A file of no bytes is read too, and as a whole: Chromium shows so a file that is gone, and a slice of it can be read.
+  // A file of no bytes is read too, and as a whole: Chromium shows so a file that is gone, and a slice of it can be
+  // read.
   do {
     tell("Reading", size ? done / size : 0);
     const part = new Uint8Array(reader.readAsArrayBuffer(size ? file.slice(done, done + CHUNK) : file));
@@ -177,6 +179,20 @@ function judgeLate(options, isDevice) {
   say({told: "done", answer, text, row: end.row, isFollowed});
 }
 
+// Makes the recording's checksum, piece by piece between the messages: no answer waits for it.
+function sumUp() {
+  const sum = new Sha256();
+  const step = () => {
+    const part = new Uint8Array(call.memory.buffer, at.text + sum.length, Math.min(PIECE, size - sum.length));
+    sum.add(part);
+    if (sum.length < size)
+      setTimeout(step);
+    else
+      postMessage({told: "sum", sha256: sum.hex()});
+  };
+  setTimeout(step);
+}
+
 async function prepare(module) {
   call = (await WebAssembly.instantiate(module)).exports;
   at = places(0);
@@ -197,6 +213,7 @@ async function take({number: mine, module, file, options, late, isDevice}) {
       judgeLate(late, isDevice);
     else
       judge(options);
+    if (file) sumUp();
   } catch (fault) {
     say({told: "fault", words: fault.message ? `${fault.name}: ${fault.message}` : String(fault)});
   }

@@ -134,6 +134,7 @@ class Orders:
     def fresh(self):
         """The page as it is when it was opened, with a field for each file, so that a script can drop it."""
         self.name, self.is_stopped = None, False
+        self.want_calm()
         self.browser.open(PAGE.as_uri())
         self.browser.value(NOTE)
         self.browser.value("""(() => { for (let i = 0; i < %d; i++) {
@@ -143,6 +144,10 @@ class Orders:
         for i, name in enumerate(self.names):
             self.browser.choose(f"#test-{i}", self.work / name)
         (self.work / GONE).unlink()
+
+    def want_calm(self):
+        want(not self.browser.complaints(), f"the console has {self.browser.complaints()[:2]}")
+        want(not self.browser.requests(), f"asked for {self.browser.requests()[:2]}")
 
     def value(self, code):
         return json.loads(self.browser.value(f"JSON.stringify({code})"))
@@ -488,6 +493,7 @@ def try_all(browser, work, number, seed):
             raise Wrong(f"{one.__name__}: {wrong}") from None
     print("what once was a wrong answer: each is right")
     try_orders(page, number, seed)
+    page.want_calm()
 
 
 def main():
@@ -497,7 +503,6 @@ def main():
         browser = Firefox() if "--firefox" in sys.argv else Browser()
         try:
             try_all(browser, pathlib.Path(work), number, seed)
-            want(not browser.complaints(), f"the console has {browser.complaints()[:2]}")
         except Wrong as wrong:
             sys.exit(f"page_orders: {wrong}")
         finally:
