@@ -201,16 +201,18 @@ function stop() {
   newest++;
   endChecker();
   working(false);
-  trouble("You stopped the check. There is no verdict.", true);
+  trouble(
+      "You stopped the check. There is no verdict.", true,
+      h("button", {type: "button", onclick: () => run()}, "Check it after all"));
 }
 
 // Shows that there is no verdict, of which file, and why. No earlier answer is left.
-function trouble(words, isButton) {
+function trouble(words, isButton, ...more) {
   const verdict = by("verdict");
   state = null;
   verdict.className = "card none";
   verdict.removeAttribute("data-unfollowed");
-  verdict.replaceChildren(h("p", {class: "word"}, "No verdict"), h("p", {}, words));
+  verdict.replaceChildren(h("p", {class: "word"}, "No verdict"), h("p", {}, words, " ", more));
   if (file) verdict.append(h("p", {class: "soft"}, "Recording: ", nameShown(shownName(file.name))));
   by("told").replaceChildren();
   settle(isButton);

@@ -17,9 +17,17 @@ function places(length) {
   return {options, told, answer, text, acts, room, end: acts + room * ACT};
 }
 
+// Why a file gives no recording, in words for the page.
+class Refusal extends Error {}
+
 function grow(bytes) {
   const have = call.memory.buffer.byteLength;
-  if (bytes > have) call.memory.grow(BigInt(Math.ceil((bytes - have) / PAGE)));
+  if (bytes <= have) return;
+  try {
+    call.memory.grow(BigInt(Math.ceil((bytes - have) / PAGE)));
+  } catch {
+    throw new Refusal("The file is too large for the memory that this browser gives to a page.");
+  }
 }
 
 // What goes to the page has the number of the message that it answers.
@@ -31,18 +39,30 @@ function tell(doing, part, most) {
   say({told: "progress", doing, part, most});
 }
 
+// So many bytes of a file from a place on. A file of no bytes is read as a whole: Chromium shows so a file that is
+// gone, and reads a slice of it without a complaint.
+function readPart(file, from) {
+  const want = Math.min(CHUNK, file.size - from);
+  let part;
+  try {
+    part = new FileReaderSync().readAsArrayBuffer(file.size ? file.slice(from, from + want) : file);
+  } catch {
+    throw new Refusal(
+        "The file can't be read. Perhaps it was moved, changed or deleted after you chose it, or it is a folder.");
+  }
+  if (part.byteLength !== want) throw new Refusal("The file changed while it was read.");
+  return new Uint8Array(part);
+}
+
 function load(file) {
   size = file.size;
   at = places(size);
   grow(at.end);
-  const reader = new FileReaderSync(), begin = performance.now();
+  const begin = performance.now();
   let done = 0;
-  // A file of no bytes is read too, and as a whole: Chromium shows so a file that is gone, and a slice of it can be
-  // read.
   do {
     tell("Reading", size ? done / size : 0);
-    const part = new Uint8Array(reader.readAsArrayBuffer(size ? file.slice(done, done + CHUNK) : file));
-    if (part.length !== Math.min(CHUNK, size - done)) throw new Error("The file changed while it was read.");
+    const part = readPart(file, done);
     new Uint8Array(call.memory.buffer, at.text + done, part.length).set(part);
     done += part.length;
   } while (done < size);
@@ -168,7 +188,9 @@ function badSetup(options) {
 function judgeLate(options, isDevice) {
   setOptions(options);
   if (check(0) === 5) setOptions(options.fill(0, 5));
-  tell("Checking", 0, 0);
+  const begin = performance.now();
+  check(Math.min(size, FRONT));
+  tell("Checking", 0, size > 8 * FRONT ? (performance.now() - begin) * (size / FRONT) : 0);
   const answer = check(size), end = told(), text = answer < 2 ? answerText() : "";
   let isFollowed = isDevice;
   if (!isDevice && answer === 0) {
@@ -215,7 +237,7 @@ async function take({number: mine, module, file, options, late, isDevice}) {
       judge(options);
     if (file) sumUp();
   } catch (fault) {
-    say({told: "fault", words: fault.message ? `${fault.name}: ${fault.message}` : String(fault)});
+    say({told: "fault", words: fault instanceof Refusal ? fault.message : String(fault)});
   }
 }
 

@@ -111,6 +111,8 @@ def make_files(folder):
         "begins late.csv": text_of(late),
         "late, then a cycle.csv": text_of(cycle),
         "late beside a validator.csv": text_of([*VALIDATOR_RESET, *moved(late, 100_000)]),
+        "begins in a block.csv": text_of(late[2:]),
+        "exchanged.csv": text_of([row.translate(str.maketrans("MS", "SM")) for row in twice[29:]]),
         "never approved.csv": text_of(rows_of("sale-never-approved")),
         "level 3.csv": text_of(rows_of("coins-beside-a-level-3-reader")),
         "no row.csv": text_of(twice[:9]) + "1.5,M,108\n",
@@ -337,11 +339,38 @@ def try_started_before(page):
         page.compare(came)
         want(came["card"] == "card yes" and came["focus"] == "verdict" and 0 <= came["top"] < came["high"], f"{name}: {came['focus']}, {came['top']}")
         page.value("(() => { by('joined').checked = false; showWay(); return 1; })()")
+    for name, words in (("begins in a block.csv", "it would be a yes."), ("exchanged.csv", "most likely the two lines are exchanged")):
+        page.choose(name)
+        came = page.settled()
+        page.compare(came)
+        want(page.program(name, ["--joined"])[0] == 0 and came["text"].startswith("verdict no\nrow 1\n"), f"{name}: {came['text']!r}")
+        want(words in came["late"] and "No reset" not in came["late"], f"{name}: {came['late']!r}")
     page.choose("never approved.csv")
     came = page.settled()
     status, text, _ = page.program("never approved.csv", ["--joined"])
     want(status == 1 and text == came["text"] and "It makes no difference" in came["late"], came["late"])
     want("broke the protocol here" in came["verdict"] and not came["buttons"], came["verdict"])
+
+
+def try_focus(page):
+    """After each button of the card, and after a check that was stopped and begun again, the card has the focus and is in sight."""
+    page.fresh()
+    for name, words in (("level 3.csv", "Leave out cashless"), ("begins late.csv", "Check as one")):
+        page.choose(name)
+        page.settled()
+        page.value(f"(() => {{ scrollTo(0, 100000); ({button(words)}).focus(); return 1; }})()")
+        page.press(button(words))
+        came = page.settled()
+        page.compare(came)
+        want(came["focus"] == "verdict" and 0 <= came["top"] < came["high"], f"{words}: {came['focus']}, {came['top']}")
+        page.value("(() => { by('joined').checked = by('without-cashless').checked = false; showWay(); return 1; })()")
+    page.choose("long.csv")
+    page.stop()
+    page.compare()
+    page.press(button("Check it after all"))
+    came = page.settled()
+    page.compare(came)
+    want(came["focus"] == "verdict" and came["card"] == "card yes", f"after a stop: {came['focus']}, {came['verdict']!r}")
 
 
 def try_failures(page):
@@ -486,7 +515,7 @@ def try_announced(page):
 
 def try_all(browser, work, number, seed):
     page = Orders(browser, work)
-    for one in (try_again_while_working, try_started_before, try_failures, try_wrong_bytes, try_missing_rows, try_names, try_earlier, try_apart, try_dropping, try_announced):
+    for one in (try_again_while_working, try_started_before, try_focus, try_failures, try_wrong_bytes, try_missing_rows, try_names, try_earlier, try_apart, try_dropping, try_announced):
         try:
             one(page)
         except Wrong as wrong:
