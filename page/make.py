@@ -56,6 +56,15 @@ def rule_texts():
     return rules
 
 
+def version():
+    """The program's version."""
+    text = (HERE.parent / "crates" / "mdb_check" / "src" / "command_line.rt").read_text()
+    found = re.search(r'const VERSION: &str = "([^"]+)";', text)
+    if not found:
+        sys.exit("crates/mdb_check/src/command_line.rt: no VERSION")
+    return found[1]
+
+
 def in_script(text):
     """A JSON text that may stand inside a script of a page."""
     return json.dumps(text, ensure_ascii=False).replace("</", "<\\/").replace("<!--", "<\\!--")
@@ -88,7 +97,7 @@ def main():
             "form-action 'none'",
         ]
     )
-    made = f"The module has {len(wasm):,} bytes, SHA-256 {hashlib.sha256(wasm).hexdigest()}."
+    made = f"mdbcheck {version()}. The module has {len(wasm):,} bytes, SHA-256 {hashlib.sha256(wasm).hexdigest()}."
     text = (HERE / "page.html").read_text()
     for mark, value in (("POLICY", policy), ("STYLE", style), ("MADE", made), ("SCRIPT", script)):
         if text.count(f"@{mark}@") != 1:

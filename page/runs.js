@@ -125,6 +125,7 @@ function working(on) {
   main.setAttribute("aria-busy", on);
   main.inert = on;
   if (on) {
+    document.title = `checking – ${shownName(file.name)} – mdbcheck`;
     for (const it of main.querySelectorAll("button, input, select")) it.disabled = true;
     by("doing").textContent = "Reading";
     by("bar").value = 0;
@@ -158,6 +159,7 @@ async function answerNow(isNow) {
 // Checks the file that is given, or the last one again if none is, and shows the answer. Each button that checks
 // again has the focus on the card after it.
 async function run(given) {
+  if (!given && !file) return null;
   const mine = ++newest, isNow = () => mine === newest, begin = performance.now();
   if (given || isWorking) endChecker();
   if (given) {

@@ -189,7 +189,7 @@ def compare_report(page, path, came):
     report, data = Report(text), path.read_bytes()
     cells = {words: cells[0] for words, cells in report.rows.items() if cells}
     want(cells["SHA-256 of the recording"] == hashlib.sha256(data).hexdigest(), "the checksum of the recording")
-    want(page.module in cells["Checked by"], "the checksum of the module")
+    want(page.module in cells["Checked by"] and re.match(r"mdbcheck \d+\.\d+\.\d+\. ", cells["Checked by"]), cells["Checked by"])
     want(cells["Size"] == f"{len(data):,} bytes", cells["Size"])
     want(cells["Recording"] == came["name"] == report.texts["name"] and report.title == f"{came['name']} – report of mdbcheck", cells["Recording"])
     want(cells["Command with the same answer"] == came["command"], "the command")

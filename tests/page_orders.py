@@ -287,6 +287,7 @@ def try_order(page, dice):
             time.sleep(dice.choice((0, 0, 0, 0.005, 0.02, 0.06, 0.15, 0.4)))
             came = page.read()
             if came["isWorking"]:
+                want(came["title"] == f"checking – {page.name} – mdbcheck", f"while it works the title is {came['title']!r}")
                 want(came["inert"] and not came["live"] and not came["again"] and not came["isStale"], "something can be pressed while it works")
             if dice.random() < 0.2:
                 page.settled()
