@@ -16,9 +16,13 @@ import sys
 HERE = pathlib.Path(__file__).resolve().parent
 RULES = "Order Speaker Mode Early Late Spacing Length Sum Break Answer Message Same Profile Changer Bill Cashless".split()
 # The page's scripts, in the order in which they stand in the page. What a script runs at once, needs the ones before it.
-SCRIPTS = ("words elements texts report options runs late card fault money timeline statement acts evidence setup main").split()
+SCRIPTS = ("words elements texts report options runs import-panel late card fault money timeline statement acts evidence setup main").split()
 # Those of the worker.
 WORKERS = "sha256 worker".split()
+# Those of the worker that imports an export.
+IMPORT_SCRIPTS = [
+    f"import-{name}" for name in "text rows saleae edges sigrok formats known worker".split()
+]
 LEADS = {"At the bench": "bench", "The row": "row", "Blame": "blame", "Look at": "look"}
 
 
@@ -70,6 +74,11 @@ def in_script(text):
     return json.dumps(text, ensure_ascii=False).replace("</", "<\\/").replace("<!--", "<\\!--")
 
 
+def import_text():
+    """The text of the worker that imports."""
+    return "\n".join(['"use strict";', *((HERE / f"{name}.js").read_text() for name in IMPORT_SCRIPTS)])
+
+
 def digest(text):
     return "'sha256-" + base64.b64encode(hashlib.sha256(text.encode()).digest()).decode() + "'"
 
@@ -84,6 +93,7 @@ def main():
         '"use strict";',
         f"const RULES = {in_script(rule_texts())};",
         f"const WORKER = {in_script(worker)};",
+        f"const IMPORTER = {in_script(import_text())};",
         f'const MODULE = "{base64.b64encode(wasm).decode()}";',
     ]
     script = "\n".join(["", *constants, *parts])

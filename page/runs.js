@@ -96,11 +96,6 @@ async function check(recording, way, progress) {
   }
 }
 
-// The recording that a chosen file holds.
-async function recordingOf(given) {
-  return given;
-}
-
 // Shows how far a run is: how much was read; while the module works, as much of the time as it will probably take.
 function progress({doing, part, most}) {
   clearInterval(timer);
@@ -145,6 +140,11 @@ async function answerNow(isNow) {
   if (!isNow()) return null;
   const rows = recording ?? await recordingOf(file);
   if (!isNow()) return null;
+  if (!rows) {
+    working(false);
+    askToImport();
+    return null;
+  }
   recording = rows;
   const way = options(), isKept = way.words.length > 0 && lastKey === way.key;
   lastKey = way.key;

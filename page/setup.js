@@ -40,7 +40,12 @@ async function readSetups(given) {
   const name = shownName(given.name);
   say(`Reading ${name}`);
   try {
-    const told = await check(await recordingOf(given), FROM_POWER_ON);
+    const rows = await recordingOf(given, readSetups);
+    if (!rows) {
+      say(`${name} isn't a recording: see what is said of it below.`);
+      return;
+    }
+    const told = await check(rows, FROM_POWER_ON);
     if (mine !== newestSetup) return;
     say(takeSetups(told, name));
     showWay();

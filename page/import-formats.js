@@ -1,0 +1,139 @@
+// A recording with fields between quotes, or with CR alone at the ends of its lines: the same rows without
+// them. A record is written as it stands, since the checker tells what is wrong with it. One is refused if
+// that would be read as something else.
+class PlainImport {
+  constructor(options, give) {
+    this.give = give;
+    this.part = {rows: 0};
+    this.records = new Records((record) => this.take(record));
+    this.text = new Bytes();
+    this.refused = null;
+  }
+
+  take(record) {
+    const {all, length} = record.line;
+    if (!this.isKept(record)) {
+      this.refused = `row ${
+          record
+              .number}: a field between quotes has a comma, a quotation mark or the end of a line in it, or nothing stands there; found "${
+          excerpt(record)}"`;
+      return false;
+    }
+    for (let i = 0; i < length; i++) this.text.push(all[i]);
+    this.text.push(LF);
+    this.part.rows++;
+    if (this.text.length > ROOM) this.flush();
+    return true;
+  }
+
+  // Whether a record's line is read as the same record.
+  isKept({line, count, number}) {
+    const {all, length} = line, text = all.subarray(0, length);
+    const hasMark = number === 1 && text[0] === 0xEF && text[1] === 0xBB && text[2] === 0xBF;
+    let commas = 0;
+    for (let i = 0; i < length; i++) commas += all[i] === COMMA ? 1 : 0;
+    return length > 0 && !hasMark && commas === count - 1 && ![QUOTE, LF, CR].some((it) => text.includes(it));
+  }
+
+  flush() {
+    if (this.text.length) this.give(this.text.text());
+    this.text.length = 0;
+  }
+
+  end() {
+    this.flush();
+  }
+}
+
+// An import of any format, over pieces of bytes: `take` each piece, then `end`. The rows are given on
+// in pieces of text. mdbimport reads a trace as it stands; one that was saved as UTF-16 or with a byte
+// order mark is decoded first where `options.decoded` says so.
+const IMPORTS = {
+  plain: PlainImport,
+  rows: RowsImport,
+  saleae: SaleaeImport,
+  edges: EdgesImport,
+  sigrok: SigrokImport
+};
+
+function newImport(format, options, give, each = null) {
+  const made = new IMPORTS[format](options, give), {records} = made;
+  if (each) watch(made, each);
+  const isRaw = format === "sigrok" && !options.decoded;
+  const decoder = isRaw ? null : new Decoder((bytes) => records.take(bytes));
+  const answers = {
+    take: (bytes) => (decoder ?? records).take(bytes),
+    isDone: () => records.isDone,
+    end: () => {
+      decoder?.end();
+      records.end();
+      made.end();
+      return answerOf(made);
+    },
+    front: (isWhole) => isWhole ? answers.end() : frontOf(made, give)
+  };
+  return answers;
+}
+
+// Calls `each` with each record that a row was made of.
+function watch(made, each) {
+  const {records, part} = made, take = records.each;
+  records.each = (record) => {
+    const before = part.rows, goesOn = take(record);
+    if (part.rows > before) each(record);
+    return goesOn;
+  };
+}
+
+// What is known of an import whose text goes on: the rows so far, given on, and a refusal.
+function frontOf(made, give) {
+  if (made.addFirst) {
+    const text = new RowText(give);
+    made.addFirst(20, (...row) => text.add(...row));
+    text.flush();
+  } else
+    made.end();
+  return {...answerOf(made), notes: []};
+}
+
+// What mdbimport says at the end: why a record is refused, or what is reported of the whole.
+function answerOf(made) {
+  const {refused, goOn = null, part} = made;
+  return {refused, goOn, rows: part.rows, notes: refused || made instanceof PlainImport ? [] : notesOf(part)};
+}
+
+const LINE_LETTERS = ["M", "m", "S", "s", "B", "b"];
+const isTime = (words) => /^[0-9]{1,15}$/.test(words);
+
+// What mdbimport says of options that it refuses, or null. All are words, as they stand in fields.
+function optionsFault({unit, controller, peripheral, from, until, length}) {
+  const isGiven = (words) => words !== undefined && words !== null;
+  if (isGiven(unit) && !(unit in UNITS)) return "--unit is one of s, ms, us and ns";
+  const names = [controller, peripheral].filter(isGiven);
+  if (names.some((it) => it === "" || LINE_LETTERS.includes(it)) || names.length === 2 && names[0] === names[1])
+    return "--controller and --peripheral have two names, none of them empty, M, S or B";
+  if (isGiven(length) && !(isTime(length) && Number(length) < MOST_LENGTH))
+    return "--break is a length in microseconds, below 1000000000";
+  if ([from, until].filter(isGiven).some((it) => !isTime(it)))
+    return "--from and --until have 1 to 15 digits, a time in microseconds";
+  return null;
+}
+
+// The options of an import by the words of the fields.
+function optionsOf({from, until, length, ...rest}) {
+  const value = (words) => words === undefined || words === null ? null : Number(words);
+  return {...rest, from: value(from), until: value(until), length: value(length)};
+}
+
+// The first rows that a piece of a text gives, with the records of those that are made of one; and why a
+// record of it is refused, or what is reported of the whole.
+function preview(bytes, isWhole, format, options, most = 5) {
+  const parts = [], records = [];
+  const made = newImport(format, options, (part) => parts.push(part), (record) => {
+    if (records.length < most) records.push({number: record.number, found: excerpt(record)});
+  });
+  made.take(bytes);
+  const answer = made.front(isWhole);
+  const rows = parts.map(lettersOf).join("").split("\n").slice(0, most);
+  return {...answer, rows: rows.filter(Boolean), records, isWhole};
+}

@@ -1,0 +1,236 @@
+// What a file is, by its first bytes, and what the fields of an import can be told from them.
+
+// Files that begin with these bytes, as Latin letters.
+const BEGINS = [
+  ["\x89PNG\r\n", "a picture (PNG)"],
+  ["\xFF\xD8\xFF", "a picture (JPEG)"],
+  ["GIF8", "a picture (GIF)"],
+  ["%PDF-", "a PDF document"],
+  ["\x1F\x8B", "a packed file (gzip): unpack it first, and choose what is in it"],
+  ["7z\xBC\xAF\x27\x1C", "an archive (7z): take the file out of it, and choose that"],
+  ["Rar!\x1A", "an archive (rar): take the file out of it, and choose that"],
+  ["\xD0\xCF\x11\xE0", "a workbook of an old spreadsheet program: save its sheet as CSV, and choose that"],
+  ["<SALEAE>", "a binary export of Saleae Logic: export the data table as CSV instead"],
+  ["MZ", "a program of Windows"],
+  ["\x7FELF", "a program of Linux"],
+  ["RIFF", "a sound or a picture (RIFF)"],
+];
+const SIGROK_COMMAND =
+    "sigrok-cli -i bus.sr -P uart:rx=S:tx=M:baudrate=9600:data_bits=9:format=hex -A uart=rx-start:tx-start:rx-data:tx-data:rx-break:tx-break:rx-warnings:tx-warnings --protocol-decoder-jsontrace > bus.json";
+const VCD_COMMAND = SIGROK_COMMAND.replace("-i bus.sr", "-i bus.vcd -I vcd");
+
+// Archives of the kind zip, by a name or a text in their front.
+const ZIPS = [
+  [
+    /PK\x03\x04.{26}(version|metadata|logic-1)/s, "a session of sigrok (PulseView), in which nothing is decoded",
+    SIGROK_COMMAND
+  ],
+  [
+    /digital-\d+\.bin|analog-\d+\.bin|meta\.json/,
+    "a capture of Saleae Logic: open it in Logic, and export the data table as CSV"
+  ],
+  [
+    /\[Content_Types\]\.xml|xl\/|opendocument\.spreadsheet/,
+    "a workbook of a spreadsheet: save its sheet as CSV, and choose that"
+  ],
+];
+const ZIP = "a zip: take the file out of it, and choose that";
+
+const lettersOf = (bytes) => new TextDecoder("latin1").decode(bytes);
+const other = (words, command) => ({kind: "other", words, command});
+
+// A file that is no text, or null.
+function otherKind(bytes) {
+  const front = signsOf(bytes.subarray(0, 4096));
+  if (front.startsWith("PK\x03\x04")) {
+    const found = ZIPS.find(([name]) => name.test(front));
+    return found ? other(found[1], found[2]) : other(ZIP);
+  }
+  const found = BEGINS.find(([begin]) => front.startsWith(begin));
+  return found ? other(found[1]) : null;
+}
+
+// Whether bytes aren't those of a text: zeros, or more than a few control characters.
+function isBinary(bytes) {
+  const front = bytes.subarray(0, 4096);
+  const odd = front.filter((it) => it < 32 && it !== TAB && it !== LF && it !== CR || it === 127).length;
+  return front.includes(0) || odd * 50 > front.length;
+}
+
+// Whether each second byte of a text is zero, as in UTF-16 without its mark.
+function isWide(bytes) {
+  const front = bytes.subarray(0, 200), zeros = [0, 0];
+  front.forEach((it, i) => zeros[i % 2] += it === 0 ? 1 : 0);
+  return front.length > 8 && Math.max(...zeros) * 2 > front.length * 0.9 && Math.min(...zeros) < 3;
+}
+
+// The records of a text's front, each as its bare fields in words; the last may be cut where the text goes on.
+function frontRecords(bytes, isWhole, most) {
+  const found = [], made = new Records((record) => {
+                      found.push(recordWords(record));
+                      return found.length < most;
+                    });
+  const decoder = new Decoder((part) => made.take(part));
+  decoder.take(bytes);
+  if (isWhole) {
+    decoder.end();
+    made.end();
+  }
+  const {encoding, hasMark} = decoder;
+  return {records: found, encoding, hasMark, quotes: made.quotes};
+}
+
+function recordWords(record) {
+  const parts = partsOf(lineOfRecord(record)), fields = [];
+  for (let i = 0; i < record.count; i++) fields.push(wordsOf(fieldOf(record, i)));
+  const from = (i) => i ? record.ends[i - 1] + 1 : 0, all = record.line.all;
+  const raw = fields.map((_, i) => lettersOf(all.slice(from(i), record.ends[i])));
+  return {fields, raw, parts: parts.map(wordsOf), separator: separatorOf(lineOfRecord(record))};
+}
+
+const TIME_WORDS = /^[0-9]{1,15}([.,][0-9]{1,15})?$/, CLOCK_WORDS = /^[0-9]{1,2}:[0-9]{1,2}:[0-9]+([.,][0-9]+)?$/;
+const WORD_WORDS = /^(0[xX][0-9A-Fa-f]{1,4}|[0-9A-Fa-f]{1,4}[hH]?)$/;
+const isTimeWords = (words) => TIME_WORDS.test(words) || CLOCK_WORDS.test(words);
+
+// Whether a record is a row as mdbcheck reads it.
+function isPlain({raw}) {
+  if (raw.length !== 3 || !/^[0-9]{1,15}$/.test(raw[0])) return false;
+  return raw[1] === "B" ? /^[0-9]{1,9}$/.test(raw[2]) : /^[MS]$/.test(raw[1]) && /^[01][0-9A-Fa-f]{2}$/.test(raw[2]);
+}
+
+// Whether a record is a row in another form.
+function isNearly({parts}) {
+  if (parts.length !== 3 || !isTimeWords(parts[0]) || !parts[1]) return false;
+  return WORD_WORDS.test(parts[2]) || /^[bB]$/.test(parts[1]) && TIME_WORDS.test(parts[2]);
+}
+
+// Whether a record can be the titles of columns.
+const isTitles = ({parts}) =>
+    !parts.some((it) => isTimeWords(it) || LINE_LETTERS.includes(it)) && !WORD_WORDS.test(parts.at(-1));
+
+const mostly = (records, is) => records.length > 0 && records.filter(is).length * 2 >= records.length;
+
+// Whether titles name columns of Saleae's table.
+function isSaleae({fields}) {
+  const has = (column) => TITLES[column].some((title) => fields.includes(title));
+  return has("time") && has("data");
+}
+
+// Whether records are a table of edges: a header, and then times with levels.
+function isEdges([header, ...rest]) {
+  if (!header || header.fields.length < 3 || isTimeWords(header.fields[0])) return false;
+  return mostly(rest, ({fields}) => {
+    const levels = fields.slice(1).filter((it) => it === "0" || it === "1");
+    return fields.length === header.fields.length && TIME_WORDS.test(fields[0]) && levels.length > 1;
+  });
+}
+
+const SIGROK_TEXT = /^(\d+-\d+ )?uart-\d+: /;
+
+// A text that is no table, by its first record and its letters; or null.
+function knownText(first, text) {
+  if (text.startsWith(TRACE_HEAD)) return {kind: "sigrok"};
+  if (/^\s*\$(date|version|timescale|comment|scope)\b/.test(text))
+    return other("a waveform (VCD), in which nothing is decoded", VCD_COMMAND);
+  if (SIGROK_TEXT.test(text))
+    return other("the text of sigrok-cli, which has no times: let it write a trace", SIGROK_COMMAND);
+  if (/^\s*[{[]/.test(text)) return other("JSON, and no trace of sigrok-cli: let sigrok-cli write one", SIGROK_COMMAND);
+  if (/^\s*<(!doctype|html|\?xml)/i.test(text)) return other("a page of the Web or XML");
+  return null;
+}
+
+const isUtf16 = (encoding) => encoding === "utf-16le" || encoding === "utf-16be";
+
+// What a file is whose first bytes these are, and that has so many of them.
+function known(bytes, size) {
+  const isWhole = bytes.length >= size;
+  if (!size) return {kind: "ours"};
+  const odd = otherKind(bytes);
+  if (odd) return odd;
+  const front = frontRecords(bytes, isWhole, 30), {records, encoding, quotes, hasMark} = front;
+  const rest = {encoding, hasMark, quotes};
+  if (!records.length && isWhole && !isBinary(bytes)) return {kind: "ours", ...rest};
+  const isPlainText = !isUtf16(encoding) && mostly(records, isPlain);
+  if (isPlainText && !isTitles(records[0])) return {kind: needsRewriting(bytes, front) ? "quoted" : "ours", ...rest};
+  if (isWide(bytes) && !isUtf16(encoding))
+    return other("saved as UTF-16 without its byte order mark: save it as UTF-8");
+  if (!isUtf16(encoding) && isBinary(bytes)) return other("no text, and no export that the page knows");
+  return {...knownTable(records, bytes, encoding), ...rest};
+}
+
+function knownTable(records, bytes, encoding) {
+  const text = decodedFront(bytes, encoding);
+  const found = knownText(records[0], text);
+  if (found) return found;
+  const [first, ...rest] = records;
+  if (first && isSaleae(first)) return {kind: "saleae"};
+  if (isEdges(records)) return {kind: "edges"};
+  const body = first && isTitles(first) ? rest : records;
+  return {kind: mostly(body, isNearly) ? "rows" : "unknown"};
+}
+
+// The letters of a text's front.
+function decodedFront(bytes, encoding) {
+  return new TextDecoder(encoding ?? "utf-8").decode(bytes.slice(0, 4096));
+}
+
+// Whether a recording can't be read in place: it has quotes, or a CR alone ends its lines.
+function needsRewriting(bytes, {quotes}) {
+  if (quotes) return true;
+  const at = bytes.indexOf(CR);
+  return at >= 0 && at + 1 < bytes.length && bytes[at + 1] !== LF;
+}
+
+const LOOKED = 20000;
+
+// What an import's fields can be filled with, of a piece of a text: names, titles, and what is asked.
+function look(bytes, isWhole, kind) {
+  const {records} = frontRecords(bytes, isWhole, LOOKED), lines = records.slice(0, 3).map(({raw}) => raw.join(","));
+  const made = {rows: lookAtRows, saleae: lookAtSaleae, edges: lookAtEdges}[kind];
+  return {lines, ...made?.(records)};
+}
+
+const SEPARATORS = {
+  [TAB]: "tabs",
+  [SEMICOLON]: "semicolons",
+  [COMMA]: "commas"
+};
+const unique = (all) => [...new Set(all)];
+// The names of lines, apart from the letters that need none.
+const namesIn = (all) => unique(all).filter((it) => it && !LINE_LETTERS.includes(it)).slice(0, 12);
+const hasLetter = (all, letter) => all.some((it) => it.toUpperCase() === letter);
+
+function lookAtRows(records) {
+  const isHeaded = records.length > 0 && isTitles(records[0]), body = isHeaded ? records.slice(1) : records;
+  const rows = body.filter(isNearly), lines = rows.map(({parts}) => parts[1]);
+  return {
+    titles: isHeaded ? records[0].parts : null,
+    separators: unique(body.map(({separator}) => SEPARATORS[separator])),
+    names: namesIn(lines),
+    hasM: hasLetter(lines, "M"),
+    hasS: hasLetter(lines, "S"),
+    hasNumbers: rows.some(({parts}) => TIME_WORDS.test(parts[0])),
+    hasClocks: rows.some(({parts}) => CLOCK_WORDS.test(parts[0])),
+  };
+}
+
+function lookAtSaleae([header, ...rest]) {
+  if (!header) return {};
+  const titleOf = (column) => header.fields.find((it) => TITLES[column].includes(it)) ?? null;
+  const columns = Object.fromEntries(Object.keys(TITLES).map((it) => [it, titleOf(it)]));
+  const at = header.fields.indexOf(columns.name), lines = at < 0 ? [] : rest.map(({fields}) => fields[at] ?? "");
+  const hasBreak = rest.some(({fields}) => fields.includes("framing"));
+  return {columns, names: namesIn(lines), hasM: hasLetter(lines, "M"), hasS: hasLetter(lines, "S"), hasBreak};
+}
+
+function lookAtEdges([header, ...rest]) {
+  if (!header) return {};
+  const isLevels = (at) => rest.every(({fields}) => fields[at] === "0" || fields[at] === "1");
+  const titles = header.fields.slice(1), names = titles.filter((_, i) => isLevels(i + 1));
+  return {
+    timeTitle: header.fields[0],
+    names: namesIn(names.length > 1 ? names : titles),
+    hasM: hasLetter(titles, "M"),
+    hasS: hasLetter(titles, "S")
+  };
+}

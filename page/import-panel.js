@@ -1,0 +1,462 @@
+// The panel between the chooser and the verdict, for a file that isn't a recording yet: it says what the file is, asks
+// for what the file doesn't tell, shows the first rows, and imports it. The import itself runs in a worker.
+const FORMATS = {
+  rows: "rows in another form",
+  saleae: "a table of Saleae Logic (Async Serial)",
+  edges: "a table of edges",
+  sigrok: "a trace of sigrok-cli",
+};
+const UNIT_WORDS = {
+  s: "seconds",
+  ms: "milliseconds",
+  us: "microseconds",
+  ns: "nanoseconds"
+};
+const FORMAT_FIELDS = {
+  rows: ["unit", "controller", "peripheral"],
+  saleae: ["controller", "peripheral", "length"],
+  edges: ["controller", "peripheral", "unit", "invert"],
+  sigrok: ["swap"],
+};
+const PROGRAM_WORDS = {
+  unit: "--unit",
+  controller: "--controller",
+  peripheral: "--peripheral",
+  length: "--break",
+  invert: "--invert",
+  swap: "--swap",
+  from: "--from",
+  until: "--until",
+};
+// Files of rows that this page has made: they need no import.
+const madeFiles = new WeakSet();
+// The import that is asked about; the number of the newest.
+let asked = null, importTurn = 0;
+
+// A worker for one file. What it answers has the number of what it was asked.
+class Importer {
+  constructor(file) {
+    const url = URL.createObjectURL(new Blob([IMPORTER], {type: "text/javascript"}));
+    this.worker = new Worker(url);
+    URL.revokeObjectURL(url);
+    this.file = file;
+    this.waiting = new Map();
+    this.number = 0;
+    this.worker.onmessage = ({data}) => this.hear(data);
+    this.worker.onerror = (e) => {
+      e.preventDefault?.();
+      for (const {failed} of this.waiting.values()) failed(new Error(e.message || "the worker ended"));
+    };
+  }
+
+  hear({number, part, answer, fault}) {
+    const waiting = this.waiting.get(number);
+    if (part !== undefined) {
+      waiting.progress?.(part);
+      return;
+    }
+    this.waiting.delete(number);
+    if (fault)
+      waiting.failed(new Error(fault));
+    else
+      waiting.done(answer);
+  }
+
+  ask(message, progress) {
+    const number = ++this.number;
+    return new Promise((done, failed) => {
+      this.waiting.set(number, {done, failed, progress});
+      this.worker.postMessage({...message, file: this.file, number});
+    });
+  }
+
+  end() {
+    this.worker.terminate();
+  }
+}
+
+// The rows that a chosen file holds, as a file; or null where the page has to ask first, or the file holds none. What
+// was asked goes on with `then`, which is given the rows.
+async function recordingOf(file, then = run) {
+  if (madeFiles.has(file)) return file;
+  if (asked?.file === file && asked.then === then) return null;
+  closeImport();
+  const turn = importTurn, importer = new Importer(file);
+  const found = await importer.ask({work: "known"});
+  if (turn !== importTurn || found.kind === "ours") {
+    importer.end();
+    return turn === importTurn ? file : null;
+  }
+  asked = {file, then, importer, found, format: null, look: {}, answer: null, words: ""};
+  if (found.kind === "quoted") return unquoted(asked);
+  if (found.kind === "other") {
+    showOther(asked);
+    return null;
+  }
+  const format = found.kind === "unknown" ? null : found.kind;
+  asked.words = `${capital(kindWords(format))}. Answer what is asked above, and press “Import and check”.`;
+  await takeAs(format);
+  return format ? null : file;
+}
+
+function closeImport() {
+  importTurn++;
+  asked?.importer.end();
+  asked = null;
+  by("import").hidden = true;
+  by("import").replaceChildren();
+}
+
+// There is no verdict yet: the card says so, and the panel has the focus.
+function askToImport() {
+  trouble(asked?.words ?? "The file isn't a recording.", false);
+  by("import-title")?.focus();
+}
+
+const fileName = ({name}) => h("strong", {}, h("bdi", {}, shownName(name)));
+
+function kindWords(format) {
+  if (!format) return "this isn't a recording as the page reads it";
+  return `${format === "rows" ? "these are" : "this is"} ${FORMATS[format]}`;
+}
+
+function showImport(title, ...inner) {
+  const panel = by("import");
+  panel.replaceChildren(h("h2", {id: "import-title", tabindex: -1}, title), ...inner.flat().filter(Boolean));
+  panel.hidden = false;
+}
+
+// A file that the page can't read: what it is, and what to do.
+function showOther(it) {
+  const {words, command} = it.found;
+  it.words = `This is ${words}.`;
+  showImport(
+      it.words, h("p", {}, fileName(it.file), " has no rows that the page can read."),
+      command &&
+          h("p", {},
+            "On a computer with sigrok-cli this makes a trace, which the page reads. Put the names of your channels for M and S:"),
+      command && h("pre", {}, command));
+}
+
+// A recording with quotes: the same rows without them, as a file.
+async function unquoted(it) {
+  const answer = await it.importer.ask({work: "import", format: "plain", options: {}, name: rowsName(it.file)});
+  if (it !== asked) return null;
+  if (answer.refused) {
+    it.words = `The page can't read ${answer.refused}`;
+    showImport("The page can't read this recording", h("p", {}, h("code", {class: "refused"}, answer.refused)));
+    return null;
+  }
+  madeFiles.add(answer.file);
+  const words =
+      "The page has taken off quotes, and ends of lines that are a CR alone. The numbers of the rows are the same.";
+  showImport(
+      "Rows with fields between quotes", h("p", {}, fileName(it.file), ": ", words), h("p", {}, saveButton(answer)));
+  return answer.file;
+}
+
+function rowsName({name}) {
+  return `${name.replace(/\.[^.]*$/, "") || "export"}-rows.csv`;
+}
+
+// Takes the file that is asked about as one of a format, and shows the fields of that.
+async function takeAs(format) {
+  const it = asked;
+  it.format = format;
+  it.answer = null;
+  it.look = format ? await it.importer.ask({work: "look", kind: format}) : {};
+  if (it !== asked) return;
+  drawImport(it);
+  if (format) await showFirstRows();
+}
+
+function drawImport(it) {
+  const {format, file, found} = it, isSame = format === found.kind;
+  const title = isSame || !format ? `${capital(kindWords(format))}` : `Read as ${FORMATS[format]}`;
+  const body = format ? importBody(it) :
+                        [h("p", {}, "Is it the export of a recorder? Then say which, and the page makes rows of it.")];
+  const what = format ? " isn't a recording yet. The page makes the rows of one from it." : "";
+  showImport(title, h("p", {}, fileName(file), what), formatField(format), ...body);
+}
+
+function formatField(format) {
+  const choose = (e) => takeAs(e.target.value);
+  const options =
+      Object.entries(FORMATS).map(([value, words]) => h("option", {value, selected: value === format}, words));
+  return h(
+      "label", {class: "field"}, "Read it as ",
+      h("select", {id: "import-format", onchange: choose},
+        format ? null : h("option", {value: "", selected: true}, "choose"), options));
+}
+
+function importBody(it) {
+  return [
+    tookList(it),
+    h("div", {class: "tools", id: "import-fields", oninput: () => showFirstRows()},
+      FORMAT_FIELDS[it.format].map((name) => FIELDS[name](it))),
+    h("details", {oninput: () => showFirstRows()}, h("summary", {}, "Only a part of it"),
+      h("div", {class: "tools"}, microsField("from", "From (microseconds)"),
+        microsField("until", "Until (microseconds)"))),
+    h("p", {id: "import-asks", role: "status"}),
+    h("div", {id: "import-first"}),
+    h("p", {}, button("import-go", "Import and check", importAndCheck), " ",
+      button("import-save", "Save the rows", importAndSave)),
+    h("div", {id: "import-told", role: "status"}),
+    h("p", {class: "soft"},
+      "This import is the page's own. It is tested against the program mdbimport, and not proved. The same by that program: ",
+      h("code", {id: "import-command"})),
+  ];
+}
+
+const button = (id, words, onclick) => h("button", {type: "button", id, onclick}, words);
+
+// What the page took for what.
+function tookList({format, look, found}) {
+  const encoding = isWideWords(found);
+  const items = {rows: rowsTook, saleae: saleaeTook, edges: edgesTook, sigrok: sigrokTook}[format](look);
+  return h("ul", {id: "import-took"}, [...items, encoding].filter(Boolean).map((words) => h("li", {}, words)));
+}
+
+function isWideWords({encoding, hasMark}) {
+  if (encoding?.startsWith("utf-16")) return "The text was saved as UTF-16.";
+  return hasMark ? "The text has a byte order mark." : null;
+}
+
+function rowsTook({titles, separators = []}) {
+  return [
+    titles ? `The first record is taken for a header: ${titles.join(" | ")}.` : null,
+    `The first field is the time, the second the line, the third the value, in hexadecimal digits. Fields are separated by ${
+        separators.join(" and ") || "commas"}.`,
+  ];
+}
+
+function saleaeTook({columns = {}}) {
+  const {time, name, data, error, parity, framing, address} = columns, quoted = (it) => it ? `“${it}”` : "no column";
+  const errors = [error, parity, framing].filter(Boolean).map(quoted).join(" and ");
+  return [
+    `The time is the column ${quoted(time)}, in seconds. The word is ${quoted(data)}. The line is ${quoted(name)}.`,
+    `Errors are ${errors || "in no column"}.${address ? ` The mode bit is ${quoted(address)}.` : ""}`,
+  ];
+}
+
+function edgesTook({timeTitle = ""}) {
+  return [`The time is the first column, “${
+      timeTitle}”. The others are levels: 1 is high, 0 is low. Words are read at 9600 baud.`];
+}
+
+function sigrokTook() {
+  return ["TX is the controller's line (M), RX that of the devices (S). Times are in microseconds."];
+}
+
+const labelled = (words, ...inner) => h("label", {}, words, ...inner);
+
+function unitField({format, look}) {
+  const isTold = format === "edges" && !/\b([mµun]s)\b/.test(look.timeTitle ?? ""),
+        isAsked = format === "edges" || look.hasNumbers !== false;
+  const first = format === "rows" && !isAsked ? "none: times of day" : "choose";
+  const options =
+      Object.entries(UNIT_WORDS).map(([value,
+                                       words]) => h("option", {value, selected: isTold && value === "s"}, words));
+  return labelled("Unit of the times", h("select", {id: "import-unit"}, h("option", {value: ""}, first), options));
+}
+
+// The name of a line, of those that stand in the file or any other.
+function lineField(id, words, letter) {
+  return ({look}) => {
+    const isThere = look[`has${letter}`], {names = []} = look;
+    const first = isThere ? `${letter}, as it stands` : names.length ? "choose" : `${letter}`;
+    const other = h(
+        "input",
+        {type: "text", id: `import-${id}-name`, hidden: true, "aria-label": `${words}: its name`, spellcheck: "false"});
+    const choose = (e) => other.hidden = e.target.value !== "another";
+    const options = [
+      ...names.map((it, i) => h("option", {value: `name ${i}`}, it)), h("option", {value: "another"}, "another name")
+    ];
+    return labelled(
+        words, h("select", {id: `import-${id}`, onchange: choose}, h("option", {value: ""}, first), options), other);
+  };
+}
+
+function microsField(id, words) {
+  return labelled(
+      words, h("input", {type: "text", id: `import-${id}`, inputmode: "numeric", size: 16, spellcheck: "false"}));
+}
+
+const checkField = (id, words) => () =>
+    h("label", {class: "check"}, h("input", {type: "checkbox", id: `import-${id}`}), ` ${words}`);
+
+const FIELDS = {
+  unit: unitField,
+  controller: lineField("controller", "Controller's line (M)", "M"),
+  peripheral: lineField("peripheral", "Devices' line (S)", "S"),
+  length: () => microsField("length", "Length of each break (microseconds)"),
+  invert: checkField("invert", "The levels are upside down"),
+  swap: checkField("swap", "RX is the controller's line"),
+};
+
+// What stands in the fields, as the words of mdbimport's options.
+function importOptions({format, look, found}) {
+  const options = {};
+  for (const name of [...FORMAT_FIELDS[format], "from", "until"]) {
+    const field = by(`import-${name}`), value = field.type === "checkbox" ? field.checked : field.value;
+    if (value === "" || value === false) continue;
+    options[name] = name === "controller" || name === "peripheral" ? lineName(name, value, look) : value;
+  }
+  if (format === "sigrok" && (found.hasMark || found.encoding?.startsWith("utf-16"))) options.decoded = true;
+  return options;
+}
+
+function lineName(id, value, {names = []}) {
+  return value === "another" ? by(`import-${id}-name`).value : names[Number(value.slice(5))];
+}
+
+// What has to be told before the rows can be made, in words.
+function asksOf({format, look}, options) {
+  const asks = [], {names = [], hasM, hasS} = look, isNamed = format !== "sigrok";
+  if (format === "rows" && look.hasNumbers && !options.unit)
+    asks.push(
+        "Which unit do the times have? The words of one message follow each other after about a thousandth of a second.");
+  if (format === "edges" && !options.unit) asks.push("Which unit do the times have?");
+  if (isNamed && names.length && !hasM && options.controller === undefined)
+    asks.push("Which name is the controller's line (M)?");
+  if (isNamed && names.length > 1 && !hasS && options.peripheral === undefined)
+    asks.push("Which name is the devices' line (S)?");
+  if (format === "saleae" && look.hasBreak && !options.length)
+    asks.push("How long was each break? The table doesn't say it: measure one in Logic.");
+  return asks;
+}
+
+// The command of mdbimport for these options.
+function importCommand({format, file}, options) {
+  const quoted = (words) => /^[\w.-]+$/.test(words) ? words : `'${words.replaceAll("'", "'\\''")}'`;
+  const words = Object.entries(PROGRAM_WORDS).filter(([name]) => options[name] !== undefined);
+  const given = words.map(([name, word]) => options[name] === true ? word : `${word} ${quoted(options[name])}`);
+  return ["mdbimport", format, ...given, "<", quoted(file.name)].join(" ");
+}
+
+// Shows the first rows by what stands in the fields, or what is asked.
+async function showFirstRows() {
+  const it = asked, options = importOptions(it), asks = asksOf(it, options), mine = it.preview = {};
+  it.answer = null;
+  by("import-told").replaceChildren();
+  by("import-command").textContent = importCommand(it, options);
+  by("import-asks").replaceChildren(...asks.flatMap((words) => [h("strong", {}, words), h("br", {})]));
+  by("import-go").disabled = by("import-save").disabled = asks.length > 0;
+  if (asks.length) {
+    by("import-first").replaceChildren(h("p", {}, "The file begins:"), h("pre", {}, it.look.lines.join("\n")));
+    return;
+  }
+  const first = await it.importer.ask({work: "preview", format: it.format, options});
+  if (it !== asked || it.preview !== mine) return;
+  by("import-first").replaceChildren(...firstRows(first));
+}
+
+function firstRows({rows, records, refused, isWhole, goOn}) {
+  const isOfRecords = records.length === rows.length && rows.length > 0;
+  const heads = isOfRecords ? [["record", "number"], ["in the file"], ["row"]] : [["row"]];
+  const cell = (words) => h("td", {}, h("code", {}, words));
+  const lines = rows.map(
+      (row, i) => isOfRecords ?
+          h("tr", {}, h("td", {class: "number"}, number(records[i].number)), cell(records[i].found), cell(row)) :
+          h("tr", {}, cell(row)));
+  const made = rows.length ? table(`The first ${rows.length} rows that are made`, heads, lines) : null;
+  const none = !rows.length && !refused ?
+      h("p", {}, isWhole ? "No row is made of it." : "No row is made of its beginning.") :
+      null;
+  return [made, none, ...(refused ? refusedWords({refused, goOn}) : [])].filter(Boolean);
+}
+
+// What to do where the import refuses something: the words of mdbimport, and where the page has what they name.
+const ADVICE = [
+  [/--unit/, "Choose the unit of the times above."],
+  [/--break/, "Fill in the length of each break above. The breaks of one machine are mostly of the same length."],
+  [/--swap/, "Tick “RX is the controller's line” above, if the lines were exchanged."],
+  [/--controller|as --controller/, "Choose above which name is which line."],
+];
+
+function refusedWords({refused, goOn}) {
+  const advice = ADVICE.find(([words]) => words.test(refused.replace(/; go on with.*|; found ".*/g, "")));
+  return [
+    h("p", {}, h("strong", {}, "The import stops there: "), h("code", {class: "refused"}, `mdbimport: ${refused}`)),
+    advice ? h("p", {}, advice[1]) : null,
+    goOn ?
+        h("p", {}, button("import-go-on", `Import what comes from ${goOn} on`, () => goOnFrom(goOn)),
+          " What was recorded before and after that isn't one recording: check each by itself, and this one as of a machine that was running already.") :
+        null,
+  ];
+}
+
+function goOnFrom(micros) {
+  const field = by("import-from");
+  field.value = micros;
+  field.closest("details").open = true;
+  showFirstRows();
+}
+
+// The whole import by what stands in the fields; null where another file came in between.
+async function importAll() {
+  const it = asked;
+  if (it.answer) return it.answer;
+  const options = importOptions(it), bar = h("progress", {max: 1, value: 0, "aria-label": "Importing"}),
+        told = by("import-told");
+  told.replaceChildren("Importing ", bar);
+  by("import-go").disabled = by("import-save").disabled = true;
+  try {
+    const answer = await it.importer.ask(
+        {work: "import", format: it.format, options, name: rowsName(it.file)}, (part) => bar.value = part);
+    if (it !== asked) return null;
+    madeFiles.add(answer.file);
+    it.answer = answer;
+    told.replaceChildren(...toldOf(it, answer));
+    return answer;
+  } catch (fault) {
+    told.replaceChildren(`The import failed: ${fault.message}`);
+    return null;
+  } finally {
+    if (it === asked) by("import-go").disabled = by("import-save").disabled = false;
+  }
+}
+
+function toldOf(it, answer) {
+  const {refused, rows, notes, file} = answer;
+  if (refused) {
+    const check = () => it.then(file);
+    const before = rows ? h("p", {}, `${number(rows)} rows stand before it. They are a recording by themselves. `,
+                            button("import-before", "Check these rows", check), " ", saveButton(answer)) :
+                          null;
+    return [...refusedWords(answer), before].filter(Boolean);
+  }
+  const list = notes.length ?
+      h("ul", {id: "import-notes"}, notes.map((words) => h("li", {}, h("code", {}, `mdbimport: ${words}`)))) :
+      null;
+  return [
+    h("p", {},
+      `${
+          number(
+              rows)} rows were made. The numbers of rows on this page are those of the made rows, not of the lines of `,
+      fileName(it.file), "."),
+    list
+  ].filter(Boolean);
+}
+
+async function importAndCheck() {
+  const it = asked, answer = await importAll();
+  if (!answer) return;
+  if (!answer.refused)
+    it.then(answer.file);
+  else if (it.then === run)
+    trouble("Its import was refused. The reason is told above.", false);
+}
+
+async function importAndSave() {
+  const answer = await importAll();
+  if (answer && !answer.refused) saveFile(answer.file);
+}
+
+const saveButton = ({file}) => button("import-save-rows", "Save the rows", () => saveFile(file));
+
+function saveFile(file) {
+  const url = URL.createObjectURL(file), link = h("a", {href: url, download: file.name});
+  link.click();
+  setTimeout(() => URL.revokeObjectURL(url), 60000);
+}

@@ -1,0 +1,42 @@
+// Runs the page's imports (page/import-*.js) for tests/page_imports, in node: reads a job from each line
+// of standard input, and writes the answer in a line.
+"use strict";
+const fs = require("fs"), path = require("path"), readline = require("readline");
+const PAGE = path.join(__dirname, "..", "page");
+const names = process.argv[2].split(",");
+const sources = names.map((name) => fs.readFileSync(path.join(PAGE, name + ".js"), "utf8"));
+const of = new Function(`"use strict";${sources.join("\n")}\nreturn {newImport, optionsFault, optionsOf, known, look, preview};`)();
+
+// Pieces of a text, each of the next of these sizes.
+function* pieces(bytes, sizes) {
+  for (let from = 0, i = 0; from < bytes.length; i++) {
+    const to = Math.min(bytes.length, from + sizes[i % sizes.length]);
+    yield bytes.subarray(from, to);
+    from = to;
+  }
+}
+
+// The lines that the program writes on standard error: one where it refuses, or what it reports.
+const linesOf = (words) => words.map((it) => `mdbimport: ${it}\n`).join("");
+
+function imported({format, options, text, sizes}) {
+  const fault = of.optionsFault(options), bytes = new Uint8Array(Buffer.from(text, "base64")), rows = [];
+  if (fault) return {status: 2, rows: "", told: linesOf([fault])};
+  const made = of.newImport(format, of.optionsOf(options), (part) => rows.push(Buffer.from(part)));
+  for (const piece of pieces(bytes, sizes)) made.take(piece);
+  const {refused, notes} = made.end();
+  return {status: refused ? 2 : 0, rows: Buffer.concat(rows).toString("latin1"), told: linesOf(refused ? [refused] : notes)};
+}
+
+const WORK = {
+  import: imported,
+  known: ({text, size}) => {
+    const bytes = new Uint8Array(Buffer.from(text, "base64"));
+    return of.known(bytes, size ?? bytes.length);
+  },
+};
+
+readline.createInterface({input: process.stdin}).on("line", (line) => {
+  const job = JSON.parse(line);
+  process.stdout.write(JSON.stringify(WORK[job.work](job)) + "\n");
+});
