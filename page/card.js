@@ -76,7 +76,8 @@ function showVerdict(it) {
     inner.push(h("p", {class: "word"}, `No verdict: this page doesn't read row ${number(it.row)}`));
     inner.push(h(
         "p", {id: "unread"},
-        "A quote (\") stands in it, or a CR that doesn't end its line. The program mdbcheck reads fields between quotes, and takes a CR alone for the end of a line; this page doesn't. Save the file with no quotes, and with LF or CR LF at the ends of its lines."));
+        "A quote (\") stands in it, or a CR that doesn't end its line. The page can take the quotes off, as the program mdbcheck does: ",
+        h("button", {type: "button", class: "noprint", onclick: takeQuotesOff}, "Take the quotes off and check")));
   } else if (it.answer === ANSWERS.TOO_LONG) {
     card.className = "card none";
     inner.push(h("p", {class: "word"}, "No verdict: more rows than are allowed"));

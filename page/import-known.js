@@ -77,7 +77,7 @@ function frontRecords(bytes, isWhole, most) {
     made.end();
   }
   const {encoding, hasMark} = decoder;
-  return {records: found, encoding, hasMark, quotes: made.quotes};
+  return {records: found, encoding, hasMark};
 }
 
 function recordWords(record) {
@@ -147,11 +147,11 @@ function known(bytes, size) {
   if (!size) return {kind: "ours"};
   const odd = otherKind(bytes);
   if (odd) return odd;
-  const front = frontRecords(bytes, isWhole, 30), {records, encoding, quotes, hasMark} = front;
-  const rest = {encoding, hasMark, quotes};
+  const front = frontRecords(bytes, isWhole, 30), {records, encoding, hasMark} = front;
+  const rest = {encoding, hasMark};
   if (!records.length && isWhole && !isBinary(bytes)) return {kind: "ours", ...rest};
   const isPlainText = !isUtf16(encoding) && mostly(records, isPlain);
-  if (isPlainText && !isTitles(records[0])) return {kind: needsRewriting(bytes, front) ? "quoted" : "ours", ...rest};
+  if (isPlainText && !isTitles(records[0])) return {kind: needsRewriting(bytes) ? "quoted" : "ours", ...rest};
   if (isWide(bytes) && !isUtf16(encoding))
     return other("saved as UTF-16 without its byte order mark: save it as UTF-8");
   if (!isUtf16(encoding) && isBinary(bytes)) return other("no text, and no export that the page knows");
@@ -175,8 +175,8 @@ function decodedFront(bytes, encoding) {
 }
 
 // Whether a recording can't be read in place: it has quotes, or a CR alone ends its lines.
-function needsRewriting(bytes, {quotes}) {
-  if (quotes) return true;
+function needsRewriting(bytes) {
+  if (bytes.includes(QUOTE)) return true;
   const at = bytes.indexOf(CR);
   return at >= 0 && at + 1 < bytes.length && bytes[at + 1] !== LF;
 }

@@ -70,8 +70,14 @@ class Importer {
     });
   }
 
+  // Ends it. What it was asked is never answered.
   end() {
     this.worker.terminate();
+  }
+
+  stop() {
+    this.end();
+    for (const {failed} of this.waiting.values()) failed(new Error("it was stopped"));
   }
 }
 
@@ -341,7 +347,7 @@ async function showFirstRows() {
   by("import-told").replaceChildren();
   by("import-command").textContent = importCommand(it, options);
   by("import-asks").replaceChildren(...asks.flatMap((words) => [h("strong", {}, words), h("br", {})]));
-  by("import-go").disabled = by("import-save").disabled = asks.length > 0;
+  canImport(it.format !== "edges" || Boolean(options.unit));
   if (asks.length) {
     by("import-first").replaceChildren(h("p", {}, "The file begins:"), h("pre", {}, it.look.lines.join("\n")));
     return;
@@ -393,27 +399,38 @@ function goOnFrom(micros) {
   showFirstRows();
 }
 
+function canImport(isSo) {
+  by("import-go").disabled = by("import-save").disabled = !isSo;
+}
+
+// Ends an import that works. The next one is read anew.
+function stopImport(it) {
+  const {importer} = it;
+  it.importer = new Importer(it.file);
+  importer.stop();
+}
+
 // The whole import by what stands in the fields; null where another file came in between.
 async function importAll() {
-  const it = asked;
+  const it = asked, {preview} = it, told = by("import-told");
   if (it.answer) return it.answer;
-  const options = importOptions(it), bar = h("progress", {max: 1, value: 0, "aria-label": "Importing"}),
-        told = by("import-told");
-  told.replaceChildren("Importing ", bar);
-  by("import-go").disabled = by("import-save").disabled = true;
+  const bar = h("progress", {max: 1, value: 0, "aria-label": "Importing"}), options = importOptions(it);
+  told.replaceChildren("Importing ", bar, " ", button("import-stop", "Stop", () => stopImport(it)));
+  canImport(false);
+  const isNow = () => it === asked && it.preview === preview;
   try {
     const answer = await it.importer.ask(
         {work: "import", format: it.format, options, name: rowsName(it.file)}, (part) => bar.value = part);
-    if (it !== asked) return null;
+    if (!isNow()) return null;
     madeFiles.add(answer.file);
     it.answer = answer;
     told.replaceChildren(...toldOf(it, answer));
     return answer;
   } catch (fault) {
-    told.replaceChildren(`The import failed: ${fault.message}`);
+    if (isNow()) told.replaceChildren(`The import failed: ${fault.message}.`);
     return null;
   } finally {
-    if (it === asked) by("import-go").disabled = by("import-save").disabled = false;
+    if (isNow()) canImport(true);
   }
 }
 
@@ -459,4 +476,16 @@ function saveFile(file) {
   const url = URL.createObjectURL(file), link = h("a", {href: url, download: file.name});
   link.click();
   setTimeout(() => URL.revokeObjectURL(url), 60000);
+}
+
+// Checks the recording that is shown without its quotes.
+async function takeQuotesOff() {
+  const given = file;
+  closeImport();
+  asked = {file: given, then: run, importer: new Importer(given), found: {kind: "quoted"}, words: ""};
+  const rows = await unquoted(asked);
+  if (rows)
+    run(rows);
+  else
+    askToImport();
 }

@@ -161,7 +161,6 @@ class Records {
     this.state = FRESH;
     this.number = 0;
     this.isDone = false;
-    this.quotes = 0;
   }
 
   take(bytes) {
@@ -182,7 +181,6 @@ class Records {
   openOrDouble() {
     if (this.state === CLOSING) this.line.push(QUOTE);
     this.state = QUOTED;
-    this.quotes++;
   }
 
   takePlain(byte) {

@@ -48,7 +48,8 @@ const WORK = {
     return preview(frontOfFile(file), file.size <= FRONT_SIZE, format, optionsOf(options));
   },
   import: ({file, format, options, name}, tell) => {
-    const pieces = new Pieces(), begin = performance.now();
+    const pieces = new Pieces(), begin = performance.now(), fault = optionsFault(options);
+    if (fault) return {refused: fault, goOn: null, rows: 0, notes: [], file: pieces.file(name), ms: 0};
     const made = newImport(format, optionsOf(options), (bytes) => pieces.add(bytes));
     for (let from = 0; from < file.size && !made.isDone(); from += PIECE) {
       tell(from / file.size);
