@@ -26,13 +26,13 @@ function save(name, text, type) {
 // What was checked, when, how, and by what.
 function recordTable(it) {
   const row = (words, ...inner) => h("tr", {}, h("th", {scope: "row"}, words), h("td", {}, inner));
-  const sum = h("code", {id: "sum"}, it.sha256 ?? "being computed");
+  const sum = h("code", {id: "sum"}, it.sha256 ?? "being computed"), source = sourceOf(it.file);
   return h(
       "div", {class: "scroll"},
-      h("table", {id: "facts"},
-        h("tbody", {}, row("Recording", h("bdi", {}, it.name)), row("Size", `${number(it.size)} bytes`),
-          row("SHA-256 of the recording", sum), row("File last changed", clockTime(new Date(it.file.lastModified))),
-          row("Checked", clockTime(it.when)),
+      h("table", {id: "facts", "aria-labelledby": "record-title"},
+        h("tbody", {}, row("Recording", h("bdi", {}, it.name)), source && row("Made from", ...source),
+          row("Size", `${number(it.size)} bytes`), row("SHA-256 of the recording", sum),
+          row("File last changed", clockTime(new Date(it.file.lastModified))), row("Checked", clockTime(it.when)),
           row("Command with the same answer", h("code", {id: "command"}, commandOf(it))),
           row("Checked by", by("made").textContent))));
 }

@@ -163,10 +163,12 @@ function knownTable(records, bytes, encoding) {
   const found = knownText(records[0], text);
   if (found) return found;
   const [first, ...rest] = records;
-  if (first && isSaleae(first)) return {kind: "saleae"};
+  if (!first) return {kind: "unknown"};
+  const isAsWide = ({fields}) => fields.length === first.fields.length;
+  if (isSaleae(first) && mostly(rest, isAsWide)) return {kind: "saleae"};
   if (isEdges(records)) return {kind: "edges"};
-  const body = first && isTitles(first) ? rest : records;
-  return {kind: mostly(body, isNearly) ? "rows" : "unknown"};
+  if (mostly(isTitles(first) ? rest : records, isNearly)) return {kind: "rows"};
+  return {kind: isSaleae(first) ? "saleae" : "unknown"};
 }
 
 // The letters of a text's front.

@@ -28,8 +28,8 @@ const PROGRAM_WORDS = {
   from: "--from",
   until: "--until",
 };
-// Files of rows that this page has made: they need no import.
-const madeFiles = new WeakSet();
+// Files of rows that this page has made, with what they were made from: they need no import.
+const madeFiles = new WeakMap();
 // The import that is asked about; the number of the newest.
 let asked = null, importTurn = 0;
 
@@ -153,7 +153,7 @@ async function unquoted(it) {
     showImport("The page can't read this recording", h("p", {}, h("code", {class: "refused"}, answer.refused)));
     return null;
   }
-  madeFiles.add(answer.file);
+  madeFiles.set(answer.file, {file: it.file, sha256: answer.sha256, command: null});
   const words =
       "The page has taken off quotes, and ends of lines that are a CR alone. The numbers of the rows are the same.";
   showImport(
@@ -422,7 +422,7 @@ async function importAll() {
     const answer = await it.importer.ask(
         {work: "import", format: it.format, options, name: rowsName(it.file)}, (part) => bar.value = part);
     if (!isNow()) return null;
-    madeFiles.add(answer.file);
+    madeFiles.set(answer.file, {file: it.file, sha256: answer.sha256, command: importCommand(it, options)});
     it.answer = answer;
     told.replaceChildren(...toldOf(it, answer));
     return answer;
@@ -488,4 +488,17 @@ async function takeQuotesOff() {
     run(rows);
   else
     askToImport();
+}
+
+// What the rows of a file were made from: its name, its size, its checksum, and how. Null where it is a recording
+// itself.
+function sourceOf(rows) {
+  const source = madeFiles.get(rows);
+  if (!source) return null;
+  const {file, sha256, command} = source, how = command ? " as by the command " : " without its quotes";
+  const sum = sha256 ? `, SHA-256 ${sha256}` : "";
+  return [
+    h("bdi", {}, shownName(file.name)), `, ${number(file.size)} bytes${sum}, by this page,${how}`,
+    h("code", {}, command ?? "")
+  ];
 }

@@ -50,13 +50,15 @@ const WORK = {
   import: ({file, format, options, name}, tell) => {
     const pieces = new Pieces(), begin = performance.now(), fault = optionsFault(options);
     if (fault) return {refused: fault, goOn: null, rows: 0, notes: [], file: pieces.file(name), ms: 0};
-    const made = newImport(format, optionsOf(options), (bytes) => pieces.add(bytes));
+    const made = newImport(format, optionsOf(options), (bytes) => pieces.add(bytes)), sum = new Sha256();
     for (let from = 0; from < file.size && !made.isDone(); from += PIECE) {
       tell(from / file.size);
-      made.take(bytesOf(file.slice(from, from + PIECE)));
+      const bytes = bytesOf(file.slice(from, from + PIECE));
+      made.take(bytes);
+      sum.add(bytes);
     }
-    const answer = made.end();
-    return {...answer, file: pieces.file(name), ms: performance.now() - begin};
+    const sha256 = made.isDone() ? null : sum.hex(), answer = made.end();
+    return {...answer, sha256, file: pieces.file(name), ms: performance.now() - begin};
   }
 };
 

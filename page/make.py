@@ -20,9 +20,7 @@ SCRIPTS = ("words elements texts report options runs import-panel late card faul
 # Those of the worker.
 WORKERS = "sha256 worker".split()
 # Those of the worker that imports an export.
-IMPORT_SCRIPTS = [
-    f"import-{name}" for name in "text rows saleae edges sigrok formats known worker".split()
-]
+IMPORT_SCRIPTS = ["sha256", *(f"import-{name}" for name in "text rows saleae edges sigrok formats known worker".split())]
 LEADS = {"At the bench": "bench", "The row": "row", "Blame": "blame", "Look at": "look"}
 
 
