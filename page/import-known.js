@@ -85,7 +85,8 @@ function recordWords(record) {
   for (let i = 0; i < record.count; i++) fields.push(wordsOf(fieldOf(record, i)));
   const from = (i) => i ? record.ends[i - 1] + 1 : 0, all = record.line.all;
   const raw = fields.map((_, i) => lettersOf(all.slice(from(i), record.ends[i])));
-  return {fields, raw, parts: parts.map(wordsOf), separator: separatorOf(lineOfRecord(record))};
+  const line = lineOfRecord(record);
+  return {fields, raw, text: wordsOf(line), parts: parts.map(wordsOf), separator: separatorOf(line)};
 }
 
 const TIME_WORDS = /^[0-9]{1,15}([.,][0-9]{1,15})?$/, CLOCK_WORDS = /^[0-9]{1,2}:[0-9]{1,2}:[0-9]+([.,][0-9]+)?$/;
@@ -187,7 +188,7 @@ const LOOKED = 20000;
 
 // What an import's fields can be filled with, of a piece of a text: names, titles, and what is asked.
 function look(bytes, isWhole, kind) {
-  const {records} = frontRecords(bytes, isWhole, LOOKED), lines = records.slice(0, 3).map(({raw}) => raw.join(","));
+  const {records} = frontRecords(bytes, isWhole, LOOKED), lines = records.slice(0, 3).map(({text}) => text);
   const made = {rows: lookAtRows, saleae: lookAtSaleae, edges: lookAtEdges}[kind];
   return {lines, ...made?.(records)};
 }

@@ -115,7 +115,7 @@ function closeImport() {
 
 // There is no verdict yet: the card says so, and the panel has the focus.
 function askToImport() {
-  trouble(asked?.words ?? "The file isn't a recording.", false);
+  trouble(asked?.words ?? "Another file was chosen before this one was read. Choose this one again.", false);
   by("import-title")?.focus();
 }
 
@@ -161,9 +161,7 @@ async function unquoted(it) {
   return answer.file;
 }
 
-function rowsName({name}) {
-  return `${name.replace(/\.[^.]*$/, "") || "export"}-rows.csv`;
-}
+const rowsName = (file) => savedName({file}, "-rows.csv");
 
 // Takes the file that is asked about as one of a format, and shows the fields of that.
 async function takeAs(format) {
@@ -218,26 +216,30 @@ const button = (id, words, onclick) => h("button", {type: "button", id, onclick}
 
 // What the page took for what.
 function tookList({format, look, found}) {
-  const encoding = isWideWords(found);
+  const encoding = encodingWords(format, found);
   const items = {rows: rowsTook, saleae: saleaeTook, edges: edgesTook, sigrok: sigrokTook}[format](look);
   return h("ul", {id: "import-took"}, [...items, encoding].filter(Boolean).map((words) => h("li", {}, words)));
 }
 
-function isWideWords({encoding, hasMark}) {
-  if (encoding?.startsWith("utf-16")) return "The text was saved as UTF-16.";
-  return hasMark ? "The text has a byte order mark." : null;
+function encodingWords(format, {encoding, hasMark}) {
+  const isWide = encoding?.startsWith("utf-16");
+  if (!isWide && !hasMark) return null;
+  const words = isWide ? "The text was saved as UTF-16." : "The text has a byte order mark.";
+  return format === "sigrok" ? `${words} The page reads it all the same. mdbimport wants it as UTF-8 without a mark.` :
+                               words;
 }
 
 function rowsTook({titles, separators = []}) {
   return [
-    titles ? `The first record is taken for a header: ${titles.join(" | ")}.` : null,
+    titles ? `The first record is taken for a header: ${shownName(titles.join(" | "))}.` : null,
     `The first field is the time, the second the line, the third the value, in hexadecimal digits. Fields are separated by ${
         separators.join(" and ") || "commas"}.`,
   ];
 }
 
 function saleaeTook({columns = {}}) {
-  const {time, name, data, error, parity, framing, address} = columns, quoted = (it) => it ? `“${it}”` : "no column";
+  const {time, name, data, error, parity, framing, address} = columns,
+                                                   quoted = (it) => it ? `“${shownName(it)}”` : "no column";
   const errors = [error, parity, framing].filter(Boolean).map(quoted).join(" and ");
   return [
     `The time is the column ${quoted(time)}, in seconds. The word is ${quoted(data)}. The line is ${quoted(name)}.`,
@@ -247,17 +249,19 @@ function saleaeTook({columns = {}}) {
 
 function edgesTook({timeTitle = ""}) {
   return [`The time is the first column, “${
-      timeTitle}”. The others are levels: 1 is high, 0 is low. Words are read at 9600 baud.`];
+      shownName(timeTitle)}”. The others are levels: 1 is high, 0 is low. Words are read at 9600 baud.`];
 }
 
 function sigrokTook() {
   return ["TX is the controller's line (M), RX that of the devices (S). Times are in microseconds."];
 }
 
+// A title that names another unit than seconds.
+const OTHER_UNIT = /(^|[^a-z])(ms|µs|μs|us|ns)([^a-z]|$)/i;
 const labelled = (words, ...inner) => h("label", {}, words, ...inner);
 
 function unitField({format, look}) {
-  const isTold = format === "edges" && !/\b([mµun]s)\b/.test(look.timeTitle ?? ""),
+  const isTold = format === "edges" && !OTHER_UNIT.test(look.timeTitle ?? ""),
         isAsked = format === "edges" || look.hasNumbers !== false;
   const first = format === "rows" && !isAsked ? "none: times of day" : "choose";
   const options =
@@ -276,7 +280,8 @@ function lineField(id, words, letter) {
         {type: "text", id: `import-${id}-name`, hidden: true, "aria-label": `${words}: its name`, spellcheck: "false"});
     const choose = (e) => other.hidden = e.target.value !== "another";
     const options = [
-      ...names.map((it, i) => h("option", {value: `name ${i}`}, it)), h("option", {value: "another"}, "another name")
+      ...names.map((it, i) => h("option", {value: `name ${i}`}, shownName(it))),
+      h("option", {value: "another"}, "another name")
     ];
     return labelled(
         words, h("select", {id: `import-${id}`, onchange: choose}, h("option", {value: ""}, first), options), other);
@@ -318,15 +323,14 @@ function lineName(id, value, {names = []}) {
 
 // What has to be told before the rows can be made, in words.
 function asksOf({format, look}, options) {
-  const asks = [], {names = [], hasM, hasS} = look, isNamed = format !== "sigrok";
+  const asks = [], {names = [], hasM, hasS} = look, {controller, peripheral} = options;
+  const isFree = format !== "sigrok" && names.some((it) => it !== controller && it !== peripheral);
   if (format === "rows" && look.hasNumbers && !options.unit)
     asks.push(
         "Which unit do the times have? The words of one message follow each other after about a thousandth of a second.");
   if (format === "edges" && !options.unit) asks.push("Which unit do the times have?");
-  if (isNamed && names.length && !hasM && options.controller === undefined)
-    asks.push("Which name is the controller's line (M)?");
-  if (isNamed && names.length > 1 && !hasS && options.peripheral === undefined)
-    asks.push("Which name is the devices' line (S)?");
+  if (isFree && !hasM && controller === undefined) asks.push("Which name is the controller's line (M)?");
+  if (isFree && !hasS && peripheral === undefined) asks.push("Which name is the devices' line (S)?");
   if (format === "saleae" && look.hasBreak && !options.length)
     asks.push("How long was each break? The table doesn't say it: measure one in Logic.");
   return asks;
@@ -344,12 +348,14 @@ function importCommand({format, file}, options) {
 async function showFirstRows() {
   const it = asked, options = importOptions(it), asks = asksOf(it, options), mine = it.preview = {};
   it.answer = null;
-  by("import-told").replaceChildren();
-  by("import-command").textContent = importCommand(it, options);
+  const isOld = it.isChecked ? "The answer below is of rows that were made with other settings. Import again." : "";
+  by("import-told").replaceChildren(isOld);
+  by("import-command").textContent = shownName(importCommand(it, options));
   by("import-asks").replaceChildren(...asks.flatMap((words) => [h("strong", {}, words), h("br", {})]));
   canImport(it.format !== "edges" || Boolean(options.unit));
   if (asks.length) {
-    by("import-first").replaceChildren(h("p", {}, "The file begins:"), h("pre", {}, it.look.lines.join("\n")));
+    by("import-first")
+        .replaceChildren(h("p", {}, "The file begins:"), h("pre", {}, it.look.lines.map(shownName).join("\n")));
     return;
   }
   const first = await it.importer.ask({work: "preview", format: it.format, options});
@@ -459,10 +465,19 @@ function toldOf(it, answer) {
 async function importAndCheck() {
   const it = asked, answer = await importAll();
   if (!answer) return;
+  it.isChecked = !answer.refused;
   if (!answer.refused)
     it.then(answer.file);
   else if (it.then === run)
-    trouble("Its import was refused. The reason is told above.", false);
+    refuseImport(it);
+}
+
+// No verdict is of the rows of an earlier import any more.
+function refuseImport(it) {
+  endChecker();
+  file = it.file;
+  recording = null;
+  trouble("The import was refused. The reason is told above.", false);
 }
 
 async function importAndSave() {

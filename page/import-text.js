@@ -36,7 +36,7 @@ class Bytes {
 }
 
 // Gives each piece of a text on, in UTF-8: from UTF-16 where the text begins with its byte order
-// mark, else as it is. A byte order mark in UTF-8 at the begin is left out.
+// mark, else as it is. A byte order mark in UTF-8 at the beginning is left out.
 class Decoder {
   constructor(give) {
     this.give = give;
@@ -69,7 +69,7 @@ class Decoder {
     this.take(this.encoding === "utf-8" ? all : all.subarray(2));
   }
 
-  // Gives decoded bytes on, without a mark at their begin.
+  // Gives decoded bytes on, without a mark at their beginning.
   pass(bytes) {
     if (this.marked) {
       this.give(bytes);

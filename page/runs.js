@@ -145,7 +145,7 @@ async function answerNow(isNow) {
     askToImport();
     return null;
   }
-  recording = rows;
+  file = recording = rows;
   const way = options(), isKept = way.words.length > 0 && lastKey === way.key;
   lastKey = way.key;
   checker ??= new Checker(rows);
