@@ -1,5 +1,5 @@
 // The import of a table of edges (docs/bench/edges.md). A time is whole microseconds, thirds of a nanosecond
-// beyond them, and 10^-24 of a second beyond those: each is a number without a fraction.
+// beyond them, and thirds of 10^-24 of a second beyond those: each is a number without a fraction.
 const THIRDS = 3000, REST = 1e15, HALF_BIT = 156250;
 const SECOND_DIGITS = {
   s: 0,
@@ -23,7 +23,7 @@ function later({micros, thirds, rest}, more) {
 // The whole microseconds from one time of a table to a later one, the nearest; a half goes up.
 function between(from, to) {
   let micros = to.micros - from.micros, thirds = to.thirds - from.thirds;
-  if (to.rest < from.rest) thirds -= 3;
+  if (to.rest < from.rest) thirds--;
   if (thirds < 0) {
     thirds += THIRDS;
     micros--;
@@ -43,9 +43,9 @@ function instantOf(number, unit) {
   if (whole >= 1e9) return null;
   // The digits below a second in 10^-9, and then in 10^-24 of it.
   const share = POWERS[9 - seconds], cut = REST / share;
-  const nanos = digits * share + Math.floor(fine / cut), rest = fine % cut * share;
-  const micros = Math.floor(nanos / 1000);
-  const time = {micros: whole * 1e6 + micros, thirds: (nanos - micros * 1000) * 3, rest};
+  const nanos = digits * share + Math.floor(fine / cut), tail = fine % cut * share * 3;
+  const micros = Math.floor(nanos / 1000), thirds = (nanos - micros * 1000) * 3 + Math.floor(tail / REST);
+  const time = {micros: whole * 1e6 + micros, thirds, rest: tail % REST};
   return rounded(time) < MOST_TIME ? time : null;
 }
 
