@@ -1,6 +1,9 @@
 // All that was said, act by act.
 const PAGE_ACTS = 100;
 const ACT_HEADS = [["begins at", "number"], ["rows"], ["who", "wide"], ["kind", "wide"], ["in words"], ["bytes"]];
+const POLLS = [0, 0x0B, 0x33, 0x12, 0x62];
+// So many milliseconds a search works before it lets the page do something else.
+const SEARCH_PIECE = 25, MOST_SEEN = 100000;
 
 function actAtRow(it, row) {
   const acts = it.list;
@@ -15,24 +18,7 @@ function actAtRow(it, row) {
   return low < acts.count ? low : acts.count - 1;
 }
 
-// Why a row isn't among the acts that are listed; null where it is.
-function missingRow(it, row) {
-  const acts = it.list, {count} = acts, end = count ? acts.last(count - 1) : 0;
-  if (!Number.isInteger(row) || row < 1) return "Rows have whole numbers, from 1 on.";
-  if (row > end) return `Row ${number(row)} isn't listed: the list ends with row ${number(end)}.`;
-  if (it.hole < 0) return null;
-  const from = acts.last(it.hole - 1) + 1, to = acts.first(it.hole) - 1;
-  if (row < from || row > to) return null;
-  return `Row ${number(row)} isn't listed: of so long a recording the rows ${number(from)} to ${number(to)} aren't.`;
-}
-
-// Goes to a row's act, or says why it can't.
-function seekRow(it, text) {
-  const row = Number(text), words = text === "" ? null : missingRow(it, row);
-  by("act-row-told").textContent = words ?? "";
-  by("act-row").setAttribute("aria-invalid", words !== null);
-  if (text !== "" && words === null) jumpTo(it, actAtRow(it, row));
-}
+const hasRow = (acts, i, row) => i >= 0 && acts.first(i) <= row && row <= acts.last(i);
 
 // Whether an act comes after the row that cannot be.
 function isUnjudged(it, {first}) {
@@ -44,80 +30,287 @@ function isPast(it, {last}) {
   return it.answer === ANSWERS.NO && last >= it.row;
 }
 
-function actRow(it, i) {
-  const acts = it.list, first = acts.first(i), last = acts.last(i),
-        bad = it.answer === 1 && it.row >= first && it.row <= last;
+// An act's line, with links to where else the act is shown.
+function actRow(it, i, isInList = false) {
+  const acts = it.list, first = acts.first(i), last = acts.last(i), start = acts.start(i);
+  const bad = it.answer === ANSWERS.NO && it.row >= first && it.row <= last, here = isInList && isHere(it, first, last);
+  const rows = first === last ? String(first) : `${first}–${last}`, entry = entryAt(it, first, last);
   return h(
-      "tr", {class: bad ? "mark" : undefined}, h("td", {class: "number"}, seconds(acts.start(i))),
-      h("td", {class: "rows"}, first === last ? first : `${first}–${last}`), h("td", {class: "wide"}, speaker(acts, i)),
-      h("td", {class: "wide"}, h("code", {}, KINDS[acts.kind(i)])),
+      "tr", {
+        id: isInList ? `row-${first}` : undefined,
+        class: [bad && "mark", here && "here"].filter(Boolean).join(" ") || undefined,
+        "aria-current": here ? "true" : undefined
+      },
+      h("td", {class: "number"}, timeLink(start)), h("td", {class: "rows"}, isInList ? rows : rowLink(first, last)),
+      h("td", {class: "wide"}, speaker(acts, i)), h("td", {class: "wide"}, h("code", {}, KINDS[acts.kind(i)])),
       h("td", {}, h("span", {class: "narrow"}, `${speaker(acts, i)}: `), actWords(acts, i),
         bad ? h("strong", {}, ` – cannot be: ${it.report.rule}`) :
             isUnjudged(it, {first}) ? h("span", {class: "soft"}, " – not judged") :
-                                      null),
+                                      null,
+        entry < 0 ? null : [" ", entryLink(entry)]),
       h("td", {class: "bytes"}, acts.hex(i)));
 }
 
-// The acts that the fields above the list find. Long lists are searched piece by piece.
-async function find(it) {
-  const device = by("act-device").value, kind = by("act-kind").value, text = by("act-text").value.trim().toLowerCase();
-  const mine = it.search = {}, acts = it.list;
-  if (!device && !kind && !text) {
-    it.hits = null;
-    it.from = 0;
-    drawActs(it);
-    return;
+// Which acts are polls without news: a POLL and the acknowledgement that answers it. Those with the row that cannot be
+// are none.
+function quietPolls(it) {
+  const acts = it.list, quiet = new Uint8Array(acts.count);
+  for (let i = 0; i + 1 < acts.count; i++) {
+    const device = acts.device(i);
+    if (acts.kind(i) !== ASK || acts.byte(i, 0) !== POLLS[device]) continue;
+    if (acts.kind(i + 1) !== ACK || acts.device(i + 1) !== device || i + 1 === it.hole) continue;
+    const bad = it.answer === ANSWERS.NO && it.row >= acts.first(i) && it.row <= acts.last(i + 1);
+    if (!bad) quiet[i] = quiet[i + 1] = 1;
   }
-  const hits = [];
-  for (let i = 0; i < acts.count; i++) {
-    if (device && acts.device(i) !== Number(device)) continue;
-    if (kind && acts.kind(i) !== Number(kind)) continue;
-    if (text &&
-        !`${speaker(acts, i)} ${KINDS[acts.kind(i)]} ${actWords(acts, i)} ${acts.hex(i)}`.toLowerCase().includes(text))
-      continue;
-    hits.push(i);
-    if (i % 20000 === 19999) {
+  return quiet;
+}
+
+// A time that is written: as a length of microseconds from `low` to before `high`. As the page writes it, 0.285 s or
+// 1:32.7, all times that begin so; as the rows have it, 285000. Shorter numbers are amounts and items.
+function readTime(text) {
+  if (/^\d{5,15}$/.test(text)) return {low: Number(text), high: Number(text) + 1};
+  const found = /^(?:(?:(\d+):)?(\d+):)?(\d+)(?:\.(\d{1,6}))?( ?s)?$/.exec(text);
+  if (!found) return null;
+  const [, hours, minutes, whole, part = "", unit] = found;
+  if (minutes === undefined && part.length < 3 && !unit) return null;
+  const low =
+      ((Number(hours ?? 0) * 60 + Number(minutes ?? 0)) * 60 + Number(whole)) * 1e6 + Number(part.padEnd(6, "0"));
+  return {low, high: low + 10 ** (6 - part.length)};
+}
+
+// What the field for a text may mean: words, bytes with or without blanks, a time.
+function readQuery(written) {
+  const text = written.trim().toLowerCase();
+  const isHex = /^[0-9a-f]{2}(\s*[0-9a-f]{2})*$/.test(text);
+  const bytes = isHex ? text.replace(/\s/g, "").match(/../g).map((two) => parseInt(two, 16)) : null;
+  return {text, bytes, time: readTime(text), seen: new Map()};
+}
+
+function hasBytes(acts, i, wanted) {
+  const from = i * 80 + 43, last = from + acts.bytes8[i * 80 + 42] - wanted.length;
+  for (let at = from; at <= last; at++) {
+    let k = 0;
+    while (k < wanted.length && acts.bytes8[at + k] === wanted[k]) k++;
+    if (k === wanted.length) return true;
+  }
+  return false;
+}
+
+// What an act's words depend on, as a text: acts with the same have the same words.
+function wordsKey(acts, i) {
+  const kind = acts.kind(i), device = acts.device(i), told = acts.told(i);
+  if (kind === ASK) return told + setupNumber(acts, device, i);
+  if (kind === BREAK) return told + acts.length(i);
+  if (kind > REPLY && kind !== REPEAT) return told;
+  const at = acts.askOf(i);
+  return told + setupNumber(acts, device, i) + (at < 0 ? "" : acts.told(at));
+}
+
+const setupNumber = (acts, device, i) => acts.setupAt(device, i)?.from ?? "";
+
+// Whether a text is in an act's words. Acts with the same words are looked at once.
+function hasText(acts, i, {text, seen}) {
+  const key = wordsKey(acts, i), known = seen.get(key);
+  if (known !== undefined) return known;
+  const words = `${speaker(acts, i)} ${KINDS[acts.kind(i)]} ${actWords(acts, i)}`,
+        has = words.toLowerCase().includes(text);
+  if (seen.size >= MOST_SEEN) seen.clear();
+  seen.set(key, has);
+  return has;
+}
+
+function isMeant(acts, i, query) {
+  const {bytes, time} = query;
+  if (time && acts.start(i) < time.high && acts.end(i) >= time.low) return true;
+  return bytes !== null && hasBytes(acts, i, bytes) || hasText(acts, i, query);
+}
+
+// What the fields above the list ask for.
+function asked() {
+  const value = (id) => by(id).value;
+  return {
+    device: Number(value("act-device")),
+    kind: value("act-kind") === "" ? -1 : Number(value("act-kind")),
+    isMoney: by("act-money").checked,
+    isPolls: by("act-polls").checked,
+    query: value("act-text").trim() ? readQuery(value("act-text")) : null
+  };
+}
+
+function isFound(it, i, {device, kind, isMoney, query}) {
+  const acts = it.list;
+  if (device && acts.device(i) !== device) return false;
+  if (kind >= 0 && acts.kind(i) !== kind) return false;
+  if (isMoney && entryAt(it, acts.first(i), acts.last(i)) < 0) return false;
+  return !query || isMeant(acts, i, query);
+}
+
+// The acts that the fields above the list find: `then` is called when they are drawn. Long lists are searched piece by
+// piece.
+async function find(it) {
+  const wanted = asked(), mine = it.search = {}, hits = [];
+  let hidden = 0, until = performance.now() + SEARCH_PIECE;
+  it.quiet ??= quietPolls(it);
+  for (let i = 0; i < it.list.count; i++) {
+    if (i % 256 === 255 && performance.now() > until) {
+      tellSearch(it, i / it.list.count);
       await new Promise((done) => setTimeout(done));
       if (it.search !== mine) return;
+      until = performance.now() + SEARCH_PIECE;
     }
+    if (it.quiet[i] && !wanted.isPolls)
+      hidden += isFound(it, i, wanted);
+    else if (isFound(it, i, wanted))
+      hits.push(i);
   }
   it.hits = hits;
+  it.hidden = hidden;
+  it.isSearched = wanted.device > 0 || wanted.kind >= 0 || wanted.isMoney || wanted.query !== null;
+  it.nextAct = hits.length || !wanted.query?.time ? -1 : actAfter(it, wanted.query.time.low);
   it.from = 0;
   drawActs(it);
 }
 
+function tellSearch(it, part) {
+  by("act-count").textContent = `Searching: ${Math.round(part * 100)} %`;
+}
+
+// The first act that begins at a time or after it; −1 if there is none.
+function actAfter(it, time) {
+  const acts = it.list;
+  let low = 0, high = acts.count;
+  while (low < high) {
+    const mid = (low + high) >> 1;
+    if (acts.start(mid) < time)
+      low = mid + 1;
+    else
+      high = mid;
+  }
+  return low < acts.count ? low : -1;
+}
+
+// How many acts were found, which of them are shown, and which aren't.
+function countWords(it) {
+  const count = it.hits.length, last = Math.min(count, it.from + PAGE_ACTS), words = [];
+  words.push(`${number(count)} ${count === 1 ? "act" : "acts"}${it.isSearched ? " found" : ""}${
+      count > PAGE_ACTS ? `, ${number(it.from + 1)} to ${number(last)} shown` : ""}.`);
+  if (it.hidden) words.push(`${number(it.hidden)} acts of polls without news are hidden.`);
+  if (it.hole >= 0)
+    words.push(
+        `The first ${number(it.hole)} and the last ${number(it.listed - it.hole)} of ${number(it.all)} are listed.`);
+  return words.join(" ");
+}
+
 function drawActs(it) {
-  const count = it.hits ? it.hits.length : it.list.count;
-  it.from = Math.max(0, Math.min(it.from, Math.floor(Math.max(0, count - 1) / PAGE_ACTS) * PAGE_ACTS));
-  const rows = [];
-  for (let k = it.from; k < Math.min(count, it.from + PAGE_ACTS); k++) rows.push(actRow(it, it.hits ? it.hits[k] : k));
-  by("act-rows").replaceChildren(...rows);
-  const cut = it.hole >= 0 ?
-      ` The first ${number(it.hole)} and the last ${number(it.listed - it.hole)} of ${number(it.all)} are listed.` :
-      "";
-  by("act-count").textContent = `${number(count)} ${count === 1 ? "act" : "acts"}${it.hits ? " found" : ""}${
-      count > PAGE_ACTS ? `, ${number(it.from + 1)} to ${number(Math.min(count, it.from + PAGE_ACTS))} shown` :
-                          ""}.${cut}`;
+  if (!it.hits || !by("act-rows")) return;
+  const count = it.hits.length, greatest = Math.floor(Math.max(0, count - 1) / PAGE_ACTS) * PAGE_ACTS;
+  it.from = Math.max(0, Math.min(it.from, greatest));
+  const hits = it.hits.slice(it.from, it.from + PAGE_ACTS);
+  by("act-rows").replaceChildren(...hits.map((i) => actRow(it, i, true)));
+  by("act-count").textContent = countWords(it);
+  if (it.nextAct >= 0)
+    by("act-count")
+        .append(
+            " The next act begins at ", seconds(it.list.start(it.nextAct)), ": ",
+            rowLink(it.list.first(it.nextAct), it.list.last(it.nextAct)));
   by("act-back").disabled = it.from === 0;
   by("act-more").disabled = it.from + PAGE_ACTS >= count;
 }
 
-function jumpTo(it, i) {
-  by("act-device").value = by("act-kind").value = by("act-text").value = "";
-  it.hits = null;
-  it.search = {};
-  it.from = Math.floor(i / PAGE_ACTS) * PAGE_ACTS;
-  drawActs(it);
-  const row = by("act-rows").children[i - it.from];
-  row?.scrollIntoView({block: "center"});
-  by("acts").focus({preventScroll: true});
+// The place of an act among those that are found; −1 if it isn't among them.
+function hitOf(it, i) {
+  let low = 0, high = it.hits.length;
+  while (low < high) {
+    const mid = (low + high) >> 1;
+    if (it.hits[mid] < i)
+      low = mid + 1;
+    else
+      high = mid;
+  }
+  return it.hits[low] === i ? low : -1;
 }
 
-function actsSection(it) {
-  it.hits = null;
-  it.from = 0;
-  if (it.answer === 1) it.from = Math.floor(actAtRow(it, it.row) / PAGE_ACTS) * PAGE_ACTS;
-  const again = () => find(it);
+// What the list shows now, and back to that.
+function actsPlace(it) {
+  const fields = ["act-device", "act-kind", "act-text"].map((id) => [id, by(id)?.value]);
+  const boxes = ["act-money", "act-polls"].map((id) => [id, by(id)?.checked]);
+  const {from, hits, hidden, isSearched, nextAct} = it;
+  return {fields, boxes, list: {from, hits, hidden, isSearched, nextAct}};
+}
+
+function putActsPlace(it, {fields, boxes, list}) {
+  if (!by("acts")) return;
+  for (const [id, value] of fields) by(id).value = value;
+  for (const [id, isChecked] of boxes) by(id).checked = isChecked;
+  it.search = {};
+  Object.assign(it, list);
+}
+
+// Lists all acts; those of polls without news if they are asked for.
+function listAll(it, isPolls) {
+  by("act-device").value = by("act-kind").value = by("act-text").value = "";
+  by("act-money").checked = false;
+  by("act-polls").checked = isPolls;
+  it.search = {};
+  it.quiet ??= quietPolls(it);
+  it.hits = [];
+  for (let i = 0; i < it.list.count; i++)
+    if (isPolls || !it.quiet[i]) it.hits.push(i);
+  it.hidden = it.list.count - it.hits.length;
+  it.isSearched = false;
+  it.nextAct = -1;
+}
+
+// Why a row isn't listed.
+function unlistedWords(it, row) {
+  const acts = it.list, end = acts.last(acts.count - 1), name = `Row ${number(row)} isn't listed`;
+  if (!Number.isInteger(row) || row < 1) return "Rows have whole numbers, from 1 on.";
+  if (row > end) return `${name}: the list ends with row ${number(end)}.`;
+  if (it.hole < 0) return `${name}: it belongs to no act.`;
+  const from = acts.last(it.hole - 1) + 1, to = acts.first(it.hole) - 1;
+  return `${name}: of so long a recording the rows ${number(from)} to ${number(to)} aren't.`;
+}
+
+// Says beside the field why a row isn't shown; nothing if it is.
+function tellRow(words, isMissing = false) {
+  if (by("act-row-told")) {
+    by("act-row-told").textContent = words;
+    by("act-row").setAttribute("aria-invalid", isMissing);
+  }
+  tellJump(words);
+}
+
+// Shows the act that has a row, marks it and goes there. A row that isn't listed is said so, and nothing else is shown
+// in its place.
+function jumpToRow(row, from) {
+  const it = state, i = it.listed ? actAtRow(it, row) : -1;
+  const fault = document.querySelector("#fault tr[aria-current]");
+  if (!hasRow(it.list, i, row)) {
+    if (row === it.row && fault) {
+      leave(it, from);
+      land(fault);
+    } else if (it.listed) {
+      tellRow(unlistedWords(it, row), true);
+      by("jumps").hidden = false;
+    }
+    return false;
+  }
+  leave(it, from);
+  tellRow("");
+  it.quiet ??= quietPolls(it);
+  if (!it.hits || hitOf(it, i) < 0) {
+    listAll(it, by("act-polls").checked || Boolean(it.quiet[i]));
+    if (it.quiet[i]) tellJump(`Row ${number(row)} is of a poll without news: these are shown now.`);
+  }
+  it.from = Math.floor(hitOf(it, i) / PAGE_ACTS) * PAGE_ACTS;
+  markHere(it, {first: it.list.first(i), last: it.list.last(i), at: it.list.start(i)});
+  land(by("act-rows").children[hitOf(it, i) - it.from]);
+  return true;
+}
+
+// The fields above the list.
+function actTools(it) {
+  const again = () => find(it), option = (value, words) => h("option", {value}, words);
   let wait;
   const soon = () => {
     clearTimeout(wait);
@@ -127,33 +320,64 @@ function actsSection(it) {
     it.from += by * PAGE_ACTS;
     drawActs(it);
   };
-  const option = (value, words) => h("option", {value}, words);
+  const box = (id, words) =>
+      h("label", {class: "box"}, h("input", {type: "checkbox", id, onchange: again}), " ", words);
+  return h(
+      "div", {class: "tools noprint", role: "search", "aria-label": "Acts"},
+      h("label", {}, "Device",
+        h("select", {id: "act-device", onchange: again}, option("", "all"),
+          DEVICE_NAMES.slice(1).map((words, i) => option(i + 1, words)))),
+      h("label", {}, "Kind",
+        h("select", {id: "act-kind", onchange: again}, option("", "all"), KINDS.map((words, i) => option(i, words)))),
+      h("label", {}, "Words, bytes or time",
+        h("input", {type: "search", id: "act-text", placeholder: "13 02, 0.285 s, 1:32.7", oninput: soon})),
+      box("act-money", "Only money"), box("act-polls", "Polls without news"), ...rowTools(),
+      h("button", {type: "button", id: "act-back", onclick: step(-1)}, "Earlier"),
+      h("button", {type: "button", id: "act-more", onclick: step(1)}, "Later"));
+}
+
+function rowTools() {
+  const go = () => {
+    const row = by("act-row").value;
+    if (row !== "") jumpToRow(Number(row), by("act-row"));
+  };
+  const isEnter = (e) => e.key === "Enter";
+  return [
+    h("label", {}, "Row", h("input", {
+        type: "number",
+        id: "act-row",
+        min: 1,
+        "aria-describedby": "act-row-told",
+        onkeydown: (e) => isEnter(e) && go()
+      })),
+    h("button", {type: "button", id: "act-go", onclick: go}, "Go to row"),
+    h("span", {id: "act-row-told", class: "fault", role: "status"})
+  ];
+}
+
+function actsSection(it) {
+  it.hits = null;
+  it.from = 0;
   const made = section(
-      "All that was said", "acts",
-      h("div", {class: "tools noprint", role: "search", "aria-label": "Acts"},
-        h("label", {}, "Device",
-          h("select", {id: "act-device", onchange: again}, option("", "all"),
-            DEVICE_NAMES.slice(1).map((words, i) => option(i + 1, words)))),
-        h("label", {}, "Kind",
-          h("select", {id: "act-kind", onchange: again}, option("", "all"), KINDS.map((words, i) => option(i, words)))),
-        h("label", {}, "Text or bytes", h("input", {type: "search", id: "act-text", oninput: soon})),
-        h("label", {}, "Row", h("input", {
-            type: "number",
-            id: "act-row",
-            min: 1,
-            "aria-describedby": "act-row-told",
-            onchange: (e) => seekRow(it, e.target.value)
-          })),
-        h("button", {type: "button", id: "act-back", onclick: step(-1)}, "Earlier"),
-        h("button", {type: "button", id: "act-more", onclick: step(1)}, "Later")),
-      h("p", {id: "act-row-told", class: "fault", role: "status"}), h("p", {id: "act-count", role: "status"}),
+      "All that was said", "acts", actTools(it), h("p", {id: "act-count", role: "status"}),
       h("div", {class: "scroll"},
         h("table", {}, h("caption", {}, "The bytes are those of the whole block, its sum at the end"),
           h("thead", {}, h("tr", {}, ACT_HEADS.map(([words, kind]) => h("th", {scope: "col", class: kind}, words)))),
           h("tbody", {id: "act-rows"}))));
   made.tabIndex = -1;
-  if (it.answer === 1 && ["Changer", "Bill", "Cashless"].includes(it.report.rule))
+  if (it.answer === ANSWERS.NO && ["Changer", "Bill", "Cashless"].includes(it.report.rule))
     made.insertBefore(h("p", {class: "soft"}, "The acts after the fault aren't judged."), made.children[1]);
-  queueMicrotask(() => drawActs(it));
+  queueMicrotask(() => {
+    listAll(it, false);
+    if (it.answer === ANSWERS.NO) it.from = Math.floor(shownBefore(it, actAtRow(it, it.row)) / PAGE_ACTS) * PAGE_ACTS;
+    drawActs(it);
+  });
   return made;
+}
+
+// How many acts of the list come before an act.
+function shownBefore(it, i) {
+  let count = 0;
+  while (count < it.hits.length && it.hits[count] < i) count++;
+  return count;
 }

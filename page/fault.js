@@ -100,7 +100,7 @@ function saidUpTo(it) {
         h("tbody", {}, rows))),
     isThere ?
         h("p", {class: "noprint"},
-          h("button", {type: "button", onclick: () => jumpTo(it, at)}, "Show it among the acts")) :
+          h("button", {type: "button", onclick: (e) => jumpToRow(it.row, e.currentTarget)}, "Show it among the acts")) :
         h("p", {class: "soft"},
           "The row belongs to none of these: where a rule of the single words is broken, nothing is read from there on."),
   ];

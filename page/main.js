@@ -11,7 +11,7 @@ function show(it) {
   if (it.before && it.row > 1) parts.push(beforeSection(it));
   if (it.listed) parts.push(timeSection(it), tellSection(it), actsSection(it));
   parts.push(recordSection(it));
-  by("told").replaceChildren(...parts);
+  by("told").replaceChildren(contents(parts), ...parts, jumpBar());
   by("main").classList.add("shown");
 }
 
@@ -25,9 +25,9 @@ function figures(it) {
 // Emptied, since choosing the same file again is no change else.
 function chosen(input, then) {
   input.addEventListener("change", () => {
-    const [given] = input.files;
+    const given = [...input.files];
     input.value = "";
-    if (given) then(given);
+    if (given.length) then(given);
   });
 }
 
@@ -51,15 +51,15 @@ function droppable(element, zone, then) {
     e.preventDefault();
     e.stopPropagation();
     unmark();
-    const [given] = e.dataTransfer.files;
-    if (given) then(given);
+    const given = [...e.dataTransfer.files];
+    if (given.length) then(given);
   });
 }
 
-chosen(by("file"), run);
-chosen(by("setup-file"), readSetups);
-droppable(by("drop-setup"), by("drop-setup"), readSetups);
-droppable(document.documentElement, by("drop"), run);
+chosen(by("file"), take);
+chosen(by("setup-file"), ([given]) => readSetups(given));
+droppable(by("drop-setup"), by("drop-setup"), ([given]) => readSetups(given));
+droppable(document.documentElement, by("drop"), take);
 by("again").addEventListener("click", () => run());
 by("stop").addEventListener("click", stop);
 by("ways").addEventListener("change", showWay);

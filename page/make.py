@@ -16,11 +16,16 @@ import sys
 HERE = pathlib.Path(__file__).resolve().parent
 RULES = "Order Speaker Mode Early Late Spacing Length Sum Break Answer Message Same Profile Changer Bill Cashless".split()
 # The page's scripts, in the order in which they stand in the page. What a script runs at once, needs the ones before it.
-SCRIPTS = ("words elements texts report options runs import-panel late card fault money timeline statement acts evidence setup main").split()
+SCRIPTS = ("words elements texts report options runs import-panel late card fault money timeline statement acts jumps files evidence setup main").split()
 # Those of the worker.
 WORKERS = "sha256 worker".split()
 # Those of the worker that imports an export.
 IMPORT_SCRIPTS = ["sha256", *(f"import-{name}" for name in "text rows saleae edges sigrok formats known worker".split())]
+# Recordings of examples/ that the page has for those who want to try it, each with what it is.
+EXAMPLES = {
+    "coin-told-twice": "A coin that was told twice: was it one or two?",
+    "sale-never-approved": "A sale by card that was never approved: who broke the protocol?",
+}
 LEADS = {"At the bench": "bench", "The row": "row", "Blame": "blame", "Look at": "look"}
 
 
@@ -67,6 +72,13 @@ def version():
     return found[1]
 
 
+def examples():
+    """The recordings to try, as the page has them."""
+    folder = HERE.parent / "examples"
+    texts = {name: (folder / f"{name}.csv").read_text() for name in EXAMPLES}
+    return [{"name": f"{name}.csv", "words": words, "text": texts[name]} for name, words in EXAMPLES.items()]
+
+
 def in_script(text):
     """A JSON text that may stand inside a script of a page."""
     return json.dumps(text, ensure_ascii=False).replace("</", "<\\/").replace("<!--", "<\\!--")
@@ -90,6 +102,7 @@ def main():
     constants = [
         '"use strict";',
         f"const RULES = {in_script(rule_texts())};",
+        f"const EXAMPLES = {in_script(examples())};",
         f"const WORKER = {in_script(worker)};",
         f"const IMPORTER = {in_script(import_text())};",
         f'const MODULE = "{base64.b64encode(wasm).decode()}";',

@@ -1,9 +1,243 @@
-// Coins, bills and sales, as they were told.
-const MOST_MONEY = 500;
+// The statement: a line for each sale or payment, as it was told.
+const PAGE_LINES = 100;
+// What an entry is in a sale.
+const SALE_PARTS = {
+  "vend request": "request",
+  "vend approved": "approved",
+  "vend denied": "denied",
+  "vend success": "sold",
+  "vend failure": "failed",
+  "vend cancel": "cancelled"
+};
+const PART_WORDS = {
+  request: "requested",
+  approved: "approved",
+  denied: "denied",
+  sold: "told as sold",
+  failed: "told as failed",
+  cancelled: "request cancelled"
+};
+const OUTCOMES = ["sold", "failed", "cancelled"];
+const LINE_HEADS =
+    [["begins at"], ["told, in rows"], ["item"], ["amount", "number"], ["outcome"], ["so far, as told", "number"]];
+const SUM_TITLES = {
+  coins: "coins in",
+  out: "paid out",
+  bills: "bills in",
+  sold: "sold",
+  cash: "sold for cash"
+};
+const SHORT_NAMES = ["", "changer", "validator", "reader 10H", "reader 60H"];
 
 function moneyAmount(m) {
   if (m.noAmount) return "";
   return m.units === null ? "value not known" : money(m.units, m.decimals);
+}
+
+// When the first row of each entry begins: as the acts have it, where they are listed.
+function addBegins(it) {
+  const acts = it.list;
+  let i = 0;
+  for (const m of it.found.money) {
+    while (i + 1 < acts.count && acts.last(i) < m.first) i++;
+    m.begin = hasRow(acts, i, m.first) ? acts.start(i) : m.at;
+  }
+}
+
+// The entry of money that an act has, or the first of them; −1 if it has none.
+function entryAt(it, first, last) {
+  const all = it.found.money;
+  let low = 0, high = all.length;
+  while (low < high) {
+    const mid = (low + high) >> 1;
+    if (all[mid].last < first)
+      low = mid + 1;
+    else
+      high = mid;
+  }
+  return low < all.length && all[low].first <= last ? low : -1;
+}
+
+function entryLink(i) {
+  return h(
+      "a", {class: "jump noprint", href: "#told-money", "data-entry": i, title: "Show it among coins, bills and sales"},
+      "money");
+}
+
+// Whether an entry goes into the line of the sale that its device told of last.
+function continues(line, part, m) {
+  if (!line) return false;
+  if (part === "request")
+    return line.parts.every(({part}) => part === "request") && line.item === m.type && line.units === m.units;
+  if (part === "approved" || part === "denied") return !line.outcome;
+  return !line.outcome || line.outcome === part && (m.type === "" || m.type === line.item);
+}
+
+function newLine(m, part, index) {
+  const isSale = Boolean(part);
+  return {
+    index,
+    device: m.device,
+    isSale,
+    parts: [],
+    item: isSale || m.what === "cash sale" ? m.type : "",
+    units: part === "request" || !isSale ? m.units : undefined,
+    decimals: m.decimals,
+    outcome: null
+  };
+}
+
+// The lines of all entries, and which line each entry is in.
+function linesOf(entries) {
+  const lines = [], lineOf = new Uint32Array(entries.length), open = [null, null, null, null, null];
+  entries.forEach((m, i) => {
+    const part = SALE_PARTS[m.what] ?? null;
+    if (/session/.test(m.what)) open[m.device] = null;
+    let line = part ? open[m.device] : null;
+    if (!continues(line, part, m)) {
+      line = newLine(m, part, lines.length);
+      lines.push(line);
+      if (part) open[m.device] = line;
+    }
+    line.parts.push({i, part});
+    if (line.item === "" && part) line.item = m.type;
+    if (OUTCOMES.includes(part)) line.outcome = part;
+    lineOf[i] = line.index;
+  });
+  return {lines, lineOf};
+}
+
+// Which running sum an entry belongs to, and which side told it.
+function sumOf(m) {
+  if (m.what.includes("deposited")) return {sum: "coins", by: "device"};
+  if (m.what.includes("dispensed")) return {sum: "out", by: "device"};
+  if (m.what.includes("DISPENSE")) return {sum: "out", by: "controller"};
+  if (m.what === "bill stacked") return {sum: "bills", by: "device"};
+  if (m.what === "vend success") return {sum: "sold", by: "controller"};
+  return m.what === "cash sale" ? {sum: "cash", by: "controller"} : null;
+}
+
+// The running sums after each line, as told: the side that tells an amount counts it each time, the other side where it
+// acknowledges. A sale counts with the price of its request.
+function addSums({lines}, entries) {
+  const running = {};
+  for (const line of lines)
+    for (const {i} of line.parts) {
+      const m = entries[i], kind = sumOf(m);
+      if (!kind) continue;
+      const key = `${kind.sum} ${m.device}`, units = m.what === "vend success" ? line.units ?? null : m.units;
+      const now = running[key] ??= {device: {units: 0, unknown: 0}, controller: {units: 0, unknown: 0}};
+      for (const side of ["device", "controller"])
+        if (side === kind.by || m.acknowledged) {
+          now[side].units += units ?? 0;
+          now[side].unknown += units === null ? 1 : 0;
+        }
+      line.sum = kind.sum;
+      line.sums = {device: {...now.device}, controller: {...now.controller}};
+    }
+}
+
+function statementOf(it) {
+  if (it.statement) return it.statement;
+  addBegins(it);
+  it.statement = linesOf(it.found.money);
+  addSums(it.statement, it.found.money);
+  return it.statement;
+}
+
+function sumWords({units, unknown}, decimals) {
+  const words = money(units, decimals);
+  return unknown ? `${words} and ${number(unknown)} of unknown value` : words;
+}
+
+// What was done, how often, and with coins or bills of which type.
+function entryWords(m) {
+  const type = typeof m.type === "number" ? `, type ${m.type}` : "";
+  return `${m.count > 1 ? `${m.count} × ` : ""}${m.what}${type}`;
+}
+
+// What an entry tells, with the link to its rows.
+function partWords(m, part) {
+  const amount = part === "approved" || part === "request" ? ` ${moneyAmount(m)}` : "";
+  const isHeard = m.acknowledged ? null : " (not acknowledged)";
+  return [part ? PART_WORDS[part] + amount : entryWords(m), " ", rowLink(m.first, m.last), isHeard];
+}
+
+function outcomeWords(it, line) {
+  if (!line.isSale) return it.found.money[line.parts[0].i].acknowledged ? "acknowledged" : "not acknowledged";
+  const has = (part) => line.parts.some((it) => it.part === part);
+  if (line.outcome !== "sold") return line.outcome ?? (has("denied") ? "denied" : "no outcome told");
+  if (has("denied")) return "sold although denied";
+  if (!has("request")) return "sold, with no request told";
+  return has("approved") ? "sold" : "sold, with no approval told";
+}
+
+// What of a line is judged, after a no.
+function judgedWords(it, parts) {
+  if (parts.some((m) => isPast(it, m) && !isUnjudged(it, m))) return h("strong", {}, "this cannot be");
+  const after = parts.filter((m) => isUnjudged(it, m)).length;
+  return after === parts.length ? "not judged" : after ? "possible in part" : "possible";
+}
+
+// The running sums after a line, of each side.
+function sumCell(line) {
+  if (!line.sum) return "";
+  const side = (name, sum) => h("div", {}, h("span", {class: "soft"}, `${name} `), sumWords(sum, line.decimals));
+  const {device, controller} = line.sums;
+  return [
+    h("div", {class: "soft"}, SUM_TITLES[line.sum]), side(SHORT_NAMES[line.device], device),
+    side("controller", controller)
+  ];
+}
+
+function lineCells(it, line, parts) {
+  const [first] = parts, units = first.noAmount && !line.isSale ? undefined : line.units;
+  const amount = units === undefined ? "" : moneyAmount({...first, units, noAmount: false});
+  const told = line.parts.map(({i, part}) => h("div", {}, partWords(it.found.money[i], part)));
+  const judged = it.answer === ANSWERS.NO ? h("div", {}, judgedWords(it, parts)) : null;
+  return [
+    ["", [timeLink(first.begin, first.first, first.last), h("div", {class: "soft"}, SHORT_NAMES[line.device])]],
+    ["", told], ["item", String(line.item).replace("item ", "")], ["amount", amount, "number"],
+    ["", [outcomeWords(it, line), judged]], ["so far, as told", sumCell(line), "number"]
+  ];
+}
+
+function lineRow(it, line) {
+  const parts = line.parts.map(({i}) => it.found.money[i]), here = parts.some((m) => isHere(it, m.first, m.last));
+  const bad = parts.some((m) => isPast(it, m) && !isUnjudged(it, m));
+  return h(
+      "tr", {
+        role: "row",
+        "data-line": line.index,
+        class: [bad && "mark", here && "here"].filter(Boolean).join(" ") || undefined,
+        "aria-current": here ? "true" : undefined
+      },
+      lineCells(it, line, parts).map(([label, inner,
+                                       kind]) => h("td", {role: "cell", "data-label": label, class: kind}, inner)));
+}
+
+function drawStatement(it) {
+  if (!by("statement-rows")) return;
+  const {lines} = statementOf(it), count = lines.length;
+  it.lineFrom = Math.max(0, Math.min(it.lineFrom ?? 0, Math.floor((count - 1) / PAGE_LINES) * PAGE_LINES));
+  const last = Math.min(count, it.lineFrom + PAGE_LINES);
+  by("statement-rows").replaceChildren(...lines.slice(it.lineFrom, last).map((line) => lineRow(it, line)));
+  by("statement-count").textContent = `${number(count)} ${count === 1 ? "line" : "lines"}, ${
+      count > PAGE_LINES ?
+          `${number(it.lineFrom + 1)} to ${number(last)} shown, ` :
+          ""}of ${number(it.found.money.length)} ${it.found.money.length === 1 ? "entry" : "entries"}.`;
+  by("statement-back").disabled = it.lineFrom === 0;
+  by("statement-more").disabled = last >= count;
+}
+
+// Shows the line of the statement that an entry is in.
+function jumpToEntry(entry, from) {
+  const it = state, {lineOf} = statementOf(it), m = it.found.money[entry], line = lineOf[entry];
+  leave(it, from);
+  tellRow("");
+  it.lineFrom = Math.floor(line / PAGE_LINES) * PAGE_LINES;
+  markHere(it, {first: m.first, last: m.last, at: m.begin});
+  land(by("statement-rows").children[line - it.lineFrom]);
 }
 
 function csv(it) {
@@ -26,40 +260,35 @@ function csv(it) {
   return rows.map((row) => row.map(field).join(",")).join("\r\n") + "\r\n";
 }
 
+function statementTools(it) {
+  const step = (by) => () => {
+    it.lineFrom += by * PAGE_LINES;
+    drawStatement(it);
+  };
+  return h(
+      "div", {class: "tools noprint"},
+      h("button", {type: "button", id: "statement-back", onclick: step(-1)}, "Earlier"),
+      h("button", {type: "button", id: "statement-more", onclick: step(1)}, "Later"),
+      h("button", {type: "button", id: "save", onclick: () => save(savedName(it, "-money.csv"), csv(it), "text/csv")},
+        "Save all entries as CSV"));
+}
+
 function tellSection(it) {
-  const all = it.found.money, some = all.slice(0, MOST_MONEY), isNo = it.answer === ANSWERS.NO;
-  const rows = some.map(
-      (m) =>
-          h("tr", {class: isPast(it, m) && !isUnjudged(it, m) ? "mark" : undefined},
-            h("td", {class: "number"}, seconds(m.at)), h("td", {class: "rows wide"}, `${m.first}–${m.last}`),
-            h("td", {}, DEVICE_NAMES[m.device]), h("td", {}, m.what),
-            h("td", {},
-              m.type === ""                  ? "" :
-                  typeof m.type === "number" ? `type ${m.type}` :
-                                               m.type),
-            h("td", {class: "number"}, moneyAmount(m)), h("td", {}, m.acknowledged ? "yes" : "no"),
-            isNo ? h("td", {},
-                     isUnjudged(it, m) ? "not judged" :
-                         isPast(it, m) ? h("strong", {}, "this cannot be") :
-                                         "possible") :
-                   null));
-  if (!all.length) return section("Coins, bills and sales", "told-money", h("p", {}, "None was told."));
-  return section(
+  if (!it.found.money.length) return section("Coins, bills and sales", "told-money", h("p", {}, "None was told."));
+  const where = it.answer === ANSWERS.YES || it.before ? "The checked sums stand above." :
+                                                         "There are no checked sums, since there is no verdict.";
+  const made = section(
       "Coins, bills and sales", "told-money",
       h("p", {},
-        `As they were told, each time that they were told. The same coin told twice stands here twice: ${
-            it.answer === ANSWERS.YES ? "what that may come to, the ranges above say" :
-                it.before             ? "what may come of what is possible, the ranges above say" :
-                                        "and there are no sums, since there is no verdict"}.`),
-      table(
-          `${number(all.length)} ${all.length === 1 ? "entry" : "entries"}${
-              all.length > some.length ? `, the first ${MOST_MONEY} of them; the saved file has all` : ""}`,
-          [
-            ["ends at", "number"], ["rows", "wide"], ["device"], ["what"], ["type, item"], ["amount", "number"],
-            ["acknowledged"], ...(isNo ? [["judged"]] : [])
-          ],
-          rows),
-      h("p", {class: "noprint"},
-        h("button", {type: "button", id: "save", onclick: () => save(savedName(it, "-money.csv"), csv(it), "text/csv")},
-          "Save as CSV")));
+        "A line for each sale or payment, as it was told. A coin that was told twice stands here twice. The sums so far are as told too: the side that tells an amount counts it each time, and the other side where it acknowledges. ",
+        h("strong", {}, where)),
+      statementTools(it), h("p", {id: "statement-count", role: "status"}),
+      h("div", {class: "scroll"},
+        h("table", {role: "table", class: "stacked", "aria-label": "Coins, bills and sales, as told"},
+          h("thead", {role: "rowgroup"},
+            h("tr", {role: "row"},
+              LINE_HEADS.map(([words, kind]) => h("th", {scope: "col", role: "columnheader", class: kind}, words)))),
+          h("tbody", {id: "statement-rows", role: "rowgroup"}))));
+  queueMicrotask(() => drawStatement(it));
+  return made;
 }

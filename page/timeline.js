@@ -1,78 +1,411 @@
-// The time line.
-function timeSection(it) {
-  const {list: acts, found} = it, n = acts.count;
-  const begin = acts.start(0), end = Math.max(begin + 1, acts.end(n - 1));
-  const LEFT = 110, WIDE = 880, x = (t) => LEFT + (t - begin) / (end - begin) * WIDE;
-  const lanes = [
-    ["breaks, resets", "reset"], ["silences", "quiet"], ["coin changer", "device"], ["bill validator", "device"],
-    ["reader 10H", "device"], ["reader 60H", "device"], ["the fault", "bad"]
-  ];
-  const used = new Set([0]);
-  const marks = lanes.map(() => new Map());
-  const put = (lane, t, words, wide = 0, kind) => {
-    used.add(lane);
-    const at = Math.round(x(t)), old = marks[lane].get(at);
-    if (old) {
-      old.count++;
-      old.wide = Math.max(old.wide, wide);
-    } else
-      marks[lane].set(at, {count: 1, words, wide, kind});
+// The time line: a lane for each device that told of money, one for breaks and resets, one for silences. It fits the
+// width and can be zoomed. Where marks would cover each other, bars count them.
+const BAR = 4, LANE = 24, NARROW = 640, NAMES = 112, LEAST_SPAN = 1000, NEAR = 8, DRAGGED = 6;
+const MOST_SILENCES = 50;
+
+// A lane: what it shows, from when to when, and where each mark leads to.
+function laneOf(name, kind, all, how) {
+  const end = how.end ?? how.begin;
+  return {
+    name,
+    kind: (k) => how.kind?.(all[k]) ?? kind,
+    begin: Float64Array.from(all, how.begin),
+    end: Float64Array.from(all, end),
+    isLong: Boolean(how.end),
+    words: (k) => how.words(all[k]),
+    jump: (k, from) => how.jump(all[k], from)
   };
-  const wide = (length) => length / (end - begin) * WIDE;
-  for (const b of found.breaks)
-    put(0, b.at, `break at ${seconds(b.at)}, ${seconds(b.length)} long`, wide(b.length), "quiet");
-  for (const r of found.resets) put(0, r.at, `${DEVICE_NAMES[r.device]}: ${r.what} at ${seconds(r.at)}`);
-  for (const q of found.silences)
-    put(1, q.from,
-        `${DEVICE_NAMES[q.device]} said nothing from ${seconds(q.from)} for ${seconds(q.to - q.from)}, asked ${
-            q.asks} times`,
-        wide(q.to - q.from));
-  for (const m of found.money) put(1 + m.device, m.at, `${m.what} ${moneyAmount(m)} at ${seconds(m.at)}`);
-  if (it.answer === ANSWERS.NO) {
-    const at = actAtRow(it, it.row), line = it.lines.find((l) => l.row === it.row);
-    const t = line ? Number(shown(line).split(",")[0]) : acts.end(at);
-    if (t >= begin && t <= end * 2) put(6, Math.min(t, end), `row ${it.row} cannot be: ${it.report.rule}`);
-  }
-  const shownLanes = lanes.map((lane, i) => [...lane, i]).filter(([, , i]) => used.has(i));
-  const high = shownLanes.length * 30 + 34;
-  const told = `Time line from ${seconds(begin)} to ${seconds(end)}: ${found.breaks.length} breaks, ${
-      found.resets.length} resets, ${found.silences.length} silences, ${found.money.length} entries of money`;
-  const made = s("svg", {viewBox: `0 0 1000 ${high}`, role: "img", "aria-label": told});
-  shownLanes.forEach(([name, kind, lane], k) => {
-    const y = 4 + k * 30;
-    made.append(
-        s("text", {x: 0, y: y + 17, class: "faint"}, name),
-        s("line", {x1: LEFT, x2: LEFT + WIDE, y1: y + 12, y2: y + 12, class: "lane"}));
-    for (const [at, mark] of marks[lane])
-      made.append(
-          s("rect", {x: at - 1, y, width: Math.max(3, mark.wide), height: 24, class: mark.kind ?? kind},
-            s("title", {}, mark.count > 1 ? `${mark.words}, and ${mark.count - 1} more here` : mark.words)));
+}
+
+function eventLane({breaks, resets}) {
+  const all = [...breaks, ...resets];
+  return laneOf("breaks, resets", "reset", all, {
+    begin: (m) => m.at,
+    end: (m) => m.at + (m.length ?? 0),
+    kind: (m) => m.length === undefined ? "reset" : "quiet",
+    words: (m) => m.length === undefined ? `${DEVICE_NAMES[m.device]}: ${m.what} at ${seconds(m.at)}` :
+                                           `break at ${seconds(m.at)}, ${seconds(m.length)} long`,
+    jump: (m, from) => jumpToRow(m.first, from)
   });
-  for (let i = 0; i <= 4; i++) {
-    const t = begin + (end - begin) * i / 4;
-    made.append(
-        s("text",
-          {x: x(t),
-           y: high - 6,
-           "text-anchor": i === 0 ? "start" :
-               i === 4            ? "end" :
-                                    "middle",
-           class: "faint"},
-          seconds(Math.round(t))));
+}
+
+function silenceWords(q) {
+  const asks = q.asks === undefined ? "" : `, asked ${number(q.asks)} times`;
+  return `${DEVICE_NAMES[q.device]} said nothing from ${seconds(q.from)} for ${seconds(q.to - q.from)}${asks}`;
+}
+
+function silenceLane({silences}) {
+  return laneOf(
+      "silences", "quiet", silences,
+      {begin: (q) => q.from, end: (q) => q.to, words: silenceWords, jump: (q, from) => jumpToRow(q.first, from)});
+}
+
+function moneyLane(it, device) {
+  const all = it.found.money, own = [];
+  all.forEach((m, i) => m.device === device && own.push(i));
+  return laneOf(["", "coin changer", "bill validator", "reader 10H", "reader 60H"][device], "device", own, {
+    begin: (i) => all[i].begin,
+    words: (i) => `${entryWords(all[i])} ${moneyAmount(all[i])} at ${seconds(all[i].begin)}`,
+    jump: jumpToEntry
+  });
+}
+
+// When the row that cannot be began; null where that isn't on the line.
+function faultTime(it, begin, end) {
+  if (it.answer !== ANSWERS.NO) return null;
+  const line = it.lines.find((l) => l.row === it.row);
+  const at = line ? Number(shown(line).split(",")[0]) : it.list.end(actAtRow(it, it.row));
+  return at >= begin && at <= end * 2 ? Math.min(at, end) : null;
+}
+
+function makeLine(it) {
+  statementOf(it);
+  const {list: acts, found} = it, begin = acts.start(0), end = Math.max(begin + 1, acts.end(acts.count - 1));
+  const lanes = [eventLane(found), silenceLane(found), ...[1, 2, 3, 4].map((device) => moneyLane(it, device))];
+  return {
+    begin,
+    end,
+    from: begin,
+    to: end,
+    lanes: lanes.filter((lane, i) => i === 0 || lane.begin.length),
+    fault: faultTime(it, begin, end),
+    drawn: [],
+    current: null
+  };
+}
+
+// How wide the drawing is, and where its parts are.
+function measure(it, figure) {
+  const wide = Math.max(280, figure.clientWidth || 1000), isNarrow = wide < NARROW;
+  const left = isNarrow ? 4 : NAMES, right = wide - 4, step = LANE + (isNarrow ? 22 : 10);
+  const {from, to, lanes} = it.line, rows = lanes.length + (it.line.fault === null ? 0 : 1);
+  const x = (at) => left + (at - from) / (to - from) * (right - left);
+  const at = (place) => from + (place - left) / (right - left) * (to - from);
+  return {wide, isNarrow, left, right, step, x, at, top: (k) => k * step + (isNarrow ? 18 : 4), high: rows * step + 30};
+}
+
+// The marks of a lane that the range has, those that would cover each other in one bar.
+function barsOf(lane, {from, to}, room) {
+  const count = Math.ceil((room.right - room.left) / BAR), bars = new Array(count).fill(null);
+  for (let k = 0; k < lane.begin.length; k++) {
+    const begin = lane.begin[k], end = lane.end[k];
+    if (end < from || begin > to) continue;
+    const place = Math.floor((room.x(Math.max(begin, from)) - room.left) / BAR), at = Math.min(count - 1, place);
+    const bar = bars[at] ??= {count: 0, k, at, begin, last: begin, end};
+    bar.count++;
+    bar.last = Math.max(bar.last, begin);
+    bar.begin = Math.min(bar.begin, begin);
+    bar.end = Math.max(bar.end, end);
   }
-  const inner = [h("figure", {id: "line", class: "scroll"}, made)];
-  const quiet = found.silences.map(
-      (q) => h(
-          "li", {},
-          `${DEVICE_NAMES[q.device]} said nothing from ${seconds(q.from)} to ${seconds(q.to)}, asked ${q.asks} times`));
-  if (quiet.length)
-    inner.push(
-        h("p", {}, "Silences, as the acts have them:"), h("ul", {id: "silences"}, quiet.slice(0, 50)),
-        quiet.length > 50 ? h("p", {}, `and ${quiet.length - 50} more`) : null);
-  if (it.hole >= 0)
-    inner.push(
-        h("p", {},
-          `The time line and the tables have the first ${number(it.hole)} and the last ${
-              number(it.listed - it.hole)} acts of ${number(it.all)}. The verdict and the sums are of all rows.`));
-  return section("Time line", "time", ...inner);
+  return bars.filter(Boolean);
+}
+
+function barWords(lane, bar) {
+  if (bar.count === 1) return lane.words(bar.k);
+  return `${number(bar.count)} from ${seconds(Math.round(bar.begin))} to ${seconds(Math.round(bar.last))}; the first: ${
+      lane.words(bar.k)}`;
+}
+
+// Where a mark leads: to what it is, or into the range that it has many of.
+function goTo(it, lane, bar, from) {
+  const span = bar.last - bar.begin;
+  if (bar.count === 1 || span < 1 || it.line.to - it.line.from <= LEAST_SPAN)
+    lane.jump(bar.k, from);
+  else
+    setRange(it, bar.begin - span / 8, bar.last + span / 8);
+}
+
+function drawLane(it, lane, row, room) {
+  const bars = barsOf(lane, it.line, room), most = Math.max(1, ...bars.map((bar) => bar.count));
+  const isCount = most > 1 && !lane.isLong, top = room.top(row), made = [];
+  const most_ = isCount ? `, up to ${number(most)}` : "";
+  made.push(
+      s("text", {x: room.isNarrow ? room.left : 0, y: room.isNarrow ? top - 4 : top + 16, class: "faint"},
+        lane.name + (room.isNarrow ? most_ : "")));
+  if (isCount && !room.isNarrow)
+    made.push(s("text", {x: room.left - 6, y: top + 16, class: "faint small", "text-anchor": "end"}, number(most)));
+  made.push(s("line", {x1: room.left, x2: room.right, y1: top + LANE, y2: top + LANE, class: "lane"}));
+  for (const bar of bars) {
+    const x = room.left + bar.at * BAR, end = lane.isLong ? Math.min(room.right, room.x(bar.end)) : x;
+    const high = isCount ? Math.max(3, LANE * bar.count / most) : LANE, wide = Math.max(BAR - 1, end - x);
+    const mark = s("rect", {x, y: top + LANE - high, width: wide, height: high, class: lane.kind(bar.k)});
+    it.line.drawn.push({mark, row, x, wide, words: barWords(lane, bar), go: (from) => goTo(it, lane, bar, from)});
+    made.push(mark);
+  }
+  return made;
+}
+
+// The fault: always in sight, at the edge if the range doesn't have it.
+function drawFault(it, room) {
+  const {fault, from, to, lanes} = it.line, row = lanes.length, top = room.top(row);
+  if (fault === null) return [];
+  const at = Math.max(room.left + 2, Math.min(room.right - 2, room.x(fault))), isThere = fault >= from && fault <= to;
+  const isLeft = at < (room.left + room.right) / 2, words = `row ${number(it.row)}`;
+  const text = isThere ? words : isLeft ? `◂ ${words}` : `${words} ▸`;
+  const mark = s("rect", {x: at - 2, y: top, width: 4, height: LANE, class: "bad"});
+  it.line.drawn.push({
+    mark,
+    row,
+    x: at - 2,
+    wide: 4,
+    words: `${words} cannot be: ${it.report.rule}`,
+    go: (from) => isThere ? jumpToRow(it.row, from) : showTime(it, fault)
+  });
+  return [
+    s("text", {x: room.isNarrow ? room.left : 0, y: room.isNarrow ? top - 4 : top + 16, class: "faint"}, "the fault"),
+    s("line", {x1: room.left, x2: room.right, y1: top + LANE, y2: top + LANE, class: "lane"}),
+    isThere ? s("line", {x1: at, x2: at, y1: 2, y2: top + LANE, class: "fault"}) : [], mark,
+    s("text", {x: at + (isLeft ? 6 : -6), y: top + 16, class: "faint", "text-anchor": isLeft ? "start" : "end"}, text)
+  ].flat();
+}
+
+// A step between times that are easy to read, for so many of them at most.
+function niceStep(span, most) {
+  const steps = [];
+  for (let ten = 1; ten <= 1e7; ten *= 10) steps.push(ten, 2 * ten, 5 * ten);
+  steps.push(...[60, 120, 300, 600, 1200, 1800, 3600, 7200, 14400, 43200, 86400, 864000].map((it) => it * 1e6));
+  return steps.find((it) => span / it <= most) ?? span / most;
+}
+
+function drawTimes(it, room) {
+  const {from, to} = it.line, step = niceStep(to - from, Math.max(2, Math.floor((room.right - room.left) / 115)));
+  const made = [], y = room.high - 8;
+  for (let at = Math.ceil(from / step) * step; at <= to; at += step) {
+    const x = room.x(at), anchor = x < room.left + 50 ? "start" : x > room.right - 50 ? "end" : "middle";
+    made.push(
+        s("line", {x1: x, x2: x, y1: room.high - 26, y2: room.high - 21, class: "axis"}),
+        s("text", {x, y, "text-anchor": anchor, class: "faint"}, seconds(at)));
+  }
+  return made;
+}
+
+function drawHere(it, room) {
+  const at = it.here?.at;
+  if (at === undefined || at < it.line.from || at > it.line.to) return [];
+  return [s(
+      "line", {x1: room.x(at), x2: room.x(at), y1: 0, y2: room.high - 22, class: "here", "aria-current": "true"})];
+}
+
+function drawLine(it) {
+  const figure = by("line");
+  if (!figure || !it.line) return;
+  const room = it.line.room = measure(it, figure), made = figure.querySelector("svg");
+  it.line.drawn = [];
+  it.line.current = null;
+  made.setAttribute("viewBox", `0 0 ${room.wide} ${room.high}`);
+  made.dataset.from = Math.round(it.line.from);
+  made.dataset.to = Math.round(it.line.to);
+  made.replaceChildren(
+      ...it.line.lanes.map((lane, row) => drawLane(it, lane, row, room)).flat(), ...drawFault(it, room),
+      ...drawTimes(it, room), ...drawHere(it, room));
+  by("line-range").textContent = `${seconds(Math.round(it.line.from))} to ${seconds(Math.round(it.line.to))}`;
+  by("line-all").disabled = by("line-out").disabled = it.line.from <= it.line.begin && it.line.to >= it.line.end;
+  by("line-in").disabled = it.line.to - it.line.from <= LEAST_SPAN;
+  by("line-left").disabled = it.line.from <= it.line.begin;
+  by("line-right").disabled = it.line.to >= it.line.end;
+}
+
+// Shows a range, as far as the recording has it.
+function setRange(it, from, to) {
+  const {begin, end} = it.line, span = Math.min(end - begin, Math.max(LEAST_SPAN, to - from));
+  const middle = (from + to) / 2, low = Math.max(begin, Math.min(end - span, middle - span / 2));
+  it.line.from = low;
+  it.line.to = low + span;
+  drawLine(it);
+  tellMark("");
+}
+
+function zoom(it, factor, around = (it.line.from + it.line.to) / 2) {
+  const {from, to} = it.line;
+  setRange(it, around - (around - from) * factor, around + (to - around) * factor);
+}
+
+function pan(it, part) {
+  const {from, to} = it.line, move = (to - from) * part;
+  setRange(it, from + move, to + move);
+}
+
+// Brings a time into the range, without changing how long that is.
+function showTime(it, at) {
+  const span = it.line.to - it.line.from;
+  if (at < it.line.from || at > it.line.to) setRange(it, at - span / 2, at + span / 2);
+}
+
+function tellMark(words) {
+  by("line-told").textContent = words;
+}
+
+// Makes a mark the one that keys and pointer are at.
+function setCurrent(it, drawn) {
+  it.line.current?.mark.classList.remove("current");
+  it.line.current = drawn;
+  drawn?.mark.classList.add("current");
+  tellMark(drawn ? drawn.words : "");
+}
+
+// The mark nearest to a place of the drawing.
+function markAt(it, x, y) {
+  const {drawn, room} = it.line;
+  let best = null, least = NEAR;
+  for (const one of drawn) {
+    const top = room.top(one.row), far = Math.max(0, one.x - x, x - one.x - one.wide);
+    if (y >= top - 4 && y <= top + LANE + 4 && far < least) {
+      best = one;
+      least = far;
+    }
+  }
+  return best;
+}
+
+// The mark that a key leads to from the one that is current.
+function nextMark(it, key) {
+  const {drawn, current} = it.line;
+  if (!current) return drawn[0] ?? null;
+  const own = drawn.filter((one) => one.row === current.row), at = own.indexOf(current);
+  if (key === "ArrowLeft") return own[Math.max(0, at - 1)];
+  if (key === "ArrowRight") return own[Math.min(own.length - 1, at + 1)];
+  if (key === "Home") return own[0];
+  if (key === "End") return own.at(-1);
+  const rows = [...new Set(drawn.map((one) => one.row))];
+  const row = rows[rows.indexOf(current.row) + (key === "ArrowUp" ? -1 : 1)];
+  const others = drawn.filter((one) => one.row === row), far = (one) => Math.abs(one.x - current.x);
+  return others.length ? others.reduce((a, b) => far(b) < far(a) ? b : a) : current;
+}
+
+function pressed(it, e) {
+  const around = it.line.current ? it.line.room.at(it.line.current.x) : undefined;
+  if (e.ctrlKey || e.metaKey || e.altKey) return;
+  if (e.shiftKey && (e.key === "ArrowLeft" || e.key === "ArrowRight"))
+    pan(it, e.key === "ArrowLeft" ? -0.5 : 0.5);
+  else if (e.key === "+" || e.key === "=")
+    zoom(it, 0.5, around);
+  else if (e.key === "-")
+    zoom(it, 2, around);
+  else if (e.key === "0")
+    setRange(it, it.line.begin, it.line.end);
+  else if (/^Arrow|^Home$|^End$/.test(e.key))
+    setCurrent(it, nextMark(it, e.key));
+  else if ((e.key === "Enter" || e.key === " ") && it.line.current)
+    it.line.current.go(e.currentTarget);
+  else
+    return;
+  e.preventDefault();
+}
+
+// The pointer: it names what it is over, a click leads there, and dragging selects a range.
+function followPointer(it, made) {
+  let begin = null, band = null;
+  const place = (e) => {
+    const box = made.getBoundingClientRect(), scale = it.line.room.wide / box.width;
+    return [(e.clientX - box.left) * scale, (e.clientY - box.top) * scale];
+  };
+  const end = () => {
+    band?.remove();
+    begin = band = null;
+  };
+  made.addEventListener("pointerdown", (e) => {
+    if (e.button !== 0) return;
+    begin = place(e)[0];
+    made.setPointerCapture(e.pointerId);
+  });
+  made.addEventListener("pointermove", (e) => {
+    const [x, y] = place(e);
+    if (begin === null || Math.abs(x - begin) < DRAGGED && !band) {
+      setCurrent(it, markAt(it, x, y));
+      return;
+    }
+    if (!band) made.append(band = s("rect", {y: 0, height: it.line.room.high - 22, class: "band"}));
+    band.setAttribute("x", Math.min(x, begin));
+    band.setAttribute("width", Math.abs(x - begin));
+  });
+  made.addEventListener("pointerup", (e) => {
+    const [x, y] = place(e), from = begin, isRange = band !== null, {at} = it.line.room;
+    end();
+    if (from === null) return;
+    if (isRange)
+      setRange(it, at(Math.min(from, x)), at(Math.max(from, x)));
+    else
+      markAt(it, x, y)?.go(made);
+  });
+  made.addEventListener("pointercancel", end);
+  made.addEventListener("pointerleave", () => begin === null && setCurrent(it, null));
+}
+
+function followWheel(it, made) {
+  made.addEventListener("wheel", (e) => {
+    if (!e.ctrlKey && !e.metaKey && !e.altKey) return;
+    e.preventDefault();
+    const box = made.getBoundingClientRect(), x = (e.clientX - box.left) * it.line.room.wide / box.width;
+    zoom(it, Math.exp(Math.max(-100, Math.min(100, e.deltaY)) * 0.004), it.line.room.at(x));
+  }, {passive: false});
+}
+
+// A link to a time of the time line, for what these rows tell.
+function timeLink(at, first, last) {
+  return h(
+      "a", {
+        class: "jump",
+        href: "#time",
+        "data-at": at,
+        "data-first": first,
+        "data-last": last,
+        title: "Show it on the time line"
+      },
+      seconds(at));
+}
+
+// Marks a time on the time line and goes there.
+function jumpToTime(at, from) {
+  const it = state, {first = 0, last = 0} = from?.dataset ?? {};
+  leave(it, from);
+  tellRow("");
+  showTime(it, at);
+  markHere(it, {first: Number(first), last: Number(last), at});
+  tellMark(`${seconds(at)} is marked${first ? `, the start of row ${number(first)}` : ""}`);
+  land(by("line").querySelector("svg"));
+}
+
+function lineTools(it) {
+  const button = (id, name, words, onclick) =>
+      h("button", {type: "button", id, "aria-label": words, title: words, onclick}, name);
+  return h(
+      "div", {class: "tools noprint"}, button("line-in", "+", "Zoom in", () => zoom(it, 0.5)),
+      button("line-out", "−", "Zoom out", () => zoom(it, 2)),
+      button("line-all", "All", "The whole recording", () => setRange(it, it.line.begin, it.line.end)),
+      button("line-left", "◂", "Earlier", () => pan(it, -0.5)), button("line-right", "▸", "Later", () => pan(it, 0.5)),
+      h("span", {id: "line-range", role: "status"}));
+}
+
+function silenceList({silences}) {
+  if (!silences.length) return [];
+  const some = silences.slice(0, MOST_SILENCES), more = silences.length - some.length;
+  return [
+    h("p", {}, "Silences, as the acts have them:"),
+    h("ul", {id: "silences"}, some.map((q) => h("li", {}, silenceWords(q), ", rows ", rowLink(q.first, q.last)))),
+    more ? h("p", {}, `and ${number(more)} more`) : null
+  ];
+}
+
+function timeSection(it) {
+  it.line = makeLine(it);
+  const {found, line} = it;
+  const told = `Time line from ${seconds(line.begin)} to ${seconds(line.end)}: ${found.breaks.length} breaks, ${
+      found.resets.length} resets, ${found.silences.length} silences, ${found.money.length} entries of money`;
+  const made = s("svg", {role: "application", "aria-label": told, "aria-describedby": "line-help", tabindex: 0});
+  const figure = h("figure", {id: "line"}, made);
+  made.addEventListener("keydown", (e) => pressed(it, e));
+  followPointer(it, made);
+  followWheel(it, made);
+  let wide = 0;
+  new ResizeObserver(() => {
+    if (figure.clientWidth !== wide && state === it) drawLine(it);
+    wide = figure.clientWidth;
+  }).observe(figure);
+  queueMicrotask(() => drawLine(it));
+  return section(
+      "Time line", "time", lineTools(it), figure, h("p", {id: "line-told", role: "status"}),
+      h("details", {class: "hint noprint"}, h("summary", {}, "How to use the time line"),
+        h("p", {id: "line-help"},
+          "Click a mark to go there. Drag to zoom into a range, or hold Ctrl and turn the wheel. Keys: arrows go from mark to mark, Enter goes there, + and − zoom, Shift with an arrow moves, 0 shows all. Bars count what would lie on top of each other.")),
+      silenceList(found));
 }

@@ -106,6 +106,11 @@ class Acts {
     const at = i * 80;
     return this.bytes8.subarray(at + 43, at + 43 + this.bytes8[at + 42]);
   }
+  // Kind, device and bytes, as a text.
+  told(i) {
+    const at = i * 80;
+    return String.fromCharCode.apply(null, this.bytes8.subarray(at + 40, at + 43 + this.bytes8[at + 42]));
+  }
   byte(i, k) {
     return this.bytes8[i * 80 + 43 + k];
   }
@@ -437,10 +442,11 @@ function digest(acts, given, hole) {
         add(i, d, "coins ordered (DISPENSE)", b & 15, value === null ? null : value * (b >> 4), setup?.decimals,
             {count: b >> 4, acknowledged: heard});
       }
-      if ((a === 0x13 || a === 0x63) && (b === 0 || b === 2 || b === 5)) {
-        const price = b === 2 ? null : setup ? two(bytes, 2) * setup.scale : null;
-        add(i, d, ["vend request", "", "vend success", "", "", "cash sale"][b], "item " + two(bytes, b === 2 ? 2 : 4),
-            price, setup?.decimals, {acknowledged: heard, noAmount: b === 2});
+      if ((a === 0x13 || a === 0x63) && b <= 5 && b !== 4) {
+        const hasPrice = b === 0 || b === 5, price = hasPrice && setup ? two(bytes, 2) * setup.scale : null;
+        const item = b === 2 ? "item " + two(bytes, 2) : hasPrice ? "item " + two(bytes, 4) : "";
+        add(i, d, ["vend request", "vend cancel", "vend success", "vend failure", "", "cash sale"][b], item, price,
+            setup?.decimals, {acknowledged: heard, noAmount: !hasPrice});
       }
       continue;
     }

@@ -1,0 +1,126 @@
+// Several recordings at once: a table of their verdicts. And examples to try.
+const FILE_HEADS = [["file"], ["verdict"], ["row", "number"], ["rule"], ["blame"], [""]];
+let batch = null;
+
+// Takes the files that were chosen or dropped: one is shown, of several a table is made.
+function take(files) {
+  stopBatch();
+  by("files")?.remove();
+  if (files.length === 1)
+    run(files[0]);
+  else
+    checkAll(files);
+}
+
+function stopBatch() {
+  if (batch) batch.isStopped = true;
+  batch = null;
+}
+
+// The cells of a verdict.
+function verdictCells(told) {
+  if (told instanceof Error) return [`no verdict: ${told.message}`, "", "", ""];
+  const {answer, row} = told;
+  if (answer === ANSWERS.YES) return ["yes", "", "", ""];
+  if (answer === ANSWERS.NO) {
+    const {rule, blame} = readReport(told.text);
+    return ["no", number(row), rule, blame];
+  }
+  const why = {[ANSWERS.BAD_ROW]: "this line is no row", [ANSWERS.UNREAD]: "this page doesn’t read this row"}[answer];
+  const isRow = why !== undefined;
+  return [
+    `no verdict${
+        isRow ? `: ${why}` :
+            answer === ANSWERS.TOO_LONG ? ": too many rows" :
+                                          ""}`,
+    isRow ? number(row) : "", "", ""
+  ];
+}
+
+// Opens the report of a file, and marks it in the table.
+function openFile(file, line) {
+  for (const it of by("files").querySelectorAll("[aria-current]")) {
+    it.removeAttribute("aria-current");
+    it.classList.remove("here");
+  }
+  line.setAttribute("aria-current", "true");
+  line.classList.add("here");
+  run(file);
+}
+
+function fileLine(file) {
+  const line =
+      h("tr", {}, h("th", {scope: "row"}, h("bdi", {}, shownName(file.name))), h("td", {class: "soft"}, "waits"));
+  line.append(...["number", "", "", ""].map((kind) => h("td", {class: kind || undefined})));
+  line.lastChild.append(
+      h("button", {type: "button", "aria-label": `Open ${shownName(file.name)}`, onclick: () => openFile(file, line)},
+        "Open"));
+  return line;
+}
+
+function fillLine(line, told) {
+  const [verdict, ...rest] = verdictCells(told), cells = [...line.children].slice(1);
+  line.dataset.verdict = verdict.split(":")[0];
+  cells[0].className = "";
+  cells[0].textContent = verdict;
+  rest.forEach((words, k) => {
+    cells[k + 1].textContent = words;
+  });
+}
+
+function filesSection(files, lines, way) {
+  const taken =
+      way.words.length ? `Taken with ${way.words.join(" ")}.` : "Taken as recordings from power-on, with all devices.";
+  return section(
+      "Several recordings", "files", h("p", {}, `${number(files.length)} files, checked one after the other. ${taken}`),
+      h("p", {class: "noprint", id: "files-work"},
+        h("progress", {id: "files-bar", max: files.length, value: 0, "aria-label": "Files checked"}), " ",
+        h("button", {type: "button", id: "files-stop", onclick: stopBatch}, "Stop")),
+      h("p", {id: "files-told", role: "status"}), table("The verdict of each file", FILE_HEADS, lines));
+}
+
+// Checks files one after the other, each in a worker of its own, and fills the table.
+async function checkAll(files) {
+  const mine = batch = {isStopped: false}, lines = files.map(fileLine), counts = {};
+  let way;
+  try {
+    way = options();
+  } catch (fault) {
+    failed(fault, false);
+    return;
+  }
+  by("main").before(filesSection(files, lines, way));
+  by("files").scrollIntoView({block: "start"});
+  for (const [i, file] of files.entries()) {
+    by("files-told").textContent = `${i + 1} of ${files.length}: ${shownName(file.name)}`;
+    const told = await check(file, way).catch((fault) => fault);
+    if (mine.isStopped) break;
+    fillLine(lines[i], told);
+    counts[lines[i].dataset.verdict] = (counts[lines[i].dataset.verdict] ?? 0) + 1;
+    by("files-bar").value = i + 1;
+  }
+  endBatch(mine, lines, counts);
+}
+
+function endBatch(mine, lines, counts) {
+  if (!by("files")?.contains(lines[0])) return;
+  const words = Object.entries(counts).map(([verdict, count]) => `${number(count)} ${verdict}`).join(", ");
+  by("files-work").hidden = true;
+  by("files-told").textContent = `${mine.isStopped ? "Stopped" : "Done"}: ${words || "none was checked"}.`;
+  if (mine.isStopped)
+    for (const line of lines)
+      if (!line.dataset.verdict) line.children[1].textContent = "not checked";
+  by("files").dataset.done = mine.isStopped ? "stopped" : "all";
+}
+
+// What there is to try while nothing is chosen. EXAMPLES has the recordings' names, what they are, and their rows.
+function examplesSection() {
+  const button = ({name, words, text}) =>
+      h("li", {},
+        h("button", {type: "button", "data-example": name, onclick: () => take([new File([text], name)])}, words));
+  return section(
+      "Try an example", "examples", h("p", {}, "Two short recordings are built into this page:"),
+      h("ul", {class: "plain"}, EXAMPLES.map(button)));
+}
+
+by("told").replaceChildren(examplesSection());
