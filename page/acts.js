@@ -18,7 +18,7 @@ function actAtRow(it, row) {
   return low < acts.count ? low : acts.count - 1;
 }
 
-const hasRow = (acts, i, row) => i >= 0 && acts.first(i) <= row && row <= acts.last(i);
+const hasRow = (acts, i, row) => i >= 0 && Number.isInteger(row) && acts.first(i) <= row && row <= acts.last(i);
 
 // Whether an act comes after the row that cannot be.
 function isUnjudged(it, {first}) {

@@ -69,7 +69,9 @@ function continues(line, part, m) {
   if (!line) return false;
   if (part === "request")
     return line.parts.every(({part}) => part === "request") && line.item === m.type && line.units === m.units;
-  if (part === "approved" || part === "denied") return !line.outcome;
+  if (part === "approved") return !line.outcome;
+  // A reader answers a cancelled request with a denial.
+  if (part === "denied") return !line.outcome || line.outcome === "cancelled" && line.parts.at(-1).part === "cancelled";
   return !line.outcome || line.outcome === part && (m.type === "" || m.type === line.item);
 }
 

@@ -117,17 +117,17 @@ function goTo(it, lane, bar, from) {
 
 function drawLane(it, lane, row, room) {
   const bars = barsOf(lane, it.line, room), most = Math.max(1, ...bars.map((bar) => bar.count));
-  const isCount = most > 1 && !lane.isLong, top = room.top(row), made = [];
-  const most_ = isCount ? `, up to ${number(most)}` : "";
+  const isCount = most > 1, least = lane.isLong ? LANE / 3 : 3, top = room.top(row), made = [];
+  const upTo = isCount ? `, up to ${number(most)}` : "";
   made.push(
       s("text", {x: room.isNarrow ? room.left : 0, y: room.isNarrow ? top - 4 : top + 16, class: "faint"},
-        lane.name + (room.isNarrow ? most_ : "")));
+        lane.name + (room.isNarrow ? upTo : "")));
   if (isCount && !room.isNarrow)
     made.push(s("text", {x: room.left - 6, y: top + 16, class: "faint small", "text-anchor": "end"}, number(most)));
   made.push(s("line", {x1: room.left, x2: room.right, y1: top + LANE, y2: top + LANE, class: "lane"}));
   for (const bar of bars) {
     const x = room.left + bar.at * BAR, end = lane.isLong ? Math.min(room.right, room.x(bar.end)) : x;
-    const high = isCount ? Math.max(3, LANE * bar.count / most) : LANE, wide = Math.max(BAR - 1, end - x);
+    const high = isCount ? Math.max(least, LANE * bar.count / most) : LANE, wide = Math.max(BAR - 1, end - x);
     const mark = s("rect", {x, y: top + LANE - high, width: wide, height: high, class: lane.kind(bar.k)});
     it.line.drawn.push({mark, row, x, wide, words: barWords(lane, bar), go: (from) => goTo(it, lane, bar, from)});
     made.push(mark);
