@@ -1,98 +1,237 @@
-// The card with the verdict.
+// The card with the verdict: one sentence, the story, what to do next, and the buttons that help.
 const ROW_FAULTS = ["FieldCount", "BadTime", "BadLine", "BadValue"];
 const FAULT_WORDS = {
-  FieldCount: "The line doesn't have three fields with commas between them. Semicolons or tabs are none.",
-  BadTime: "The first field isn't 1 to 15 decimal digits: a header, seconds, a decimal point?",
+  FieldCount: "The line doesn't have three fields with commas between them. Semicolons and tabs don't separate fields.",
+  BadTime: "The first field isn't a whole number of 1 to 15 digits. Is it a header, or a time with a decimal point?",
   BadLine: "The second field isn't M, S or B.",
-  BadValue:
-      "The third field isn't three hexadecimal digits up to 1FF or, at B, 1 to 9 decimal digits: 8 has to be written 008, and 0x108 as 108.",
+  BadValue: "The third field must have three hexadecimal digits, up to 1FF: write 8 as 008, and 0x108 as 108. " +
+      "In a row with B it must have 1 to 9 decimal digits.",
 };
 
+// How the recording was read, in words.
 function wayWords(it) {
-  if (!it.way.words.length) return "Taken as a recording from power-on, with all devices.";
-  return `Taken with ${it.way.words.join(" ")}.${
-      it.isKept ?
-          " These settings are still those of the recording before: change them under “How the recording is taken”." :
-          ""}`;
+  const {bytes} = it.way, names = DEVICE_NAMES.slice(1);
+  const left = names.filter((_, i) => bytes[1 + i]), given = names.filter((_, i) => bytes[5 + 37 * i]);
+  const words =
+      [bytes[0] ? "Read as a recording of a machine that was already running." : "Read as a recording from power-on."];
+  if (given.length) words.push(`The values of the ${listed(given)} come from an earlier recording.`);
+  words.push(left.length ? `Left out: the ${listed(left)}.` : "All devices are checked.");
+  if (it.isKept)
+    words.push("These settings were kept from the recording before: change them under “How this recording is read”.");
+  return words.join(" ");
+}
+
+// A part of a sentence: rows are links.
+function partOf(part) {
+  if (typeof part === "string") return [part];
+  const word = part.first === part.last ? "row " : "rows ";
+  return [part.isCapital ? capital(word) : word, rowLink(part.first, part.last)];
+}
+
+function sentence({kind, parts}) {
+  return h("li", {class: kind, "data-kind": kind}, parts.flat().flatMap(partOf));
+}
+
+// Fills the card. Its heading and the sentence after it are what is announced (`settle`, runs.js).
+function fillCard(kind, word, lead, ...rest) {
+  const card = by("verdict");
+  card.className = "card " + kind;
+  card.removeAttribute("data-unfollowed");
+  card.replaceChildren(h("h2", {class: "word"}, word), h("p", {id: "lead"}, lead), ...rest.flat(3).filter(Boolean));
+}
+
+const storyList = (story, heading = "What to do next") => {
+  const said = story.filter((it) => it.kind !== "next"), then = story.filter((it) => it.kind === "next");
+  return [
+    said.length ? h("ul", {id: "story"}, said.map(sentence)) : null,
+    then.length ? h("div", {id: "next"}, h("h3", {}, heading), h("ul", {}, then.map(sentence))) : null,
+  ];
+};
+
+const nameWords = (it) => h("p", {class: "soft"}, "Recording: ", nameShown(it.name), `. ${wayWords(it)}`);
+
+// The answer in a word or two, for the window's title.
+function answerWord({answer, report}) {
+  if (answer === ANSWERS.YES) return "yes";
+  if (answer !== ANSWERS.NO) return "no verdict";
+  return report.rule === "Profile" ? "not followed" : "no";
 }
 
 function showVerdict(it) {
-  const r = it.report, card = by("verdict"), inner = [];
-  card.removeAttribute("data-unfollowed");
-  const name = h("p", {class: "soft"}, "Recording: ", nameShown(it.name), `. ${wayWords(it)}`);
-  if (it.answer === ANSWERS.YES) {
-    card.className = "card yes";
-    const isIdle = r.rows !== "0" && isUnfollowed(it);
-    card.toggleAttribute("data-unfollowed", isIdle);
-    inner.push(
-        h("p", {class: "word"},
-          isIdle ? "Yes, but nothing was followed: this proves nothing" : "Yes: all of this can have been said"));
-    inner.push(h(
-        "p", {},
-        `All ${
-            number(
-                r.rows)} rows are possible together. This doesn't say that the money is honest: it says that an honest explanation of the recording exists.`));
-    if (r.rows === "0")
-      inner.push(h("p", {}, h("strong", {}, "There is no row in this file."), " An empty recording is possible too."));
-    else if (isIdle)
-      inner.push(h(
-          "p", {}, h("strong", {}, "Nothing was followed:"),
-          " no command to a device that is checked stands in this recording, so each sum is 0 and nobody could be blamed. ",
-          r.without.length ?
-              `Left out: ${r.without.join(", ")}. Perhaps nobody else speaks here.` :
-              "Most likely the two lines are exchanged (M has to be the controller's, S the peripherals'), or the mode bits are lost."));
-    const differ = Object.entries(r.accounts).filter(([, a]) => a.difference[0] > 0n || a.difference[1] < 0n);
-    if (differ.length)
-      inner.push(
-          h("p", {},
-            h("strong", {},
-              `The books differ, whatever was lost on the way: ${
-                  differ.map(([n]) => small(ACCOUNTS[n].title)).join(", ")}.`)));
-  } else if (it.answer === ANSWERS.NO) {
-    card.className = "card no";
-    inner.push(h("p", {class: "word"}, `No: row ${number(r.row)} cannot be`));
-    if (r.rule !== "Profile" && r.blame !== "other" && it.row > 3 && !isPerhapsLate(it))
-      inner.push(h(
-          "p", {}, h("strong", {}, `${capital(BLAMES[r.blame])} broke the protocol here`),
-          ", if the file is what was said: every word of both lines, in microseconds, the lines the right way round, and taken as below. So look at the recorder first. The rows around it, what was said up to there and what the rule means follow."));
-    inner.push(
-        h("p", {},
-          `The row breaks the rule ${r.rule}, and ${BLAMES[r.blame]} sent it (blame: ${
-              r.blame}). All rows before it are possible together; what comes after it isn't judged.`));
-    if (r.rule === "Profile")
-      inner.push(h("p", {}, "This rule is about the checker's limits, and shows no fault of anybody."));
-    inner.push(...lateNotes(it));
-  } else if (it.answer === ANSWERS.BAD_ROW) {
-    card.className = "card none";
-    const line = it.lines.find((l) => l.row === it.row);
-    inner.push(h("p", {class: "word"}, `No verdict: row ${number(it.row)} is no row`));
-    inner.push(
-        h("p", {},
-          h("code", {id: "bad-row"},
-            `row ${it.row}: ${ROW_FAULTS[it.fault]}: wanted TIME,LINE,VALUE, found "${foundText(line)}"`)));
-    inner.push(h("p", {}, FAULT_WORDS[ROW_FAULTS[it.fault]]));
-  } else if (it.answer === ANSWERS.UNREAD) {
-    card.className = "card none";
-    inner.push(h("p", {class: "word"}, `No verdict: this page doesn't read row ${number(it.row)}`));
-    inner.push(h(
-        "p", {id: "unread"},
-        "A quote (\") stands in it, or a CR that doesn't end its line. The page can take the quotes off, as the program mdbcheck does: ",
-        h("button", {type: "button", class: "noprint", onclick: takeQuotesOff}, "Take the quotes off and check")));
-  } else if (it.answer === ANSWERS.TOO_LONG) {
-    card.className = "card none";
-    inner.push(h("p", {class: "word"}, "No verdict: more rows than are allowed"));
-    inner.push(h("p", {}, "A recording has 100,000,000 rows at most."));
-  } else {
-    card.className = "card none";
-    inner.push(h("p", {class: "word"}, "No verdict: the options aren't valid"));
-    inner.push(h("p", {}, "The bytes of a --setup are no answer of their device to SETUP."));
+  switch (it.answer) {
+    case ANSWERS.YES:
+      return showYes(it);
+    case ANSWERS.NO:
+      return it.report.rule === "Profile" ? showUnfollowed(it) : showNo(it);
+    case ANSWERS.BAD_ROW:
+      return showBadRow(it);
+    case ANSWERS.UNREAD:
+      return showUnread(it);
+    case ANSWERS.TOO_LONG:
+      return fillCard(
+          "none", "No verdict: the recording is too long", "A recording has at most 100,000,000 rows.", nameWords(it));
+    default:
+      return fillCard(
+          "none", "No verdict: the settings aren't valid",
+          "The bytes that were given for a device aren't its answer to SETUP.", nameWords(it));
   }
-  card.replaceChildren(...inner, name);
 }
+
+// A yes ----
+
+function showYes(it) {
+  const r = it.report;
+  if (r.rows !== "0" && isUnfollowed(it)) return showIdle(it);
+  fillCard(
+      "yes", "Yes: this recording is possible", yesLead(it), storyList(r.rows === "0" ? [] : storyOf(it)),
+      valueButton(it),
+      h("p", {class: "soft"},
+        "A yes says that an honest explanation of the recording exists. It doesn't say that the money is honest."),
+      nameWords(it));
+}
+
+function yesLead(it) {
+  const r = it.report, all = Object.entries(r.accounts), count = `All ${number(r.rows)} rows fit together`;
+  const titles = (which) => listed(all.filter(([, a]) => which(a)).map(([name]) => small(ACCOUNTS[name].title)));
+  if (r.rows === "0") return "All 0 rows fit together: there is no row in this file.";
+  if (all.some(([, a]) => isDiffering(a))) return `${count}, but the books differ for certain: ${titles(isDiffering)}.`;
+  if (all.some(([, a]) => isOpen(a))) return `${count}. Not all of the money is certain: ${titles(isOpen)}.`;
+  const silent = DEVICES.filter((d) => r.silences[d]).map((d) => DEVICE_NAMES[DEVICES.indexOf(d)]);
+  if (silent.length) return `${count}, but the ${listed(silent)} gave no answer for too long.`;
+  return `${count}.`;
+}
+
+// A yes in which no device was followed.
+function showIdle(it) {
+  const left = it.report.without.map((d) => DEVICE_NAMES[DEVICES.indexOf(d)]), isExchanged = !left.length;
+  fillCard(
+      "yes", "Yes, but nothing was followed: this proves nothing",
+      `All ${number(it.report.rows)} rows are possible, but none is a command to a device that is checked.`,
+      h("p", {}, h("strong", {}, "Nothing was followed:"), " each sum is 0, and nobody could be blamed. ",
+        isExchanged ?
+            "Most likely lines M and S are exchanged (M must be the controller's line), or the mode bits are lost." :
+            `Left out: the ${listed(left)}. Perhaps no other device is on this bus.`),
+      isExchanged ? exchangeButton() : null, nameWords(it));
+  by("verdict").toggleAttribute("data-unfollowed", true);
+}
+
+function valueButton(it) {
+  const isMissing = valuelessStory(it).length > 0;
+  return isMissing && it.way.bytes[0] ?
+      h("p", {class: "noprint"}, h("button", {type: "button", onclick: openSetups}, "Give an earlier recording")) :
+      null;
+}
+
+function openSetups() {
+  by("ways").open = true;
+  by("setup-file").focus();
+  by("setups").scrollIntoView({block: "center"});
+}
+
+// A no ----
+
+function showNo(it) {
+  const r = it.report, isLate = isPerhapsLate(it), isFile = isFileLikely(it);
+  const word = `No: row ${number(it.row)} cannot be`, broken = `the row breaks the rule ${r.rule}`;
+  const sent = `${capital(broken)}, and ${BLAMES[r.blame]} sent it.`;
+  const lead = isLate ? h("strong", {}, "Was the machine already running when the recording began?") :
+      isFile          ? sent :
+                        `${capital(BLAMES[r.blame])} broke the protocol here: ${broken}.`;
+  fillCard(
+      "no", word, lead,
+      isLate ? [lateNotes(it), h("p", {}, `If the recording does begin at power-on: ${small(sent)}`)] : null,
+      storyList(storyOf(it), isLate ? "What to do next, in that case" : undefined),
+      isPerhapsExchanged(it) ? exchangeButton() : null, isLate ? null : lateNotes(it),
+      isLate || isFile ? null : h("p", {class: "soft"}, RECORDER), judgedWords(it), nameWords(it));
+}
+
+const RECORDER = "This blame holds only if the file has every word of both lines, the lines " +
+    "the right way round, and the times in microseconds.";
+
+// Whether the file, rather than a device, is likely to be the reason.
+const isFileLikely = (it) => it.report.blame === "other" || it.row <= 3;
+
+const judgedWords = (it) =>
+    h("p", {class: "soft"},
+      (it.row > 1 ? `The rows before row ${number(it.row)} are possible together. ` : "") +
+          `Nothing after row ${number(it.row)} was judged.`);
 
 // Whether no act that is listed is one of a device that is followed.
 function isUnfollowed(it) {
   for (let i = 0; i < it.listed; i++)
     if (it.list.device(i)) return false;
   return true;
+}
+
+// What isn't followed: no fault of anybody, and the button that leaves out the device.
+function showUnfollowed(it) {
+  const row = number(it.row);
+  fillCard(
+      "limit", `Not followed from row ${row} on: ${unfollowed(it).what}`,
+      "This is a limit of the checker. It shows no fault of anybody.", storyList(profileStory(it)), leaveOut(it),
+      h("p", {class: "soft"},
+        `Row ${row} falls under the rule Profile. ${
+            it.row > 1 ? `The rows before it are possible together. ` : ""}Nothing after it was judged.`),
+      nameWords(it));
+}
+
+function leaveOut(it) {
+  const device = DEVICES[unfollowedDevice(it)];
+  if (!device || by("without-" + device).checked) return null;
+  const check = () => {
+    by("without-" + device).checked = true;
+    run();
+  };
+  return h(
+      "p", {class: "noprint"},
+      h("button", {type: "button", id: "leave-out", onclick: check},
+        `Leave out the ${DEVICE_NAMES[DEVICES.indexOf(device)]}, and check again`));
+}
+
+// Exchanged lines ----
+
+const exchangeButton = () =>
+    h("p", {class: "noprint"},
+      h("button", {type: "button", id: "exchange", onclick: checkExchanged}, "Read it with M and S exchanged"));
+
+// A text of rows with M and S exchanged in the second field of each.
+function exchanged(bytes) {
+  const made = bytes.slice();
+  for (let i = 0, isField = false; i < made.length; i++) {
+    if (made[i] === 10) isField = false;
+    if (made[i] !== 44 || isField) continue;
+    isField = true;
+    if (made[i + 1] === 77)
+      made[i + 1] = 83;
+    else if (made[i + 1] === 83)
+      made[i + 1] = 77;
+  }
+  return made;
+}
+
+async function checkExchanged() {
+  const made = exchanged(new Uint8Array(await recording.arrayBuffer())), ending = " (M and S exchanged)";
+  const {name} = file, isBack = name.endsWith(ending);
+  run(new File([made], isBack ? name.slice(0, -ending.length) : name + ending));
+}
+
+// A row with quotes, far down.
+function showUnread(it) {
+  const button =
+      h("button", {type: "button", class: "noprint", onclick: takeQuotesOff}, "Take the quotes off and check");
+  fillCard(
+      "none", `No verdict: this page doesn't read row ${number(it.row)}`,
+      h("span", {id: "unread"},
+        "The row contains a quote (\"), or a CR that doesn't end its line. The page can take the quotes off, as the program mdbcheck does."),
+      h("p", {}, button), nameWords(it));
+}
+
+// A line that is no row.
+function showBadRow(it) {
+  const line = it.lines.find((l) => l.row === it.row), fault = ROW_FAULTS[it.fault];
+  fillCard(
+      "none", `No verdict: row ${number(it.row)} is no row`, FAULT_WORDS[fault],
+      h("p", {},
+        h("code", {id: "bad-row"}, `row ${it.row}: ${fault}: wanted TIME,LINE,VALUE, found "${foundText(line)}"`)),
+      nameWords(it));
 }

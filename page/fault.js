@@ -1,91 +1,83 @@
-// The row that cannot be, or that is no row: its neighbours, and what the rule means.
-function leaveOut(it) {
-  const {blame} = it.report;
-  let device = blame;
-  if (blame === "controller") {
-    const line = [...it.lines].reverse().find((l) => l.row <= it.row && /^\d+,M,1/.test(shown(l)));
-    const a = line ? parseInt(shown(line).split(",")[2], 16) & 255 : 0;
-    device = a >> 3 === 1 ? "changer" :
-        a >> 3 === 2      ? "cashless" :
-        a >> 3 === 6      ? "bill" :
-        a >> 3 === 12     ? "cashless-2" :
-                            "";
-  }
-  if (!DEVICES.includes(device) || !device || by("without-" + device).checked) return null;
-  return h(
-      "p", {class: "noprint"}, "To judge the rest of this machine: ",
-      h("button", {
-        type: "button",
-        onclick: () => {
-          by("without-" + device).checked = true;
-          showWay();
-          run();
-        }
-      },
-        `Leave out ${device}, and check again`));
-}
+// The row that cannot be, or that is no row: what was said up to it, what its rule means, and the rows of the file.
+const FAULT_TITLES = {
+  limit: "Where the checker stops following",
+  no: "The row that cannot be",
+  none: "Where the reading ended",
+};
+
+const faultKind = (it) => it.answer !== ANSWERS.NO ? "none" : it.report.rule === "Profile" ? "limit" : "no";
 
 function faultSection(it) {
-  const r = it.report, inner = [];
-  const rows = it.lines.map((line) => {
+  const kind = faultKind(it), inner = kind === "none" ? [] : [...saidUpTo(it), ruleWords(it)];
+  return section(FAULT_TITLES[kind], "fault", ...inner, fileRows(it), gap(it));
+}
+
+// The rows of the file about it, as they stand there.
+function fileRows(it) {
+  const kind = faultKind(it), lines = it.lines.filter((l) => l.row >= it.row - 6);
+  const words = (line) => line.row > it.row ?
+      "not judged" :
+      line.row < it.row ?
+      "" :
+      {limit: "not followed from here on", no: "this row cannot be", none: "this line is no row"}[kind];
+  const rows = lines.map((line) => {
     const fields = shown(line).split(","), mark = line.row === it.row;
+    const sender = fields.length === 3 ? {M: "controller", S: "device", B: "break"}[fields[1]] ?? "" : "";
     return h(
         "tr", {class: mark ? "mark" : undefined, "aria-current": mark ? "true" : undefined},
         h("th", {scope: "row", class: "number"}, number(line.row)), h("td", {class: "rows"}, shown(line)),
-        h("td", {},
-          mark && it.answer === 1 ? "this row cannot be" :
-              mark                ? "this line is no row" :
-              line.row > it.row   ? "not judged" :
-                                    ""),
-        h("td", {class: "wide"},
-          fields.length === 3 ? {M: "controller", S: "peripheral", B: "break"}[fields[1]] ?? "" : ""));
+        h("td", {}, words(line)), h("td", {class: "wide"}, sender));
   });
-  inner.push(table(
-      "The row with its neighbours: TIME in microseconds, LINE, VALUE",
-      [["row", "number"], ["as it stands in the file"], [""], ["sender", "wide"]], rows));
-  if (it.answer === ANSWERS.NO) {
-    const rule = RULES[r.rule];
-    inner.push(gap(it), ...saidUpTo(it));
-    const part =
-        (title,
-         paragraphs) => [h("h3", {}, title), paragraphs.filter((p) => !p.startsWith("• ")).map((p) => h("p", {}, p)),
-                         paragraphs.some((p) => p.startsWith("• ")) ?
-                             h("ul", {},
-                               paragraphs.filter((p) => p.startsWith("• ")).map((p) => h("li", {}, p.slice(2)))) :
-                             null]
-                            .flat();
-    inner.push(
-        h("div", {id: "rule"}, part(`What the rule ${r.rule} means`, rule.bench), part("What such a row is", rule.row),
-          part(`Who is to blame: ${BLAMES[r.blame]}`, rule.blame), part("Where to look", rule.look)));
-    if (it.row <= 3 && ["Order", "Early", "Spacing"].includes(r.rule))
-      inner.push(h(
-          "p", {}, h("strong", {}, "Is the unit microseconds?"),
-          " Where the first no stands in one of the first rows, it is mostly the file: whole seconds are Order, milliseconds Early, nanoseconds and tenths of a microsecond Spacing, and nobody is to blame."));
-    if (it.row === 1 && ["Speaker", "Mode"].includes(r.rule))
-      inner.push(h(
-          "p", {}, h("strong", {}, "In row 1"),
-          " it is noise before the first block, a start inside a block, exchanged lines, or a recorder without a ninth bit."));
-    if (isPerhapsLate(it) && DEVICE_RULES.includes(r.rule))
-      inner.push(
-          h("p", {}, h("strong", {}, "Did the recording begin at power-on?"),
-            " If the machine was running already, tick so under “How the recording is taken”, and check again."));
-    if (r.rule === "Profile") inner.push(leaveOut(it));
-  }
-  return section(it.answer === 1 ? "The row that cannot be" : "Where the reading ended", "fault", ...inner);
+  return table(
+      "The rows in the file: TIME in microseconds, LINE, VALUE",
+      [["row", "number"], ["as it stands in the file"], ["verdict"], ["sender", "wide"]], rows);
 }
 
-// How long after the row before it the row that cannot be starts.
+// A heading with paragraphs; those that begin with a dot make a list.
+function part(title, paragraphs) {
+  const isItem = (p) => p.startsWith("• "), items = paragraphs.filter(isItem);
+  return [
+    h("h3", {}, title), ...paragraphs.filter((p) => !isItem(p)).map((p) => h("p", {}, p)),
+    items.length ? h("ul", {}, items.map((p) => h("li", {}, p.slice(2)))) : null
+  ];
+}
+
+// What the rule means. What to look at is for the side that sent the row. Of a row that isn't followed nobody is
+// blamed, and the card says what to do.
+function ruleWords(it) {
+  const {rule, blame} = it.report, texts = RULES[rule], isLimit = rule === "Profile";
+  const parts = [part(`What the rule ${rule} means`, texts.bench)];
+  if (!isLimit) parts.push(...lookParts(texts, blame));
+  parts.push(part("What such a row is", texts.row));
+  if (!isLimit) parts.push(part(`Who sent it: ${BLAMES[blame]}`, texts.blame));
+  if (isPerhapsLate(it) && DEVICE_RULES.includes(rule))
+    parts.push(
+        h("p", {}, h("strong", {}, "Did the recording begin at power-on?"),
+          " If the machine was already running, tick so under “How this recording is read”, and check again."));
+  return h("div", {id: "rule"}, parts.flat().filter(Boolean));
+}
+
+// Where to look: at the side that sent the row, and in any case.
+function lookParts(texts, blame) {
+  const side = texts[blame === "controller" ? "controller" : "device"] ?? [];
+  const mine = side.map((p) => p.replace(", if it sent the row", ""));
+  return [mine, texts.look ?? []]
+      .filter((it) => it.length)
+      .map((it, i) => part(i ? "Where else to look" : "Where to look", it));
+}
+
+// How long after the row before it the row starts.
 function gap(it) {
   const [before, here] = [it.row - 1, it.row].map(
       (row) => Number(/^(\d+),/.exec(shown(it.lines.find((l) => l.row === row) ?? {bytes: []}))?.[1] ?? NaN));
-  return Number.isNaN(here - before) ?
-      null :
-      h("p", {},
-        `Row ${number(it.row)} starts ${number(here - before).replace("-", "−")} microseconds after the start of row ${
-            number(it.row - 1)}.`);
+  if (it.answer !== ANSWERS.NO || Number.isNaN(here - before)) return null;
+  const [row, earlier] = [number(it.row), number(it.row - 1)];
+  const words =
+      here < before ? `${seconds(before - here)} before the start` : `${seconds(here - before)} after the start`;
+  return h("p", {}, `Row ${row} starts ${words} of row ${earlier}.`);
 }
 
-// The last acts up to the row that cannot be.
+// The last acts up to the row.
 function saidUpTo(it) {
   const at = actAtRow(it, it.row), rows = [];
   for (let i = Math.max(0, at - 7); i <= at; i++) rows.push(actRow(it, i));
@@ -98,10 +90,9 @@ function saidUpTo(it) {
       h("table", {}, h("caption", {}, "What was said up to there, in words"),
         h("thead", {}, h("tr", {}, ACT_HEADS.map(([words, kind]) => h("th", {scope: "col", class: kind}, words)))),
         h("tbody", {}, rows))),
-    isThere ?
-        h("p", {class: "noprint"},
-          h("button", {type: "button", onclick: (e) => jumpToRow(it.row, e.currentTarget)}, "Show it among the acts")) :
-        h("p", {class: "soft"},
-          "The row belongs to none of these: where a rule of the single words is broken, nothing is read from there on."),
+    isThere ? h("p", {class: "noprint"},
+                h("button", {type: "button", onclick: (e) => jumpToRow(it.row, e.currentTarget)},
+                  "Show it in the list of everything said")) :
+              h("p", {class: "soft"}, `The row is in none of these: nothing is read from row ${number(it.row)} on.`),
   ];
 }

@@ -1,5 +1,5 @@
-// Whether a no may come of a recording that began late. The module is asked for that: as of a machine that was running
-// already, the same recording has another answer, or the same.
+// Whether a no may come of a recording that began late. The module is asked for that: as of a machine that was already
+// running, the same recording has another answer, or the same.
 const DEVICE_RULES = ["Changer", "Bill", "Cashless"];
 
 // Whether an answer is a plain no of a device's rule, or in row 1.
@@ -35,34 +35,41 @@ function isPerhapsLate(it) {
   return it.late.answer === ANSWERS.YES || !isStartedBefore(it);
 }
 
-// What the recording would give if the machine was running already.
+// What the recording would give if the machine was already running.
 function lateWords(it) {
   const {late} = it, row = number(late.row);
   if (isSameLate(it))
-    return "It makes no difference whether the machine was running already: this row can't be in either case.";
+    return "It makes no difference whether the machine was already running: this row can't be in either case.";
   if (late.answer === ANSWERS.YES)
     return late.isFollowed ?
-        "Taken as running already it would be a yes." :
-        "Taken as running already it would be a yes, but nothing would be followed: most likely the two lines are exchanged.";
+        "Then the whole recording is possible: it would be a yes." :
+        "Then it would be a yes, but nothing would be followed: most likely lines M and S are exchanged.";
   if (late.answer === ANSWERS.NO) {
     const {rule, blame} = readReport(late.text);
-    return `Taken as running already, row ${row} would be the one that cannot be: it breaks the rule ${rule}, and ${
-        BLAMES[blame]} sent it.`;
+    return `Then row ${row} would be the one that cannot be: it breaks the rule ${rule}, and ${BLAMES[blame]} sent it.`;
   }
-  return `Taken as running already there would be no verdict: row ${row} can't be read.`;
+  return `Then there would be no verdict: row ${row} can't be read.`;
 }
 
-// What the card says of a machine that was running already, with the button for it.
-function lateNotes(it) {
-  if (!it.late) return [];
-  if (!isPerhapsLate(it)) return [h("p", {id: "late"}, lateWords(it))];
+function lateButton() {
   const again = () => {
     by("joined").checked = true;
     run();
   };
-  return [h(
-      "p", {id: "late"}, h("strong", {}, "Was the machine running already when the recording began?"),
-      isStartedBefore(it) || it.row === 1 ? " " : " No reset of this device stands before the row. ",
-      "If so, blame nobody for this. ", lateWords(it), " ",
-      h("button", {type: "button", class: "noprint", onclick: again}, "Check as one that was running"))];
+  return h("button", {type: "button", class: "noprint", onclick: again}, "Check as already running");
+}
+
+// What the card says of a machine that was already running: where that would be another answer, the question comes
+// first, with its button.
+function lateNotes(it) {
+  if (!it.late) return [];
+  if (isSameLate(it)) return [h("p", {id: "late"}, lateWords(it))];
+  if (!isPerhapsLate(it))
+    return [h(
+        "p", {id: "late"},
+        "If the machine was already running when the recording began: ", small(lateWords(it)).replace(/^then /, ""))];
+  const why = isStartedBefore(it) || it.row === 1 ? "" : " (No reset of this device stands before the row.)";
+  return [
+    h("p", {id: "late"}, `If so, nobody is to blame for this row. ${lateWords(it)}${why}`), h("p", {}, lateButton())
+  ];
 }

@@ -16,7 +16,7 @@ import sys
 HERE = pathlib.Path(__file__).resolve().parent
 RULES = "Order Speaker Mode Early Late Spacing Length Sum Break Answer Message Same Profile Changer Bill Cashless".split()
 # The page's scripts, in the order in which they stand in the page. What a script runs at once, needs the ones before it.
-SCRIPTS = ("words elements texts report options runs import-panel late card fault money timeline statement acts jumps files evidence setup main").split()
+SCRIPTS = ("words elements texts report options runs import-panel late story rowstory linkstory card fault money timeline statement acts jumps files evidence setup main").split()
 # Those of the worker.
 WORKERS = "sha256 worker".split()
 # Those of the worker that imports an export.
@@ -26,12 +26,23 @@ EXAMPLES = {
     "coin-told-twice": "A coin that was told twice: was it one or two?",
     "sale-never-approved": "A sale by card that was never approved: who broke the protocol?",
 }
-LEADS = {"At the bench": "bench", "The row": "row", "Blame": "blame", "Look at": "look"}
+# The leading words of a rule's paragraphs. What to look at is for either side, or for the one that sent the row.
+LEADS = {"At the bench": "bench", "The row": "row", "Blame": "blame", "Look at": "look",
+         "Look at the controller": "controller", "Look at the device": "device"}
+NEEDED = {"bench", "row", "blame"}
+
+
+def in_seconds(found):
+    """A time in seconds: the page has no other unit."""
+    return f"{int(found[1].replace(',', '')) / 1e6:.6f}".rstrip("0") + " s"
 
 
 def plain(text):
-    """Words without the marks of Markdown, and without the sentences that name another page."""
+    """Words without the marks of Markdown, without the sentences that name another page, without the program's words
+    between brackets, and with times in seconds."""
     text = re.sub(r",? `[a-z/.-]+\.md`(?=\))", "", text)
+    text = re.sub(r" \((?:(?:, )?`[^`]*`)+\)", "", text)
+    text = re.sub(r"(\d[\d,]*) microseconds", in_seconds, text)
     text = re.sub(r"(?:^|(?<=\. ))(?:[^.]|\.\./)*\.md`[^.]*\. ?", "", text)
     return text.replace("`", "").replace("**", "").replace("*", "").strip()
 
@@ -50,11 +61,11 @@ def rule_texts():
             key = LEADS.get(lead.group(1)) if lead else None
             if key:
                 last = rule.setdefault(key, [])
-                words = part if key in ("row", "blame", "look") else part[lead.end():]
+                words = part[lead.end():] if key == "bench" else part
                 last.append(plain(words))
             elif part.startswith("- ") and last is not None:
                 last.extend("• " + plain(item) for item in re.split(r"\n?^- ", part, flags=re.M) if item)
-        missing = set(LEADS.values()) - set(rule)
+        missing = NEEDED - set(rule) if set(rule) & {"look", "controller", "device"} else {"look"}
         if missing:
             sys.exit(f"docs/bench/rules.md: the rule {name} has no {sorted(missing)}")
         rules[name.strip()] = rule

@@ -5,35 +5,27 @@ function rangeWords([least, greatest], d) {
   return least === greatest ? money(least, d) : `${money(least, d)} to ${money(greatest, d)}`;
 }
 
+// What the two books say, and whether they agree.
 function sentences(name, a, d, isCut) {
-  const {owner, did, counted} = ACCOUNTS[name], so = isCut ? "up to there" : "whatever was lost on the way",
-                     m = (n) => money(n, d), abs = (n) => n < 0n ? -n : n, out = [];
-  const sure = (what, [least, greatest]) => least === greatest ?
-      `${what} ${m(least)}. That is certain, whatever was lost on the way.` :
-      `${what} between ${m(least)} and ${
-          m(greatest)}. Which of these isn't certain: it depends on what was received, and no recorder hears that.`;
-  out.push(sure(
-      `${owner} ${did} of`
-          .replace("took coins of", "took coins worth")
-          .replace("stacked bills of", "stacked bills worth")
-          .replace(/ of$/, ""),
-      a.device));
-  out.push(sure(`The controller ${counted}`, a.controller));
-  const [low, high] = a.difference;
-  const side = (n) => n < 0n ? `the controller has ${m(abs(n))} more than the device` :
-      n > 0n ? `the device has ${m(n)} more than the controller` :
-               "both have the same";
-  if (low === 0n && high === 0n)
-    out.push("The two books agree. That is certain.");
-  else if (low <= 0n && high >= 0n)
-    out.push(`The two books may agree: this is no evidence against anybody. At one end ${side(low)}, at the other ${
-        side(high)}.`);
-  else if (low === high)
-    out.push(`The two books differ, ${so}: ${side(low)}.`);
-  else
-    out.push(`The two books differ, ${so}: between ${m(abs(low))} and ${m(abs(high))}; ${
-        low < 0n ? "the controller has more than the device" : "the device has more than the controller"}.`);
-  return out;
+  const {owner, did, counted, worth} = ACCOUNTS[name];
+  return [
+    `${owner} ${did} ${rangeWords(a.device, d)}${worth ?? ""}.`,
+    `The controller ${counted} ${rangeWords(a.controller, d)}.`, differenceWords(name, a, d, isCut)
+  ];
+}
+
+function differenceWords(name, {difference: [low, high]}, d, isCut) {
+  const owner = small(ACCOUNTS[name].owner), abs = (n) => money(n < 0n ? -n : n, d), upTo = isCut ? " up to there" : "";
+  if (low === 0n && high === 0n) return `Both agree${upTo}.`;
+  if (low <= 0n && high >= 0n) {
+    const more = [];
+    if (low < 0n) more.push(`the controller counted ${abs(low)} too much`);
+    if (high > 0n) more.push(`${owner} counted ${abs(high)} that the controller didn't`);
+    return `Both may agree, so this is no evidence against anybody. At most ${more.join(", or ")}.`;
+  }
+  const [least, most] = low < 0n ? [high, low] : [low, high], who = low < 0n ? "the controller" : owner;
+  return `The two differ for certain${upTo}: ${who} counted ${
+      least === most ? abs(least) : `${abs(least)} to ${abs(most)}`} more.`;
 }
 
 // The three ranges as bars on one scale.
@@ -77,68 +69,78 @@ function bars(name, a, d) {
   return made;
 }
 
-// The accounts of a report on what is explained: those with values, and a line on the others.
-function accounts(r, explained, isCut) {
-  const shownAccounts = [], silent = [];
+// One account: its three ranges as numbers, as bars, and in words.
+function accountArticle(r, name, a, d, isCut) {
+  const {device, title, counts} = ACCOUNTS[name], whose = small(ACCOUNTS[name].owner);
+  const heads = {device: `${whose}`, controller: "the controller", difference: `${whose} less the controller`};
+  const rows = ["device", "controller", "difference"].map(
+      (side) =>
+          h("tr", {"data-account": name, "data-side": side}, h("th", {scope: "row"}, capital(heads[side])),
+            h("td", {class: "number least"}, money(a[side][0], d)),
+            h("td", {class: "number greatest"}, money(a[side][1], d))));
+  const missing = r.unvalued?.[device] ?? 0;
+  const words = !isZero(a) ? sentences(name, a, d, isCut) :
+      missing              ? ["Nothing with a known value was reported."] :
+                             ["Nothing was reported, and nothing was counted."];
+  return h(
+      "article", {class: "account", id: "account-" + name}, h("h3", {}, title),
+      h("table", {"aria-label": title},
+        h("thead", {},
+          h("tr", {}, h("td", {}), h("th", {scope: "col", class: "number"}, "at least"),
+            h("th", {scope: "col", class: "number"}, "at most"))),
+        h("tbody", {}, rows)),
+      isZero(a) ? null : bars(name, a, d), words.map((it) => h("p", {}, it)),
+      missing ?
+          h("p", {},
+            h("strong", {},
+              `${counted(missing, "amount")} without a known value ${missing === 1 ? "is" : "are"} missing from it.`)) :
+          null);
+}
+
+// What the ranges mean.
+const RANGES = [
+  "Each device counts, and the controller counts the same money for itself. “At least” and “at most” are the limits of what each may have counted.",
+  "Where both limits are the same, the amount is certain, whatever was lost on the way. Where they differ, it depends on which words were received, and no recorder hears that.",
+  "Use the difference as it is shown here: don't subtract the other two lines.",
+];
+const CUT_RANGES =
+    "The rows end here in the middle of the traffic, perhaps between a report and its acknowledgement. The controller may then have counted that report a moment later.";
+
+// The accounts of a report: those with values, and a line on the others.
+function accounts(r, isCut) {
+  const known = [], silent = [];
   for (const [name, a] of Object.entries(r.accounts)) {
-    const {device, title} = ACCOUNTS[name], d = r.decimals[device];
-    if (isZero(a) && d === null) {
+    const {device} = ACCOUNTS[name], d = r.decimals[device];
+    if (isZero(a) && d === null)
       silent.push(name);
-      continue;
-    }
-    const rows = ["device", "controller", "difference"].map(
-        (side) =>
-            h("tr", {"data-account": name, "data-side": side}, h("th", {scope: "row"}, {
-                device: `as the ${
-                    device === "changer"  ? "changer" :
-                        device === "bill" ? "validator" :
-                                            "reader"} has it`,
-                controller: "as the controller has it",
-                difference: "device less controller"
-              }[side]),
-              h("td", {class: "number least"}, money(a[side][0], d)),
-              h("td", {class: "number greatest"}, money(a[side][1], d))));
-    shownAccounts.push(h(
-        "article", {class: "account", id: "account-" + name}, h("h3", {}, title, " ", h("code", {class: "soft"}, name)),
-        h("table", {"aria-label": title},
-          h("thead", {},
-            h("tr", {}, h("td", {}), h("th", {scope: "col", class: "number"}, "at least"),
-              h("th", {scope: "col", class: "number"}, "at most"))),
-          h("tbody", {}, rows)),
-        isZero(a) ? null : bars(name, a, d),
-        isZero(a) ? h("p", {},
-                      r.unvalued?.[device] ? "Nothing that has a value was told of it." :
-                                             "Nothing was told of it, and nothing was counted.") :
-                    sentences(name, a, d, isCut).map((words) => h("p", {}, words)),
-        r.unvalued?.[device] ?
-            h("p", {},
-              h("strong", {},
-                `It may lack something: ${r.unvalued[device]} amounts were told that have no value (unvalued).`)) :
-            null));
+    else
+      known.push(accountArticle(r, name, a, d, isCut));
   }
   const out = [];
-  if (shownAccounts.length)
+  if (known.length)
     out.push(
-        h("p", {},
-          `Each device and the controller keep a book each. Each end of a range is what the book says in some course of events that explains ${
-              explained}, and no course leads beyond. The amounts of a device are in its own unit; the point stands where the device told it. Use the difference as it stands, and don't subtract the others by hand. Where the rows end between a report and its acknowledgement, as they ${
-              isCut ? "mostly do here" : "may"}, a difference of that report was only on its way.`),
-        h("div", {class: "accounts"}, shownAccounts));
-  if (silent.length) {
-    const why = (name) => {
-      const {device} = ACCOUNTS[name];
-      return r.without.includes(device) ? "left out" : "no values told";
-    };
-    out.push(h(
-        "p", {id: "silent"},
-        "0 or without values: ", silent.map((name) => `${small(ACCOUNTS[name].title)} (${why(name)})`).join(", "),
-        ". Where a device told no SETUP answer its values are unknown and count 0, whatever it did: record a whole start of the machine, or give what an earlier recording shows."));
-  }
-  return out;
+        h("div", {class: "accounts"}, known),
+        [...RANGES, ...isCut ? [CUT_RANGES] : []].map((it) => h("p", {class: "soft"}, it)));
+  if (silent.length) out.push(silentWords(r, silent));
+  return out.flat();
+}
+
+// The devices that have no sums, and why.
+function silentWords(r, silent) {
+  const devices = [...new Set(silent.map((name) => ACCOUNTS[name].device))];
+  const named = (these) => "the " + listed(these.map((it) => DEVICE_NAMES[DEVICES.indexOf(it)]));
+  const left = devices.filter((it) => r.without.includes(it)), other = devices.filter((it) => !r.without.includes(it)),
+        inner = [];
+  if (other.length)
+    inner.push(
+        `No sums for ${named(other)}: this recording shows no values of ${other.length === 1 ? "it" : "them"}. ` +
+        "If such a device is in the machine, record a whole start, or give an earlier recording of one. ");
+  if (left.length) inner.push(`No sums for ${named(left)}: left out.`);
+  return h("p", {id: "silent"}, inner);
 }
 
 function moneySection(report) {
-  return section("Where the money is", "money", ...accounts(report, "the whole recording"));
+  return section("Where the money is", "money", ...accounts(report, false));
 }
 
 // The accounts of the rows before the one that cannot be.
@@ -146,49 +148,47 @@ function beforeSection(it) {
   const rows = it.row === 2 ? "row 1" : `rows 1 to ${number(it.row - 1)}`;
   return section(
       "Where the money was before that row", "before",
-      h("p", {}, h("strong", {}, `These are the sums of ${rows} alone`),
-        ", as a recording that ends there has them: they rest on what is possible. No coin, bill or sale that this row or a later one tells of is in them, whether it took place or not."),
-      ...accounts(readReport(it.before), "these rows", true));
+      h("p", {}, h("strong", {}, `These are the sums of ${rows} alone.`),
+        ` Row ${number(it.row)} and the rows after it are in no sum.`),
+      ...accounts(readReport(it.before), true));
+}
+
+// What is to be said of a device, beside its figures.
+function deviceNotes(r, device) {
+  const i = DEVICES.indexOf(device), notes = [], missing = r.unvalued?.[device] ?? 0, silences = r.silences[device];
+  if (r.without.includes(device)) notes.push("Left out: its words aren't read, so its sums are 0 whatever it did.");
+  if (r.setup.includes(device)) notes.push("Its values come from an earlier recording.");
+  if (r.decimals[device] === null && !r.without.includes(device))
+    notes.push("Reported no values in this recording, or isn't there.");
+  if (silences)
+    notes.push(`Gave no answer for more than ${i < 2 ? "2 s" : "5 s (or the time that the reader reported)"}, ${
+        counted(silences, "time")}. Look at its power and plug, and at what it was doing then.`);
+  if (missing)
+    notes.push(`${counted(missing, "amount")} without a known value ${
+        missing === 1 ? "is" : "are"} in no sum. Give an earlier recording of a start.`);
+  return notes;
 }
 
 function devicesSection(r) {
-  const heads = [["device"], ["decimals", "number"], ["silences", "number"]];
-  if (r.unvalued) heads.push(["unvalued", "number"]);
-  heads.push([""]);
-  const rows = DEVICES.slice(1).map((device, i) => {
-    const notes = [];
-    if (r.without.includes(device))
-      notes.push(
-          "left out (without): all that is said to it and by it is passed over, so its sums are 0, whatever it did");
-    if (r.setup.includes(device)) notes.push("its set-up was given from an earlier recording (setup)");
-    if (r.decimals[device] === null && !r.without.includes(device))
-      notes.push("told no values in this recording, or isn't there");
-    if (r.silences[device])
-      notes.push(`was asked again and again and said nothing for more than ${
-          i ? "5 s (or what the reader told)" : "2 s"}: look at its power and plug, and at what it was doing then`);
-    if (r.unvalued?.[device])
-      notes.push(`${
-          r.unvalued
-              [device]} amounts were told that have no value, and are in no sum: give its set-up from an earlier recording`);
-    return h(
-        "tr", {"data-device": device},
-        h("th", {scope: "row"}, DEVICE_NAMES[i + 1], " ", h("code", {class: "soft wide"}, device)),
-        h("td", {class: "number decimals"}, r.decimals[device] === null ? "–" : r.decimals[device]),
-        h("td", {class: "number silences"}, r.silences[device]),
-        r.unvalued ? h("td", {class: "number unvalued"}, r.unvalued[device]) : null, h("td", {}, notes.join("; ")));
-  });
+  const heads = [["device"], ["decimal places", "number"], ["silences", "number"]];
+  if (r.unvalued) heads.push(["without a value", "number"]);
+  heads.push(["notes"]);
+  const rows = DEVICES.slice(1).map(
+      (device, i) =>
+          h("tr", {"data-device": device}, h("th", {scope: "row"}, DEVICE_NAMES[i + 1]),
+            h("td", {class: "number decimals"}, r.decimals[device] === null ? "–" : r.decimals[device]),
+            h("td", {class: "number silences"}, r.silences[device]),
+            r.unvalued ? h("td", {class: "number unvalued"}, r.unvalued[device]) : null,
+            h("td", {class: "notes"}, deviceNotes(r, device).join(" "))));
   const words = [
-    "A silence is a stretch of commands to one device, without an answer of it and without a break, that lasts longer than the standard allows. It breaks no rule."
+    "A silence is a time in which the controller asks one device again and again without an answer, longer than the standard allows. It breaks no rule."
   ];
   if (r.unvalued)
     words.push(
-        "unvalued counts the amounts that have no value, since nothing tells how the device is set up; where it is 0, the device's sums lack nothing.");
-  if (r.setup.length) words.push(`setup: what an earlier recording shows of ${r.setup.join(", ")} was taken for true.`);
+        "“Without a value” counts coins, bills and sales whose worth isn't known. If it is 0, the device's sums lack nothing.");
   if (r.without.length)
-    words.push(`without: ${
-        r.without.join(
-            ", ")} left out, so what the machine took or paid in all can't be told from this report if one of them handles money.`);
+    words.push("If a device that is left out handles money, these sums aren't all the money of the machine.");
   return section(
-      "The devices", "devices", table("What each device told of its decimals, and its silences", heads, rows),
-      words.map((w) => h("p", {class: "soft"}, w)));
+      "The devices", "devices", table("Decimal places and silences of each device", heads, rows),
+      words.map((it) => h("p", {class: "soft"}, it)));
 }

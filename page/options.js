@@ -84,8 +84,8 @@ function showSetupFault(fault) {
 function showWay() {
   const joined = by("joined").checked;
   const out = DEVICES.slice(1).filter((it) => by("without-" + it).checked);
-  by("way").textContent =
-      (joined ? "in mid-session" : "from power-on") + (out.length ? ", without " + out.join(", ") : ", all devices");
+  by("way").textContent = (joined ? "machine already running" : "from power-on") +
+      (out.length ? `, without the ${listed(out.map((it) => DEVICE_NAMES[DEVICES.indexOf(it)]))}` : ", all devices");
   by("setups").hidden = !joined;
   for (const device of DEVICES.slice(1)) by("setup-" + device).disabled = by("without-" + device).checked;
   by("again").disabled = !file || isWorking;

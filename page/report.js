@@ -1,8 +1,15 @@
 // The lines of the verdict's text, as values.
 const ACCOUNTS = {
-  "coins-in": {title: "Coins in", device: "changer", owner: "The changer", did: "took coins", counted: "counted"},
-  "bills-in":
-      {title: "Bills in", device: "bill", owner: "The bill validator", did: "stacked bills", counted: "counted"},
+  "coins-in":
+      {title: "Coins in", device: "changer", owner: "The changer", did: "took", worth: " in coins", counted: "counted"},
+  "bills-in": {
+    title: "Bills in",
+    device: "bill",
+    owner: "The validator",
+    did: "stacked",
+    worth: " in bills",
+    counted: "counted"
+  },
   "paid-out": {
     title: "Coins paid out",
     device: "changer",
@@ -13,29 +20,29 @@ const ACCOUNTS = {
   approved: {
     title: "Approved by the reader at 10H",
     device: "cashless",
-    owner: "The reader",
+    owner: "The reader at 10H",
     did: "approved",
     counted: "knows as approved"
   },
   sold: {
     title: "Sold by the reader at 10H",
     device: "cashless",
-    owner: "The reader",
-    did: "booked as sold",
+    owner: "The reader at 10H",
+    did: "booked",
     counted: "counted as sold"
   },
   "approved-2": {
     title: "Approved by the reader at 60H",
     device: "cashless-2",
-    owner: "The reader",
+    owner: "The reader at 60H",
     did: "approved",
     counted: "knows as approved"
   },
   "sold-2": {
     title: "Sold by the reader at 60H",
     device: "cashless-2",
-    owner: "The reader",
-    did: "booked as sold",
+    owner: "The reader at 60H",
+    did: "booked",
     counted: "counted as sold"
   },
 };

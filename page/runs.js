@@ -23,7 +23,8 @@ const MEMORY64 = [0, 97, 115, 109, 1, 0, 0, 0, 5, 3, 1, 4, 1];
 async function start() {
   if (typeof WebAssembly !== "object" || !WebAssembly.validate(Uint8Array.from(MEMORY64))) {
     throw new Error(
-        "This browser can't run the checker: it has no WebAssembly with 64-bit memory (memory64). Chromium, Chrome and Edge have it from 133 on, Firefox from 134 on.");
+        "This browser can't run the checker: it has no WebAssembly with 64-bit memory (memory64). The page was tried in " +
+        "Chromium 156 and Firefox 153 on a computer. On an iPhone it wasn't tried: all browsers there use Apple's engine.");
   }
   return WebAssembly.compile(Uint8Array.from(atob(MODULE), (c) => c.charCodeAt(0)));
 }
@@ -210,12 +211,9 @@ function stop() {
 
 // Shows that there is no verdict, of which file, and why. No earlier answer is left.
 function trouble(words, isButton, ...more) {
-  const verdict = by("verdict");
+  const name = file ? h("p", {class: "soft"}, "Recording: ", nameShown(shownName(file.name))) : null;
   state = null;
-  verdict.className = "card none";
-  verdict.removeAttribute("data-unfollowed");
-  verdict.replaceChildren(h("p", {class: "word"}, "No verdict"), h("p", {}, words, " ", more));
-  if (file) verdict.append(h("p", {class: "soft"}, "Recording: ", nameShown(shownName(file.name))));
+  fillCard("none", "No verdict", words, more.length ? h("p", {}, more) : null, name);
   by("told").replaceChildren();
   settle(isButton);
 }
@@ -223,9 +221,9 @@ function trouble(words, isButton, ...more) {
 // After an answer or a failure: the title, the settings and the live region are of what is shown now, and the card is
 // in sight.
 function settle(isButton) {
-  const word = state?.answer === ANSWERS.YES ? "yes" : state?.answer === ANSWERS.NO ? "no" : "no verdict";
+  const word = state ? answerWord(state) : "no verdict";
   document.title = file ? `${word} – ${shownName(file.name)} – mdbcheck` : "mdbcheck";
-  const said = by("verdict").querySelector(".word").textContent;
+  const said = `${by("verdict").querySelector(".word").textContent}. ${by("lead").textContent}`;
   announce(file ? `${shownName(file.name)}: ${said}` : said);
   showWay();
   reachCard(isButton);

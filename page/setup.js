@@ -8,7 +8,7 @@ function takeSetups(told, name) {
   for (let d = 1; d < 5; d++)
     if (found[d]) {
       by("setup-" + DEVICES[d]).value = found[d];
-      names.push(DEVICES[d]);
+      names.push(DEVICE_NAMES[d]);
     }
   if (names.length) showSetupFault(null);
   return names.length ? `${name} shows the set-up of ${names.join(", ")}.` :

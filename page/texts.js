@@ -5,7 +5,7 @@ const BLAMES = {
   bill: "the bill validator",
   cashless: "the card reader at 10H",
   "cashless-2": "the card reader at 60H",
-  other: "a peripheral that nobody had asked"
+  other: "a device that nobody had asked"
 };
 const number = (n) => String(n).replace(/\B(?=(\d{3})+$)/g, ",");
 const capital = (words) => words[0].toUpperCase() + words.slice(1);

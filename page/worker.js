@@ -84,7 +84,7 @@ function list(skip, place, room) {
       BigInt(at.options), BigInt(at.text), BigInt(size), BigInt(skip), BigInt(at.told), BigInt(place), BigInt(room));
 }
 
-// The lines about a place in the text: up to six in front of it, that one, and up to four behind it.
+// The lines about a place in the text: up to 40 before it (a whole block and more), that one, and up to four after it.
 function lines(offset, row) {
   const text = new Uint8Array(call.memory.buffer, at.text, size), found = [], FAR = 65536, LONG = 200;
   const cut = (from, to) => {
@@ -93,7 +93,7 @@ function lines(offset, row) {
   };
   let to = offset;
   const low = Math.max(0, offset - FAR);
-  while (to > low && found.length < 6) {
+  while (to > low && found.length < 40) {
     let from = to - 1;
     while (from > low && text[from - 1] !== 10) from--;
     if (from === low && low > 0) break;

@@ -43,7 +43,7 @@ READ = """(() => {
   const text = (it) => it ? it.textContent : null, card = document.getElementById("verdict"), all = (q) => [...document.querySelectorAll(q)];
   const stale = document.getElementById("stale"), focus = document.activeElement;
   return JSON.stringify({
-    card: card.className, word: text(card.querySelector(".word")), verdict: text(card), name: text(document.getElementById("name")),
+    card: card.className, word: text(card.querySelector(".word")), lead: text(document.getElementById("lead")), verdict: text(card), name: text(document.getElementById("name")),
     text: text(document.getElementById("text")), command: text(document.getElementById("command")), told: text(document.getElementById("told")),
     title: document.title, isStale: !stale.hidden, isWorking: document.getElementById("main").getAttribute("aria-busy") === "true",
     isState: state !== null, isWay: state !== null && card.textContent.includes(wayWords(state)), again: !document.getElementById("again").disabled,
@@ -217,10 +217,10 @@ class Orders:
         if name is None:
             want(came["name"] is None and came["title"] == "mdbcheck" and not came["again"], f"nothing was given: {came['verdict']!r}")
             return "nothing"
-        word = {"card yes": "yes", "card no": "no"}.get(came["card"], "no verdict")
+        word = {"card yes": "yes", "card no": "no", "card limit": "not followed"}.get(came["card"], "no verdict")
         want(came["name"] == name, f"the card names {came['name']}: {came['verdict']!r}")
         want(came["title"] == f"{word} – {name} – mdbcheck", f"the card is {came['card']}, the title {came['title']!r}")
-        want(came["announced"] == f"{name}: {came['word']}", f"announced is {came['announced']!r}")
+        want(came["announced"] == f"{name}: {came['word']}. {came['lead']}", f"announced is {came['announced']!r}")
         want(not came["inert"] and came["again"], "the controls are off")
         words = self.value("window.noted ?? null")
         is_wrong = any("zz" in it for it in words or [])
@@ -241,7 +241,7 @@ class Orders:
             want(came["badRow"] and came["badRow"] in err, f"{came['verdict']!r}, wanted {err!r}")
         else:
             want(came["text"] == text, f"{words}: the text is {came['text']!r}, wanted {text!r}")
-            want(word == text.split()[1], f"the card is {came['card']}")
+            want(("no" if word == "not followed" else word) == text.split()[1], f"the card is {came['card']}")
 
 
 def button(words):
@@ -332,10 +332,10 @@ def try_started_before(page):
         page.choose(name)
         came = page.settled()
         page.compare(came)
-        want("Was the machine running already" in came["late"] and "it would be a yes" in came["late"], f"{name}: {came['late']!r}")
+        want("Was the machine already running" in came["lead"] and "it would be a yes" in came["late"], f"{name}: {came['late']!r}")
         want("broke the protocol here" not in came["verdict"], f"{name}: {came['verdict']!r}")
         want(page.program(name, ["--joined"])[0] == 0, name)
-        page.press(button("Check as one that was running"))
+        page.press(button("Check as already running"))
         came = page.settled()
         page.compare(came)
         want(came["card"] == "card yes" and came["focus"] == "verdict" and 0 <= came["top"] < came["high"], f"{name}: {came['focus']}, {came['top']}")

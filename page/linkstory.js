@@ -1,0 +1,288 @@
+// The story of a row that breaks a rule of the link, or at which the checker stops following: from the rows of the file
+// about it, since no act is read from there on.
+const LINK_NEXT = {
+  Order: "Check the file first: the unit of its times, the order of its rows, the recorder's clock.",
+  Early: "Check the recorder first: the unit of its times, and where it takes them.",
+  Late: "Check the recorder first: whether it takes the time at the start of a word on both lines.",
+  Spacing: "Check the recorder first: the unit of its times, and whether it lost a word.",
+  Break: "Check the power supply, the plugs and the controller's start first.",
+  Speaker: "Check the recorder first: whether it lost a word, and which line is which.",
+  Mode: "Check the recorder's ninth bit first.",
+  Answer: "Check whether the recorder lost a word, and whether two devices have the same address.",
+  Same: "Send the maker of the device this recording, if the recorder is right.",
+  Sum: "Check the cable, its ground and the recorder first. See how often it happens in a day.",
+  Length: "Check whether the recorder lost a word. Then ask which version of the standard the device follows.",
+  Message: "Ask the maker of the device which version of the standard it follows.",
+};
+const LINK_LIMITS = {
+  Late: "An answer starts at most 0.006296 s after the word before it.",
+  Spacing: "Words of one block start at most 0.002296 s apart.",
+  Break: "A break lasts at least 0.1 s.",
+};
+
+// The rows of the file about the one that cannot be, as far as they are rows.
+function rowsNear(it) {
+  return it.lines.map((l) => ({row: l.row, fields: shown(l).split(",")}))
+      .filter(({fields}) => fields.length === 3 && /^\d+$/.test(fields[0]) && /^[MSB]$/.test(fields[1]))
+      .map(
+          ({row, fields: [at, line, value]}) =>
+              ({row, at: Number(at), line, value, word: line === "B" ? NaN : parseInt(value, 16)}));
+}
+
+// The block that a row belongs to, as far as its rows are at hand: back to the first of its words.
+function blockOf(near, row) {
+  const end = near.findIndex((r) => r.row === row);
+  if (end < 0) return [];
+  let from = end;
+  const isFirst = (i) => near[i].line === "M" ? near[i].word > 255 : near[i - 1]?.line !== "S";
+  while (from > 0 && near[from - 1].line === near[end].line && !isFirst(from)) from--;
+  const isWhole = near[from].line === "M" ? near[from].word > 255 : from > 0;
+  return isWhole ? near.slice(from, end + 1) : [];
+}
+
+const bytesOf = (block) => block.map((r) => r.word & 255);
+const isMarked = (r) => r.word > 255;
+const lineName = (r) => r.line === "M" ? "controller" : "device";
+
+// The last command that was said whole before the row: the act, or -1.
+function lastAsk(it) {
+  const acts = it.list;
+  for (let i = acts.count - 1; i >= 0 && i > acts.count - 20; i--)
+    if (acts.kind(i) === ASK) return i;
+  return -1;
+}
+
+// The command that was asked last, in words, with its rows.
+function askedWords(it, i) {
+  const acts = it.list;
+  return i < 0 ? ["a command"] : [commandName(acts.bytes(i)), ...inRows(actRows(acts, i))];
+}
+
+const senderOf = (blame) => blame === "controller" ? "controller" :
+    blame === "other"                              ? "device" :
+                                                     SHORT_NAMES[DEVICES.indexOf(blame)];
+
+function linkStory(it) {
+  const {rule, blame} = it.report, near = rowsNear(it), here = near.find((r) => r.row === it.row);
+  const before = near.find((r) => r.row === it.row - 1), told = here ? linkFacts(it, near, here, before) : [];
+  if (LINK_LIMITS[rule]) told.push(fact(LINK_LIMITS[rule]));
+  told.push(...linkCauses(it, here));
+  if (blame !== "other")
+    told.push(nextStep(LINK_NEXT[rule]));
+  else
+    told.push(nextStep("Check first which line is which, and whether the recording begins in the middle of a block."));
+  return told;
+}
+
+// What is likely where a rule of the link is broken in the first rows: the file.
+function linkCauses(it, here) {
+  const {rule} = it.report, unit = here ? unitWords(it, here) : null;
+  if (unit) return [likely(`Most likely the times aren't microseconds, but ${unit}, and nobody is to blame.`)];
+  if (isPerhapsExchanged(it))
+    return [likely("Most likely lines M and S are exchanged, or this is noise before the first block.")];
+  if (it.row === 1 && rule === "Mode")
+    return [likely("Most likely the recording begins inside a block, or the recorder loses the ninth bit.")];
+  return [];
+}
+
+// The unit that the times may have, by how far the first rows stand apart: words of a block start 1,146 microseconds
+// apart.
+function unitWords(it, here) {
+  const before = rowsNear(it).find((r) => r.row === it.row - 1), gap = before ? here.at - before.at : NaN;
+  if (it.row > 3 || before?.line === "B") return null;
+  if (it.report.rule === "Order") return gap === 0 ? "whole seconds" : null;
+  if (it.report.rule === "Early") return gap < 100 ? "milliseconds" : null;
+  return it.report.rule === "Spacing" && gap > 9000 ? "nanoseconds or tenths of a microsecond" : null;
+}
+
+// Whether the two lines may be exchanged: the recording begins with a row of line S.
+function isPerhapsExchanged(it) {
+  const [first] = rowsNear(it);
+  return it.answer === ANSWERS.NO && it.report.rule === "Speaker" && it.row === 1 && first?.line === "S";
+}
+
+function linkFacts(it, near, here, before) {
+  const {rule, blame} = it.report, sender = senderOf(blame), at = rowsAt(here.row);
+  const gap = before ? here.at - before.at : NaN, ask = lastAsk(it), block = blockOf(near, here.row);
+  switch (rule) {
+    case "Order":
+      return before ? [fact(capitalRow(at), ` doesn't start after `, rowsAt(before.row), ".")] : [];
+    case "Early":
+      return before ? earlyFacts(here, before, at) : [];
+    case "Spacing":
+      return before ? [fact(capitalRow(at), ` starts ${seconds(gap)} after `, rowsAt(before.row), ".")] : [];
+    case "Late":
+      return lateFacts(it, ask, sender, gap, at, before);
+    case "Break":
+      return [fact("The break", ...inRows(at), ` lasts ${seconds(Number(here.value))}.`)];
+    case "Speaker":
+      return speakerFacts(it, here, sender, ask);
+    case "Mode":
+      return [fact(
+          `The controller sent the word ${here.value}`, ...inRows(at),
+          isMarked(here) ? ". It is marked as the first word of a block, inside a command." :
+                           ". It isn't marked as the first word of a block, and only such a word may come there.")];
+    case "Sum":
+      return sumFacts(sender, block, near, it, ask);
+    case "Same":
+      return sameFacts(it, here, sender);
+    default:
+      return answerFacts(it, here, block, sender, ask);
+  }
+}
+
+const capitalRow = (at) => ({...at, isCapital: true});
+
+// A row that starts too soon after the row before it, or after the end of a break.
+function earlyFacts(here, before, at) {
+  const length = before.line === "B" ? Number(before.value) : 0, gap = here.at - before.at - length;
+  if (gap < 0) return [fact(capitalRow(at), " starts before the end of the break", ...inRows(rowsAt(before.row)), ".")];
+  const after = length ? ["the end of the break in ", rowsAt(before.row)] : [rowsAt(before.row)];
+  return [fact(capitalRow(at), ` starts ${seconds(gap)} after `, ...after, ", which is too soon.")];
+}
+
+function lateFacts(it, ask, sender, gap, at, before) {
+  if (it.report.blame === "controller")
+    return [fact(
+        `The controller acknowledged`, ...inRows(at), ` ${seconds(gap)} after the answer of the device ended`,
+        ...inRows(rowsAt(before.row)), ".")];
+  return [fact(`The ${sender} answered `, ...askedWords(it, ask), ` after ${seconds(gap)}`, ...inRows(at), ".")];
+}
+
+function speakerFacts(it, here, sender, ask) {
+  const at = rowsAt(here.row);
+  if (it.report.blame === "other")
+    return [fact(
+        capitalRow(at),
+        " stands on the line of the devices, and the controller had asked none that the checker follows.")];
+  if (here.line === "M")
+    return [fact(
+        `The controller sent the word ${here.value}`, ...inRows(at), " while the answer to ", ...askedWords(it, ask),
+        " could still go on.")];
+  return [fact(
+      `A word came on the line of the devices`, ...inRows(at), ` out of turn. The last command was `,
+      ...askedWords(it, ask), `, so it is put down to the ${sender}.`)];
+}
+
+function sumFacts(sender, block, near, it, ask) {
+  const bytes = bytesOf(block),
+        what = sender === "controller" ? "command of the controller" : `answer of the ${sender} to`;
+  if (block.length < 2)
+    return [fact("The last byte", ...inRows(rowsAt(it.row)), ` of a ${sender}'s block isn't the sum of the others.`)];
+  const sum = bytes.slice(0, -1).reduce((a, b) => a + b, 0) & 255,
+        asked = sender === "controller" ? [] : [" ", ...askedWords(it, ask)];
+  return [fact(
+      `The bytes of the ${what}`, ...asked, ` add up to ${hex(sum)}`, ...inRows(rowsAt(block[0].row, block.at(-2).row)),
+      `, and its last byte says ${hex(bytes.at(-1))}`, ...inRows(rowsAt(it.row)), ".")];
+}
+
+// A repeat that differs: the word, and the one that it repeats.
+function sameFacts(it, here, sender) {
+  const acts = it.list, block = blockOf(rowsNear(it), here.row);
+  let i = acts.count - 1;
+  while (i >= 0 && acts.kind(i) !== REPLY && acts.kind(i) !== ASK) i--;
+  const was = i >= 0 && acts.kind(i) === REPLY && block.length ? acts.first(i) + block.length - 1 : 0;
+  if (!was || was > acts.last(i))
+    return [fact(`Asked to repeat its answer, the ${sender} sent another word`, ...inRows(rowsAt(here.row)), ".")];
+  const word = (was === acts.last(i) ? "1" : "0") + hex(acts.byte(i, block.length - 1));
+  return [fact(
+      "Asked to repeat its answer", ...inRows(actRows(acts, i)), `, the ${sender} sent the word ${here.value}`,
+      ...inRows(rowsAt(here.row)), `. The first time it was ${word}`, ...inRows(rowsAt(was)), ".")];
+}
+
+function answerFacts(it, here, block, sender, ask) {
+  const {rule} = it.report, rows = block.length ? rowsAt(block[0].row, here.row) : rowsAt(here.row);
+  if (sender === "controller")
+    return [fact(
+        `After a data block the controller sent ${here.value}`, ...inRows(rowsAt(here.row)),
+        ". It may send ACK, NAK or RET there.")];
+  const how = {
+    Length: block.length ? ` has ${counted(block.length, "byte")} with its sum, which is no length of such an answer` :
+                           " has a wrong length",
+    Message: " contains something that can't be read",
+  }[rule] ??
+      " is no answer to it";
+  return [fact(`What the ${sender} sent after `, ...askedWords(it, ask), how, ...inRows(rows), blockWords(block), ".")];
+}
+
+// A block's bytes, or its word where it is only one.
+function blockWords(block) {
+  if (!block.length) return "";
+  if (block.length === 1) return `: ${block[0].value}`;
+  return `: ${bytesOf(block.slice(0, 12)).map(hex).join(" ")}${block.length > 12 ? " .." : ""}`;
+}
+
+// Profile ----
+
+// The device that the checker stops following: the one that is blamed, or the one that the command is for.
+function unfollowedDevice(it) {
+  const {blame} = it.report;
+  if (blame !== "controller") return Math.max(0, DEVICES.indexOf(blame));
+  const block = blockOf(rowsNear(it), it.row);
+  return block.length ? {1: 1, 2: 3, 6: 2, 12: 4}[block[0].word >> 3 & 31] ?? 0 : 0;
+}
+
+// What isn't followed, in words: {what, facts}.
+function unfollowed(it) {
+  const d = unfollowedDevice(it), name = DEVICE_NAMES[d] || "device", block = blockOf(rowsNear(it), it.row);
+  const rows = block.length ? rowsAt(block[0].row, it.row) : rowsAt(it.row), bytes = bytesOf(block);
+  const level = d > 2 && it.report.blame !== "controller" ? greatestLevel(bytes) : 0;
+  if (level > 1) return levelWords(it, d, level, rows);
+  const isCommand = it.report.blame === "controller", what = isCommand ? commandNamed(bytes) : messageNamed(d, bytes);
+  const who = isCommand ? `controller sends the ${name} ` : `${name} sends `;
+  return {
+    what: `the ${who}${what}`,
+    facts: [fact(
+        `The ${who}${what}`, ...inRows(rows),
+        `. The checker doesn't follow this ${isCommand ? "command" : "message"}.`)]
+  };
+}
+
+// A command that isn't followed: its bytes so far, and what it belongs to.
+function commandNamed(bytes) {
+  if (!bytes.length) return "a command that isn't followed";
+  return `the command ${bytes.map(hex).join(" ")}${bytes[0] === 0x0F ? " of alternative payout" : ""}`;
+}
+
+// The greatest level that a reader's reply tells.
+function greatestLevel(bytes) {
+  const levels = readerMessages(Uint8Array.from(bytes)).filter((m) => m[0] === 1 && m.length === 8).map((m) => m[1]);
+  return Math.max(0, ...levels);
+}
+
+// The first message of a reply that isn't followed.
+function messageNamed(d, bytes) {
+  const isFile = (b) => b >= 0x1B && b <= 0x1F,
+        messages = d > 2 ? readerMessages(bytes).map((m) => m[0]) : bytes.slice(0, -1);
+  const found = d > 2 ? messages.find((b) => b > 11) :
+      d === 2         ? messages.find((b) => isFile(b) || b >= 0xB0 && b <= 0xBF || b >= 0xD0) :
+                        messages.find(isFile);
+  if (found === undefined) return "a message that isn't followed";
+  const kind = d === 2 && found >> 4 === 0xB ? " of bill recycling" : d < 3 && isFile(found) ? " of file transfer" : "";
+  return `the message ${hex(found)}${kind}`;
+}
+
+function levelWords(it, d, level, rows) {
+  const acts = it.list, address = d === 3 ? 0x11 : 0x61, facts = [];
+  let i = acts.count - 1;
+  while (i >= 0 && !(acts.kind(i) === ASK && acts.byte(i, 0) === address && acts.byte(i, 1) === 0)) i--;
+  const asked = i < 0 ?
+      "." :
+      [", and so does the controller, with level ", String(acts.byte(i, 2)), ...inRows(actRows(acts, i)), "."];
+  facts.push(fact(
+      `The ${DEVICE_NAMES[d]} reports feature level ${level} in its answer to SETUP`, ...inRows(rows),
+      ...[asked].flat()));
+  facts.push(fact("From level 2 on the messages of a session have other forms, which the checker doesn't know."));
+  return {what: `the ${DEVICE_NAMES[d]} uses feature level ${level}`, facts};
+}
+
+function profileStory(it) {
+  const d = unfollowedDevice(it), name = DEVICE_NAMES[d];
+  return [
+    ...unfollowed(it).facts,
+    nextStep(
+        d ? `If your question is about another device, leave out the ${name} and check again.` :
+            "If your question is about another device, leave out the device that this row is of, and check again."),
+    nextStep("If it is about this device, switch the feature off and record again.")
+  ];
+}

@@ -1,0 +1,216 @@
+// The story of a recording, told by its acts. A sentence is {kind, parts}: a fact is proved by the acts or by the
+// report, a likely one isn't, and next says what to do. A part is a text, or the rows that it rests on.
+const fact = (...parts) => ({kind: "fact", parts: parts.flat()});
+const likely = (...parts) => ({kind: "likely", parts: parts.flat()});
+const nextStep = (...parts) => ({kind: "next", parts: parts.flat()});
+const rowsAt = (first, last = first) => ({first, last});
+const actRows = (acts, i) => rowsAt(acts.first(i), acts.last(i));
+const inRows = (...rows) => [" (", ...rows.flatMap((it, i) => i ? [", ", it] : [it]), ")"];
+
+// Names in a story: of a device, and of whom a no is about.
+const SHORT_NAMES = ["", "changer", "validator", "reader at 10H", "reader at 60H"];
+const theDevice = (d) => "the " + SHORT_NAMES[d];
+
+const listed = (words) =>
+    words.length < 2 ? words.join("") : `${words.slice(0, -1).join(", ")} and ${words[words.length - 1]}`;
+const counted = (n, one, many = one + "s") => `${number(n)} ${n === 1 ? one : many}`;
+
+function storyOf(it) {
+  if (it.answer === ANSWERS.YES) return yesStory(it);
+  if (it.answer !== ANSWERS.NO) return [];
+  const {rule} = it.report;
+  if (rule === "Profile") return profileStory(it);
+  return ["Changer", "Bill", "Cashless"].includes(rule) ? deviceStory(it) : linkStory(it);
+}
+
+// A yes: what isn't certain of the money, where the books differ, who was silent, and what has no value.
+function yesStory(it) {
+  const told = [];
+  for (const [name, a] of Object.entries(it.report.accounts)) {
+    const d = it.report.decimals[ACCOUNTS[name].device];
+    if (isDiffering(a)) told.push(...differingStory(it, name, a, d));
+    if (isOpen(a)) told.push(...openStory(it, name, a, d));
+  }
+  told.push(...silenceStory(it), ...valuelessStory(it));
+  if (!told.length) told.push(...agreedStory(it));
+  return told;
+}
+
+const isDiffering = (a) => a.difference[0] > 0n || a.difference[1] < 0n;
+const isOpen = (a) => ["device", "controller", "difference"].some((side) => a[side][0] !== a[side][1]);
+const widthOf = ([least, greatest]) => greatest - least;
+
+// Whether an entry of money is of an account.
+function isOf(name, m) {
+  const account = ACCOUNTS[name];
+  if (DEVICES[m.device] !== account.device) return false;
+  if (name === "coins-in") return /deposited/.test(m.what);
+  if (name === "paid-out") return /dispensed|DISPENSE/.test(m.what);
+  if (name === "bills-in") return /stacked/.test(m.what);
+  return name.startsWith("approved") ? /approved/.test(m.what) : /success/.test(m.what);
+}
+
+// What an entry of money was, in words.
+function entryWords(m) {
+  const amount = m.units === null ? "without a known value" : money(m.units, m.decimals);
+  if (/success/.test(m.what)) return `the sale of ${m.type}`;
+  if (/approved/.test(m.what)) return `the approval of ${amount}`;
+  if (/DISPENSE/.test(m.what)) return `the order to pay out ${amount}`;
+  if (/dispensed/.test(m.what)) return `the payout of ${amount} by hand`;
+  return m.device === 2 ? `a bill of ${amount}` : `a coin of ${amount}`;
+}
+
+const isSame = (a, b) => a.what === b.what && a.type === b.type && a.units === b.units && a.count === b.count;
+
+// Pairs of entries of an account that follow each other and are the same: the second may repeat the first.
+function repeated(entries) {
+  const pairs = [];
+  for (let i = 1; i < entries.length; i++)
+    if (isSame(entries[i - 1], entries[i]) && entries[i].last !== entries[i - 1].last)
+      pairs.push([entries[i - 1], entries[i]]);
+  return pairs;
+}
+
+const SORTS = {
+  "coins-in": "coin",
+  "bills-in": "bill",
+  "paid-out": "payout",
+  approved: "approval",
+  "approved-2": "approval",
+  sold: "sale",
+  "sold-2": "sale",
+};
+
+const COUNT_NEXT = {
+  "coins-in": "Count the tubes and the cash box.",
+  "bills-in": "Count the bills in the stacker.",
+  "paid-out": "Count the tubes.",
+};
+const SALE_NEXT = "Ask the card company what it booked at that time.";
+
+// An account of which a bound is open: how much, and which reports leave it open.
+function openStory(it, name, a, d) {
+  const width = [a.device, a.controller, a.difference].map(widthOf).reduce((x, y) => x > y ? x : y);
+  const entries = it.found.money.filter((m) => isOf(name, m) && m.units !== 0);
+  const pairs = repeated(entries), told = [];
+  const only = pairs.length === 1 && BigInt(pairs[0][0].units ?? -1) === width && it.hole < 0;
+  if (only)
+    told.push(fact(`${money(width, d)} isn't certain: `, ...pairWords(name, pairs[0])), fact(bookWords(name, a, d)));
+  else {
+    told.push(fact(`Up to ${money(width, d)} isn't certain. `, bookWords(name, a, d)));
+    for (const pair of pairs.slice(0, 3)) told.push(likely("Perhaps this is why: ", ...pairWords(name, pair)));
+    if (pairs.length > 3)
+      told.push(likely(
+          `${counted(pairs.length - 3, "more pair")} of such reports are in the table of coins, bills and sales.`));
+    if (!pairs.length) told.push(...resetStory(it, entries));
+    if (it.way.bytes[0] && entries.length) told.push(likely(...earlierWords(entries[0])));
+  }
+  told.push(nextStep(COUNT_NEXT[name] ?? SALE_NEXT));
+  return told;
+}
+
+function pairWords(name, [one, two]) {
+  const isOrder = /DISPENSE|success/.test(one.what), sort = /DISPENSE/.test(one.what) ? "order" : SORTS[name];
+  return [
+    `${entryWords(one)} was ${isOrder ? "sent" : "reported"} in `, rowsAt(one.first, one.last), " and again in ",
+    rowsAt(two.first, two.last), `. It was one ${sort} or two.`
+  ];
+}
+
+// The machine was already running: the first report may repeat one from before.
+function earlierWords(m) {
+  return [
+    `Perhaps this is why: ${entryWords(m)}`, inRows(rowsAt(m.first, m.last)),
+    " is the first in the recording, and may have been counted before it began."
+  ].flat();
+}
+
+function bookWords(name, a, d) {
+  const {owner, did, counted} = ACCOUNTS[name];
+  return `${owner} ${did} ${rangeWords(a.device, d)}; the controller ${counted} ${rangeWords(a.controller, d)}.`;
+}
+
+// Entries that were answered by a message of a reset: whether the device kept them isn't certain.
+function resetStory(it, entries) {
+  const told = [];
+  for (const m of entries) {
+    const reset = it.found.resets.find((r) => r.device === m.device && r.what !== "RESET" && r.first === m.last + 1);
+    if (reset)
+      told.push(likely(
+          `Perhaps this is why: the ${SHORT_NAMES[m.device]} answered ${entryWords(m)}`,
+          inRows(rowsAt(m.first, m.last)), " with the report that it was reset",
+          inRows(rowsAt(reset.first, reset.last)), ". Whether it had booked it by then isn't certain."));
+  }
+  return told.slice(0, 3);
+}
+
+// An account whose books differ whatever was lost: by how much, and whether a report at the end explains it.
+function differingStory(it, name, a, d) {
+  const [low, high] = a.difference, abs = (n) => n < 0n ? -n : n, {title} = ACCOUNTS[name];
+  const device = DEVICES.indexOf(ACCOUNTS[name].device);
+  const [least, most] = low < 0n ? [abs(high), abs(low)] : [low, high];
+  const amount = least === most ? money(least, d) : `${money(least, d)} to ${money(most, d)}`;
+  const who = small(ACCOUNTS[name].owner);
+  const told = [fact(`${title}: the books differ for certain. ${
+      low < 0n ? `The controller counted ${amount} more than ${who}` :
+                 `${capital(who)} counted ${amount} more than the controller`}.`)];
+  const last = it.found.money.filter((m) => isOf(name, m)).at(-1);
+  if (!last || last.acknowledged)
+    return [...told, nextStep(`Send the makers of the controller and of the ${SHORT_NAMES[device]} this recording.`)];
+  return [
+    ...told,
+    likely(
+        `Most likely this is why: ${entryWords(last)}`, inRows(rowsAt(last.first, last.last)),
+        " has no acknowledgement in this recording."),
+    nextStep("See in a recording that goes on longer whether it was counted later.")
+  ];
+}
+
+function silenceStory(it) {
+  const told = [];
+  for (const [i, device] of DEVICES.entries()) {
+    if (!device || !it.report.silences[device]) continue;
+    const all = it.found.silences.filter((q) => q.device === i), q = all[0], name = capital(DEVICE_NAMES[i]);
+    if (!q)
+      told.push(fact(`The ${DEVICE_NAMES[i]} was silent ${counted(it.report.silences[device], "time")}.`));
+    else
+      told.push(fact(
+          `The ${small(name)} gave no answer for ${seconds(q.to - q.from)}: from ${seconds(q.from)} to ${
+              seconds(q.to)}, asked ${counted(q.asks, "time")}`,
+          inRows(rowsAt(q.first, q.last)),
+          all.length > 1 ? `. It was silent ${counted(it.report.silences[device], "time")} in all.` : "."));
+    told.push(nextStep(`Look at the power and the plug of the ${SHORT_NAMES[i]}, and at what it was doing then.`));
+  }
+  return told;
+}
+
+// Amounts that have no value: nothing in the recording, or given with it, says what they are worth.
+function valuelessStory(it) {
+  const told = [];
+  for (const [i, device] of DEVICES.entries()) {
+    if (!device || it.report.without.includes(device)) continue;
+    const without = it.found.money.filter((m) => m.device === i && m.units === null && !m.noAmount);
+    const n = it.report.unvalued?.[device] ?? 0;
+    if (!n && !without.length) continue;
+    const many = n || without.length,
+          first = without.length ? [", the first in ", rowsAt(without[0].first, without[0].last)] : [];
+    told.push(fact(
+        `${counted(many, "amount")} of the ${DEVICE_NAMES[i]} ${many === 1 ? "has" : "have"} no known value, and ${
+            many === 1 ? "is" : "are"} in no sum`,
+        many === 1 && without.length ? inRows(rowsAt(without[0].first, without[0].last)) : first, "."));
+    told.push(nextStep("Give an earlier recording of a start of this machine: it shows the values."));
+  }
+  return told;
+}
+
+// Nothing is open: what both books say.
+function agreedStory(it) {
+  const sums =
+      Object.entries(it.report.accounts)
+          .filter(([, a]) => !isZero(a))
+          .map(
+              ([name, a]) =>
+                  `${small(ACCOUNTS[name].title)} ${money(a.device[0], it.report.decimals[ACCOUNTS[name].device])}`);
+  if (!sums.length) return [fact("No money was reported.")];
+  return [fact(`The controller and the devices agree for certain: ${listed(sums)}.`)];
+}
