@@ -126,7 +126,7 @@ function isMeant(acts, i, query) {
 }
 
 // What the fields above the list ask for.
-function asked() {
+function askedActs() {
   const value = (id) => by(id).value;
   return {
     device: Number(value("act-device")),
@@ -148,7 +148,7 @@ function isFound(it, i, {device, kind, isMoney, query}) {
 // The acts that the fields above the list find: `then` is called when they are drawn. Long lists are searched piece by
 // piece.
 async function find(it) {
-  const wanted = asked(), mine = it.search = {}, hits = [];
+  const wanted = askedActs(), mine = it.search = {}, hits = [];
   let hidden = 0, until = performance.now() + SEARCH_PIECE;
   it.quiet ??= quietPolls(it);
   for (let i = 0; i < it.list.count; i++) {
