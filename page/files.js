@@ -93,7 +93,7 @@ async function checkAll(files) {
   by("files").scrollIntoView({block: "start"});
   for (const [i, file] of files.entries()) {
     by("files-told").textContent = `${i + 1} of ${files.length}: ${shownName(file.name)}`;
-    const told = await check(file, way).catch((fault) => fault);
+    const told = await rowsUnasked(file).then((rows) => check(rows, way)).catch((fault) => fault);
     if (mine.isStopped) break;
     fillLine(lines[i], told);
     counts[lines[i].dataset.verdict] = (counts[lines[i].dataset.verdict] ?? 0) + 1;

@@ -31,7 +31,7 @@ const PROGRAM_WORDS = {
 // Files of rows that this page has made, with what they were made from: they need no import.
 const madeFiles = new WeakMap();
 // The import that is asked about; the number of the newest.
-let asked = null, importTurn = 0;
+let openImport = null, importTurn = 0;
 
 // A worker for one file. What it answers has the number of what it was asked.
 class Importer {
@@ -85,7 +85,7 @@ class Importer {
 // was asked goes on with `then`, which is given the rows.
 async function recordingOf(file, then = run) {
   if (madeFiles.has(file)) return file;
-  if (asked?.file === file && asked.then === then) return null;
+  if (openImport?.file === file && openImport.then === then) return null;
   closeImport();
   const turn = importTurn, importer = new Importer(file);
   const found = await importer.ask({work: "known"});
@@ -93,29 +93,46 @@ async function recordingOf(file, then = run) {
     importer.end();
     return turn === importTurn ? file : null;
   }
-  asked = {file, then, importer, found, format: null, look: {}, answer: null, words: ""};
-  if (found.kind === "quoted") return unquoted(asked);
+  openImport = {file, then, importer, found, format: null, look: {}, answer: null, words: ""};
+  if (found.kind === "quoted") return unquoted(openImport);
   if (found.kind === "other") {
-    showOther(asked);
+    showOther(openImport);
     return null;
   }
   const format = found.kind === "unknown" ? null : found.kind;
-  asked.words = `${capital(kindWords(format))}. Answer what is asked above, and press “Import and check”.`;
+  openImport.words = `${capital(kindWords(format))}. Answer what is asked above, and press “Import and check”.`;
   await takeAs(format);
   return format ? null : file;
 }
 
+// The rows that a file holds, where nothing has to be asked. Nothing is shown.
+async function rowsUnasked(file) {
+  const importer = new Importer(file);
+  try {
+    const {kind, words} = await importer.ask({work: "known"});
+    if (kind === "other") throw new Error(`this is ${words}`);
+    if (kind in FORMATS) throw new Error(`${kindWords(kind)}. Open it to import it`);
+    if (kind !== "quoted") return file;
+    const {refused, file: rows} =
+        await importer.ask({work: "import", format: "plain", options: {}, name: rowsName(file)});
+    if (refused) throw new Error(refused);
+    return rows;
+  } finally {
+    importer.end();
+  }
+}
+
 function closeImport() {
   importTurn++;
-  asked?.importer.end();
-  asked = null;
+  openImport?.importer.end();
+  openImport = null;
   by("import").hidden = true;
   by("import").replaceChildren();
 }
 
 // There is no verdict yet: the card says so, and the panel has the focus.
 function askToImport() {
-  trouble(asked?.words ?? "Another file was chosen before this one was read. Choose this one again.", false);
+  trouble(openImport?.words ?? "Another file was chosen before this one was read. Choose this one again.", false);
   by("import-title")?.focus();
 }
 
@@ -147,7 +164,7 @@ function showOther(it) {
 // A recording with quotes: the same rows without them, as a file.
 async function unquoted(it) {
   const answer = await it.importer.ask({work: "import", format: "plain", options: {}, name: rowsName(it.file)});
-  if (it !== asked) return null;
+  if (it !== openImport) return null;
   if (answer.refused) {
     it.words = `The page can't read ${answer.refused}`;
     showImport("The page can't read this recording", h("p", {}, h("code", {class: "refused"}, answer.refused)));
@@ -165,11 +182,11 @@ const rowsName = (file) => savedName({file}, "-rows.csv");
 
 // Takes the file that is asked about as one of a format, and shows the fields of that.
 async function takeAs(format) {
-  const it = asked;
+  const it = openImport;
   it.format = format;
   it.answer = null;
   it.look = format ? await it.importer.ask({work: "look", kind: format}) : {};
-  if (it !== asked) return;
+  if (it !== openImport) return;
   drawImport(it);
   if (format) await showFirstRows();
 }
@@ -346,7 +363,7 @@ function importCommand({format, file}, options) {
 
 // Shows the first rows by what stands in the fields, or what is asked.
 async function showFirstRows() {
-  const it = asked, options = importOptions(it), asks = asksOf(it, options), mine = it.preview = {};
+  const it = openImport, options = importOptions(it), asks = asksOf(it, options), mine = it.preview = {};
   it.answer = null;
   const isOld = it.isChecked ? "The answer below is of rows that were made with other settings. Import again." : "";
   by("import-told").replaceChildren(isOld);
@@ -359,7 +376,7 @@ async function showFirstRows() {
     return;
   }
   const first = await it.importer.ask({work: "preview", format: it.format, options});
-  if (it !== asked || it.preview !== mine) return;
+  if (it !== openImport || it.preview !== mine) return;
   by("import-first").replaceChildren(...firstRows(first));
 }
 
@@ -418,12 +435,12 @@ function stopImport(it) {
 
 // The whole import by what stands in the fields; null where another file came in between.
 async function importAll() {
-  const it = asked, {preview} = it, told = by("import-told");
+  const it = openImport, {preview} = it, told = by("import-told");
   if (it.answer) return it.answer;
   const bar = h("progress", {max: 1, value: 0, "aria-label": "Importing"}), options = importOptions(it);
   told.replaceChildren("Importing ", bar, " ", button("import-stop", "Stop", () => stopImport(it)));
   canImport(false);
-  const isNow = () => it === asked && it.preview === preview;
+  const isNow = () => it === openImport && it.preview === preview;
   try {
     const answer = await it.importer.ask(
         {work: "import", format: it.format, options, name: rowsName(it.file)}, (part) => bar.value = part);
@@ -463,7 +480,7 @@ function toldOf(it, answer) {
 }
 
 async function importAndCheck() {
-  const it = asked, answer = await importAll();
+  const it = openImport, answer = await importAll();
   if (!answer) return;
   it.isChecked = !answer.refused;
   if (!answer.refused)
@@ -497,8 +514,8 @@ function saveFile(file) {
 async function takeQuotesOff() {
   const given = file;
   closeImport();
-  asked = {file: given, then: run, importer: new Importer(given), found: {kind: "quoted"}, words: ""};
-  const rows = await unquoted(asked);
+  openImport = {file: given, then: run, importer: new Importer(given), found: {kind: "quoted"}, words: ""};
+  const rows = await unquoted(openImport);
   if (rows)
     run(rows);
   else

@@ -95,6 +95,14 @@ def in_script(text):
     return json.dumps(text, ensure_ascii=False).replace("</", "<\\/").replace("<!--", "<\\!--")
 
 
+def want_names_once(parts):
+    """Ends the making where two scripts declare one name: the browser would run none of them."""
+    names = re.findall(r"^(?:const|let|class|(?:async )?function) (\w+)", "\n".join(parts), flags=re.M)
+    twice = sorted({name for name in names if names.count(name) > 1})
+    if twice:
+        sys.exit(f"the page's scripts declare twice: {', '.join(twice)}")
+
+
 def import_text():
     """The text of the worker that imports."""
     return "\n".join(['"use strict";', *((HERE / f"{name}.js").read_text() for name in IMPORT_SCRIPTS)])
@@ -110,6 +118,7 @@ def main():
     style = (HERE / "page.css").read_text()
     worker = "\n".join((HERE / f"{name}.js").read_text() for name in WORKERS)
     parts = [(HERE / f"{name}.js").read_text() for name in SCRIPTS]
+    want_names_once(parts)
     constants = [
         '"use strict";',
         f"const RULES = {in_script(rule_texts())};",
