@@ -328,13 +328,13 @@ function importOptions({format, look, found}) {
   for (const name of [...FORMAT_FIELDS[format], "from", "until"]) {
     const field = by(`import-${name}`), value = field.type === "checkbox" ? field.checked : field.value;
     if (value === "" || value === false) continue;
-    options[name] = name === "controller" || name === "peripheral" ? lineName(name, value, look) : value;
+    options[name] = name === "controller" || name === "peripheral" ? namedLine(name, value, look) : value;
   }
   if (format === "sigrok" && (found.hasMark || found.encoding?.startsWith("utf-16"))) options.decoded = true;
   return options;
 }
 
-function lineName(id, value, {names = []}) {
+function namedLine(id, value, {names = []}) {
   return value === "another" ? by(`import-${id}-name`).value : names[Number(value.slice(5))];
 }
 

@@ -27,7 +27,7 @@ const SUM_TITLES = {
   sold: "sold",
   cash: "sold for cash"
 };
-const SHORT_NAMES = ["", "changer", "validator", "reader 10H", "reader 60H"];
+const DEVICE_LABELS = ["", "changer", "validator", "reader 10H", "reader 60H"];
 
 function moneyAmount(m) {
   if (m.noAmount) return "";
@@ -153,7 +153,7 @@ function sumWords({units, unknown}, decimals) {
 }
 
 // What was done, how often, and with coins or bills of which type.
-function entryWords(m) {
+function toldWords(m) {
   const type = typeof m.type === "number" ? `, type ${m.type}` : "";
   return `${m.count > 1 ? `${m.count} × ` : ""}${m.what}${type}`;
 }
@@ -162,7 +162,7 @@ function entryWords(m) {
 function partWords(m, part) {
   const amount = part === "approved" || part === "request" ? ` ${moneyAmount(m)}` : "";
   const isHeard = m.acknowledged ? null : " (not acknowledged)";
-  return [part ? PART_WORDS[part] + amount : entryWords(m), " ", rowLink(m.first, m.last), isHeard];
+  return [part ? PART_WORDS[part] + amount : toldWords(m), " ", rowLink(m.first, m.last), isHeard];
 }
 
 function outcomeWords(it, line) {
@@ -175,7 +175,7 @@ function outcomeWords(it, line) {
 }
 
 // What of a line is judged, after a no.
-function judgedWords(it, parts) {
+function partsJudged(it, parts) {
   if (parts.some((m) => isPast(it, m) && !isUnjudged(it, m))) return h("strong", {}, "this cannot be");
   const after = parts.filter((m) => isUnjudged(it, m)).length;
   return after === parts.length ? "not judged" : after ? "possible in part" : "possible";
@@ -187,7 +187,7 @@ function sumCell(line) {
   const side = (name, sum) => h("div", {}, h("span", {class: "soft"}, `${name} `), sumWords(sum, line.decimals));
   const {device, controller} = line.sums;
   return [
-    h("div", {class: "soft"}, SUM_TITLES[line.sum]), side(SHORT_NAMES[line.device], device),
+    h("div", {class: "soft"}, SUM_TITLES[line.sum]), side(DEVICE_LABELS[line.device], device),
     side("controller", controller)
   ];
 }
@@ -196,9 +196,9 @@ function lineCells(it, line, parts) {
   const [first] = parts, units = first.noAmount && !line.isSale ? undefined : line.units;
   const amount = units === undefined ? "" : moneyAmount({...first, units, noAmount: false});
   const told = line.parts.map(({i, part}) => h("div", {}, partWords(it.found.money[i], part)));
-  const judged = it.answer === ANSWERS.NO ? h("div", {}, judgedWords(it, parts)) : null;
+  const judged = it.answer === ANSWERS.NO ? h("div", {}, partsJudged(it, parts)) : null;
   return [
-    ["", [timeLink(first.begin, first.first, first.last), h("div", {class: "soft"}, SHORT_NAMES[line.device])]],
+    ["", [timeLink(first.begin, first.first, first.last), h("div", {class: "soft"}, DEVICE_LABELS[line.device])]],
     ["", told], ["item", String(line.item).replace("item ", "")], ["amount", amount, "number"],
     ["", [outcomeWords(it, line), judged]], ["so far, as told", sumCell(line), "number"]
   ];

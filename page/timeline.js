@@ -45,7 +45,7 @@ function moneyLane(it, device) {
   all.forEach((m, i) => m.device === device && own.push(i));
   return laneOf(["", "coin changer", "bill validator", "reader 10H", "reader 60H"][device], "device", own, {
     begin: (i) => all[i].begin,
-    words: (i) => `${entryWords(all[i])} ${moneyAmount(all[i])} at ${seconds(all[i].begin)}`,
+    words: (i) => `${toldWords(all[i])} ${moneyAmount(all[i])} at ${seconds(all[i].begin)}`,
     jump: jumpToEntry
   });
 }
