@@ -104,7 +104,8 @@ impl<R: Read> Read for Limited<R> {
         // Past the limit a read fails for that alone.
         ensures past { IsSome self.new.held → IfErr result
             (λ e. error_kind e ≡ ErrorKind.InvalidData) }
-        // Up to it one fails as the reader did, and for nothing else.
+        // Up to it one fails as `failed` says, and for nothing else. That the reader failed so is
+        // not said: `failed` is a field that `ask` sets, and no clause of `Read` says why it fails.
         ensures cause { IfErr result
             (λ e. IsSome self.new.held ⊎ (self.new.failed ≡ Some (error_kind e))) }
     {
