@@ -109,8 +109,10 @@ IsNoYes (Err fault) = ⊤
 abbrev pub HasCause : Option ReadFault → RunFault → Type 0
 HasCause met fault = fault ≡ Read → met ≡ Some reading.Read
 
--- memory is out only where the reading of the records met that, or where they have a verdict, which
--- can't be written then
+-- What is known of records to which it is answered that memory is out: their reading met that, or
+-- they have a verdict. So records without a verdict are answered so for their reading alone. Of
+-- those that have one this says nothing. The contracts of std say where no more memory is needed,
+-- but not that it was refused.
 abbrev pub HasNoRoom : Scope → ℕ → List (List (List ℕ)) → Option ReadFault → Type 0
 HasNoRoom scope limit records met = (met ≡ Some reading.Memory)
     ⊎ ((outcome : Outcome) × IsAnswer scope limit records (Ok outcome))
