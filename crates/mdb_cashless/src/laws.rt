@@ -107,11 +107,12 @@ pub fn breaks_tell_nothing_of_a_reader()
         → unvalued unit begins so_far ≡ 0 }
 {}
 
-/// Where a recording begins in mid-session, a reader has these ways and no other. A transaction
-/// command may be the last one sent, if none was sent since (`sent`). A transaction that it takes
-/// while it holds messages is the last one again or another, and of a reply's kept messages some,
-/// from the first on, are those that it holds (`acked`, `replied`). Any other act leads where it
-/// does after the facts that the acts tell (`settled`).
+/// Where a recording begins in mid-session, a reader has these ways and no other. As long as the
+/// acts so far send no transaction command, an ask leads where it does if the last one sent was the
+/// command itself (`sent`): that may be sent again, and no other last one allows more. A
+/// transaction that the reader takes while it holds messages is the last one again or another, and
+/// of a reply's kept messages some, from the first on, are those that it holds (`acked`,
+/// `replied`). Any other act leads where it does after the facts that the acts tell (`settled`).
 pub fn in_mid_session_a_reader_has_these_ways_alone()
     ensures sent { (unit : ReaderUnit) (setups : Setups) (so_far : List Act)
         (command : ReaderCommand) (choice : Choice) (before after : ReaderState) (gains : Gains)
