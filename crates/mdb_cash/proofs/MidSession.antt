@@ -95,6 +95,11 @@ asked_nothing : {Own Asked : Type 0} (asked_of : Own → Option Asked) (its : Op
     → its ≡ Some own → option_and_then asked_of its ≡ None → asked_of own ≡ None
 asked_nothing asked_of its own is none = sym (ap (λ o. option_and_then asked_of o) is) ∙ none
 
+none_and_some : {Own : Type 0} (its : Option Own) (own : Own) → its ≡ None → its ≡ Some own → ⊥
+none_and_some its own none some =
+    let clash : None ≡ Some own = sym none ∙ some in
+    absurd cc
+
 may_guess : {Own Setup Asked M State : Type 0} (tables : Tables Own Setup Asked M)
     (conduct : Conduct Own Setup Asked M State) (so_far : List Act) (facts : Facts Setup Asked M)
     (asked : Option Asked) (kept : List M) (act : Act) (choice : Choice) (before : State)
@@ -106,13 +111,15 @@ may_guess tables conduct so_far facts asked kept (acts.Ask c) choice before (inl
     λ own is. inr (asked_nothing tables.asked_of (tables.own c) own is none)
 may_guess tables conduct so_far facts asked kept (acts.Ask c) choice before (inr known) asks keeps =
     λ own is. inl (asks known)
-may_guess tables conduct so_far facts asked kept (acts.Reply c r) choice before (inl free) asks
-    keeps = λ own is news new.
+may_guess tables conduct so_far facts asked kept (acts.Reply c r) choice before (inl other) asks
+    keeps = λ own is news new. absurd (none_and_some (tables.own c) own other is)
+may_guess tables conduct so_far facts asked kept (acts.Reply c r) choice before (inr (inl free))
+    asks keeps = λ own is news new.
     subst (λ h. IsNew (tables.is_poll own) (held h kept) (kept_of (tables.parts_of r)) news)
     (sym free) (subst (λ h. IsNew (tables.is_poll own) (held h facts.past.last_kept)
     (kept_of (tables.parts_of r)) news) free new)
-may_guess tables conduct so_far facts asked kept (acts.Reply c r) choice before (inr known) asks
-    keeps = λ own is news new.
+may_guess tables conduct so_far facts asked kept (acts.Reply c r) choice before (inr (inr known))
+    asks keeps = λ own is news new.
     subst (λ l. IsNew (tables.is_poll own) (held (holds_read choice (conduct.holds before)) l)
     (kept_of (tables.parts_of r)) news) (sym (keeps known)) new
 may_guess tables conduct so_far facts asked kept (acts.Ack c) choice before is asks keeps = tt

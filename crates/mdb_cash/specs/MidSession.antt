@@ -1,6 +1,6 @@
 -- What a recording that begins in mid-session leaves open of a device that keeps messages (this
 -- profile): the ways that an act may go where something isn't known, listed one by one. The laws of
--- each device say that these ways are there, and no other.
+-- each device say that these ways are there, and no other. Acts so far stand newest first.
 use Rattle.std.specs.Prelude.{◌≡◌, ◌⊎◌, ℕ, ◌≤◌, false, not, ◌&&◌, ◌||◌, List, [], None, drop, length, ltb, sum_by}
 use Rattle.std.specs.List.{All, list_any}
 use Rattle.mdb_msgs.specs.declared.command.Command.{Command}
@@ -68,12 +68,14 @@ pub record TellsHeldFirst {Own Setup Asked M State : Type 0}
       (sum_by (conduct.second_gain facts) (drop count (kept_of parts)))
 
 -- What isn't known is of no matter for an act. An ask is of what doesn't count once it is asked, or
--- the acts so far ask such a thing. A reply is of a device that holds nothing once the reply is
--- read, or the acts so far tell a kept message. Any other act is none of these two.
+-- the acts so far ask such a thing. A reply is of another device, or of a device that holds nothing
+-- once the reply is read, or the acts so far tell a kept message. Any other act is none of these
+-- two.
 abbrev pub IsSettled : {Own Setup Asked M State : Type 0} → Tables Own Setup Asked M
     → Conduct Own Setup Asked M State → List Act → Act → Choice → State → Type 0
 IsSettled tables conduct so_far (acts.Ask command) choice before =
     (asked_by tables (acts.Ask command) ≡ None) ⊎ (AsksNone tables so_far → ⊥)
 IsSettled tables conduct so_far (acts.Reply command reply) choice before =
-    (holds_read choice (conduct.holds before) ≡ false) ⊎ (TellsNone tables so_far → ⊥)
+    (tables.own command ≡ None) ⊎ (holds_read choice (conduct.holds before) ≡ false)
+    ⊎ (TellsNone tables so_far → ⊥)
 IsSettled tables conduct so_far act choice before = Unit {0}
