@@ -1,6 +1,6 @@
 -- What the showing is, by how the reading of rows ended.
 use Rattle.std.proofs.Common.{arith, refl, ap, sym, subst, inl, inr, ◌∙◌, ◌≡◌, ◌+◌, ◌≤◌, ℕ, List, [], ◌∷◌, ◌++◌, Option, Some, None, Result, Ok, Err, length, length-append, append_assoc}
-use Rattle.std.specs.Prelude.{IfErr, IfSome, IsErrAnd}
+use Rattle.std.specs.Prelude.{◌≢◌, IfErr, IfSome, IsErrAnd, IsSome}
 use Rattle.std.specs.Result.{result_transpose}
 use Rattle.mdb_words.specs.declared.event.Event.{Event}
 use Rattle.mdb_words.specs.Row.{IsRefusal, IsRow}
@@ -323,6 +323,12 @@ not_taken_of_output (Mark row) before after text not = absurd not
 pub met_at_fault : (met : Option ReadFault) (fault : LinkFault) → IfSome met (λ failed. IsShownAs failed (Ok (Some fault)))
 met_at_fault None fault = tt
 met_at_fault (Some failed) fault = tt
+
+-- where one was met, the acts aren't shown to the end
+pub not_whole_met : (met : Option ReadFault) (answer : Result (Option LinkFault) RunFault)
+    → IfSome met (λ failed. IsShownAs failed answer) → IsSome met → answer ≢ Ok None
+not_whole_met None answer shown some is = absurd cc
+not_whole_met (Some failed) answer shown some is = subst (IsShownAs failed) is shown
 
 -- none was met where all rows were read
 pub met_whole : {Stop : Type 0} (told : Result (Option Stop) RunFault) (stop : Option Stop) (met : Option ReadFault) → IfSome met (λ failed. IsToldEnd failed told) → told ≡ Ok stop → stop ≡ None → IfSome met (λ failed. ⊥)

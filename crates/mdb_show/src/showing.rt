@@ -1,6 +1,6 @@
 //! The acts of a transcript.
 
-ghost use Rattle.std.specs.Prelude.{◌≡◌, ◌≢◌, ◌<◌, List, [], ℕ, Err, IfErr, IfSome, None, Ok, length};
+ghost use Rattle.std.specs.Prelude.{◌≡◌, ◌≢◌, ◌<◌, List, [], ℕ, Err, IfErr, IfSome, IsSome, None, Ok, length};
 ghost use Rattle.csv.specs.Reading.{default_config, records, strip_bom};
 ghost use Rattle.mdb_records.specs.ToCome.{IsOverLimit, ToCome, fault_of};
 ghost use Rattle.mdb_verdict.specs.Verdict.{HasCause};
@@ -119,6 +119,7 @@ pub fn show_records<R: Read + Drop, W: Write>(
         → Shows scope.now all (W.contents writer.old) (W.contents writer.new) result }
     ensures whole { IsOverLimit R.remaining records.old → result ≢ Ok None }
     ensures heard { IfErr result (HasCause (fault_of records.new)) }
+    ensures met { fault_of records.old ≡ None → IsSome (fault_of records.new) → result ≢ Ok None }
 {
     show_in(alloc, scope, TextForm, records, writer)
 }
@@ -139,6 +140,7 @@ pub fn show_json_records<R: Read + Drop, W: Write>(
         → ShowsJson scope.now all (W.contents writer.old) (W.contents writer.new) result }
     ensures whole { IsOverLimit R.remaining records.old → result ≢ Ok None }
     ensures heard { IfErr result (HasCause (fault_of records.new)) }
+    ensures met { fault_of records.old ≡ None → IsSome (fault_of records.new) → result ≢ Ok None }
 {
     show_in(alloc, scope, JsonForm, records, writer)
 }
@@ -155,6 +157,7 @@ fn show_in<F: Form, R: Read + Drop, W: Write>(
         → ShowsIn F.lines scope.now all (W.contents writer.old) (W.contents writer.new) result }
     ensures whole { IsOverLimit R.remaining records.old → result ≢ Ok None }
     ensures heard { IfErr result (HasCause (fault_of records.new)) }
+    ensures met { fault_of records.old ≡ None → IsSome (fault_of records.new) → result ≢ Ok None }
 {
     let mut showing = Showing::new(alloc, scope, form);
     let answer = show_rows(records, &mut showing, writer);

@@ -3,6 +3,8 @@ use Rattle.std.specs.Io.KnownBytes.{Appends}
 use Rattle.mdb_verdict.specs.Output.{begun}
 use Rattle.mdb_show.specs.inner.ShowSteps.{PutsShowing, output}
 use Rattle.mdb_show.specs.Show.{ShowsIn}
+use Rattle.mdb_records.specs.ToCome.{fault_of}
+use Rattle.mdb_show.proofs.Showings as showings
 use Rattle.mdb_show.proofs.PageEnds.{cut_short, page_broken, rows_broken, written_out}
 use Rattle.mdb_show.proofs.showing.show_in.Goals as goal
 use Rattle.mdb_show.proofs.showing.show_in.Goals.{then-ne+in_ok-write_out, else-ne}
@@ -23,3 +25,8 @@ returns-in_err-write_out-clause-shows g c all to_come =
     let now = output (g.W.Write.contents c.show_rows-answer.new.writer) c.show_rows-answer.new.showing.page in
     cut_short g.F.Form.lines c.args.scope.now all (g.W.Write.contents c.args.writer.now) (g.W.Write.contents c.write_out.new.writer) c.in_err-write_out.field-0.0 c.from_residual.result c.from_residual.ensures.1 c.in_err-write_out.ensures.refused
     (page_broken g.F.Form.lines c.args.scope.now all (g.W.Write.contents c.args.writer.now) (g.W.Write.contents c.write_out.new.writer) now c.show_rows-answer.result (subst (λ s. PutsShowing g.F.Form.lines s all (begun (g.W.Write.contents c.args.writer.now)) now c.show_rows-answer.result) c.new-showing.ensures.scope (c.show_rows-answer.ensures.shows all to_come)) (search rules) c.in_err-write_out.ensures.front)
+
+pub returns-clause-met : goal.returns-clause-met
+returns-clause-met g c none some =
+    showings.not_whole_met (fault_of c.show_rows-answer.new.records) c.show_rows-answer.result
+    (c.show_rows-answer.ensures.met none) some
