@@ -3,6 +3,7 @@
 ghost use Rattle.std.specs.Prelude.{◌≡◌, ◌≢◌, ◌<◌, ◌⊎◌, ℕ, List, None, Ok, Err};
 ghost use Rattle.std.specs.Prelude.{IfErr, IfOk, IfSome, length, map, string_bytes};
 ghost use Rattle.std.specs.Io.KnownBytes.{Appends};
+ghost use Rattle.mdb_check.specs.Complaint.{IsToldCause, excess_line};
 ghost use Rattle.mdb_check.specs.Program.{IsCutAnswer, IsCutReplayAnswer, NameATask, Says};
 ghost use Rattle.mdb_check.specs.Program.{SaysChecked, SaysExplained, SaysReplayed, SaysShown};
 ghost use Rattle.mdb_check.specs.Program.{answer_text, lines_in, show_status_of, status_of};
@@ -10,6 +11,7 @@ ghost use Rattle.mdb_show.specs.Show.{ShowsIn};
 ghost use Rattle.mdb_bus.specs.Scopes.{leaving_out};
 ghost use Rattle.mdb_verdict.specs.declared.verdict.TheConstants.{BYTES_MAX};
 ghost use Rattle.mdb_verdict.specs.Verdict.{IsAnswer, IsNoYes};
+ghost use Rattle.mdb_verdict.specs.Written.{HasTaken};
 ghost use Rattle.mdb_explain.specs.Replay.{IsReplayAnswer};
 ghost use Rattle.mdb_records.specs.ToCome.{IsOverLimit, ToCome, limit_of};
 ghost use Rattle.csv.specs.Reading.{default_config, records, strip_bom};
@@ -279,6 +281,10 @@ fn finish_check<R: Read + Drop, E: Write>(
 ) -> u8
     ensures status { result ≡ status_of answer }
     ensures silent { result < 2 → err.new ≡ err.old }
+    ensures excess { answer ≡ Err RunFault.TooLong
+        → HasTaken (E.contents err.old) (E.contents err.new) excess_line }
+    ensures read { answer ≡ Err RunFault.Read
+        → IsToldCause records.now (E.contents err.old) (E.contents err.new) }
 {
     match answer {
         Ok(Outcome::Yes(_)) => POSSIBLE,
@@ -299,6 +305,10 @@ fn finish_show<R: Read + Drop, E: Write>(
 ) -> u8
     ensures status { result ≡ show_status_of answer }
     ensures silent { result < 2 → err.new ≡ err.old }
+    ensures excess { answer ≡ Err RunFault.TooLong
+        → HasTaken (E.contents err.old) (E.contents err.new) excess_line }
+    ensures read { answer ≡ Err RunFault.Read
+        → IsToldCause records.now (E.contents err.old) (E.contents err.new) }
 {
     match answer {
         Ok(None) => POSSIBLE,
