@@ -1,15 +1,13 @@
 -- What is known with the values of `--setup`.
-use Rattle.std.proofs.Common.{ap, refl, subst, sym, ◌∙◌, ◌≡◌, ◌<◌, ◌+◌, ℕ, List, [], ◌∷◌, ◌++◌, Some, drop, get_or, length, map, take, unwrap_or}
+use Rattle.std.proofs.Common.{ap, refl, subst, sym, ◌∙◌, ◌≡◌, ◌<◌, ◌+◌, ℕ, List, [], ◌∷◌, ◌++◌, drop, get_or, length, map, take}
 use Rattle.std.specs.Borrow.{Bor}
 use Rattle.std.proofs.lemmas.List.{drop_more, map-append, take-append-drop, take_more}
 use Rattle.mdb_msgs.specs.declared.command.Device.{Device}
 use Rattle.mdb_msgs.specs.declared.device_set.DeviceSet.{DeviceSet}
 use Rattle.mdb_msgs.specs.declared.setups.Setups.{Setups}
-use Rattle.mdb_msgs.specs.Laws.{BlockHasOneReply}
+use Rattle.mdb_msgs.specs.Laws.{AnswerTellsOneSetup}
+use Rattle.mdb_msgs.specs.SetupData.{IsSetupOf}
 use Rattle.mdb_check.specs.Program.{AddsSetup, AreSetups}
-use Rattle.mdb_check.specs.SetupData.{IsSetupOf, known_with}
-use Rattle.mdb_check.specs.inner.SetupReading.{setup_of}
-use Rattle.mdb_check.proofs.SetupData.{spells_so}
 use Rattle.mdb_check.proofs.SetupValues.{one_value}
 use Rattle.mdb_check.proofs.TaskOptions.{AreSetupTexts}
 
@@ -19,17 +17,12 @@ are_texts left_out before [] after told = tt
 are_texts left_out before (text ∷ more) after told = ((told.1.device, told.1.bytes, told.1.spelled), are_texts left_out told.0 more after told.2)
 
 -- one thing is known with it
-module _ (one_reply : BlockHasOneReply) where
+module _ (one_told : AnswerTellsOneSetup) where
   one_known : (before a b : Setups) (device other : Device) (bytes also : List ℕ) → device ≡ other → bytes ≡ also → IsSetupOf device bytes before a → IsSetupOf other also before b → a ≡ b
   one_known before a b device other bytes also same same_bytes is_a is_b =
       let Of : Device → Type 0 = λ d. IsSetupOf d also before b in
       let With : List ℕ → Type 0 = λ bs. IsSetupOf device bs before b in
-      let is : IsSetupOf device bytes before b = subst With (sym same_bytes) (subst Of (sym same) is_b) in
-      let spells_a = spells_so device is_a.asked is_a.answer bytes is_a.asks is_a.spells in
-      let spells_b = spells_so device is.asked is.answer bytes is.asks is.spells in
-      let answer : is_a.answer ≡ is.answer = one_reply (setup_of device) bytes is_a.answer is.answer spells_a spells_b in
-      let some : Some a ≡ Some b = sym is_a.told ∙ ap (known_with before device) answer ∙ is.told in
-      ap (λ o. unwrap_or o a) some
+      one_told device bytes before a b is_a (subst With (sym same_bytes) (subst Of (sym same) is_b))
 
   one_step : (left_out : DeviceSet) (before : Setups) (text : List ℕ) (a b : Setups) → AddsSetup left_out before text a → AddsSetup left_out before text b → a ≡ b
   one_step left_out before text a b adds_a adds_b =
@@ -75,12 +68,12 @@ sets_at left_out before (first ∷ front) value back all (next, one, are) =
     record { known = at.known; after = at.after; are = (next, one, at.are); adds = at.adds }
 
 -- where all values are such, the next one is
-pub next_adds : (one_reply : BlockHasOneReply) (left_out : DeviceSet) (before : Setups) (words : List (Bor (List ℕ))) (i : ℕ) (word : Bor (List ℕ)) (now all : Setups) → i < length words
+pub next_adds : (one_told : AnswerTellsOneSetup) (left_out : DeviceSet) (before : Setups) (words : List (Bor (List ℕ))) (i : ℕ) (word : Bor (List ℕ)) (now all : Setups) → i < length words
     → AreSetups left_out before (texts (take i words)) now → AreSetups left_out before (texts words) all → (after : Setups) × AddsSetup left_out now (get_or words i word).now after
-next_adds one_reply left_out before words i word now all within are whole =
+next_adds one_told left_out before words i word now all within are whole =
     let parts : words ≡ take i words ++ get_or words i word ∷ drop (i + 1) words = sym (take-append-drop i words) ∙ ap (λ rest. take i words ++ rest) (drop_more words i word within) in
     let Are : List (List ℕ) → Type 0 = λ values. AreSetups left_out before values all in
     let at = sets_at left_out before (texts (take i words)) (get_or words i word).now (texts (drop (i + 1) words)) all
     (subst Are (ap texts parts ∙ map-append (λ w. w.now) (take i words) (get_or words i word ∷ drop (i + 1) words)) whole) in
-    let same = one_setups one_reply left_out before (texts (take i words)) at.known now at.are are in
+    let same = one_setups one_told left_out before (texts (take i words)) at.known now at.are are in
     (at.after, subst (λ known. AddsSetup left_out known (get_or words i word).now at.after) same at.adds)

@@ -10,7 +10,6 @@ pub mod LongWords
 pub mod OptionRules
 pub mod Options
 pub mod Refusals
-pub mod SetupData
 pub mod SetupValues
 pub mod Status
 pub mod TakenScopes

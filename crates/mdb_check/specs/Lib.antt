@@ -1,4 +1,3 @@
 pub mod Complaint
 pub mod Program
-pub mod SetupData
 pub mod inner

@@ -8,6 +8,7 @@ use Rattle.mdb_msgs.specs.declared.device_set.TheConstants.DeviceSet.{NONE}
 use Rattle.mdb_msgs.specs.Devices.{device_word}
 use Rattle.mdb_msgs.specs.DeviceSets.{has, with_device}
 use Rattle.mdb_msgs.specs.declared.setups.Setups.{Setups}
+use Rattle.mdb_msgs.specs.SetupData.{IsSetupOf}
 use Rattle.mdb_msgs.specs.Setups.{nothing_known}
 use Rattle.mdb_bus.specs.declared.fault.LinkFault.{LinkFault}
 use Rattle.mdb_follow.specs.declared.follower.TheConstants.{ROWS_MAX}
@@ -16,7 +17,6 @@ use Rattle.mdb_follow.specs.declared.offence.Offence.{Offence}
 use Rattle.mdb_follow.specs.declared.report.Report.{Report}
 use Rattle.mdb_explain.specs.Explain.{IsCutExplanation, IsExplainedIn, goal_words}
 use Rattle.mdb_text.specs.Known.{known_devices}
-use Rattle.mdb_check.specs.SetupData.{IsSetupOf}
 use Rattle.mdb_explain.specs.Replay.{IsCutReplay, IsReplayed, StopsAt}
 use Rattle.mdb_show.specs.Lines.{LineForm}
 use Rattle.mdb_show.specs.Show.{IsCutShortIn, IsShownToFaultIn, IsShownWholeIn}

@@ -14,7 +14,6 @@ mod goal_words;
 pub mod laws;
 mod program;
 mod refusal;
-mod setup_data;
 mod setup_value;
 
 pub use mdb_bus::{Beginning, Blame, LinkFault, Rule, Scope};

@@ -13,8 +13,8 @@ ghost use Rattle.mdb_check.specs.inner.CommandLine.{IsOwnRefusal};
 ghost use Rattle.mdb_check.specs.inner.SetupReading.{no_memory};
 
 use super::refusal::{Refusal, SetupFault};
-use super::setup_data::{answer_in, learn};
 use clap::error::ErrorKind;
+use mdb_blocks::{BlockFault, unseal};
 use mdb_msgs::{Device, DeviceSet, Setups, laws};
 use mdb_text::known_devices;
 use std::alloc::Global;
@@ -32,7 +32,7 @@ pub(crate) fn setups_of(
         → refusal ≡ no_memory) }
     ensures own { IfErr result IsOwnRefusal }
 {
-    laws::block_has_one_reply();
+    laws::answer_tells_one_setup();
     let mut setups = Setups::NONE;
     for text in texts {
         add_setup(alloc, left_out, &mut setups, text)?;
@@ -59,11 +59,12 @@ fn add_setup(
     if known_devices(setups).has(device) {
         return Err(Refusal::Setup(SetupFault::Twice));
     }
-    let answer = match answer_in(device, bytes.as_slice()) {
+    let answer = match unseal(bytes.as_slice()) {
         Ok(answer) => answer,
-        Err(fault) => return Err(Refusal::Setup(fault)),
+        Err(BlockFault::BadSum) => return Err(Refusal::Setup(SetupFault::Sum)),
+        Err(_) => return Err(Refusal::Setup(SetupFault::NoAnswer)),
     };
-    if learn(setups, device, answer) {
+    if setups.learn(device, &answer) {
         Ok(())
     } else {
         Err(Refusal::Setup(SetupFault::NoAnswer))

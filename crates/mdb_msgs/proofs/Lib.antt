@@ -13,5 +13,6 @@ pub mod ReaderBytes
 pub mod ReaderReading
 pub mod ReaderWriting
 pub mod Reading
+pub mod SetupData
 pub mod SomeReading
 pub mod SomeReply

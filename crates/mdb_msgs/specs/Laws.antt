@@ -7,6 +7,7 @@ use Rattle.mdb_msgs.specs.declared.command.ReaderCommand.{ReaderCommand}
 use Rattle.mdb_msgs.specs.declared.command.ReaderUnit.{ReaderUnit}
 use Rattle.mdb_msgs.specs.declared.fault.MsgFault.{MsgFault}
 use Rattle.mdb_msgs.specs.declared.fault.MsgFault.TheVariants.{Answer}
+use Rattle.mdb_msgs.specs.declared.command.Device.{Device}
 use Rattle.mdb_msgs.specs.declared.reply.Reply.{Reply}
 use Rattle.mdb_msgs.specs.declared.reply.Reply.TheVariants as reply
 use Rattle.mdb_msgs.specs.Answers.{HasDataAnswer}
@@ -14,6 +15,8 @@ use Rattle.mdb_msgs.specs.Commands.{IsByte, Spells}
 use Rattle.mdb_msgs.specs.Needs.{IsOpen}
 use Rattle.mdb_msgs.specs.Reader.{ReaderMessages, reader_list_bytes, IsListFault, IsReaderList}
 use Rattle.mdb_msgs.specs.ReaderBytes.{messages_of}
+use Rattle.mdb_msgs.specs.declared.setups.Setups.{Setups}
+use Rattle.mdb_msgs.specs.SetupData.{IsSetupOf}
 use Rattle.mdb_msgs.specs.Replies.{reply_bytes, IsReplyTo, IsReadFault, IsWriteFault, SpellsReply}
 
 -- open bytes are the front of some command's block
@@ -101,3 +104,9 @@ WriteFaultIsAListFault =
 abbrev pub AnswerIsReadFromItsBytes : Type 0
 AnswerIsReadFromItsBytes =
     (list : ReaderMessages) → IsReaderList list → messages_of (reader_list_bytes list) ≡ list
+
+-- with a device's answer to SETUP, one thing is known
+abbrev pub AnswerTellsOneSetup : Type 0
+AnswerTellsOneSetup =
+    (device : Device) (block : List ℕ) (before one other : Setups)
+    → IsSetupOf device block before one → IsSetupOf device block before other → one ≡ other

@@ -12,6 +12,7 @@ pub mod Reader
 pub mod ReaderBytes
 pub mod Replies
 pub mod Setup
+pub mod SetupData
 pub mod Setups
 pub mod TwoBytes
 pub mod inner

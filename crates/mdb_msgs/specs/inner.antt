@@ -1,1 +1,2 @@
 pub mod ReaderSteps
+pub mod SetupAsked

@@ -8,7 +8,7 @@ ghost use Rattle.mdb_msgs.specs.declared.device_set.DeviceSet.{DeviceSet};
 ghost use Rattle.mdb_msgs.specs.Commands.{IsByte, Spells, device_of};
 ghost use Rattle.mdb_msgs.specs.DeviceSets.{has};
 ghost use Rattle.mdb_msgs.specs.Needs.{TellsLength, is_to_one_of, needed};
-ghost use Rattle.mdb_msgs.specs.Laws.{OpenIsAFront, FrontIsOpen, BlockHasOneReply, ReplyHasItsLength, DataFitsABlock, SpelledReplyIsContent, DataIsAReplyOrHasAFault, ReplyHasNoFault, BytesHaveOneFault, ReplyHasOneWriteFault, WrittenHasNoFault, ListFaultIsAWriteFault, WriteFaultIsAListFault, AnswerIsReadFromItsBytes};
+ghost use Rattle.mdb_msgs.specs.Laws.{OpenIsAFront, FrontIsOpen, BlockHasOneReply, ReplyHasItsLength, DataFitsABlock, SpelledReplyIsContent, DataIsAReplyOrHasAFault, ReplyHasNoFault, BytesHaveOneFault, ReplyHasOneWriteFault, WrittenHasNoFault, ListFaultIsAWriteFault, WriteFaultIsAListFault, AnswerIsReadFromItsBytes, AnswerTellsOneSetup};
 
 /// A block has at most one command.
 pub fn block_has_one_command()
@@ -106,4 +106,9 @@ pub fn list_fault_is_a_write_fault()
 /// The bytes of a reader's answer are read as that answer.
 pub fn answer_is_read_from_its_bytes()
     ensures { AnswerIsReadFromItsBytes }
+{}
+
+/// A device's answer to SETUP reports one setup of it.
+pub fn answer_tells_one_setup()
+    ensures { AnswerTellsOneSetup }
 {}

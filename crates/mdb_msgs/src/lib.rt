@@ -20,6 +20,7 @@ pub mod laws;
 mod need;
 mod needs;
 mod reply;
+mod setup_data;
 mod setups;
 mod two_bytes;
 

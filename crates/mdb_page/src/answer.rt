@@ -92,6 +92,8 @@ pub extern "C" fn mdb_page_check(
         × IsYes scope text.now answer.new }
     ensures no { result ≡ 1 → (scope : Scope) × IsTakenSo options.now scope
         × IsNo scope text.now answer.new }
+    ensures refused { result ≡ 5 → (scope : Scope) → IsTakenSo options.now scope → ⊥ }
+    ensures taken { result ≢ 5 → (scope : Scope) × IsTakenSo options.now scope }
 {
     answer.count = 0;
     let Some(scope) = taken_so(options) else {

@@ -1,15 +1,14 @@
 //! The options of a check, as the page gives them.
 
-ghost use Rattle.std.specs.Prelude.{◌≡◌, IfSome, if◌then◌else◌};
+ghost use Rattle.std.specs.Prelude.{◌≡◌, ◌↔◌, IfNone, IfSome, IsTrue, if◌then◌else◌, true, false};
+ghost use Rattle.mdb_bus.specs.declared.scope.Scope.{Scope};
 ghost use Rattle.mdb_msgs.specs.DeviceSets.{with_device};
-ghost use Rattle.mdb_page.specs.Options.{IsTakenSo, devices_of};
+ghost use Rattle.mdb_msgs.specs.declared.setups.Setups.{Setups};
+ghost use Rattle.mdb_page.specs.Options.{Adds, AreSetups, GivesNone, IsTakenSo, devices_of};
 
 use mdb_blocks::unseal;
 use mdb_bus::{Beginning, Scope};
-use mdb_msgs::{
-    BillCommand, ChangerCommand, Command, Device, DeviceSet, ReaderCommand, ReaderConfig,
-    ReaderList, ReaderMsg, ReaderUnit, Reply, Setups, read_reply,
-};
+use mdb_msgs::{Device, DeviceSet, ReaderUnit, Setups, laws};
 
 /// A device's answer to SETUP: a whole block, with its sum at the end.
 #[repr(C)]
@@ -37,20 +36,23 @@ pub struct PageOptions {
 /// The scope that the options name. `None` if an answer to SETUP is none, if it is that of a device
 /// that is left out, or if it is given for a recording from power-on.
 pub(crate) fn taken_so(options: &PageOptions) -> Option<Scope>
-    ensures { IfSome result (IsTakenSo options.now) }
+    ensures taken { IfSome result (IsTakenSo options.now) }
+    ensures refused { IfNone result ((scope : Scope) → IsTakenSo options.now scope → ⊥) }
 {
     let without = left_out(&options.without);
-    let setups = setups_of(without, &options.setups)?;
-    if options.joined != 0 {
-        return Some(Scope::joined(setups, without));
+    if options.joined == 0 {
+        if !gives_none(&options.setups) {
+            return None;
+        }
+        return Some(Scope {
+            begins: Beginning::PowerOn,
+            without,
+        });
     }
-    if setups != Setups::NONE {
+    let Some(setups) = setups_of(without, &options.setups) else {
         return None;
-    }
-    Some(Scope {
-        begins: Beginning::PowerOn,
-        without,
-    })
+    };
+    Some(Scope::joined(setups, without))
 }
 
 /// The devices that are marked.
@@ -70,95 +72,55 @@ fn with_if(set: DeviceSet, device: Device, is_wanted: bool) -> DeviceSet
     if is_wanted { set.with(device) } else { set }
 }
 
+/// Whether no answer to SETUP is given.
+fn gives_none(answers: &[PageSetup; 4]) -> bool
+    ensures { IsTrue result ↔ GivesNone answers.now }
+{
+    answers[0].count == 0 && answers[1].count == 0 && answers[2].count == 0 && answers[3].count == 0
+}
+
 /// What is known by the answers to SETUP.
-fn setups_of(without: DeviceSet, answers: &[PageSetup; 4]) -> Option<Setups> {
+fn setups_of(without: DeviceSet, answers: &[PageSetup; 4]) -> Option<Setups>
+    ensures told { IfSome result (AreSetups without answers.now) }
+    ensures refused { IfNone result ((setups : Setups) → AreSetups without answers.now setups → ⊥) }
+{
+    laws::answer_tells_one_setup();
     let mut setups = Setups::NONE;
-    learn(&mut setups, without, Device::Changer, &answers[0])?;
-    learn(&mut setups, without, Device::Bill, &answers[1])?;
-    learn(
-        &mut setups,
-        without,
-        Device::Reader(ReaderUnit::First),
-        &answers[2],
-    )?;
-    learn(
-        &mut setups,
-        without,
-        Device::Reader(ReaderUnit::Second),
-        &answers[3],
-    )?;
+    if !add(&mut setups, without, Device::Changer, &answers[0]) {
+        return None;
+    }
+    if !add(&mut setups, without, Device::Bill, &answers[1]) {
+        return None;
+    }
+    let first = Device::Reader(ReaderUnit::First);
+    if !add(&mut setups, without, first, &answers[2]) {
+        return None;
+    }
+    let second = Device::Reader(ReaderUnit::Second);
+    if !add(&mut setups, without, second, &answers[3]) {
+        return None;
+    }
     Some(setups)
 }
 
-/// Adds what a device's answer tells, if there is one.
-fn learn(
-    setups: &mut Setups,
-    without: DeviceSet,
-    device: Device,
-    answer: &PageSetup,
-) -> Option<()> {
+/// Adds what a device's answer tells, if there is one. Returns whether that may stand in the
+/// options.
+fn add(setups: &mut Setups, without: DeviceSet, device: Device, answer: &PageSetup) -> bool
+    ensures added { result ≡ true → Adds without device answer.now setups.old setups.new }
+    ensures refused { result ≡ false → (after : Setups)
+        → Adds without device answer.now setups.old after → ⊥ }
+{
     if answer.count == 0 {
-        return Some(());
+        return true;
     }
     if without.has(device) {
-        return None;
+        return false;
     }
-    let bytes = answer.bytes.get(..usize::from(answer.count))?;
-    let block = unseal(bytes).ok()?;
-    let reply = read_reply(&setup_of(device), &block).ok()?;
-    add(setups, device, reply)
-}
-
-/// The command that asks a device how it is set up. What it reports to a reader doesn't matter.
-fn setup_of(device: Device) -> Command {
-    match device {
-        Device::Changer => Command::Changer(ChangerCommand::Setup),
-        Device::Bill => Command::Bill(BillCommand::Setup),
-        Device::Reader(unit) => {
-            let config = ReaderCommand::SetupConfig {
-                level: 0,
-                columns: 0,
-                rows: 0,
-                display: 0,
-            };
-            Command::Reader(unit, config)
-        }
+    let Some(bytes) = answer.bytes.get(..usize::from(answer.count)) else {
+        return false;
+    };
+    match unseal(bytes) {
+        Ok(block) => setups.learn(device, &block),
+        Err(_) => false,
     }
-}
-
-/// Adds what a reply says of how a device is set up.
-fn add(setups: &mut Setups, device: Device, reply: Reply) -> Option<()> {
-    match (device, reply) {
-        (Device::Changer, Reply::ChangerSetup(table)) => setups.changer = Some(table),
-        (Device::Bill, Reply::BillSetup(table)) => setups.bill = Some(table),
-        (Device::Reader(ReaderUnit::First), Reply::Reader(list)) => {
-            setups.first_reader = Some(config_of(&list)?);
-        }
-        (Device::Reader(ReaderUnit::Second), Reply::Reader(list)) => {
-            setups.second_reader = Some(config_of(&list)?);
-        }
-        _ => return None,
-    }
-    Some(())
-}
-
-/// What the last config message of a reader's answer says.
-fn config_of(list: &ReaderList) -> Option<ReaderConfig> {
-    let mut last = None;
-    for message in list.iter() {
-        if let ReaderMsg::Config {
-            scale,
-            decimals,
-            response,
-            ..
-        } = message
-        {
-            last = Some(ReaderConfig {
-                scale,
-                decimals,
-                response,
-            });
-        }
-    }
-    last
 }

@@ -16,7 +16,7 @@ pub returns-in_err-add_setup-clause-refused : goal.returns-in_err-add_setup-clau
 returns-in_err-add_setup-clause-refused c =
     passed_up c.from_residual.result c.in_err-add_setup.field-0.0 (λ refusal. (setups : Setups) → AreSetups c.args.left_out nothing_known (map (λ text. text.now) c.args.texts.now) setups → refusal ≡ no_memory)
     c.from_residual.ensures.1
-    (λ setups are. let next = next_adds c.block_has_one_reply.ensures c.args.left_out nothing_known c.args.texts.now c.loop-text.text-index _ c.loop-text.setups setups c.loop-text-test.true c.loop-text.invariant are in
+    (λ setups are. let next = next_adds c.answer_tells_one_setup.ensures c.args.left_out nothing_known c.args.texts.now c.loop-text.text-index _ c.loop-text.setups setups c.loop-text-test.true c.loop-text.invariant are in
     c.in_err-add_setup.ensures.refused next.0 next.1)
 
 pub returns-in_err-add_setup-clause-own : goal.returns-in_err-add_setup-clause-own

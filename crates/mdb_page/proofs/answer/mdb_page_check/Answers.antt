@@ -8,7 +8,7 @@ returns-in-Ok-clause-yes c = λ zero.
     let read = c.follow-end.ensures.text c.in-Text.is in
     let other : c.write_as.result ≢ 6 = λ six. omega arith in (
       c.in-Some.scope,
-      c.in-Some.ensures,
+      c.in-Some.ensures.taken,
       record {
         lines = c.without_mark-rest.result.now;
         unmarked = c.without_mark-rest.ensures.rest;

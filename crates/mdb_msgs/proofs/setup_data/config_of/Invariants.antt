@@ -1,6 +1,6 @@
 use Rattle.std.proofs.Common.{◌≡◌, ◌++◌}
-use Rattle.mdb_check.specs.SetupData.{last_config}
-use Rattle.mdb_check.proofs.setup_data.config_of.Given as goal
+use Rattle.mdb_msgs.specs.SetupData.{last_config}
+use Rattle.mdb_msgs.proofs.setup_data.config_of.Given as goal
 
 -- what the messages so far say
 abbrev pub invariant-loop-message : goal.invariant-loop-message

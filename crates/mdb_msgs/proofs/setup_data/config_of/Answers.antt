@@ -1,7 +1,7 @@
 use Rattle.std.proofs.Common.{[], ◌∷◌, ◌++◌, ◌∙◌, ap, ap₂, append_assoc, sym}
-use Rattle.mdb_check.specs.SetupData.{or_else}
-use Rattle.mdb_check.proofs.SetupData.{last_more}
-use Rattle.mdb_check.proofs.setup_data.config_of.Goals as goal
+use Rattle.mdb_msgs.specs.SetupData.{or_else}
+use Rattle.mdb_msgs.proofs.SetupData.{last_more}
+use Rattle.mdb_msgs.proofs.setup_data.config_of.Goals as goal
 
 pub loop-message-preserved : goal.loop-message-preserved
 loop-message-preserved c =

@@ -1,5 +1,5 @@
--- What is known of how the devices are set up, by their answers to SETUP in an earlier recording of
--- the same machine (MDB/ICP 4.3, the devices; that they may be known from elsewhere, this profile).
+-- What a device's answer to SETUP tells of how it is set up (MDB/ICP 4.3, coin changer, bill
+-- validator and cashless device; that it may be known from an earlier recording, this profile).
 use Rattle.std.specs.Prelude.{◌≡◌, ℕ, List, [], ◌∷◌, Option, Some, None, is_some, option_map}
 use Rattle.mdb_blocks.specs.Block.{IsBlock}
 use Rattle.mdb_msgs.specs.declared.command.BillCommand.TheVariants as bill
@@ -11,7 +11,6 @@ use Rattle.mdb_msgs.specs.declared.command.Device.TheVariants.{Changer, Bill, Re
 use Rattle.mdb_msgs.specs.declared.command.ReaderCommand.TheVariants as reader
 use Rattle.mdb_msgs.specs.declared.command.ReaderUnit.{ReaderUnit}
 use Rattle.mdb_msgs.specs.declared.command.ReaderUnit.TheVariants.{First, Second}
-use Rattle.mdb_msgs.specs.declared.device_set.DeviceSet.{DeviceSet}
 use Rattle.mdb_msgs.specs.declared.reply.reader.ReaderMsg.{ReaderMsg}
 use Rattle.mdb_msgs.specs.declared.reply.reader.ReaderMsg.TheVariants as message
 use Rattle.mdb_msgs.specs.declared.reply.Reply.{Reply}

@@ -1,0 +1,12 @@
+use Rattle.mdb_msgs.proofs.SetupData.{learns, learns_none}
+use Rattle.mdb_msgs.proofs.setups.Setups.learn.Goals as goal
+
+pub returns-in-Ok-clause-only : goal.returns-in-Ok-clause-only
+returns-in-Ok-clause-only c =
+    learns c.args.device c.args.answer.now c.args.self.now c.setup_of.result c.setup_of.ensures c.read_reply.result c.read_reply.ensures.only
+    c.in-Ok.reply c.in-Ok.is c.add.result c.add.ensures.untold
+
+pub returns-in-Err-clause-only : goal.returns-in-Err-clause-only
+returns-in-Err-clause-only c =
+    learns_none c.args.device c.args.answer.now c.args.self.now c.setup_of.result c.setup_of.ensures c.read_reply.result c.read_reply.ensures.only
+    c.in-Err.field-0 c.in-Err.is

@@ -1,0 +1,116 @@
+//! What a device's answer to SETUP reports of how it is set up.
+
+ghost use Rattle.std.specs.Prelude.{◌≡◌, None, Some, true, false};
+ghost use Rattle.mdb_msgs.specs.SetupData.{IsSetupOf};
+ghost use Rattle.mdb_msgs.specs.SetupData as spec;
+ghost use Rattle.mdb_msgs.specs.declared.setups.Setups.{Setups};
+ghost use Rattle.mdb_msgs.specs.inner.SetupAsked.{setup_of};
+
+use crate::command::{BillCommand, ChangerCommand, Command, Device, ReaderCommand, ReaderUnit};
+use crate::reply::reader::{ReaderList, ReaderMsg};
+use crate::reply::{Reply, read_reply};
+use crate::setups::{ReaderConfig, Setups};
+use mdb_blocks::Block;
+
+impl Setups {
+    /// Learns how a device is set up from the block of its answer to SETUP, or of a reader's answer
+    /// to SETUP config (MDB/ICP 4.3, coin changer, bill validator and cashless device). Returns
+    /// whether the block is such an answer.
+    ///
+    /// A changer and a validator report their setup tables. A reader reports its scale factor,
+    /// decimal places and response time in seconds; of several config messages, the last counts
+    /// (this profile). They replace what was known of that device. What is known of the other
+    /// devices stays.
+    ///
+    /// The return value is `false`, and nothing changes, if the block is no answer to that command,
+    /// or if a reader's answer has no config message.
+    pub fn learn(&mut self, device: Device, answer: &Block) -> bool
+        ensures learnt { result ≡ true → IsSetupOf device answer.now self.old self.new }
+        ensures only { (after : Setups) → IsSetupOf device answer.now self.old after
+            → result ≡ true }
+        ensures kept { result ≡ false → self.new ≡ self.old }
+    {
+        answer.bytes();
+        match read_reply(&setup_of(device), answer) {
+            Ok(reply) => add(self, device, reply),
+            Err(_) => false,
+        }
+    }
+}
+
+/// The command that asks a device how it is set up. What it reports to a reader doesn't matter.
+fn setup_of(device: Device) -> Command
+    ensures { result ≡ setup_of device }
+{
+    match device {
+        Device::Changer => Command::Changer(ChangerCommand::Setup),
+        Device::Bill => Command::Bill(BillCommand::Setup),
+        Device::Reader(unit) => {
+            let config = ReaderCommand::SetupConfig {
+                level: 0,
+                columns: 0,
+                rows: 0,
+                display: 0,
+            };
+            Command::Reader(unit, config)
+        }
+    }
+}
+
+/// Adds what a reply says of how a device is set up. Returns whether it says that.
+fn add(setups: &mut Setups, device: Device, reply: Reply) -> bool
+    ensures told { result ≡ true → spec.known_with setups.old device reply ≡ Some setups.new }
+    ensures untold { result ≡ false → spec.known_with setups.old device reply ≡ None }
+    ensures kept { result ≡ false → setups.new ≡ setups.old }
+{
+    match (device, reply) {
+        (Device::Changer, Reply::ChangerSetup(table)) => setups.changer = Some(table),
+        (Device::Bill, Reply::BillSetup(table)) => setups.bill = Some(table),
+        (Device::Reader(unit), Reply::Reader(list)) => match config_of(&list) {
+            Some(config) => add_config(setups, unit, config),
+            None => return false,
+        },
+        _ => return false,
+    }
+    true
+}
+
+/// Adds the config of a reader.
+fn add_config(setups: &mut Setups, unit: ReaderUnit, config: ReaderConfig)
+    ensures { setups.new ≡ spec.with_config setups.old unit config }
+{
+    match unit {
+        ReaderUnit::First => setups.first_reader = Some(config),
+        ReaderUnit::Second => setups.second_reader = Some(config),
+    }
+}
+
+/// What the last config message of a reader's answer says.
+fn config_of(list: &ReaderList) -> Option<ReaderConfig>
+    ensures { result ≡ spec.last_config list.now.messages }
+{
+    let mut last = None;
+    for message in list.iter() {
+        last = config_in(message).or(last);
+    }
+    last
+}
+
+/// What a config message says of how the reader is set up.
+fn config_in(message: ReaderMsg) -> Option<ReaderConfig>
+    ensures { result ≡ spec.config_in message }
+{
+    match message {
+        ReaderMsg::Config {
+            scale,
+            decimals,
+            response,
+            ..
+        } => Some(ReaderConfig {
+            scale,
+            decimals,
+            response,
+        }),
+        _ => None,
+    }
+}
