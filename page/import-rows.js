@@ -135,11 +135,15 @@ function partsOf(line) {
 const lineOfRecord = ({line}) => ({all: line.all, from: 0, to: line.length});
 const hasTimeForm = (field) => Boolean(clockOf(field) || numberOf(field));
 
-// Whether fields are the titles of columns: none has the form of a time or names a line or a break,
-// and the last is no word.
+const isEmpty = ({from, to}) => from === to;
+const hasDigit = ({all, from, to}) => all.subarray(from, to).some((byte) => byte >= 0x30 && byte <= 0x39);
+
+// Whether fields are the titles of columns: three or more, none empty or a time. The first and the last have no digit.
+// Of exactly three, the second names neither a line nor a break.
 function isHeader(parts, names) {
-  const isTitle = (field) => !hasTimeForm(field) && lineOf(field, names) < 0 && !isBreak(field);
-  return parts.every(isTitle) && wordOf(parts.at(-1)) < 0;
+  if (parts.length < 3 || hasDigit(parts[0]) || hasDigit(parts.at(-1))) return false;
+  if (parts.length === 3 && (lineOf(parts[1], names) >= 0 || isBreak(parts[1]))) return false;
+  return parts.every((field) => !isEmpty(field) && !hasTimeForm(field));
 }
 
 // The options of an import with the names of the lines as bytes.

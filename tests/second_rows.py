@@ -134,14 +134,19 @@ def word_of(field):
     return word if word <= 0x1FF else None
 
 
+def has_digit(field):
+    return re.search(rb"[0-9]", field) is not None
+
+
 def is_header(record, names):
-    """Whether no field of a record has the form of a time or names a line or a break, and the last
-    is no word."""
+    """Whether a record has three fields or more, none of which is empty or has the form of a time;
+    neither the first nor the last has a digit; and the second of three names no line or break."""
     fields = fields_of(record)
-    for field in fields:
-        if field in names or number_of(field) is not None or time_of_day(field) is not None:
-            return False
-    return word_of(fields[-1]) is None
+    if len(fields) < 3 or (len(fields) == 3 and fields[1] in names):
+        return False
+    if has_digit(fields[0]) or has_digit(fields[-1]):
+        return False
+    return all(field and number_of(field) is None and time_of_day(field) is None for field in fields)
 
 
 def row_of(record, unit, names, before):

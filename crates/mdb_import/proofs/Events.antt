@@ -1,9 +1,8 @@
 -- Records and the events that they stand for.
 use Rattle.std.proofs.Common.{arith, refl, cond, length, append_assoc, ap, sym, subst, inl, inr}
-use Rattle.std.proofs.Common.{◌∙◌, ◌≡◌, ◌≤◌, ◌↔◌, ℕ, Bool, true, false, not, List, [], ◌∷◌, ◌++◌}
+use Rattle.std.proofs.Common.{◌∙◌, ◌≡◌, ◌≤◌, ◌↔◌, ℕ, Bool, true, false, List, [], ◌∷◌, ◌++◌}
 use Rattle.std.proofs.Common.{Option, Some, None, map, IsTrue, IsSome, IfSome, IfErr, Result, Ok}
-use Rattle.std.proofs.Common.{Err, IfNone}
-use Rattle.std.specs.Option.{is_some}
+use Rattle.std.proofs.Common.{Err}
 use Rattle.std.proofs.Math.ListN.{length-map}
 use Rattle.std.proofs.lemmas.List.{append-nil}
 use Rattle.mdb_words.specs.Event.{start_of}
@@ -11,7 +10,8 @@ use Rattle.mdb_words.specs.declared.event.Event.{Event}
 use Rattle.mdb_words.specs.declared.event.Event.TheVariants.{Word, Break}
 use Rattle.mdb_words.specs.declared.word.Line.{Line}
 use Rattle.mdb_import.specs.Fields.{bare, has_byte, line_fields, parts_of, separator_of}
-use Rattle.mdb_import.specs.Rows.{AreOf, IsHeaderOf, IsLine, IsRowOf, IsTitle}
+use Rattle.mdb_import.specs.Rows.{AreOf, AreTitles, BeginWithNoDigit, HasNoDigit}
+use Rattle.mdb_import.specs.Rows.{IsHeaderOf, IsLine, IsRowOf, IsTitle, NameNoLine, NamesNothing}
 use Rattle.mdb_import.specs.Times.{IsLength, IsSeconds, IsTime, IsTimeForm}
 use Rattle.mdb_import.specs.Values.{IsWord}
 use Rattle.mdb_import.specs.declared.options.RowsOptions.{RowsOptions}
@@ -23,7 +23,7 @@ use Rattle.mdb_import.specs.Rows.{AreEvents, AreEventsWith, AreRows, IsAfter, Is
 use Rattle.mdb_import.specs.Rows.{IsHeader, IsPassed, TellsTime, last_with}
 use Rattle.mdb_import.specs.inner.Steps.{part_line}
 use Rattle.mdb_import.specs.declared.options.Unit.{Unit}
-use Rattle.mdb_import.proofs.Parts.{some_parts, split_at, split_none}
+use Rattle.mdb_import.proofs.Parts.{some_parts, split_at, split_none, three}
 use Rattle.mdb_import.proofs.Readings.{time_same}
 
 -- the time of an event is its first field
@@ -77,27 +77,26 @@ parts_more separator line first after is lacks =
     some [] few all = absurd (omega (arith, few))
     some (part ∷ parts) few all = (bare part, map bare parts, all, refl)
 
--- behind a title stands a header's rest, and before a header's rest a title
-pub title_more : (options : RowsOptions) (separator : ℕ) (line first after field : List ℕ)
+-- behind a title stand more titles, and before titles a title
+pub title_more : (separator : ℕ) (line first after field : List ℕ)
     → line ≡ first ++ separator ∷ after → has_byte separator first ≡ false → field ≡ bare first
-    → IsTitle options field
-    → IsHeaderOf options (map bare (parts_of separator line))
-    ↔ IsHeaderOf options (map bare (parts_of separator after))
-title_more options separator line first after field is lacks is_bare title =
-    let parts = parts_more separator line first after is lacks in
-    let P : List (List ℕ) → Type 0 = IsHeaderOf options in (
-      λ header. subst P (sym parts.3) (subst P parts.2 header).1,
-      λ rest. subst P (sym parts.2) (subst (IsTitle options) is_bare title, subst P parts.3 rest),
+    → IsTitle field
+    → AreTitles (map bare (parts_of separator line))
+    ↔ AreTitles (map bare (parts_of separator after))
+title_more separator line first after field is lacks is_bare title =
+    let parts = parts_more separator line first after is lacks in (
+      λ titles. subst AreTitles (sym parts.3) (subst AreTitles parts.2 titles).1,
+      λ rest. subst AreTitles (sym parts.2)
+          (subst IsTitle is_bare title, subst AreTitles parts.3 rest),
     )
 
--- a field that can be no title stands in no header
-pub no_title : (options : RowsOptions) (separator : ℕ) (line first after field : List ℕ)
+-- a field that can be no title stands among no titles
+pub no_title : (separator : ℕ) (line first after field : List ℕ)
     → line ≡ first ++ separator ∷ after → has_byte separator first ≡ false → field ≡ bare first
-    → (IsTitle options field → ⊥) → IsHeaderOf options (map bare (parts_of separator line)) → ⊥
-no_title options separator line first after field is lacks is_bare none header =
+    → (IsTitle field → ⊥) → AreTitles (map bare (parts_of separator line)) → ⊥
+no_title separator line first after field is lacks is_bare none titles =
     let parts = parts_more separator line first after is lacks in
-    let P : List (List ℕ) → Type 0 = IsHeaderOf options in
-    none (subst (IsTitle options) (sym is_bare) (subst P parts.2 header).0)
+    none (subst IsTitle (sym is_bare) (subst AreTitles parts.2 titles).0)
 
 -- the last field of a line
 pub last_field : (separator : ℕ) (line field : List ℕ) → has_byte separator line ≡ false
@@ -105,21 +104,98 @@ pub last_field : (separator : ℕ) (line field : List ℕ) → has_byte separato
 last_field separator line field lacks is_bare =
     ap (map bare) (split_none separator line lacks) ∙ ap (λ f. f ∷ []) (sym is_bare)
 
--- a line whose last field is a title is a header's exactly where that is no word
-pub header_last : (options : RowsOptions) (fields : List (List ℕ)) (field : List ℕ)
-    (word : Option ℕ) (is : Bool) → fields ≡ field ∷ [] → IsTitle options field
-    → IfSome word (IsWord field) → IfNone word ((w : ℕ) → IsWord field w → ⊥)
-    → is_some word ≡ not is → IsTrue is ↔ IsHeaderOf options fields
-header_last options fields field None true fields_are title some none is = (
-  λ holds. subst (IsHeaderOf options) (sym fields_are) (title, none),
-  λ header. refl,
+-- some fields of which the last is a title are titles exactly where that has no digit
+pub title_last : (fields : List (List ℕ)) (field : List ℕ) (is : Bool) → fields ≡ field ∷ []
+    → IsTitle field → (IsTrue is ↔ HasNoDigit field) → IsTrue is ↔ AreTitles fields
+title_last fields field is fields_are title same = (
+  λ holds. subst AreTitles (sym fields_are) (title, same.0 holds),
+  λ titles. same.1 (subst AreTitles fields_are titles).1,
 )
-header_last options fields field None false fields_are title some none is = absurd (cc)
-header_last options fields field (Some w) true fields_are title some none is = absurd (cc)
-header_last options fields field (Some w) false fields_are title some none is = (
-  λ holds. absurd (cc),
-  λ header. absurd ((subst (IsHeaderOf options) fields_are header).1 w some),
+
+-- the fields of a line that has one separator
+pub two_fields : (separator : ℕ) (line a b : List ℕ) → line ≡ a ++ separator ∷ b
+    → has_byte separator a ≡ false → has_byte separator b ≡ false
+    → map bare (parts_of separator line) ≡ bare a ∷ bare b ∷ []
+two_fields separator line a b is lacks last =
+    ap (map bare) (split_at separator line a b is lacks
+    ∙ ap (λ l. a ∷ l) (split_none separator b last))
+
+-- the fields of a line that has three separators, or more
+pub four_fields : (separator : ℕ) (line a after b then_after c rest : List ℕ)
+    → line ≡ a ++ separator ∷ after → has_byte separator a ≡ false
+    → after ≡ b ++ separator ∷ then_after → has_byte separator b ≡ false
+    → then_after ≡ c ++ separator ∷ rest → has_byte separator c ≡ false
+    → (next : List ℕ) × (others : List (List ℕ))
+    × (map bare (parts_of separator line) ≡ bare a ∷ bare b ∷ bare c ∷ next ∷ others)
+four_fields separator line a after b then_after c rest is lacks then_is then_lacks last_is
+    last_lacks =
+    let more = parts_more separator then_after c rest last_is last_lacks in (
+      more.0,
+      more.1,
+      ap (map bare) (split_at separator line a after is lacks
+          ∙ ap (λ l. a ∷ l) (split_at separator after b then_after then_is then_lacks))
+          ∙ ap (λ l. bare a ∷ bare b ∷ l) more.2,
+    )
+
+-- the fields of a line that has two separators
+pub three_fields : (separator : ℕ) (line a after b c : List ℕ) → line ≡ a ++ separator ∷ after
+    → has_byte separator a ≡ false → after ≡ b ++ separator ∷ c → has_byte separator b ≡ false
+    → has_byte separator c ≡ false
+    → map bare (parts_of separator line) ≡ bare a ∷ bare b ∷ bare c ∷ []
+three_fields separator line a after b c is lacks then_is then_lacks last =
+    ap (map bare) (three separator line a after b c is lacks then_is then_lacks last)
+
+-- three fields name no line exactly where the second names nothing
+pub named_three : (options : RowsOptions) (fields : List (List ℕ)) (a b c field : List ℕ)
+    (is : Bool) → fields ≡ a ∷ b ∷ c ∷ [] → field ≡ b
+    → (IsTrue is ↔ NamesNothing options field) → IsTrue is ↔ NameNoLine options fields
+named_three options fields a b c field is fields_are is_second same = (
+  λ holds. subst (NameNoLine options) (sym fields_are)
+      (subst (NamesNothing options) is_second (same.0 holds)),
+  λ named. same.1 (subst (NamesNothing options) (sym is_second)
+      (subst (NameNoLine options) fields_are named)),
 )
+
+-- the fields of a line, by its separator
+fields_by : (separator : ℕ) (line : List ℕ) → separator ≡ separator_of line
+    → map bare (parts_of separator line) ≡ line_fields line
+fields_by separator line is = ap (λ s. map bare (parts_of s line)) is
+
+-- what makes a line that of a header
+pub header_of : (options : RowsOptions) (separator : ℕ) (line first field : List ℕ)
+    (others : List (List ℕ)) → separator ≡ separator_of line
+    → parts_of separator line ≡ first ∷ others → field ≡ bare first → HasNoDigit field
+    → NameNoLine options (map bare (parts_of separator line))
+    → AreTitles (map bare (parts_of separator line)) → IsHeaderOf options (line_fields line)
+header_of options separator line first field others is parts is_bare no_digit no_line titles =
+    let same = fields_by separator line is in
+    record {
+      titles = subst AreTitles same titles;
+      no_time = subst BeginWithNoDigit (sym (ap (map bare) parts) ∙ same)
+          (subst HasNoDigit is_bare no_digit);
+      no_line = subst (NameNoLine options) same no_line;
+    }
+
+-- and what that of a header is
+pub header_begins : (options : RowsOptions) (separator : ℕ) (line first field : List ℕ)
+    (others : List (List ℕ)) → separator ≡ separator_of line
+    → parts_of separator line ≡ first ∷ others → field ≡ bare first
+    → IsHeaderOf options (line_fields line) → HasNoDigit field
+header_begins options separator line first field others is parts is_bare header =
+    subst HasNoDigit (sym is_bare) (subst BeginWithNoDigit
+    (sym (fields_by separator line is) ∙ ap (map bare) parts) header.no_time)
+
+pub header_names : (options : RowsOptions) (separator : ℕ) (line : List ℕ)
+    → separator ≡ separator_of line → IsHeaderOf options (line_fields line)
+    → NameNoLine options (map bare (parts_of separator line))
+header_names options separator line is header =
+    subst (NameNoLine options) (sym (fields_by separator line is)) header.no_line
+
+pub header_titles : (options : RowsOptions) (separator : ℕ) (line : List ℕ)
+    → separator ≡ separator_of line → IsHeaderOf options (line_fields line)
+    → AreTitles (map bare (parts_of separator line))
+header_titles options separator line is header =
+    subst AreTitles (sym (fields_by separator line is)) header.titles
 
 -- the row of a line
 pub row_of : (options : RowsOptions) (line a b c : List ℕ) (separator : ℕ)
@@ -130,9 +206,9 @@ row_of options line a b c separator is parts =
 
 -- the first field of a header has no form of a time
 titled : (options : RowsOptions) (first : List ℕ) (others : List (List ℕ))
-    → IsHeaderOf options (first ∷ others) → IsTitle options first
-titled options first [] header = header.0
-titled options first (next ∷ others) header = header.0
+    → IsHeaderOf options (first ∷ others) → IsTitle first
+titled options first [] header = header.titles.0
+titled options first (next ∷ others) header = header.titles.0
 
 time_form : (told : Option Unit) (field : List ℕ) (at : ℕ) → IsTime told field at
     → IsTimeForm field

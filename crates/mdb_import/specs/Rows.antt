@@ -1,6 +1,7 @@
 -- Which records of an export stand for which events.
-use Rattle.std.specs.Prelude.{◌≡◌, ◌⊎◌, ◌<◌, ℕ, List, [], ◌∷◌, ⊤, Bool, true, false, if◌then◌else◌}
-use Rattle.std.specs.Prelude.{Option, Some, None, option_map, string_bytes}
+use Rattle.std.specs.Prelude.{◌≡◌, ◌≢◌, ◌⊎◌, ◌<◌, ℕ, List, [], ◌∷◌, ⊤, Bool, true, false, All}
+use Rattle.std.specs.Prelude.{if◌then◌else◌, Option, Some, None, option_map, string_bytes}
+use Rattle.std.specs.Char.{IsNotAsciiDigit}
 use Rattle.mdb_words.specs.Event.{start_of}
 use Rattle.mdb_words.specs.declared.event.Event.{Event}
 use Rattle.mdb_words.specs.declared.event.Event.TheVariants.{Word, Break}
@@ -50,18 +51,46 @@ pub record IsRowOf (options : RowsOptions) (fields : List (List ℕ)) (event : E
   pub three : fields ≡ time ∷ line ∷ value ∷ []
   pub are : AreOf options time line value event
 
--- a field that can be a title: it has no form of a time, and names neither a line nor a break
-pub record IsTitle (options : RowsOptions) (field : List ℕ) : Type 0 where
-  pub no_time : IsTimeForm field → ⊥
-  pub no_line : (on : Line) → IsLine options field on → ⊥
-  pub no_break : IsBreak field → ⊥
+-- a field without a digit, 0 to 9
+abbrev pub HasNoDigit : List ℕ → Type 0
+HasNoDigit field = All IsNotAsciiDigit field
 
--- the fields of a header: each can be a title, and the last is no word
-abbrev pub IsHeaderOf : RowsOptions → List (List ℕ) → Type 0
-IsHeaderOf options [] = ⊥
-IsHeaderOf options (last ∷ []) = IsTitle options last × ((word : ℕ) → IsWord last word → ⊥)
-IsHeaderOf options (title ∷ next ∷ fields) =
-    IsTitle options title × IsHeaderOf options (next ∷ fields)
+-- a field that can be a title: it isn't empty, and has no form of a time
+pub record IsTitle (field : List ℕ) : Type 0 where
+  pub some : field ≢ []
+  pub no_time : IsTimeForm field → ⊥
+
+-- titles, the last of which has no digit
+abbrev pub AreTitles : List (List ℕ) → Type 0
+AreTitles [] = ⊥
+AreTitles (last ∷ []) = IsTitle last × HasNoDigit last
+AreTitles (title ∷ next ∷ fields) = IsTitle title × AreTitles (next ∷ fields)
+
+-- fields the first of which has no digit
+abbrev pub BeginWithNoDigit : List (List ℕ) → Type 0
+BeginWithNoDigit [] = ⊥
+BeginWithNoDigit (first ∷ fields) = HasNoDigit first
+
+-- a field that names neither a line nor a break
+abbrev pub NamesNothing : RowsOptions → List ℕ → Type 0
+NamesNothing options field =
+    ((on : Line) → IsLine options field on → ⊥) × (IsBreak field → ⊥)
+
+-- three fields the second of which names neither a line nor a break, or more than three
+abbrev pub NameNoLine : RowsOptions → List (List ℕ) → Type 0
+NameNoLine options [] = ⊥
+NameNoLine options (time ∷ []) = ⊥
+NameNoLine options (time ∷ line ∷ []) = ⊥
+NameNoLine options (time ∷ line ∷ value ∷ []) = NamesNothing options line
+NameNoLine options (time ∷ line ∷ value ∷ more ∷ fields) = ⊤
+
+-- The fields of a header, three or more. None is empty or has the form of a time. The first, where a
+-- row has its time, and the last, where it has its value, have no digit. The second of three names
+-- neither a line nor a break.
+pub record IsHeaderOf (options : RowsOptions) (fields : List (List ℕ)) : Type 0 where
+  pub titles : AreTitles fields
+  pub no_time : BeginWithNoDigit fields
+  pub no_line : NameNoLine options fields
 
 -- a record that stands for an event
 abbrev pub IsExportedRow : RowsOptions → List (List ℕ) → Event → Type 0

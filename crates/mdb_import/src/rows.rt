@@ -1,13 +1,14 @@
 //! The format `rows`: our own rows, as people have them.
 
 ghost use Rattle.std.specs.Prelude.{◌≡◌, ◌↔◌, ℕ, IfErr, IfNone, IfOk, IfSome, IsTrue, option_map};
-ghost use Rattle.std.specs.Prelude.{string_bytes};
+ghost use Rattle.std.specs.Prelude.{map, string_bytes};
 ghost use Rattle.mdb_words.specs.declared.event.Event.{Event};
 ghost use Rattle.mdb_words.specs.declared.word.Line.{Line};
-ghost use Rattle.mdb_import.specs.Fields.{line_fields};
+ghost use Rattle.mdb_import.specs.Fields.{bare as bare_of, line_fields, parts_of};
 ghost use Rattle.mdb_import.specs.Refusals.{IsFieldsFault, IsNoRow};
-ghost use Rattle.mdb_import.specs.Rows.{AreOf, IsBreak, IsHeaderOf, IsLetterOf, IsLine, IsNamed};
-ghost use Rattle.mdb_import.specs.Rows.{IsRowOf, IsTitle, TellsTime};
+ghost use Rattle.mdb_import.specs.Rows.{AreOf, AreTitles, HasNoDigit, IsBreak, IsHeaderOf};
+ghost use Rattle.mdb_import.specs.Rows.{IsLetterOf, IsLine, IsNamed, IsRowOf, IsTitle, NameNoLine};
+ghost use Rattle.mdb_import.specs.Rows.{NamesNothing, TellsTime};
 ghost use Rattle.mdb_import.specs.Times.{IsTime};
 
 use super::fault::RecordFault;
@@ -41,28 +42,74 @@ pub(crate) fn time_in(options: &RowsOptions, line: &[u8]) -> Option<u64>
     }
 }
 
-/// Whether a line is that of a header: no field has the form of a time or names a line or a break,
-/// and the last is no word.
+/// Whether a line is that of a header: it has three fields or more, none of them empty or with the
+/// form of a time, no digit in the first and in the last, and of three the second names neither a
+/// line nor a break.
 pub(crate) fn is_header(options: &RowsOptions, line: &[u8]) -> bool
     ensures { IsTrue result ↔ IsHeaderOf options.now (line_fields line.now) }
 {
     let separator = separator_of(line);
+    has_no_digit(bare(first_part(line, separator)))
+        && names_no_line(options, line, separator)
+        && are_titles(line, separator)
+}
+
+/// Whether a line has three fields, the second of which names neither a line nor a break, or more.
+fn names_no_line(options: &RowsOptions, line: &[u8], separator: u8) -> bool
+    ensures { IsTrue result
+        ↔ NameNoLine options.now (map bare_of (parts_of separator line.now)) }
+{
+    let Some((_, after)) = parted(line, separator) else {
+        return false;
+    };
+    let Some((name, after)) = parted(after, separator) else {
+        return false;
+    };
+    match parted(after, separator) {
+        Some(_) => true,
+        None => names_nothing(options, bare(name)),
+    }
+}
+
+/// Whether a field names neither a line nor a break.
+fn names_nothing(options: &RowsOptions, field: &[u8]) -> bool
+    ensures { IsTrue result ↔ NamesNothing options.now field.now }
+{
+    line_of(options, field).is_none() && !is_break(field)
+}
+
+/// Whether the fields of a line can be titles, and the last has no digit.
+fn are_titles(line: &[u8], separator: u8) -> bool
+    ensures { IsTrue result ↔ AreTitles (map bare_of (parts_of separator line.now)) }
+{
     let mut rest = line;
     while let Some((title, others)) = parted(rest, separator) {
-        if !is_title(options, bare(title)) {
+        if !is_title(bare(title)) {
             return false;
         }
         rest = others;
     }
     let last = bare(rest);
-    is_title(options, last) && read_word(last).is_none()
+    is_title(last) && has_no_digit(last)
 }
 
 /// Whether a field can be a title.
-fn is_title(options: &RowsOptions, field: &[u8]) -> bool
-    ensures { IsTrue result ↔ IsTitle options.now field.now }
+fn is_title(field: &[u8]) -> bool
+    ensures { IsTrue result ↔ IsTitle field.now }
 {
-    !is_time_form(field) && line_of(options, field).is_none() && !is_break(field)
+    !field.is_empty() && !is_time_form(field)
+}
+
+/// Whether a field has no decimal digit.
+fn has_no_digit(field: &[u8]) -> bool
+    ensures { IsTrue result ↔ HasNoDigit field.now }
+{
+    for byte in field {
+        if byte.is_ascii_digit() {
+            return false;
+        }
+    }
+    true
 }
 
 /// The event of three fields, or what is wrong with them.

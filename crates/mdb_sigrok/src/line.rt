@@ -2,9 +2,10 @@
 
 ghost use Rattle.std.specs.Prelude.{◌≡◌, ◌++◌, ◌∷◌, [], List, IfOk, IfErr, OnOk, Ok, Err, None};
 ghost use Rattle.mdb_words.specs.declared.event.Event.{Event};
-ghost use Rattle.mdb_sigrok.specs.Refusals.{IsNoBreak};
+ghost use Rattle.mdb_sigrok.specs.Refusals.{IsNoBreak, IsNoData, IsNoNext, IsNoStart};
 ghost use Rattle.mdb_sigrok.specs.Rows.{IsBreak, IsStart, LineRows, break_of};
-ghost use Rattle.mdb_sigrok.specs.inner.Steps.{Blocks, EndsWith, IsOpen, IsPlace, open_pairs, told_by};
+ghost use Rattle.mdb_sigrok.specs.inner.Steps.{Blocks, EndsWith, IsNoEnd, IsNoMore, IsOpen, IsPlace};
+ghost use Rattle.mdb_sigrok.specs.inner.Steps.{open_pairs, told_by};
 
 use super::fault::OrderFault;
 use super::pair::{Pair, What};
@@ -55,6 +56,7 @@ pub(crate) fn go_on(place: &mut Place, pair: &Pair) -> Result<Option<Event>, Ord
         (open_pairs place.old.held ++ pair.now ∷ []) (told_by row) place.new) }
     ensures err { IfErr result (λ _. Blocks place.old.line place.old.earliest
         (open_pairs place.old.held ++ pair.now ∷ [])) }
+    ensures why { IfErr result (IsNoMore place.old pair.now) }
     ensures kept { IfErr result (λ _. place.new ≡ place.old) }
 {
     let held = place.held;
@@ -81,6 +83,7 @@ fn silent(step: Result<(), OrderFault>) -> Result<Option<Event>, OrderFault>
 fn start_of_word(earliest: u64, pair: &Pair) -> Result<(), OrderFault>
     ensures ok { IfOk result (λ _. IsStart earliest pair.now) }
     ensures err { IfErr result (λ _. IsStart earliest pair.now → ⊥) }
+    ensures why { IfErr result (IsNoStart earliest pair.now) }
 {
     match pair.what {
         What::Start => {
@@ -100,6 +103,7 @@ fn started(place: &mut Place, pair: &Pair) -> Result<(), OrderFault>
     ensures ok { OnOk result
         (IsPlace place.old.line place.old.earliest (pair.now ∷ []) [] place.new) }
     ensures err { IfErr result (λ _. Blocks place.old.line place.old.earliest (pair.now ∷ [])) }
+    ensures why { IfErr result (IsNoStart place.old.earliest pair.now) }
     ensures kept { IfErr result (λ _. place.new ≡ place.old) }
 {
     match start_of_word(place.earliest, pair) {
@@ -118,6 +122,7 @@ fn worded(place: &mut Place, start: &Pair, pair: &Pair) -> Result<(), OrderFault
         (IsPlace place.old.line place.old.earliest (start.now ∷ pair.now ∷ []) [] place.new) }
     ensures err { IfErr result (λ _. Blocks place.old.line place.old.earliest
         (start.now ∷ pair.now ∷ [])) }
+    ensures why { IfErr result (IsNoData pair.now) }
     ensures kept { IfErr result (λ _. place.new ≡ place.old) }
 {
     match pair.what {
@@ -145,6 +150,7 @@ fn after_word(
         (start.now ∷ value.now ∷ pair.now ∷ []) (told_by row) place.new) }
     ensures err { IfErr result (λ _. Blocks place.old.line place.old.earliest
         (start.now ∷ value.now ∷ pair.now ∷ [])) }
+    ensures why { IfErr result (IsNoNext start.now word pair.now) }
     ensures kept { IfErr result (λ _. place.new ≡ place.old) }
 {
     match pair.what {
@@ -170,6 +176,7 @@ fn next_word(
         (start.now ∷ value.now ∷ pair.now ∷ []) (told_by row) place.new) }
     ensures err { IfErr result (λ _. Blocks place.old.line place.old.earliest
         (start.now ∷ value.now ∷ pair.now ∷ [])) }
+    ensures why { IfErr result (IsNoNext start.now word pair.now) }
     ensures kept { IfErr result (λ _. place.new ≡ place.old) }
 {
     let at = start.from.time();
@@ -200,6 +207,7 @@ fn wrong(
         (start.now ∷ value.now ∷ pair.now ∷ []) [] place.new) }
     ensures err { IfErr result (λ _. Blocks place.old.line place.old.earliest
         (start.now ∷ value.now ∷ pair.now ∷ [])) }
+    ensures why { IfErr result (IsNoNext start.now word pair.now) }
     ensures kept { IfErr result (λ _. place.new ≡ place.old) }
 {
     if word.byte() != 0 || word.marked() {
@@ -224,6 +232,7 @@ fn broken(
         (start.now ∷ zero.now ∷ wrong.now ∷ pair.now ∷ []) (told_by row) place.new) }
     ensures err { IfErr result (λ _. Blocks place.old.line place.old.earliest
         (start.now ∷ zero.now ∷ wrong.now ∷ pair.now ∷ [])) }
+    ensures why { IfErr result (IsNoBreak place.old.earliest place.old.line pair.now) }
     ensures kept { IfErr result (λ _. place.new ≡ place.old) }
 {
     match break_row(place, pair) {
@@ -269,6 +278,7 @@ pub(crate) fn last_row(place: &Place) -> Result<Option<Event>, OrderFault>
         (open_pairs place.now.held) (told_by row)) }
     ensures err { IfErr result (λ _. (rows : List Event) →
         LineRows place.now.line place.now.earliest (open_pairs place.now.held) rows → ⊥) }
+    ensures why { IfErr result (IsNoEnd place.now.held) }
 {
     match place.held {
         Open::Nothing => Ok(None),

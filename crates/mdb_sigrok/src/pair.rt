@@ -6,7 +6,7 @@ ghost use Rattle.mdb_words.specs.Digits.{hex_word};
 ghost use Rattle.mdb_words.specs.declared.word.Line.{Line};
 ghost use Rattle.mdb_sigrok.specs.declared.pair.What.{What};
 ghost use Rattle.mdb_sigrok.specs.Record.{IsName, TellsWhat, channel_of, row_of};
-ghost use Rattle.mdb_sigrok.specs.Refusals.{IsNoKind, IsNoName};
+ghost use Rattle.mdb_sigrok.specs.Refusals.{IsNoKind, IsNoName, IsNoWord};
 
 use super::cut::{after, is_text};
 use super::fault::OrderFault;
@@ -103,7 +103,7 @@ fn word_or_start(name: &[u8]) -> Result<What, OrderFault>
 
 /// Why a name is none of a word or its start.
 fn fault_of_name(name: &[u8]) -> OrderFault
-    ensures { IsNoName name.now result }
+    ensures { IsNoWord name.now → IsNoName name.now result }
 {
     if is_text(name, b"Parity error") {
         return OrderFault::Parity;

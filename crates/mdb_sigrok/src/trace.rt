@@ -2,7 +2,7 @@
 
 ghost use Rattle.std.specs.Prelude.{◌≡◌, ◌<◌, ◌++◌, ◌∷◌, [], Bool, true, false, List, ℕ, length, codes, IfOk, IfErr, IfNone, IfSome, IsTrue, ◌↔◌};
 ghost use Rattle.mdb_sigrok.specs.declared.pair.Pair.{Pair};
-ghost use Rattle.mdb_sigrok.specs.Text.{lines_of};
+ghost use Rattle.mdb_sigrok.specs.Text.{lines_of, micros_of};
 ghost use Rattle.mdb_sigrok.specs.inner.Fronts.{HasLine, HasTwo};
 ghost use Rattle.mdb_sigrok.specs.inner.Pairs.{BeginsWith, IsNext, IsOfTrace, MakesPair};
 ghost use Rattle.mdb_sigrok.specs.Record.{AreNames, IsRecord};
@@ -126,7 +126,8 @@ pub(crate) fn form(number: u64, fault: FormFault) -> SigrokFault
 
 /// A fault of a record that stands where it can't.
 pub(crate) fn order(number: u64, time: Moment, line: FaultLine, fault: OrderFault) -> SigrokFault
-    ensures { IsOfTrace result }
+    ensures is { result ≡ SigrokFault.Order number (micros_of time) line fault }
+    ensures told { IsOfTrace result }
 {
     SigrokFault::Order {
         number,

@@ -7,6 +7,9 @@ use Rattle.mdb_sigrok.specs.declared.pair.What.TheVariants.{Data, FrameError}
 use Rattle.mdb_sigrok.specs.declared.line.Open.{Open}
 use Rattle.mdb_sigrok.specs.declared.line.Open.TheVariants.{Nothing, Started, Worded, Wrong}
 use Rattle.mdb_sigrok.specs.declared.line.Place.{Place}
+use Rattle.mdb_sigrok.specs.declared.fault.OrderFault.{OrderFault}
+use Rattle.mdb_sigrok.specs.declared.fault.OrderFault.TheVariants as fault
+use Rattle.mdb_sigrok.specs.Refusals.{IsNoBreak, IsNoData, IsNoNext, IsNoStart}
 use Rattle.mdb_sigrok.specs.Rows.{IsStart, LineRows}
 
 -- the records that no row tells yet
@@ -48,6 +51,21 @@ pub record IsPlace (line : Line) (earliest : ℕ) (front : List Pair) (told : Li
 abbrev pub Blocks : Line → ℕ → List Pair → Type 0
 Blocks line earliest front =
     (pairs : List Pair) (rows : List Event) → LineRows line earliest (front ++ pairs) rows → ⊥
+
+-- why a line can't go on, by the records that no row tells yet
+abbrev pub IsNoneAfter : Line → ℕ → Open → Pair → OrderFault → Type 0
+IsNoneAfter line earliest Nothing pair told = IsNoStart earliest pair told
+IsNoneAfter line earliest (Started start) pair told = IsNoData pair told
+IsNoneAfter line earliest (Worded start value word) pair told = IsNoNext start word pair told
+IsNoneAfter line earliest (Wrong start zero_pair frame) pair told = IsNoBreak earliest line pair told
+
+abbrev pub IsNoMore : Place → Pair → OrderFault → Type 0
+IsNoMore place pair told = IsNoneAfter place.line place.earliest place.held pair told
+
+-- why the records of a line can't end with these: there is a frame error without its break
+abbrev pub IsNoEnd : Open → OrderFault → Type 0
+IsNoEnd (Wrong start zero_pair frame) fault.NoBreak = Unit {0}
+IsNoEnd held told = ⊥
 
 -- the row that the last records of a line tell, or none
 pub record EndsWith (line : Line) (earliest : ℕ) (front : List Pair) (told : List Event) :
