@@ -1,7 +1,8 @@
 //! What the page's calls answer to small texts.
 
 use mdb_page::{
-    PageAct, PageOptions, PageSetup, PageText, PageTold, mdb_page_acts, mdb_page_check,
+    PageAct, PageLayout, PageNews, PageOptions, PageSetup, PageText, PageTold, mdb_page_acts,
+    mdb_page_check, mdb_page_layout, mdb_page_news,
 };
 
 /// Nothing is known of a device.
@@ -25,7 +26,7 @@ fn nothing() -> PageTold {
         row: 0,
         offset: 0,
         fault: 9,
-        acts: 0,
+        entries: 0,
     }
 }
 
@@ -102,7 +103,7 @@ fn acts_are_listed_and_taken_up_again(rt: HostRuntime) {
         mdb_page_acts(&power_on(), text, 0, &mut told, &mut acts),
         0
     );
-    assert_eq!(rt; (told.acts, told.row), (3, 4));
+    assert_eq!(rt; (told.entries, told.row), (3, 4));
     assert_eq!(rt;
         (acts[0].first, acts[0].last, acts[0].kind, acts[0].device),
         (1, 2, 0, 1)
@@ -117,5 +118,78 @@ fn acts_are_listed_and_taken_up_again(rt: HostRuntime) {
     assert_eq!(rt; acts[3].kind, 99);
     let mut one = [blank; 1];
     assert_eq!(rt; mdb_page_acts(&power_on(), text, 1, &mut told, &mut one), 0);
-    assert_eq!(rt; (told.acts, one[0].first, one[0].kind), (3, 3, 1));
+    assert_eq!(rt; (told.entries, one[0].first, one[0].kind), (3, 3, 1));
+}
+
+/// A changer that is reset, tells its set-up, and then of two coins of 0.25 in a reply, which the
+/// controller acknowledges. It doesn't answer what follows.
+const COINS: &[u8] = b"0,M,108\n1146,M,008\n3000,S,100\n300000,M,10B\n301146,M,00B\n303000,S,00B\n\
+304146,S,10B\n306000,M,000\n600000,M,109\n601146,M,009\n603000,S,002\n604146,S,000\n\
+605292,S,001\n606438,S,005\n607584,S,002\n608730,S,000\n609876,S,007\n611022,S,001\n\
+612168,S,002\n613314,S,005\n614460,S,119\n616000,M,000\n900000,M,10B\n901146,M,00B\n\
+903000,S,052\n904146,S,005\n905292,S,042\n906438,S,006\n907584,S,19F\n909000,M,000\n\
+1200000,M,10B\n1201146,M,00B\n2200000,M,10B\n2201146,M,00B\n3300000,M,10B\n3301146,M,00B\n";
+
+#[test]
+fn news_are_listed_and_taken_up_again(rt: HostRuntime) {
+    let blank = PageNews {
+        first: 0,
+        last: 0,
+        start: 0,
+        end: 0,
+        amount: 0,
+        length: 0,
+        count: 0,
+        number: 0,
+        kind: 99,
+        device: 9,
+        worth: 9,
+        decimals: 9,
+        is_acknowledged: 9,
+        is_token: 9,
+    };
+    let mut news = [blank; 7];
+    let mut told = nothing();
+    assert_eq!(rt;
+        mdb_page_news(&power_on(), COINS, 0, &mut told, &mut news),
+        0
+    );
+    assert_eq!(rt; (told.entries, told.row), (6, 36));
+    assert_eq!(rt; (news[0].kind, news[0].is_acknowledged), (18, 1));
+    assert_eq!(rt; (news[1].kind, news[1].is_acknowledged), (17, 1));
+    assert_eq!(rt; (news[2].kind, news[2].device), (21, 1));
+    assert_eq!(rt; (news[3].kind, news[3].number, news[3].amount), (0, 2, 25));
+    assert_eq!(rt; (news[3].first, news[3].last), (25, 29));
+    assert_eq!(rt; (news[3].start, news[3].end), (903000, 907584));
+    assert_eq!(rt;
+        (news[3].worth, news[3].decimals, news[3].is_acknowledged),
+        (2, 2, 1)
+    );
+    assert_eq!(rt; (news[4].kind, news[4].number, news[4].amount), (1, 2, 25));
+    assert_eq!(rt; (news[5].kind, news[5].count), (20, 3));
+    assert_eq!(rt; (news[5].first, news[5].last), (31, 36));
+    assert_eq!(rt; (news[5].start, news[5].end), (1201146, 3301146));
+    assert_eq!(rt; news[6].kind, 99);
+    let mut one = [blank; 1];
+    assert_eq!(rt;
+        mdb_page_news(&power_on(), COINS, 4, &mut told, &mut one),
+        0
+    );
+    assert_eq!(rt; (told.entries, one[0].kind), (6, 1));
+    assert_eq!(rt; one[0].is_acknowledged, 1);
+}
+
+#[test]
+fn sizes_are_told(rt: HostRuntime) {
+    let mut layout = PageLayout {
+        options: 0,
+        setup: 0,
+        told: 0,
+        answer: 0,
+        act: 0,
+        news: 0,
+    };
+    mdb_page_layout(&mut layout);
+    assert_eq!(rt; (layout.options, layout.setup, layout.told), (153, 37, 32));
+    assert_eq!(rt; (layout.answer, layout.act, layout.news), (2056, 80, 64));
 }

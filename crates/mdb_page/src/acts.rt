@@ -1,15 +1,16 @@
 //! The acts of a recording, as `show` lists them.
 
-ghost use Rattle.std.specs.Prelude.{◌<◌, ◌≤◌, length};
+ghost use Rattle.std.specs.Prelude.{◌≡◌, ◌≢◌, ◌≤◌, ◌+◌};
 ghost use Rattle.mdb_follow.specs.declared.follower.TheConstants.{ROWS_MAX};
 
-use crate::answer::{BAD_OPTIONS, BAD_ROW, NO, PageTold, TOO_LONG, UNREAD, YES, fault_number};
-use crate::lines::{LineFault, first_line, row_of, without_mark, without_return};
+use crate::answer::{BAD_OPTIONS, PageTold};
+use crate::lines::without_mark;
 use crate::options::{PageOptions, taken_so};
+use crate::walk::{Listing, Rows, Tally, device_number, walk};
 use mdb_blocks::Block;
 use mdb_bus::{Act, Bus};
-use mdb_follow::ROWS_MAX;
-use mdb_msgs::{Command, Device, ReaderUnit, Reply, write_command, write_reply};
+use mdb_msgs::{Command, Reply, write_command, write_reply};
+use mdb_words::Time;
 
 /// An act on the bus.
 #[repr(C)]
@@ -42,28 +43,30 @@ const BREAK: u8 = 9;
 
 const CUT: u8 = 10;
 
-/// The acts that were met so far.
+/// The list of all acts.
 #[derive(Drop)]
-struct Tally {
-    /// So many acts are passed over yet.
-    skip: u64,
-    /// So many were put.
-    put: usize,
-    /// So many there were.
-    acts: u64,
+struct ActListing {
+    tally: Tally,
 }
 
-/// The rows of an act that isn't ended.
-#[derive(Drop)]
-struct Tail {
-    /// How many rows there were.
-    rows: u64,
-    /// The first row of the act.
-    first: u64,
-    /// When that started.
-    start: u64,
-    /// When the last row started.
-    end: u64,
+impl Listing for ActListing {
+    type Entry = PageAct;
+
+    fn act(&mut self, acts: &mut [PageAct], rows: &Rows, act: &Act, _at: Time) {
+        if let Some(place) = self.tally.next(acts.len()) {
+            let place = &mut acts[place];
+            put_rows(place, rows);
+            put_act(place, act);
+        }
+    }
+
+    fn cut(&mut self, acts: &mut [PageAct], rows: &Rows) {
+        if let Some(place) = self.tally.next(acts.len()) {
+            let place = &mut acts[place];
+            put_rows(place, rows);
+            place.kind = CUT;
+        }
+    }
 }
 
 /// Lists the acts of a recording after the first `skip`, as far as there is room. It returns what
@@ -76,138 +79,34 @@ pub extern "C" fn mdb_page_acts(
     skip: u64,
     told: &mut PageTold,
     acts: &mut [PageAct],
-) -> u32 {
+) -> u32
+    ensures row { result ≢ 5 → told.new.row ≤ ROWS_MAX + 1 }
+    ensures none { result ≡ 5 → told.new.entries ≡ 0 }
+{
+    told.entries = 0;
     let Some(scope) = taken_so(options) else {
         return BAD_OPTIONS;
     };
     let mut bus = Bus::scoped(&scope);
-    let mut tally = Tally {
-        skip,
-        put: 0,
-        acts: 0,
+    let mut listing = ActListing {
+        tally: Tally::skipping(skip),
     };
     let mut rest = without_mark(text);
-    let answer = list(&mut bus, &mut rest, told, &mut tally, acts);
+    let answer = walk(&mut listing, &mut bus, &mut rest, told, acts);
     told.offset = (text.len() - rest.len()) as u64;
-    told.acts = tally.acts;
+    told.entries = listing.tally.entries();
     answer
 }
 
-/// Lists the acts of the lines of a text.
-fn list(
-    bus: &mut Bus,
-    rest: &mut &[u8],
-    told: &mut PageTold,
-    tally: &mut Tally,
-    acts: &mut [PageAct],
-) -> u32
-    ensures left { length rest.new.now ≤ length rest.old.now }
-{
-    let mut act = Act::Foreign;
-    let mut tail = Tail {
-        rows: 0,
-        first: 1,
-        start: 0,
-        end: 0,
-    };
-    while !rest.is_empty() {
-        let (line, behind) = first_line(*rest);
-        let line = without_return(line);
-        if !line.is_empty() {
-            if tail.rows >= ROWS_MAX {
-                told.row = ROWS_MAX + 1;
-                add_cut(acts, tally, &tail);
-                return TOO_LONG;
-            }
-            told.row = tail.rows + 1;
-            let event = match row_of(line) {
-                Ok(event) => event,
-                Err(fault) => {
-                    add_cut(acts, tally, &tail);
-                    return line_answer(told, fault);
-                }
-            };
-            let start = event.start().value();
-            match bus.feed_into(event, &mut act) {
-                Ok(ended) => take(acts, tally, &mut tail, start, ended, &act),
-                Err(_) => return NO,
-            }
-        }
-        *rest = behind;
-    }
-    add_cut(acts, tally, &tail);
-    told.row = tail.rows;
-    YES
-}
-
-/// The answer at a line that is no row.
-fn line_answer(told: &mut PageTold, fault: LineFault) -> u32 {
-    match fault {
-        LineFault::Unread => UNREAD,
-        LineFault::BadRow(fault) => {
-            told.fault = fault_number(fault);
-            BAD_ROW
-        }
-    }
-}
-
-/// Takes a row, and the act that it ends if it ends one.
-#[inline(always)]
-fn take(
-    acts: &mut [PageAct],
-    tally: &mut Tally,
-    tail: &mut Tail,
-    start: u64,
-    ended: bool,
-    act: &Act,
-)
-    requires { tail.old.rows < ROWS_MAX }
-{
-    if let (true, Act::Break(_)) = (ended, act) {
-        add_cut(acts, tally, tail);
-        tail.first = tail.rows + 1;
-    }
-    tail.rows += 1;
-    if tail.first == tail.rows {
-        tail.start = start;
-    }
-    tail.end = start;
-    if ended {
-        add(acts, tally, tail, Some(act));
-        tail.first = tail.rows + 1;
-    }
-}
-
-/// Adds the rows that no act has, if there are some.
-fn add_cut(acts: &mut [PageAct], tally: &mut Tally, tail: &Tail) {
-    if tail.first <= tail.rows {
-        add(acts, tally, tail, None);
-    }
-}
-
-/// Adds an act, or rows that a break or the end cuts, if it isn't passed over and there is room.
-fn add(acts: &mut [PageAct], tally: &mut Tally, tail: &Tail, act: Option<&Act>) {
-    tally.acts = tally.acts.saturating_add(1);
-    if tally.skip > 0 {
-        tally.skip -= 1;
-        return;
-    }
-    if tally.put >= acts.len() {
-        return;
-    }
-    let place = &mut acts[tally.put];
-    place.first = tail.first;
-    place.last = tail.rows;
-    place.start = tail.start;
-    place.end = tail.end;
+/// Puts rows into an act, of which nothing else is known yet.
+fn put_rows(place: &mut PageAct, rows: &Rows) {
+    place.first = rows.first;
+    place.last = rows.last;
+    place.start = rows.start;
+    place.end = rows.end;
     place.length = 0;
     place.device = 0;
     place.count = 0;
-    match act {
-        Some(act) => put_act(place, act),
-        None => place.kind = CUT,
-    }
-    tally.put += 1;
 }
 
 /// Puts what was done into an act.
@@ -252,14 +151,4 @@ fn put_block(place: &mut PageAct, block: &Block) {
         *to = *byte;
     }
     place.count = block.bytes().len() as u8;
-}
-
-/// The number of a device.
-fn device_number(device: Device) -> u8 {
-    match device {
-        Device::Changer => 1,
-        Device::Bill => 2,
-        Device::Reader(ReaderUnit::First) => 3,
-        Device::Reader(ReaderUnit::Second) => 4,
-    }
 }

@@ -1,18 +1,26 @@
 //! The checker for a page in a browser.
 //!
 //! The recording lies in memory as text. [`mdb_page_check`] puts the verdict and its text into
-//! memory that the page provides, and [`mdb_page_acts`] the acts. The crate allocates nothing. Each
-//! call reads the whole text, and keeps nothing for the next call. Rows are numbered from 1, and
-//! times are in microseconds.
+//! memory that the page provides, [`mdb_page_acts`] the acts, and [`mdb_page_news`] what the acts
+//! tell of money, sales, resets, breaks and silences. [`mdb_page_layout`] tells the sizes of what is
+//! put there. The crate allocates nothing. Each call reads the whole text, and keeps nothing for the
+//! next call. Rows are numbered from 1, and times are in microseconds.
 #![tactic(auto)]
 
 mod acts;
 mod answer;
+mod layout;
 mod lines;
+mod news;
 mod options;
 mod sheet;
+mod walk;
+mod watch;
+mod worth;
 
 pub use acts::{PageAct, mdb_page_acts};
 pub use answer::{PageTold, mdb_page_check};
+pub use layout::{PageLayout, mdb_page_layout};
+pub use news::{PageNews, mdb_page_news};
 pub use options::{PageOptions, PageSetup};
 pub use sheet::PageText;

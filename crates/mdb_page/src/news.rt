@@ -1,0 +1,534 @@
+//! The news of a recording: what its acts tell of money, sales, resets, breaks and silences.
+
+ghost use Rattle.std.specs.Prelude.{◌≡◌, ◌≢◌, ◌≤◌, ◌+◌};
+ghost use Rattle.mdb_follow.specs.declared.follower.TheConstants.{ROWS_MAX};
+
+use crate::answer::{BAD_OPTIONS, PageTold};
+use crate::lines::without_mark;
+use crate::options::{PageOptions, taken_so};
+use crate::walk::{Listing, Rows, Tally, device_number, walk};
+use crate::watch::{Unanswered, Watch};
+use crate::worth::{Worth, amount, bill, coins};
+use mdb_bus::{Act, Beginning, Bus};
+use mdb_msgs::{
+    BillCommand, BillMsg, BillSetup, ChangerCommand, ChangerMsg, ChangerSetup, Command, Device,
+    ReaderCommand, ReaderConfig, ReaderList, ReaderMsg, ReaderUnit, Reply, Setups,
+};
+use mdb_words::Time;
+
+/// An entry of the news.
+#[repr(C)]
+#[derive(Clone, Copy)]
+pub struct PageNews {
+    /// Its first row. Of a silence: the first row of the first command that wasn't answered.
+    pub first: u64,
+    /// Its last row. Of a silence: the last row of the last command that wasn't answered.
+    pub last: u64,
+    /// When its first row started, in microseconds. Of a silence: when the last word of the first
+    /// command started.
+    pub start: u64,
+    /// When its last row started. Of a silence: when the last word of the last command started.
+    pub end: u64,
+    /// The amount, in smallest units of money; 0 where there is none, or none is known.
+    pub amount: u64,
+    /// How long a break was, in microseconds.
+    pub length: u64,
+    /// How many coins or bills there are, or how many commands weren't answered; else 1.
+    pub count: u64,
+    /// The type of a coin or bill, or the number of an item.
+    pub number: u16,
+    /// Its kind: 0 coin deposited to tube, 1 coin deposited to cash box, 2 coins dispensed by hand,
+    /// 3 coins ordered by DISPENSE, 4 bill stacked, 5 bill in escrow, 6 bill returned, 7 vend
+    /// request, 8 cash sale, 9 vend approved, 10 vend denied, 11 vend success, 12 vend cancel, 13
+    /// vend failure, 14 session begun, 15 session complete, 16 session ended, 17 reset told, 18
+    /// RESET commanded, 19 break, 20 silence, 21 set-up told.
+    pub kind: u8,
+    /// The device: 0 none, 1 changer, 2 bill, 3 cashless, 4 cashless-2.
+    pub device: u8,
+    /// Whether it has an amount: 0 none, 1 one that isn't known, 2 one that is.
+    pub worth: u8,
+    /// The decimal places of a known amount.
+    pub decimals: u8,
+    /// Not 0: the controller acknowledged the message, or the device answered the command with ACK
+    /// or data.
+    pub is_acknowledged: u8,
+    /// Not 0: the coin or bill is a token.
+    pub is_token: u8,
+}
+
+/// A kind of news, in the order of their numbers.
+#[derive(Clone, Copy, PartialEq, Eq, Debug)]
+enum Kind {
+    Tube,
+    CashBox,
+    ByHand,
+    Ordered,
+    Stacked,
+    Escrow,
+    Returned,
+    VendRequest,
+    CashSale,
+    Approved,
+    Denied,
+    Success,
+    Cancel,
+    Failure,
+    SessionBegun,
+    SessionComplete,
+    SessionEnded,
+    ResetTold,
+    Reset,
+    Break,
+    Silence,
+    SetupTold,
+}
+
+impl Kind {
+    /// Its number.
+    fn number(self) -> u8 {
+        match self {
+            Kind::Tube => 0,
+            Kind::CashBox => 1,
+            Kind::ByHand => 2,
+            Kind::Ordered => 3,
+            Kind::Stacked => 4,
+            Kind::Escrow => 5,
+            Kind::Returned => 6,
+            Kind::VendRequest => 7,
+            Kind::CashSale => 8,
+            Kind::Approved => 9,
+            Kind::Denied => 10,
+            Kind::Success => 11,
+            Kind::Cancel => 12,
+            Kind::Failure => 13,
+            Kind::SessionBegun => 14,
+            Kind::SessionComplete => 15,
+            Kind::SessionEnded => 16,
+            Kind::ResetTold => 17,
+            Kind::Reset => 18,
+            Kind::Break => 19,
+            Kind::Silence => 20,
+            Kind::SetupTold => 21,
+        }
+    }
+}
+
+/// What a command or a message tells.
+#[derive(Clone, Copy, PartialEq, Eq, Debug)]
+struct Fact {
+    kind: Kind,
+    /// The type of a coin or bill, or the number of an item.
+    number: u16,
+    /// How many coins or bills.
+    count: u8,
+    /// What they are worth in all.
+    worth: Worth,
+    is_token: bool,
+}
+
+impl Fact {
+    /// One without an amount.
+    fn plain(kind: Kind) -> Fact {
+        Fact::of_item(kind, 0, Worth::Nothing)
+    }
+
+    /// One about an item.
+    fn of_item(kind: Kind, item: u16, worth: Worth) -> Fact {
+        Fact {
+            kind,
+            number: item,
+            count: 1,
+            worth,
+            is_token: false,
+        }
+    }
+
+    /// One about coins of a type.
+    fn of_coins(kind: Kind, setup: &Option<ChangerSetup>, coin: u8, count: u8) -> Fact {
+        Fact {
+            kind,
+            number: u16::from(coin),
+            count,
+            worth: coins(setup, coin, count),
+            is_token: match setup {
+                Some(setup) => setup.credit(coin) == 0xFF,
+                None => false,
+            },
+        }
+    }
+
+    /// One about a bill of a type.
+    fn of_bill(kind: Kind, setup: &Option<BillSetup>, number: u8) -> Fact {
+        Fact {
+            kind,
+            number: u16::from(number),
+            count: 1,
+            worth: bill(setup, number),
+            is_token: match setup {
+                Some(setup) => setup.credit(number) == 0xFF,
+                None => false,
+            },
+        }
+    }
+}
+
+/// The list of all news.
+#[derive(Drop)]
+struct NewsListing {
+    tally: Tally,
+    /// From this entry on, of those that were put, all wait for an acknowledgement.
+    waiting: usize,
+    /// What is known of how the devices are set up.
+    setups: Setups,
+    watch: Watch,
+}
+
+impl Listing for NewsListing {
+    type Entry = PageNews;
+
+    fn act(&mut self, news: &mut [PageNews], rows: &Rows, act: &Act, at: Time) {
+        self.watch.follow(rows, act, at);
+        match act {
+            Act::Ask(command) => {
+                self.wait();
+                self.ask(news, rows, command);
+            }
+            Act::Ack(command) => {
+                self.acknowledge(news);
+                self.end(news, command.device());
+            }
+            Act::Nak(command) => {
+                self.end(news, command.device());
+            }
+            Act::Reply(command, reply) => {
+                self.acknowledge(news);
+                self.end(news, command.device());
+                self.reply(news, rows, command.device(), reply);
+            }
+            Act::VmcAck(_, _) => self.acknowledge(news),
+            Act::Break(length) => {
+                self.end_all(news);
+                self.put(news, break_of(rows, *length));
+                self.wait();
+            }
+            Act::VmcNak(_, _) | Act::VmcRet(_, _) | Act::Repeat(_, _) => {}
+            Act::Foreign => self.wait(),
+        }
+    }
+
+    fn cut(&mut self, _news: &mut [PageNews], _rows: &Rows) {}
+}
+
+impl NewsListing {
+    /// The list before the first act of a recording that begins so.
+    fn start(begins: &Beginning, skip: u64) -> NewsListing {
+        NewsListing {
+            tally: Tally::skipping(skip),
+            waiting: 0,
+            setups: match begins {
+                Beginning::PowerOn => Setups::NONE,
+                Beginning::Joined(setups) => setups.copy(),
+            },
+            watch: Watch::start(begins),
+        }
+    }
+
+    /// Puts an entry, if it isn't passed over and there is room.
+    fn put(&mut self, news: &mut [PageNews], entry: PageNews) {
+        if let Some(place) = self.tally.next(news.len()) {
+            news[place] = entry;
+        }
+    }
+
+    /// No entry so far waits for an acknowledgement.
+    fn wait(&mut self) {
+        self.waiting = self.tally.put();
+    }
+
+    /// The entries that wait are acknowledged.
+    fn acknowledge(&mut self, news: &mut [PageNews]) {
+        if let Some(waiting) = news.get_mut(self.waiting..self.tally.put()) {
+            for entry in waiting {
+                entry.is_acknowledged = 1;
+            }
+        }
+        self.wait();
+    }
+
+    /// A device answers, and ends its silence if there is one.
+    fn end(&mut self, news: &mut [PageNews], device: Device) {
+        if let Some(silence) = self.watch.ended(device) {
+            self.put(news, silence_of(device, silence));
+        }
+        self.wait();
+    }
+
+    /// All silences end.
+    fn end_all(&mut self, news: &mut [PageNews]) {
+        self.end(news, Device::Changer);
+        self.end(news, Device::Bill);
+        self.end(news, Device::Reader(ReaderUnit::First));
+        self.end(news, Device::Reader(ReaderUnit::Second));
+    }
+
+    /// The controller asks.
+    fn ask(&mut self, news: &mut [PageNews], rows: &Rows, command: &Command) {
+        let fact = match *command {
+            Command::Changer(command) => changer_asked(&self.setups.changer, command),
+            Command::Bill(command) => bill_asked(command),
+            Command::Reader(unit, command) => reader_asked(self.setups.config(unit), command),
+        };
+        self.tell(news, rows, command.device(), fact);
+    }
+
+    /// A device replies.
+    fn reply(&mut self, news: &mut [PageNews], rows: &Rows, device: Device, reply: &Reply) {
+        if learn(&mut self.setups, device, reply) {
+            self.tell(news, rows, device, Some(Fact::plain(Kind::SetupTold)));
+        }
+        match reply {
+            Reply::ChangerPoll(list) => {
+                for message in list.as_slice() {
+                    let fact = changer_told(&self.setups.changer, *message);
+                    self.tell(news, rows, device, fact);
+                }
+            }
+            Reply::BillPoll(list) => {
+                for message in list.as_slice() {
+                    let fact = bill_told(&self.setups.bill, *message);
+                    self.tell(news, rows, device, fact);
+                }
+            }
+            Reply::Reader(list) => {
+                let config = match device {
+                    Device::Reader(unit) => self.setups.config(unit),
+                    _ => None,
+                };
+                for message in list.iter() {
+                    self.tell(news, rows, device, reader_told(config, message));
+                }
+            }
+            _ => {}
+        }
+    }
+
+    /// Puts what an act of a device tells, if it tells something.
+    fn tell(&mut self, news: &mut [PageNews], rows: &Rows, device: Device, fact: Option<Fact>) {
+        if let Some(fact) = fact {
+            self.put(news, entry_of(rows, device, fact));
+        }
+    }
+}
+
+/// Lists the news of a recording after the first `skip`, as far as there is room. It returns what
+/// `mdb_page_acts` does. `told` has the number of all news.
+#[unsafe(no_mangle)]
+pub extern "C" fn mdb_page_news(
+    options: &PageOptions,
+    text: &[u8],
+    skip: u64,
+    told: &mut PageTold,
+    news: &mut [PageNews],
+) -> u32
+    ensures row { result ≢ 5 → told.new.row ≤ ROWS_MAX + 1 }
+    ensures none { result ≡ 5 → told.new.entries ≡ 0 }
+{
+    told.entries = 0;
+    let Some(scope) = taken_so(options) else {
+        return BAD_OPTIONS;
+    };
+    let mut bus = Bus::scoped(&scope);
+    let mut listing = NewsListing::start(&scope.begins, skip);
+    let mut rest = without_mark(text);
+    let answer = walk(&mut listing, &mut bus, &mut rest, told, news);
+    listing.end_all(news);
+    told.offset = (text.len() - rest.len()) as u64;
+    told.entries = listing.tally.entries();
+    answer
+}
+
+/// Learns what a reply of a device tells of how it is set up, and answers whether it does.
+fn learn(setups: &mut Setups, device: Device, reply: &Reply) -> bool {
+    match (device, reply) {
+        (_, Reply::ChangerSetup(setup)) => setups.changer = Some(setup.copy()),
+        (_, Reply::BillSetup(setup)) => setups.bill = Some(setup.copy()),
+        (Device::Reader(unit), Reply::Reader(list)) => match (unit, config_of(list)) {
+            (_, None) => return false,
+            (ReaderUnit::First, config) => setups.first_reader = config,
+            (ReaderUnit::Second, config) => setups.second_reader = config,
+        },
+        _ => return false,
+    }
+    true
+}
+
+/// What the last config message of a reader's answer says.
+fn config_of(list: &ReaderList) -> Option<ReaderConfig> {
+    let mut last = None;
+    for message in list.iter() {
+        if let ReaderMsg::Config {
+            scale,
+            decimals,
+            response,
+            ..
+        } = message
+        {
+            last = Some(ReaderConfig {
+                scale,
+                decimals,
+                response,
+            });
+        }
+    }
+    last
+}
+
+/// What a command to the changer tells.
+fn changer_asked(setup: &Option<ChangerSetup>, command: ChangerCommand) -> Option<Fact> {
+    match command {
+        ChangerCommand::Reset => Some(Fact::plain(Kind::Reset)),
+        ChangerCommand::Dispense(coins) => {
+            let (coin, count) = (coins % 16, coins / 16);
+            Some(Fact::of_coins(Kind::Ordered, setup, coin, count))
+        }
+        _ => None,
+    }
+}
+
+/// What a command to the validator tells.
+fn bill_asked(command: BillCommand) -> Option<Fact> {
+    match command {
+        BillCommand::Reset => Some(Fact::plain(Kind::Reset)),
+        _ => None,
+    }
+}
+
+/// What a command to a reader tells.
+fn reader_asked(config: Option<ReaderConfig>, command: ReaderCommand) -> Option<Fact> {
+    Some(match command {
+        ReaderCommand::Reset => Fact::plain(Kind::Reset),
+        ReaderCommand::VendRequest { price, item } => {
+            Fact::of_item(Kind::VendRequest, item, amount(config, price))
+        }
+        ReaderCommand::CashSale { price, item } => {
+            Fact::of_item(Kind::CashSale, item, amount(config, price))
+        }
+        ReaderCommand::VendSuccess { item } => {
+            Fact::of_item(Kind::Success, item, Worth::Nothing)
+        }
+        ReaderCommand::VendCancel => Fact::plain(Kind::Cancel),
+        ReaderCommand::VendFailure => Fact::plain(Kind::Failure),
+        ReaderCommand::SessionComplete => Fact::plain(Kind::SessionComplete),
+        _ => return None,
+    })
+}
+
+/// What a message of the changer tells.
+fn changer_told(setup: &Option<ChangerSetup>, message: ChangerMsg) -> Option<Fact> {
+    match message {
+        ChangerMsg::Tube { coin, .. } => Some(Fact::of_coins(Kind::Tube, setup, coin, 1)),
+        ChangerMsg::CashBox { coin, .. } => Some(Fact::of_coins(Kind::CashBox, setup, coin, 1)),
+        ChangerMsg::ManualDispense { count: 0, .. } => None,
+        ChangerMsg::ManualDispense { count, coin, .. } => {
+            Some(Fact::of_coins(Kind::ByHand, setup, coin, count))
+        }
+        ChangerMsg::Reset => Some(Fact::plain(Kind::ResetTold)),
+        _ => None,
+    }
+}
+
+/// What a message of the validator tells.
+fn bill_told(setup: &Option<BillSetup>, message: BillMsg) -> Option<Fact> {
+    match message {
+        BillMsg::Stacked(number) => Some(Fact::of_bill(Kind::Stacked, setup, number)),
+        BillMsg::Escrow(number) => Some(Fact::of_bill(Kind::Escrow, setup, number)),
+        BillMsg::Returned(number) => Some(Fact::of_bill(Kind::Returned, setup, number)),
+        BillMsg::Reset => Some(Fact::plain(Kind::ResetTold)),
+        _ => None,
+    }
+}
+
+/// What a message of a reader tells.
+fn reader_told(config: Option<ReaderConfig>, message: ReaderMsg) -> Option<Fact> {
+    match message {
+        ReaderMsg::JustReset => Some(Fact::plain(Kind::ResetTold)),
+        ReaderMsg::BeginSession { funds } => {
+            let worth = match funds {
+                0xFFFF => Worth::Nothing,
+                _ => amount(config, funds),
+            };
+            Some(Fact::of_item(Kind::SessionBegun, 0, worth))
+        }
+        ReaderMsg::VendApproved { amount: approved } => {
+            Some(Fact::of_item(Kind::Approved, 0, amount(config, approved)))
+        }
+        ReaderMsg::VendDenied => Some(Fact::plain(Kind::Denied)),
+        ReaderMsg::EndSession => Some(Fact::plain(Kind::SessionEnded)),
+        _ => None,
+    }
+}
+
+/// The entry of what an act of a device tells.
+fn entry_of(rows: &Rows, device: Device, fact: Fact) -> PageNews {
+    let (worth, amount, decimals) = match fact.worth {
+        Worth::Nothing => (0, 0, 0),
+        Worth::Unknown => (1, 0, 0),
+        Worth::Known { amount, decimals } => (2, amount, decimals),
+    };
+    PageNews {
+        first: rows.first,
+        last: rows.last,
+        start: rows.start,
+        end: rows.end,
+        amount,
+        length: 0,
+        count: u64::from(fact.count),
+        number: fact.number,
+        kind: fact.kind.number(),
+        device: device_number(device),
+        worth,
+        decimals,
+        is_acknowledged: 0,
+        is_token: u8::from(fact.is_token),
+    }
+}
+
+/// The entry of a break.
+fn break_of(rows: &Rows, length: u64) -> PageNews {
+    PageNews {
+        first: rows.first,
+        last: rows.last,
+        start: rows.start,
+        end: rows.end,
+        amount: 0,
+        length,
+        count: 1,
+        number: 0,
+        kind: Kind::Break.number(),
+        device: 0,
+        worth: 0,
+        decimals: 0,
+        is_acknowledged: 0,
+        is_token: 0,
+    }
+}
+
+/// The entry of a silence of a device.
+fn silence_of(device: Device, silence: Unanswered) -> PageNews {
+    PageNews {
+        first: silence.first,
+        last: silence.last,
+        start: silence.from,
+        end: silence.to,
+        amount: 0,
+        length: 0,
+        count: silence.asks,
+        number: 0,
+        kind: Kind::Silence.number(),
+        device: device_number(device),
+        worth: 0,
+        decimals: 0,
+        is_acknowledged: 0,
+        is_token: 0,
+    }
+}
