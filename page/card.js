@@ -11,7 +11,8 @@ const FAULT_WORDS = {
 // How the recording was read, in words.
 function wayWords(it) {
   const {bytes} = it.way, names = DEVICE_NAMES.slice(1);
-  const left = names.filter((_, i) => bytes[1 + i]), given = names.filter((_, i) => bytes[5 + 37 * i]);
+  const left = names.filter((_, i) => bytes[layout.options.without + i]),
+        given = names.filter((_, i) => bytes[layout.options.setups + layout.setup.size * i]);
   const words =
       [bytes[0] ? "Read as a recording of a machine that was already running." : "Read as a recording from power-on."];
   if (given.length) words.push(`The values of the ${listed(given)} come from an earlier recording.`);

@@ -16,9 +16,9 @@ import sys
 HERE = pathlib.Path(__file__).resolve().parent
 RULES = "Order Speaker Mode Early Late Spacing Length Sum Break Answer Message Same Profile Changer Bill Cashless".split()
 # The page's scripts, in the order in which they stand in the page. What a script runs at once, needs the ones before it.
-SCRIPTS = ("words elements texts report options runs import-panel late story rowstory linkstory card fault money timeline statement acts jumps files evidence setup main").split()
+SCRIPTS = ("layout words news elements texts report options runs import-panel late story rowstory linkstory card fault money timeline statement acts jumps files evidence setup main").split()
 # Those of the worker.
-WORKERS = "sha256 worker".split()
+WORKERS = "sha256 layout worker".split()
 # Those of the worker that imports an export.
 IMPORT_SCRIPTS = ["sha256", *(f"import-{name}" for name in "text rows saleae edges sigrok formats known worker".split())]
 # Recordings of examples/ that the page has for those who want to try it, each with what it is.

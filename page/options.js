@@ -30,22 +30,23 @@ function setupBytes(device) {
 
 // The options as the module takes them, and as the program's command line has them.
 function optionsAs(joined) {
-  const bytes = new Uint8Array(153), words = [], given = [null, null, null, null, null];
+  const bytes = new Uint8Array(layout.options.size), words = [], given = [null, null, null, null, null];
   if (joined) {
-    bytes[0] = 1;
+    bytes[layout.options.joined] = 1;
     words.push("--joined");
   }
   DEVICES.slice(1).forEach((device, i) => {
     const left = by("without-" + device).checked;
     if (left) {
-      bytes[1 + i] = 1;
+      bytes[layout.options.without + i] = 1;
       words.push("--without " + device);
     }
     if (!joined || left) return;
     const setup = setupBytes(device);
     if (!setup) return;
-    bytes[5 + 37 * i] = setup.length;
-    bytes.set(setup, 6 + 37 * i);
+    const place = layout.options.setups + layout.setup.size * i;
+    bytes[place + layout.setup.count] = setup.length;
+    bytes.set(setup, place + layout.setup.bytes);
     words.push(`--setup '${device} ${setup.map(hex).join(" ")}'`);
     given[i + 1] = readSetup(i + 1, Uint8Array.from(setup));
   });

@@ -26,7 +26,9 @@ async function start() {
         "This browser can't run the checker: it has no WebAssembly with 64-bit memory (memory64). The page was tried in " +
         "Chromium 156 and Firefox 153 on a computer. On an iPhone it wasn't tried: all browsers there use Apple's engine.");
   }
-  return WebAssembly.compile(Uint8Array.from(atob(MODULE), (c) => c.charCodeAt(0)));
+  const made = await WebAssembly.compile(Uint8Array.from(atob(MODULE), (c) => c.charCodeAt(0)));
+  readLayout((await WebAssembly.instantiate(made)).exports);
+  return made;
 }
 
 // A worker with one recording. It reads the recording at the first message, and keeps it for the next ones. Its

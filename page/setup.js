@@ -26,12 +26,7 @@ function unreadWords(told) {
   return "it has more than 100,000,000 rows.";
 }
 
-const FROM_POWER_ON = {
-  bytes: new Uint8Array(153),
-  words: [],
-  given: [],
-  late: null
-};
+const fromPowerOn = () => ({bytes: new Uint8Array(layout.options.size), words: [], given: [], late: null});
 
 async function readSetups(given) {
   const mine = ++newestSetup, say = (words) => {
@@ -45,7 +40,7 @@ async function readSetups(given) {
       say(`${name} isn't a recording: see what is said of it below.`);
       return;
     }
-    const told = await check(rows, FROM_POWER_ON);
+    const told = await check(rows, fromPowerOn());
     if (mine !== newestSetup) return;
     say(takeSetups(told, name));
     showWay();

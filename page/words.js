@@ -67,52 +67,48 @@ function money(units, decimals) {
   return `${sign}${digits.slice(0, -decimals)}.${digits.slice(-decimals)}`;
 }
 
-// The acts as they lie in memory, 80 bytes each.
+// The acts as they lie in memory.
 class Acts {
   constructor(buffer, count) {
     this.words = new Uint32Array(buffer);
     this.bytes8 = new Uint8Array(buffer);
+    this.at = layout.act;
     this.count = count;
     // Answers to SETUP: the act from which on one counts, and what it says; by device.
     this.setups = [[], [], [], [], []];
     this.command = new Uint8Array(0);
   }
   u64(i, place) {
-    const at = i * 20 + place;
+    const at = (i * this.at.size + place) / 4;
     return this.words[at] + this.words[at + 1] * 4294967296;
   }
   first(i) {
-    return this.u64(i, 0);
+    return this.u64(i, this.at.first);
   }
   last(i) {
-    return this.u64(i, 2);
+    return this.u64(i, this.at.last);
   }
   start(i) {
-    return this.u64(i, 4);
+    return this.u64(i, this.at.start);
   }
   end(i) {
-    return this.u64(i, 6);
+    return this.u64(i, this.at.end);
   }
   length(i) {
-    return this.u64(i, 8);
+    return this.u64(i, this.at.length);
   }
   kind(i) {
-    return this.bytes8[i * 80 + 40];
+    return this.bytes8[i * this.at.size + this.at.kind];
   }
   device(i) {
-    return this.bytes8[i * 80 + 41];
+    return this.bytes8[i * this.at.size + this.at.device];
   }
   bytes(i) {
-    const at = i * 80;
-    return this.bytes8.subarray(at + 43, at + 43 + this.bytes8[at + 42]);
-  }
-  // Kind, device and bytes, as a text.
-  told(i) {
-    const at = i * 80;
-    return String.fromCharCode.apply(null, this.bytes8.subarray(at + 40, at + 43 + this.bytes8[at + 42]));
+    const act = i * this.at.size, from = act + this.at.bytes;
+    return this.bytes8.subarray(from, from + this.bytes8[act + this.at.count]);
   }
   byte(i, k) {
-    return this.bytes8[i * 80 + 43 + k];
+    return this.bytes8[i * this.at.size + this.at.bytes + k];
   }
   hex(i) {
     return Array.from(this.bytes(i), hex).join(" ");
@@ -145,7 +141,7 @@ class Acts {
       else
         high = mid;
     }
-    return low ? all[low - 1] : null;
+    return low && !all[low - 1].isUnknown ? all[low - 1] : null;
   }
 }
 
@@ -398,110 +394,31 @@ function speaker(acts, i) {
   return device || "–";
 }
 
-// What the acts tell of money, resets, breaks and silences, in one walk. `given` has what --setup
-// told. Each entry has its first and last row, and when it was (`at`, or `from` and `to`). From the act `hole` on those
-// are listed that stand behind others that aren't.
-function digest(acts, given, hole) {
-  const found = {money: [], resets: [], breaks: [], silences: [], kinds: new Array(11).fill(0)};
+// The set-up that an answer of a device tells, if it tells one. `at` is the act that it is.
+function setupIn(acts, at) {
+  const device = acts.device(at);
+  if (acts.kind(at) !== REPLY || !device) return null;
+  const ask = acts.askOf(at), command = ask >= 0 ? acts.byte(ask, 0) : 0;
+  const isTold = device > 2 || command === (device === 1 ? 0x09 : 0x31);
+  return isTold ? readSetup(device, acts.bytes(at)) : null;
+}
+
+// Takes note, for the words of the acts, of the set-ups that are told. `given` has what --setup told, and `found` what
+// the module found. From the act `hole` on those are listed that stand after others that aren't: where these tell a
+// set-up, its values aren't known there.
+function noteSetups(acts, given, hole, found) {
   for (let d = 1; d < 5; d++) acts.setups[d] = given[d] ? [{...given[d], from: -1}] : [];
-  const rowsOf = (i) => ({first: acts.first(i), last: acts.last(i)});
-  const quiet = [null, null, null, null, null], limits = [0, 2e6, 5e6, 5e6, 5e6];
-  const add = (i, device, what, type, units, decimals, more) =>
-      found.money.push({...rowsOf(i), at: acts.end(i), device, what, type, units, decimals, ...more});
-  const stop = (d) => {
-    const q = quiet[d];
-    if (q && q.last - q.from > limits[d])
-      found.silences.push({first: q.first, last: q.lastRow, device: d, from: q.from, to: q.last, asks: q.asks});
-    quiet[d] = null;
-  };
   for (let i = 0; i < acts.count; i++) {
-    const kind = acts.kind(i), d = acts.device(i);
-    found.kinds[kind]++;
-    if (i === hole)
-      for (let k = 1; k < 5; k++) stop(k);
-    if (kind === BREAK) {
-      found.breaks.push({...rowsOf(i), at: acts.start(i), length: acts.length(i)});
-      for (let k = 1; k < 5; k++) stop(k);
-      continue;
-    }
-    if (kind === ASK) {
-      const q = quiet[d], end = acts.end(i);
-      if (q) {
-        q.last = end;
-        q.lastRow = acts.last(i);
-        q.asks++;
-      } else
-        quiet[d] = {first: acts.first(i), lastRow: acts.last(i), from: end, last: end, asks: 1};
-      const a = acts.byte(i, 0), b = acts.byte(i, 1);
-      if (a === 0x08 || a === 0x30 || a === 0x10 || a === 0x60)
-        found.resets.push({...rowsOf(i), at: end, device: d, what: "RESET"});
-      const setup = acts.setupAt(d, i), bytes = acts.bytes(i);
-      const next = i + 1 < acts.count ? acts.kind(i + 1) : -1, heard = next === ACK || next === REPLY;
-      if (a === 0x0D) {
-        const value = worth(setup, b & 15);
-        add(i, d, "coins ordered (DISPENSE)", b & 15, value === null ? null : value * (b >> 4), setup?.decimals,
-            {count: b >> 4, acknowledged: heard});
-      }
-      if ((a === 0x13 || a === 0x63) && b <= 5 && b !== 4) {
-        const hasPrice = b === 0 || b === 5, price = hasPrice && setup ? two(bytes, 2) * setup.scale : null;
-        const item = b === 2 ? "item " + two(bytes, 2) : hasPrice ? "item " + two(bytes, 4) : "";
-        add(i, d, ["vend request", "vend cancel", "vend success", "vend failure", "", "cash sale"][b], item, price,
-            setup?.decimals, {acknowledged: heard, noAmount: !hasPrice});
-      }
-      continue;
-    }
-    if (!d) continue;
-    if (kind === ACK || kind === NAK || kind === REPLY) stop(d);
-    if (kind !== REPLY) continue;
-    const at = acts.askOf(i), ask = at >= 0 ? acts.byte(at, 0) : 0, bytes = acts.bytes(i);
-    const next = i + 1 < acts.count ? acts.kind(i + 1) : -1;
-    let acknowledged = next === VMC_ACK;
-    for (let k = i + 1; !acknowledged && k < acts.count && k < i + 12; k++) {
-      const w = acts.kind(k);
-      if (w === VMC_ACK) {
-        acknowledged = true;
-      } else if (w !== VMC_RET && w !== REPEAT && w !== VMC_NAK)
-        break;
-    }
-    if (d > 2) {
-      const told = readSetup(d, bytes);
-      if (told) {
-        acts.setups[d].push({...told, from: i});
-        if (told.response > 5)
-          limits[d] = told.response * 1e6;
-        else
-          limits[d] = 5e6;
-      }
-      const setup = acts.setupAt(d, i);
-      for (const m of readerMessages(bytes)) {
-        if (m[0] === 0) found.resets.push({...rowsOf(i), at: acts.end(i), device: d, what: "was reset"});
-        if (m[0] === 5)
-          add(i, d, "vend approved", "", setup ? two(m, 1) * setup.scale : null, setup?.decimals, {acknowledged});
-        if (m[0] === 6) add(i, d, "vend denied", "", null, 0, {acknowledged, noAmount: true});
-      }
-      continue;
-    }
-    if ((d === 1 && ask === 9) || (d === 2 && ask === 0x31)) {
-      const told = readSetup(d, bytes);
-      if (told) acts.setups[d].push({...told, from: i});
-      continue;
-    }
-    if ((d === 1 && ask === 0x0B) || (d === 2 && ask === 0x33)) {
-      const setup = acts.setupAt(d, i);
-      pollMessages(d, bytes, (what, type, count) => {
-        if (type === undefined) {
-          if (what === "was reset") found.resets.push({...rowsOf(i), at: acts.end(i), device: d, what});
-          return;
-        }
-        if (!count || what.startsWith("rejected")) return;
-        const value = worth(setup, type);
-        add(i, d, (d === 1 ? (count === 1 ? "coin " : "coins ") : "bill ") + what, type,
-            value === null ? null : value * count, setup?.decimals, {count, acknowledged});
-      });
-    }
+    if (i === hole) noteHole(acts, hole, found);
+    const told = setupIn(acts, i);
+    if (told) acts.setups[acts.device(i)].push({...told, from: i});
   }
-  for (let d = 1; d < 5; d++) stop(d);
-  return found;
+}
+
+function noteHole(acts, hole, found) {
+  const from = acts.last(hole - 1), to = acts.first(hole);
+  for (const told of found.setups)
+    if (told.first > from && told.last < to) acts.setups[told.device].push({isUnknown: true, from: hole});
 }
 
 // The answers to SETUP that a recording shows, as `--setup` takes them: the last of each device.

@@ -1,20 +1,24 @@
 // Runs the checker's module on one recording. The text stays in the module's memory, so that it can
-// be checked again in another way.
-const PAGE = 65536, CHUNK = 1 << 24, ACT = 80, OPTIONS = 153, ANSWER = 2056;
+// be checked again in another way. `layout.js` stands before this script.
+const PAGE = 65536, CHUNK = 1 << 24;
 // So many acts are listed, the first and the last ones if there are more.
 const MOST = 800000, HALF = MOST / 2;
+// So many news are asked for at a time, after the first ones.
+const MOST_NEWS = 4000000;
 // So many bytes are summed up between two messages.
 const PIECE = 1 << 22;
 // So many bytes are checked first, to know how quick this computer is.
 const FRONT = 1 << 20;
 let call, at, size, read, number, last = Promise.resolve();
 
-// Places in the module's memory, each a multiple of 8 above what the module has for itself.
+// Places in the module's memory, each a multiple of 8 above what the module has for itself. Acts and news lie in the
+// same place, one after the other.
 function places(length) {
-  const options = Math.ceil(Number(call.__heap_base.value) / 8) * 8, told = options + 160;
-  const answer = told + 32, text = answer + ANSWER, acts = text + Math.ceil(length / 8) * 8 + 8;
+  const up = (size) => Math.ceil(size / 8) * 8, {act} = layout;
+  const options = freePlace(call), told = options + up(layout.options.size), answer = told + up(layout.told.size);
+  const text = answer + up(layout.answer.size), acts = text + up(length) + 8;
   const room = Math.min(MOST, Math.floor(length / 8) + 2);
-  return {options, told, answer, text, acts, room, end: acts + room * ACT};
+  return {options, told, answer, text, acts, room, end: acts + room * act.size};
 }
 
 // Why a file gives no recording, in words for the page.
@@ -70,8 +74,9 @@ function load(file) {
 }
 
 function told() {
-  const v = new DataView(call.memory.buffer, at.told), u64 = (i) => Number(v.getBigUint64(i, true));
-  return {row: u64(0), offset: u64(8), fault: u64(16), acts: u64(24)};
+  const view = new DataView(call.memory.buffer, at.told), fields = layout.told;
+  const u64 = (field) => Number(view.getBigUint64(fields[field], true));
+  return {row: u64("row"), offset: u64("offset"), fault: u64("fault"), entries: u64("entries")};
 }
 
 // Checks so many bytes of the text.
@@ -82,6 +87,32 @@ function check(length) {
 function list(skip, place, room) {
   return call.mdb_page_acts(
       BigInt(at.options), BigInt(at.text), BigInt(size), BigInt(skip), BigInt(at.told), BigInt(place), BigInt(room));
+}
+
+// The first and the last acts, as far as there is room, and how many there are in all.
+function listActs() {
+  const answer = list(0, at.acts, at.room), {entries: all, row} = told(), {size: wide} = layout.act;
+  const isWhole = all <= at.room, listed = isWhole ? all : at.room;
+  if (!isWhole) list(all - HALF, at.acts + HALF * wide, at.room - HALF);
+  const acts = new Uint8Array(call.memory.buffer, at.acts, listed * wide).slice().buffer;
+  return {acts, listed, all, hole: isWhole ? -1 : HALF, link: {answer, row}};
+}
+
+// All news of the recording, piece by piece: after the first piece, memory grows for many more at a time.
+function listNews() {
+  const pieces = [], {size: wide} = layout.news;
+  let got = 0, all = 1, room = Math.floor(at.room * layout.act.size / wide);
+  while (got < all) {
+    call.mdb_page_news(
+        BigInt(at.options), BigInt(at.text), BigInt(size), BigInt(got), BigInt(at.told), BigInt(at.acts), BigInt(room));
+    all = told().entries;
+    const count = Math.min(room, all - got);
+    pieces.push(new Uint8Array(call.memory.buffer, at.acts, count * wide).slice().buffer);
+    got += count;
+    room = Math.max(room, Math.min(all - got, MOST_NEWS));
+    if (got < all) grow(at.acts + room * wide);
+  }
+  return pieces;
 }
 
 // The lines about a place in the text: up to 40 before it (a whole block and more), that one, and up to four after it.
@@ -119,12 +150,13 @@ function lines(offset, row) {
 
 // The fields that the program tells of a row that is none.
 function answerText() {
-  const count = Number(new DataView(call.memory.buffer, at.answer).getBigUint64(0, true));
-  return new TextDecoder().decode(new Uint8Array(call.memory.buffer, at.answer + 8, count).slice());
+  const {answer} = layout, view = new DataView(call.memory.buffer, at.answer);
+  const count = Number(view.getBigUint64(answer.count, true));
+  return new TextDecoder().decode(new Uint8Array(call.memory.buffer, at.answer + answer.bytes, count).slice());
 }
 
 function setOptions(options) {
-  new Uint8Array(call.memory.buffer, at.options, OPTIONS).set(options);
+  new Uint8Array(call.memory.buffer, at.options, layout.options.size).set(options);
 }
 
 function judge(options) {
@@ -143,11 +175,7 @@ function judge(options) {
   const before = answer === 1 && check(end.offset) === 0 ? answerText() : "";
   const summed = performance.now();
   tell("Listing", 0, (checked - begin) / 2);
-  const linkAnswer = list(0, at.acts, at.room), link = told();
-  let listed = Math.min(link.acts, at.room);
-  const hole = link.acts > at.room;
-  if (hole) list(link.acts - HALF, at.acts + HALF * ACT, at.room - HALF);
-  const acts = new Uint8Array(call.memory.buffer, at.acts, listed * ACT).slice().buffer;
+  const {acts, ...listing} = listActs(), news = listNews();
   const done = performance.now();
   const stops = answer === 1 || answer === 2 || answer === 3 || answer === 4;
   say({
@@ -160,23 +188,22 @@ function judge(options) {
     fault: end.fault,
     lines: stops ? lines(end.offset, end.row) : [],
     acts,
-    listed,
-    all: link.acts,
-    hole: hole ? HALF : -1,
-    link: {answer: linkAnswer, row: link.row},
+    ...listing,
+    news,
     size,
     ms: {read, check: checked - begin, before: summed - checked, list: done - summed},
     memory: call.memory.buffer.byteLength
   },
-      [acts]);
+      [acts, ...news]);
 }
 
 // The device whose set-up the options have, and whose answer to SETUP that isn't; 0 if there is none.
 function badSetup(options) {
   for (let d = 0; d < 4; d++) {
-    const alone = new Uint8Array(OPTIONS), from = 5 + 37 * d;
-    alone[0] = 1;
-    alone.set(options.subarray(from, from + 37), from);
+    const alone = new Uint8Array(layout.options.size), wide = layout.setup.size,
+          from = layout.options.setups + wide * d;
+    alone[layout.options.joined] = 1;
+    alone.set(options.subarray(from, from + wide), from);
     setOptions(alone);
     if (check(0) === 5) return d + 1;
   }
@@ -187,7 +214,7 @@ function badSetup(options) {
 // is spoken to; where a device broke a rule in the first reading (`isDevice`), one does.
 function judgeLate(options, isDevice) {
   setOptions(options);
-  if (check(0) === 5) setOptions(options.fill(0, 5));
+  if (check(0) === 5) setOptions(options.fill(0, layout.options.setups));
   const begin = performance.now();
   check(Math.min(size, FRONT));
   tell("Checking", 0, size > 8 * FRONT ? (performance.now() - begin) * (size / FRONT) : 0);
@@ -195,8 +222,9 @@ function judgeLate(options, isDevice) {
   let isFollowed = isDevice;
   if (!isDevice && answer === 0) {
     list(0, at.acts, at.room);
-    const count = Math.min(told().acts, at.room), acts = new Uint8Array(call.memory.buffer, at.acts, count * ACT);
-    for (let i = 0; i < count && !isFollowed; i++) isFollowed = acts[i * ACT + 41] > 0;
+    const {size: wide, device} = layout.act, count = Math.min(told().entries, at.room);
+    const acts = new Uint8Array(call.memory.buffer, at.acts, count * wide);
+    for (let i = 0; i < count && !isFollowed; i++) isFollowed = acts[i * wide + device] > 0;
   }
   say({told: "done", answer, text, row: end.row, isFollowed});
 }
@@ -217,6 +245,7 @@ function sumUp() {
 
 async function prepare(module) {
   call = (await WebAssembly.instantiate(module)).exports;
+  readLayout(call);
   at = places(0);
   grow(at.end);
 }

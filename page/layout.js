@@ -1,0 +1,71 @@
+// How the structures of the module's calls lie in its memory. A structure has these fields in this order, each with the
+// bytes of a number and how many numbers it is, as C lays them out; REST stands for all up to the end. How large a
+// structure is, the module tells: where the fields don't fit that, nothing is read.
+const REST = 0;
+const STRUCTURES = {
+  options: {joined: [1, 1], without: [1, 4], setups: [1, REST]},
+  setup: {count: [1, 1], bytes: [1, REST]},
+  told: {row: [8, 1], offset: [8, 1], fault: [8, 1], entries: [8, 1]},
+  answer: {count: [8, 1], bytes: [1, REST]},
+  act: {
+    first: [8, 1],
+    last: [8, 1],
+    start: [8, 1],
+    end: [8, 1],
+    length: [8, 1],
+    kind: [1, 1],
+    device: [1, 1],
+    count: [1, 1],
+    bytes: [1, REST]
+  },
+  news: {
+    first: [8, 1],
+    last: [8, 1],
+    start: [8, 1],
+    end: [8, 1],
+    amount: [8, 1],
+    length: [8, 1],
+    count: [8, 1],
+    number: [2, 1],
+    kind: [1, 1],
+    device: [1, 1],
+    worth: [1, 1],
+    decimals: [1, 1],
+    isAcknowledged: [1, 1],
+    isToken: [1, 1]
+  }
+};
+// For each structure its size, and the place of each field.
+const layout = {};
+
+// The places of the fields of a structure of so many bytes.
+function placesOf(fields, size) {
+  const places = {size}, widest = Math.max(...Object.values(fields).map(([wide]) => wide));
+  let at = 0;
+  for (const [name, [wide, times]] of Object.entries(fields)) {
+    at = Math.ceil(at / wide) * wide;
+    places[name] = at;
+    at = times === REST ? Math.max(size, at + 1) : at + wide * times;
+  }
+  if (Math.ceil(at / widest) * widest !== size) throw new Error("this page doesn't fit its module.");
+  return places;
+}
+
+// A place in the module's memory, above what it has for itself and a multiple of 8.
+const freePlace = (call) => Math.ceil(Number(call.__heap_base.value) / 8) * 8;
+
+// Makes the module's memory so large.
+function growTo(call, bytes) {
+  const PAGE = 65536, have = call.memory.buffer.byteLength;
+  if (bytes > have) call.memory.grow(BigInt(Math.ceil((bytes - have) / PAGE)));
+}
+
+function readLayout(call) {
+  const names = Object.keys(STRUCTURES), at = freePlace(call);
+  growTo(call, at + 8 * names.length);
+  call.mdb_page_layout(BigInt(at));
+  const sizes = new BigUint64Array(call.memory.buffer, at, names.length);
+  names.forEach((name, i) => {
+    layout[name] = placesOf(STRUCTURES[name], Number(sizes[i]));
+  });
+}

@@ -1,0 +1,114 @@
+// What the module tells of money, sales, resets, breaks and silences: entries in its memory, as values.
+const WHATS = [
+  "coin deposited to tube", "coin deposited to cash box", "coins dispensed by hand", "coins ordered (DISPENSE)",
+  "bill stacked", "bill in escrow", "bill returned", "vend request", "cash sale", "vend approved", "vend denied",
+  "vend success", "vend cancel", "vend failure", "session begun", "session complete", "session ended", "was reset",
+  "RESET"
+];
+const BY_HAND = 2, ORDERED = 3, RETURNED = 6, REQUEST = 7, SALE = 8, SUCCESS = 11, FAILURE = 13, SESSION_ENDED = 16,
+      COMMANDED = 18, BROKEN = 19, SILENT = 20;
+const NO_WORTH = 0, KNOWN_WORTH = 2;
+
+// The entries of a piece, as they lie in memory.
+class NewsPiece {
+  constructor(buffer) {
+    this.view = new DataView(buffer);
+    this.at = layout.news;
+    this.count = buffer.byteLength / this.at.size;
+  }
+  byte(i, field) {
+    return this.view.getUint8(i * this.at.size + this.at[field]);
+  }
+  short(i) {
+    return this.view.getUint16(i * this.at.size + this.at.number, true);
+  }
+  whole(i, field) {
+    return this.view.getBigUint64(i * this.at.size + this.at[field], true);
+  }
+  u64(i, field) {
+    return Number(this.whole(i, field));
+  }
+}
+
+// A number without loss: from 2^53 on it stays a BigInt.
+const exact = (n) => n <= Number.MAX_SAFE_INTEGER ? Number(n) : n;
+
+function whatOf(kind, count) {
+  return kind === BY_HAND && count === 1 ? "coin dispensed by hand" : WHATS[kind];
+}
+
+// The type of a coin or bill, an item in words, or nothing.
+function typeOf(kind, number) {
+  if (kind <= RETURNED) return number;
+  return kind === REQUEST || kind === SALE || kind === SUCCESS ? `item ${number}` : "";
+}
+
+// An entry of money, a sale or a session. `units` is null where there is no amount or none is known.
+function moneyEntry(piece, i, kind) {
+  const worth = piece.byte(i, "worth"), isKnown = worth === KNOWN_WORTH, count = piece.u64(i, "count");
+  const made = {
+    first: piece.u64(i, "first"),
+    last: piece.u64(i, "last"),
+    begin: piece.u64(i, "start"),
+    at: piece.u64(i, "end"),
+    device: piece.byte(i, "device"),
+    what: whatOf(kind, count),
+    type: typeOf(kind, piece.short(i)),
+    units: isKnown ? exact(piece.whole(i, "amount")) : null,
+    decimals: isKnown ? piece.byte(i, "decimals") : undefined,
+    acknowledged: piece.byte(i, "isAcknowledged") > 0,
+    noAmount: worth === NO_WORTH,
+    isToken: piece.byte(i, "isToken") > 0
+  };
+  if (kind <= RETURNED) made.count = count;
+  return made;
+}
+
+function silenceEntry(piece, i) {
+  return {
+    first: piece.u64(i, "first"),
+    last: piece.u64(i, "last"),
+    device: piece.byte(i, "device"),
+    from: piece.u64(i, "start"),
+    to: piece.u64(i, "end"),
+    asks: piece.u64(i, "count")
+  };
+}
+
+// A reset, a break or a set-up that was told: what it has depends on that.
+function eventEntry(piece, i, more) {
+  return {
+    first: piece.u64(i, "first"),
+    last: piece.u64(i, "last"),
+    begin: piece.u64(i, "start"),
+    at: piece.u64(i, "end"),
+    ...more
+  };
+}
+
+function addNews(found, piece, i) {
+  const kind = piece.byte(i, "kind"), device = piece.byte(i, "device");
+  if (kind <= FAILURE)
+    found.money.push(moneyEntry(piece, i, kind));
+  else if (kind <= SESSION_ENDED)
+    found.sessions.push(moneyEntry(piece, i, kind));
+  else if (kind <= COMMANDED)
+    found.resets.push(
+        eventEntry(piece, i, {device, what: WHATS[kind], acknowledged: piece.byte(i, "isAcknowledged") > 0}));
+  else if (kind === BROKEN)
+    found.breaks.push({...eventEntry(piece, i), at: piece.u64(i, "start"), length: piece.u64(i, "length")});
+  else if (kind === SILENT)
+    found.silences.push(silenceEntry(piece, i));
+  else
+    found.setups.push(eventEntry(piece, i, {device}));
+}
+
+// All that the pieces tell, in the order of the rows; silences in the order of their ends.
+function readNews(pieces) {
+  const found = {money: [], sessions: [], resets: [], breaks: [], silences: [], setups: []};
+  for (const buffer of pieces) {
+    const piece = new NewsPiece(buffer);
+    for (let i = 0; i < piece.count; i++) addNews(found, piece, i);
+  }
+  return found;
+}
