@@ -1,6 +1,11 @@
 //! The news of a recording: what its acts tell of money, sales, resets, breaks and silences.
 
-ghost use Rattle.std.specs.Prelude.{◌≡◌, ◌≢◌, ◌≤◌, ◌+◌};
+ghost use Rattle.std.specs.Prelude.{◌≡◌, ◌≢◌, ◌≤◌, ◌+◌, ◌*◌, IfSome, option_map};
+ghost use Rattle.mdb_cash.specs.Bill.{bill_value};
+ghost use Rattle.mdb_cash.specs.BillMessages as bills;
+ghost use Rattle.mdb_cash.specs.Changer.{coin_value};
+ghost use Rattle.mdb_cash.specs.ChangerMessages as coins_told;
+ghost use Rattle.mdb_page.specs.Worth.{bill_worth, coin_worth, worth_of};
 ghost use Rattle.mdb_follow.specs.declared.follower.TheConstants.{ROWS_MAX};
 
 use crate::answer::{BAD_OPTIONS, PageTold};
@@ -128,12 +133,16 @@ struct Fact {
 
 impl Fact {
     /// One without an amount.
-    fn plain(kind: Kind) -> Fact {
+    fn plain(kind: Kind) -> Fact
+        ensures { result.worth ≡ Worth.Nothing }
+    {
         Fact::of_item(kind, 0, Worth::Nothing)
     }
 
     /// One about an item.
-    fn of_item(kind: Kind, item: u16, worth: Worth) -> Fact {
+    fn of_item(kind: Kind, item: u16, worth: Worth) -> Fact
+        ensures { result.worth ≡ worth }
+    {
         Fact {
             kind,
             number: item,
@@ -144,7 +153,10 @@ impl Fact {
     }
 
     /// One about coins of a type.
-    fn of_coins(kind: Kind, setup: &Option<ChangerSetup>, coin: u8, count: u8) -> Fact {
+    fn of_coins(kind: Kind, setup: &Option<ChangerSetup>, coin: u8, count: u8) -> Fact
+        ensures { result.worth ≡ worth_of (option_map (λ setup. setup.decimals) setup.now)
+            (count * coin_value setup.now coin) }
+    {
         Fact {
             kind,
             number: u16::from(coin),
@@ -158,7 +170,10 @@ impl Fact {
     }
 
     /// One about a bill of a type.
-    fn of_bill(kind: Kind, setup: &Option<BillSetup>, number: u8) -> Fact {
+    fn of_bill(kind: Kind, setup: &Option<BillSetup>, number: u8) -> Fact
+        ensures { result.worth ≡ worth_of (option_map (λ setup. setup.decimals) setup.now)
+            (bill_value setup.now number) }
+    {
         Fact {
             kind,
             number: u16::from(number),
@@ -424,7 +439,10 @@ fn reader_asked(config: Option<ReaderConfig>, command: ReaderCommand) -> Option<
 }
 
 /// What a message of the changer tells.
-fn changer_told(setup: &Option<ChangerSetup>, message: ChangerMsg) -> Option<Fact> {
+fn changer_told(setup: &Option<ChangerSetup>, message: ChangerMsg) -> Option<Fact>
+    ensures { IfSome result (λ fact.
+        fact.worth ≡ coin_worth setup.now (coins_told.part_of message)) }
+{
     match message {
         ChangerMsg::Tube { coin, .. } => Some(Fact::of_coins(Kind::Tube, setup, coin, 1)),
         ChangerMsg::CashBox { coin, .. } => Some(Fact::of_coins(Kind::CashBox, setup, coin, 1)),
@@ -438,7 +456,10 @@ fn changer_told(setup: &Option<ChangerSetup>, message: ChangerMsg) -> Option<Fac
 }
 
 /// What a message of the validator tells.
-fn bill_told(setup: &Option<BillSetup>, message: BillMsg) -> Option<Fact> {
+fn bill_told(setup: &Option<BillSetup>, message: BillMsg) -> Option<Fact>
+    ensures { IfSome result (λ fact.
+        fact.worth ≡ bill_worth setup.now (bills.part_of message)) }
+{
     match message {
         BillMsg::Stacked(number) => Some(Fact::of_bill(Kind::Stacked, setup, number)),
         BillMsg::Escrow(number) => Some(Fact::of_bill(Kind::Escrow, setup, number)),

@@ -1,8 +1,8 @@
 //! What coins, bills and a reader's amounts are worth: as much as they add to the sums of a report.
 
-ghost use Rattle.std.specs.Prelude.{◌≡◌, ◌≤◌, ◌*◌, option_map};
+ghost use Rattle.std.specs.Prelude.{◌≡◌, ◌≤◌, ◌*◌, Some, option_map};
 ghost use Rattle.mdb_cash.specs.Bill.{bill_value};
-ghost use Rattle.mdb_cash.specs.Changer.{coin_value};
+ghost use Rattle.mdb_cash.specs.Changer as values;
 ghost use Rattle.mdb_cash.specs.Credits as credits;
 ghost use Rattle.mdb_cashless.specs.Reader as readers;
 ghost use Rattle.mdb_page.specs.Worth.{worth_of};
@@ -26,27 +26,31 @@ pub(crate) enum Worth {
 }
 
 /// What a credit of this byte counts: FF is a token, which has no value.
-fn counted(credit: u8) -> u64
-    ensures value { result ≡ credits.counted credit }
-    ensures small { result ≤ 255 }
+fn counted(credit: u8) -> u8
+    ensures { result ≡ credits.counted credit }
 {
-    if credit == 0xFF { 0 } else { u64::from(credit) }
+    if credit == 0xFF { 0 } else { credit }
+}
+
+/// The value of a coin of a type.
+fn coin_value(setup: &ChangerSetup, coin: u8) -> u64
+    ensures value { result ≡ values.coin_value (Some setup.now) coin }
+    ensures small { result ≤ 65025 }
+{
+    u64::from(setup.scaling) * u64::from(counted(setup.credit(coin)))
 }
 
 /// What so many coins of a type are worth.
 pub(crate) fn coins(setup: &Option<ChangerSetup>, coin: u8, count: u8) -> Worth
     ensures { result ≡ worth_of (option_map (λ setup. setup.decimals) setup.now)
-        (count * coin_value setup.now coin) }
+        (count * values.coin_value setup.now coin) }
 {
     match setup {
         None => Worth::Unknown,
-        Some(setup) => {
-            let value = u64::from(setup.scaling) * counted(setup.credit(coin));
-            Worth::Known {
-                amount: u64::from(count) * value,
-                decimals: setup.decimals,
-            }
-        }
+        Some(setup) => Worth::Known {
+            amount: u64::from(count) * coin_value(setup, coin),
+            decimals: setup.decimals,
+        },
     }
 }
 
@@ -58,7 +62,7 @@ pub(crate) fn bill(setup: &Option<BillSetup>, number: u8) -> Worth
     match setup {
         None => Worth::Unknown,
         Some(setup) => Worth::Known {
-            amount: u64::from(setup.scaling) * counted(setup.credit(number)),
+            amount: u64::from(setup.scaling) * u64::from(counted(setup.credit(number))),
             decimals: setup.decimals,
         },
     }
