@@ -380,7 +380,7 @@ function silenceList({silences}) {
   if (!silences.length) return [];
   const some = silences.slice(0, MOST_SILENCES), more = silences.length - some.length;
   return [
-    h("p", {}, "Silences, as the acts have them:"),
+    h("p", {}, "Silences, as the report counts them:"),
     h("ul", {id: "silences"}, some.map((q) => h("li", {}, silenceWords(q), ", rows ", rowLink(q.first, q.last)))),
     more ? h("p", {}, `and ${number(more)} more`) : null
   ];
