@@ -2,8 +2,8 @@
 """make.py MODULE.wasm PAGE.html: puts the page's sources and the module into one file.
 
 The texts of the rules are those of docs/bench/rules.md. Scripts and styles are named by their checksums
-in the page's Content-Security-Policy, so that the browser runs nothing else. The same input gives
-the same bytes.
+in the page's Content-Security-Policy, so that the browser runs nothing else. Comments and indents of
+the scripts stay out, and the same input gives the same bytes.
 """
 
 import base64
@@ -90,13 +90,22 @@ def examples():
     return [{"name": f"{name}.csv", "words": words, "text": texts[name]} for name, words in EXAMPLES.items()]
 
 
+def script(name):
+    """The text of a script of this folder without its indents, and without the lines that are comments."""
+    # (clang-format breaks a template inside of its expressions alone, so no text loses a blank)
+    lines = (HERE / f"{name}.js").read_text().splitlines()
+    bare = [line.strip() for line in lines]
+    return "\n".join(line for line in bare if line and not line.startswith("//")) + "\n"
+
+
 def in_script(text):
     """A JSON text that may stand inside a script of a page."""
     return json.dumps(text, ensure_ascii=False).replace("</", "<\\/").replace("<!--", "<\\!--")
 
 
-def want_names_once(parts):
+def want_names_once():
     """Ends the making where two scripts declare one name: the browser would run none of them."""
+    parts = [(HERE / f"{name}.js").read_text() for name in SCRIPTS]
     names = re.findall(r"^(?:const|let|class|(?:async )?function) (\w+)", "\n".join(parts), flags=re.M)
     twice = sorted({name for name in names if names.count(name) > 1})
     if twice:
@@ -105,7 +114,7 @@ def want_names_once(parts):
 
 def import_text():
     """The text of the worker that imports."""
-    return "\n".join(['"use strict";', *((HERE / f"{name}.js").read_text() for name in IMPORT_SCRIPTS)])
+    return "\n".join(['"use strict";', *map(script, IMPORT_SCRIPTS)])
 
 
 def digest(text):
@@ -116,9 +125,9 @@ def main():
     module, page = map(pathlib.Path, sys.argv[1:])
     wasm = module.read_bytes()
     style = (HERE / "page.css").read_text()
-    worker = "\n".join((HERE / f"{name}.js").read_text() for name in WORKERS)
-    parts = [(HERE / f"{name}.js").read_text() for name in SCRIPTS]
-    want_names_once(parts)
+    worker = "\n".join(map(script, WORKERS))
+    parts = [*map(script, SCRIPTS)]
+    want_names_once()
     constants = [
         '"use strict";',
         f"const RULES = {in_script(rule_texts())};",
@@ -127,11 +136,11 @@ def main():
         f"const IMPORTER = {in_script(import_text())};",
         f'const MODULE = "{base64.b64encode(wasm).decode()}";',
     ]
-    script = "\n".join(["", *constants, *parts])
+    whole = "\n".join(["", *constants, *parts])
     policy = "; ".join(
         [
             "default-src 'none'",
-            f"script-src {digest(script)} 'wasm-unsafe-eval'",
+            f"script-src {digest(whole)} 'wasm-unsafe-eval'",
             f"style-src {digest(style)}",
             "worker-src blob:",
             "base-uri 'none'",
@@ -140,7 +149,7 @@ def main():
     )
     made = f"mdbcheck {version()}. The module has {len(wasm):,} bytes, SHA-256 {hashlib.sha256(wasm).hexdigest()}."
     text = (HERE / "page.html").read_text()
-    for mark, value in (("POLICY", policy), ("STYLE", style), ("MADE", made), ("SCRIPT", script)):
+    for mark, value in (("POLICY", policy), ("STYLE", style), ("MADE", made), ("SCRIPT", whole)):
         if text.count(f"@{mark}@") != 1:
             sys.exit(f"page.html: @{mark}@ doesn't stand there once")
         text = text.replace(f"@{mark}@", value)
