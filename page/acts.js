@@ -87,23 +87,27 @@ function readQuery(written) {
 }
 
 function hasBytes(acts, i, wanted) {
-  const from = i * 80 + 43, last = from + acts.bytes8[i * 80 + 42] - wanted.length;
-  for (let at = from; at <= last; at++) {
+  const bytes = acts.bytes(i), last = bytes.length - wanted.length;
+  for (let at = 0; at <= last; at++) {
     let k = 0;
-    while (k < wanted.length && acts.bytes8[at + k] === wanted[k]) k++;
+    while (k < wanted.length && bytes[at + k] === wanted[k]) k++;
     if (k === wanted.length) return true;
   }
   return false;
 }
 
+// An act's kind, device and bytes, as a text.
+const toldBy = (acts, i) =>
+    String.fromCharCode(acts.kind(i), acts.device(i)) + String.fromCharCode.apply(null, acts.bytes(i));
+
 // What an act's words depend on, as a text: acts with the same have the same words.
 function wordsKey(acts, i) {
-  const kind = acts.kind(i), device = acts.device(i), told = acts.told(i);
+  const kind = acts.kind(i), device = acts.device(i), told = toldBy(acts, i);
   if (kind === ASK) return told + setupNumber(acts, device, i);
   if (kind === BREAK) return told + acts.length(i);
   if (kind > REPLY && kind !== REPEAT) return told;
   const at = acts.askOf(i);
-  return told + setupNumber(acts, device, i) + (at < 0 ? "" : acts.told(at));
+  return told + setupNumber(acts, device, i) + (at < 0 ? "" : toldBy(acts, at));
 }
 
 const setupNumber = (acts, device, i) => acts.setupAt(device, i)?.from ?? "";

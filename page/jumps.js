@@ -7,14 +7,14 @@ const MOST_PLACES = 100;
 // How an element can be found again after its part was drawn anew.
 function tokenOf(element) {
   const link = element?.closest?.("[data-row], [data-entry], [data-at], [data-part]");
-  if (!link) return element?.id ? {id: element.id} : null;
+  if (!link) return element?.id ? {id: element.id} : {element};
   const [key] = JUMPS.find(([name]) => name in link.dataset);
   return {part: link.closest("section[id], nav[id]")?.id, key, value: link.dataset[key]};
 }
 
 function elementOf(token) {
-  if (!token) return null;
   if (token.id) return by(token.id);
+  if (!token.key) return token.element?.isConnected ? token.element : null;
   return (by(token.part) ?? document).querySelector(`[data-${token.key}="${token.value}"]`);
 }
 

@@ -17,6 +17,12 @@ const PART_WORDS = {
   failed: "told as failed",
   cancelled: "request cancelled"
 };
+const NO_SUM = {
+  units: 0n,
+  known: 0,
+  unknown: 0,
+  decimals: undefined
+};
 const OUTCOMES = ["sold", "failed", "cancelled"];
 const LINE_HEADS =
     [["begins at"], ["told, in rows"], ["item"], ["amount", "number"], ["outcome"], ["so far, as told", "number"]];
@@ -39,6 +45,7 @@ function addBegins(it) {
   const acts = it.list;
   let i = 0;
   for (const m of it.found.money) {
+    if (m.begin !== undefined) continue;
     while (i + 1 < acts.count && acts.last(i) < m.first) i++;
     m.begin = hasRow(acts, i, m.first) ? acts.start(i) : m.at;
   }
@@ -89,12 +96,13 @@ function newLine(m, part, index) {
   };
 }
 
-// The lines of all entries, and which line each entry is in.
-function linesOf(entries) {
+// The lines of all entries, and which line each entry is in. A session's begin or end ends the sale before it.
+function linesOf(entries, sessions) {
   const lines = [], lineOf = new Uint32Array(entries.length), open = [null, null, null, null, null];
+  let told = 0;
   entries.forEach((m, i) => {
+    for (; told < sessions.length && sessions[told].first < m.first; told++) open[sessions[told].device] = null;
     const part = SALE_PARTS[m.what] ?? null;
-    if (/session/.test(m.what)) open[m.device] = null;
     let line = part ? open[m.device] : null;
     if (!continues(line, part, m)) {
       line = newLine(m, part, lines.length);
@@ -127,29 +135,33 @@ function addSums({lines}, entries) {
     for (const {i} of line.parts) {
       const m = entries[i], kind = sumOf(m);
       if (!kind) continue;
-      const key = `${kind.sum} ${m.device}`, units = m.what === "vend success" ? line.units ?? null : m.units;
-      const now = running[key] ??= {device: {units: 0, unknown: 0}, controller: {units: 0, unknown: 0}};
+      const isSale = m.what === "vend success",
+            amount = isSale ? {units: line.units ?? null, decimals: line.decimals} : m;
+      const now = running[`${kind.sum} ${m.device}`] ??= {device: NO_SUM, controller: NO_SUM};
       for (const side of ["device", "controller"])
-        if (side === kind.by || m.acknowledged) {
-          now[side].units += units ?? 0;
-          now[side].unknown += units === null ? 1 : 0;
-        }
+        if (side === kind.by || m.acknowledged) now[side] = sumAfter(now[side], amount);
       line.sum = kind.sum;
-      line.sums = {device: {...now.device}, controller: {...now.controller}};
+      line.sums = {...now};
     }
+}
+
+function sumAfter({units, known, unknown, decimals}, amount) {
+  if (amount.units === null) return {units, known, unknown: unknown + 1, decimals};
+  return {units: units + BigInt(amount.units), known: known + 1, unknown, decimals: amount.decimals};
 }
 
 function statementOf(it) {
   if (it.statement) return it.statement;
   addBegins(it);
-  it.statement = linesOf(it.found.money);
+  it.statement = linesOf(it.found.money, it.found.sessions ?? []);
   addSums(it.statement, it.found.money);
   return it.statement;
 }
 
-function sumWords({units, unknown}, decimals) {
-  const words = money(units, decimals);
-  return unknown ? `${words} and ${number(unknown)} of unknown value` : words;
+function sumWords({units, known, unknown, decimals}, places) {
+  const words = money(units, decimals ?? places);
+  if (!unknown) return words;
+  return `${known ? words + " and " : ""}${number(unknown)} of unknown value`;
 }
 
 // What was done, how often, and with coins or bills of which type.

@@ -121,8 +121,11 @@ class Walk:
         if data[0] == 0x0D:
             units = worth(setup, data[1] & 15, data[1] >> 4)
             self.pay(act, "paid out", units, setup, "controller", self.heard())
-        if data[0] in (0x13, 0x63) and data[1] in (0, 1, 2, 3, 5):
-            self.take_vend(act, data, setup)
+        if data[0] in (0x13, 0x63):
+            if data[1] == 4:
+                self.open.pop(act.device, None)
+            else:
+                self.take_vend(act, data, setup)
 
     def take_vend(self, act, data, setup):
         price = (data[2] * 256 + data[3]) * setup[0] if data[1] in (0, 5) and setup else None
@@ -138,6 +141,9 @@ class Walk:
             for message in reader_messages(data):
                 if message[0] in (5, 6):
                     self.sale(act, "approved" if message[0] == 5 else "denied", setup, "", None, self.acknowledged())
+            # (A session that begins or ends here ends the sale for what comes after this act.)
+            if any(message[0] in (3, 7) for message in reader_messages(data)):
+                self.open.pop(act.device, None)
         elif (act.device, ask[0]) == ("changer", 0x0B):
             self.take_coins(act, data, setup)
         elif (act.device, ask[0]) == ("bill", 0x33):
@@ -157,11 +163,12 @@ class Walk:
                 self.pay(act, "coins in", worth(setup, byte & 15), setup, "device", self.acknowledged())
 
     def add(self, act, name, units, by, heard):
-        sums = self.sums.setdefault((name, act.device), {"device": [0, 0], "controller": [0, 0]})
+        sums = self.sums.setdefault((name, act.device), {"device": [0, 0, 0], "controller": [0, 0, 0]})
         for side, it in sums.items():
             if side == by or heard:
                 it[0] += units or 0
-                it[1] += units is None
+                it[1] += units is not None
+                it[2] += units is None
         return {side: tuple(it) for side, it in sums.items()}
 
     def pay(self, act, name, units, setup, by, heard, item=""):
@@ -215,8 +222,10 @@ class Walk:
             if line["sums"]:
                 words.append(line["name"])
                 for side, name in (("device", NAMES[line["device"]]), ("controller", "controller")):
-                    units, unknown = line["sums"][side]
-                    words.append(f"{name} {amount(units, places)}" + (f" and {unknown:,} of unknown value" if unknown else ""))
+                    units, known, unknown = line["sums"][side]
+                    words.append(f"{name} " + " and ".join(
+                        ([amount(units, places)] if known or not unknown else []) +
+                        ([f"{unknown:,} of unknown value"] if unknown else [])))
             has_amount = "units" in line
             yield [NAMES[line["device"]], line["rows"], line["item"], amount(line["units"], places) if has_amount else "",
                    line["outcome"], words]
@@ -377,8 +386,8 @@ def try_rows(page, want):
     want(told == "" and here == "45–46", f"row 45: {told}, {here}")
     # (A long recording, played: ten acts in the middle aren't listed.)
     page.browser.value("""(() => {
-      const bytes = new Uint8Array(state.acts), rest = bytes.slice(0, bytes.length - 800);
-      rest.set(bytes.subarray(1600), 800);
+      const bytes = new Uint8Array(state.acts), ten = 10 * bytes.length / state.listed, rest = bytes.slice(0, bytes.length - ten);
+      rest.set(bytes.subarray(2 * ten), ten);
       const list = new Acts(rest.buffer, state.listed - 10);
       list.setups = state.list.setups;
       Object.assign(state, {list, hole: 10, all: state.listed, listed: state.listed - 10, quiet: undefined});
