@@ -1,16 +1,20 @@
 // The time line: a lane for each device that told of money, one for breaks and resets, one for silences. It fits the
 // width and can be zoomed. Where marks would cover each other, bars count them.
-const BAR = 4, LANE = 24, NARROW = 640, NAMES = 112, LEAST_SPAN = 1000, NEAR = 8, DRAGGED = 6;
+const BAR = 4, LANE = 24, NARROW = 640, NAMES = 122, LEAST_SPAN = 1000, NEAR = 8, DRAGGED = 6;
 const MOST_SILENCES = 50;
 
 // A lane: what it shows, from when to when, and where each mark leads to.
 function laneOf(name, kind, all, how) {
-  const end = how.end ?? how.begin;
+  const begin = new Float64Array(all.length), end = how.end ? new Float64Array(all.length) : begin;
+  for (let k = 0; k < all.length; k++) {
+    begin[k] = how.begin(all[k]);
+    if (how.end) end[k] = how.end(all[k]);
+  }
   return {
     name,
     kind: (k) => how.kind?.(all[k]) ?? kind,
-    begin: Float64Array.from(all, how.begin),
-    end: Float64Array.from(all, end),
+    begin,
+    end,
     isLong: Boolean(how.end),
     words: (k) => how.words(all[k]),
     jump: (k, from) => how.jump(all[k], from)
@@ -87,15 +91,18 @@ function measure(it, figure) {
 // The marks of a lane that the range has, those that would cover each other in one bar.
 function barsOf(lane, {from, to}, room) {
   const count = Math.ceil((room.right - room.left) / BAR), bars = new Array(count).fill(null);
+  const scale = (room.right - room.left) / BAR / (to - from);
   for (let k = 0; k < lane.begin.length; k++) {
     const begin = lane.begin[k], end = lane.end[k];
     if (end < from || begin > to) continue;
-    const place = Math.floor((room.x(Math.max(begin, from)) - room.left) / BAR), at = Math.min(count - 1, place);
-    const bar = bars[at] ??= {count: 0, k, at, begin, last: begin, end};
-    bar.count++;
-    bar.last = Math.max(bar.last, begin);
-    bar.begin = Math.min(bar.begin, begin);
-    bar.end = Math.max(bar.end, end);
+    const at = Math.min(count - 1, Math.floor(Math.max(0, begin - from) * scale)), bar = bars[at];
+    if (bar) {
+      bar.count++;
+      bar.last = Math.max(bar.last, begin);
+      bar.begin = Math.min(bar.begin, begin);
+      bar.end = Math.max(bar.end, end);
+    } else
+      bars[at] = {count: 1, k, at, begin, last: begin, end};
   }
   return bars.filter(Boolean);
 }
@@ -168,7 +175,8 @@ function niceStep(span, most) {
 }
 
 function drawTimes(it, room) {
-  const {from, to} = it.line, step = niceStep(to - from, Math.max(2, Math.floor((room.right - room.left) / 115)));
+  const {from, to} = it.line, wide = to < 3600e6 ? 115 : 135;
+  const step = niceStep(to - from, Math.max(2, Math.floor((room.right - room.left) / wide)));
   const made = [], y = room.high - 8;
   for (let at = Math.ceil(from / step) * step; at <= to; at += step) {
     const x = room.x(at), anchor = x < room.left + 50 ? "start" : x > room.right - 50 ? "end" : "middle";
@@ -215,8 +223,10 @@ function setRange(it, from, to) {
   tellMark("");
 }
 
-function zoom(it, factor, around = (it.line.from + it.line.to) / 2) {
-  const {from, to} = it.line;
+// Zooms about a time: that of a mark, else the one that was jumped to, else the middle.
+function zoom(it, factor, about) {
+  const {from, to} = it.line, here = it.here?.at, isHere = here >= from && here <= to;
+  const around = about ?? (isHere ? here : (from + to) / 2);
   setRange(it, around - (around - from) * factor, around + (to - around) * factor);
 }
 
@@ -406,6 +416,6 @@ function timeSection(it) {
       "Time line", "time", lineTools(it), figure, h("p", {id: "line-told", role: "status"}),
       h("details", {class: "hint noprint"}, h("summary", {}, "How to use the time line"),
         h("p", {id: "line-help"},
-          "Click a mark to go there. Drag to zoom into a range, or hold Ctrl and turn the wheel. Keys: arrows go from mark to mark, Enter goes there, + and − zoom, Shift with an arrow moves, 0 shows all. Bars count what would lie on top of each other.")),
+          "Click a mark to go there. Drag to zoom into a range, or hold Ctrl and turn the wheel. Keys: arrows go from mark to mark, Enter goes there, + and − zoom, Shift with an arrow moves, 0 shows all. Bars count what would lie on top of each other; the number beside a lane is that of its highest bar.")),
       silenceList(found));
 }
