@@ -288,17 +288,7 @@ function tellRow(words, isMissing = false) {
 // in its place.
 function jumpToRow(row, from) {
   const it = state, i = it.listed ? actAtRow(it, row) : -1;
-  const fault = document.querySelector("#fault tr[aria-current]");
-  if (!hasRow(it.list, i, row)) {
-    if (row === it.row && fault) {
-      leave(it, from);
-      land(fault);
-    } else if (it.listed) {
-      tellRow(unlistedWords(it, row), true);
-      by("jumps").hidden = false;
-    }
-    return false;
-  }
+  if (!hasRow(it.list, i, row)) return jumpToFileRow(it, row, from);
   leave(it, from);
   tellRow("");
   it.quiet ??= quietPolls(it);
@@ -310,6 +300,30 @@ function jumpToRow(row, from) {
   markHere(it, {first: it.list.first(i), last: it.list.last(i), at: it.list.start(i)});
   land(by("act-rows").children[hitOf(it, i) - it.from]);
   return true;
+}
+
+// A row in no act may stand among the rows of the file about the one that cannot be.
+function jumpToFileRow(it, row, from) {
+  const lines = fileLines(row, row),
+        [place] = lines.length ? lines : fileLines(row, Number(from?.dataset?.last ?? row));
+  if (!place) {
+    if (it.listed) tellRow(unlistedWords(it, row), true);
+    by("jumps").hidden = false;
+    return false;
+  }
+  leave(it, from);
+  tellRow("");
+  markHere(it, {first: row, last: row});
+  place.classList.add("here");
+  place.setAttribute("aria-current", "true");
+  land(place);
+  return true;
+}
+
+// The lines of the rows of the file, as far as they are shown.
+function fileLines(first, last) {
+  const rowOf = (line) => Number(line.querySelector("th")?.textContent.replaceAll(",", ""));
+  return [...document.querySelectorAll("#fault tbody tr")].filter((it) => rowOf(it) >= first && rowOf(it) <= last);
 }
 
 // The fields above the list.

@@ -36,6 +36,7 @@ function rowLink(first, last = first, words = null) {
         class: "jump rows",
         href: `#row-${first}`,
         "data-row": first,
+        "data-last": last,
         title: "Show it among the acts",
         "aria-label": `${words ?? ""} ${first === last ? "row" : "rows"} ${rows}`.trim()
       },

@@ -254,9 +254,9 @@ FOLLOW = """(() => {
   const inSight = (it) => { const box = it.getBoundingClientRect(); return box.bottom > 0 && box.top < innerHeight; };
   const marked = (id) => all(`#${id} [aria-current]`);
   const landed = {
-    row(value) {
-      const [line, ...more] = marked("acts");
-      if (!line && state.row === value && document.activeElement.closest("#fault")) return true;
+    row(value, link) {
+      const [line, ...more] = marked("acts"), inFile = document.activeElement.matches("#fault tr.here[aria-current]") ? Number(document.activeElement.querySelector("th").textContent) : 0;
+      if (!line && inFile >= value && inFile <= Number(link.dataset.last)) return !state.list.count || !hasRow(state.list, actAtRow(state, value), value);
       const rows = line?.querySelector(".rows").textContent.split("–").map(Number);
       return !more.length && rows[0] <= value && rows.at(-1) >= value && line.classList.contains("here") && document.activeElement === line;
     },
@@ -272,7 +272,7 @@ FOLLOW = """(() => {
     },
     part: (value) => by(value).contains(document.activeElement) || by(value) === document.activeElement,
   };
-  const links = () => all("#told [data-row], #told [data-entry], #told [data-at], #told [data-part]").filter((it) => it.checkVisibility());
+  const links = () => all("#verdict [data-row], #told [data-row], #told [data-entry], #told [data-at], #told [data-part]").filter((it) => it.checkVisibility());
   for (let i = 0; i < links().length; i++) {
     const link = links()[i], key = ["row", "entry", "at", "part"].find((it) => it in link.dataset), told = name(link);
     const value = key === "part" ? link.dataset.part : Number(link.dataset[key]), where = link.closest("section, nav").id;
@@ -281,7 +281,7 @@ FOLLOW = """(() => {
     link.scrollIntoView({block: "center"});
     const y = scrollY, count = links().length;
     link.click();
-    if (!landed[key](value)) wrong.push(`${told} doesn't lead there, but to ${document.activeElement.outerHTML.slice(0, 200)}`);
+    if (!landed[key](value, link)) wrong.push(`${told} doesn't lead there, but to ${document.activeElement.outerHTML.slice(0, 200)}`);
     else if (!inSight(document.activeElement)) wrong.push(`${told} leads out of sight`);
     by("back").click();
     if (name(document.activeElement) !== told) wrong.push(`${told}: back leads to ${document.activeElement.outerHTML.slice(0, 200)}`);
