@@ -12,9 +12,25 @@ function take(files) {
     checkAll(files);
 }
 
+function newBatch() {
+  const made = {isStopped: false};
+  made.stopped = new Promise((done) => {
+    made.stop = done;
+  });
+  return made;
+}
+
 function stopBatch() {
-  if (batch) batch.isStopped = true;
+  if (batch) {
+    batch.isStopped = true;
+    batch.stop();
+  }
   batch = null;
+}
+
+// How far a file is: its reading is taken for half of the work.
+function tellFile(mine, i, {doing, part}) {
+  if (!mine.isStopped) by("files-bar").value = i + (doing === "Reading" ? part / 2 : 0.5);
 }
 
 // The cells of a verdict.
@@ -81,7 +97,7 @@ function filesSection(files, lines, way) {
 
 // Checks files one after the other, each in a worker of its own, and fills the table.
 async function checkAll(files) {
-  const mine = batch = {isStopped: false}, lines = files.map(fileLine), counts = {};
+  const mine = batch = newBatch(), lines = files.map(fileLine), counts = {};
   let way;
   try {
     way = options();
@@ -93,7 +109,8 @@ async function checkAll(files) {
   by("files").scrollIntoView({block: "start"});
   for (const [i, file] of files.entries()) {
     by("files-told").textContent = `${i + 1} of ${files.length}: ${shownName(file.name)}`;
-    const told = await rowsUnasked(file).then((rows) => check(rows, way)).catch((fault) => fault);
+    const answer = rowsUnasked(file).then((rows) => check(rows, way, (it) => tellFile(mine, i, it)));
+    const told = await Promise.race([answer, mine.stopped]).catch((fault) => fault);
     if (mine.isStopped) break;
     fillLine(lines[i], told);
     counts[lines[i].dataset.verdict] = (counts[lines[i].dataset.verdict] ?? 0) + 1;

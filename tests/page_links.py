@@ -590,6 +590,14 @@ def try_several(page, want):
     text = page.browser.value("by('text').textContent")
     want(text == paths[index].with_suffix(".check").read_text(), f"opened: {text}")
     want(page.browser.value("document.querySelector('#files [aria-current]').textContent").startswith("sale-never-approved"), "the opened file isn't marked")
+    page.browser.choose("#file", *paths)
+    page.browser.value("by('files-stop').click(); 1")
+    for _ in range(200):
+        if page.browser.value("document.getElementById('files')?.dataset.done"):
+            break
+        time.sleep(0.03)
+    told = page.browser.value("by('files').dataset.done + ': ' + by('files-told').textContent + by('files').querySelector('tbody').lastChild.textContent")
+    want(told.startswith("stopped: Stopped") and "not checked" in told, f"stopped: {told}")
     page.give(TOP / "examples" / "coin-told-twice.csv")
     want(page.browser.value("document.getElementById('files') === null"), "the table stays when one file is chosen")
     print(f"several files: the verdicts of {len(paths)} as the program has them, and one opened")
@@ -606,6 +614,10 @@ def try_links(page, want, address):
             counts[what] = counts.get(what, 0) + count
         lines += try_statement(page, want, path, path.name)
         found += try_searches(page, want, path, path.name)
+    for data in (b"0,B,102400\n1,2,3\n", b"1,2,3\n", b""):
+        page.give(data)
+        came = json.loads(page.browser.value(FOLLOW))
+        want(not came["wrong"], f"{data}: {came['wrong'][:3]}")
     print("links followed and back: " + ", ".join(f"{what} {count}" for what, count in sorted(counts.items())))
     long = page.work / "mixed.csv"
     with long.open("wb") as file:
