@@ -184,7 +184,7 @@ const rowsName = (file) => savedName({file}, "-rows.csv");
 async function takeAs(format) {
   const it = openImport;
   it.format = format;
-  it.answer = null;
+  it.answer = it.made = null;
   it.look = format ? await it.importer.ask({work: "look", kind: format}) : {};
   if (it !== openImport) return;
   drawImport(it);
@@ -364,9 +364,10 @@ function importCommand({format, file}, options) {
 // Shows the first rows by what stands in the fields, or what is asked.
 async function showFirstRows() {
   const it = openImport, options = importOptions(it), asks = asksOf(it, options), mine = it.preview = {};
-  it.answer = null;
-  const isOld = it.isChecked ? "The answer below is of rows that were made with other settings. Import again." : "";
-  by("import-told").replaceChildren(isOld);
+  it.answer = it.made?.key === JSON.stringify(options) ? it.made.answer : null;
+  const isOld = it.isChecked && !it.answer;
+  const told = isOld ? ["The answer below is of rows that were made with other settings. Import again."] : [];
+  by("import-told").replaceChildren(...(it.answer ? toldOf(it, it.answer) : told));
   by("import-command").textContent = shownName(importCommand(it, options));
   by("import-asks").replaceChildren(...asks.flatMap((words) => [h("strong", {}, words), h("br", {})]));
   canImport(it.format !== "edges" || Boolean(options.unit));
@@ -404,9 +405,11 @@ const ADVICE = [
 ];
 
 function refusedWords({refused, goOn}) {
+  const isRecord = refused.startsWith("record ");
   const advice = ADVICE.find(([words]) => words.test(refused.replace(/; go on with.*|; found ".*/g, "")));
   return [
-    h("p", {}, h("strong", {}, "The import stops there: "), h("code", {class: "refused"}, `mdbimport: ${refused}`)),
+    h("p", {}, h("strong", {}, isRecord ? "The import stops there: " : "This can't be used: "),
+      h("code", {class: "refused"}, `mdbimport: ${refused}`)),
     advice ? h("p", {}, advice[1]) : null,
     goOn ?
         h("p", {}, button("import-go-on", `Import what comes from ${goOn} on`, () => goOnFrom(goOn)),
@@ -447,6 +450,7 @@ async function importAll() {
     if (!isNow()) return null;
     madeFiles.set(answer.file, {file: it.file, sha256: answer.sha256, command: importCommand(it, options)});
     it.answer = answer;
+    it.made = {key: JSON.stringify(options), answer};
     told.replaceChildren(...toldOf(it, answer));
     return answer;
   } catch (fault) {
