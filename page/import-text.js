@@ -294,7 +294,7 @@ class Lines {
 // The lines of a recording, in the order in which they are counted here.
 const CONTROLLER = 0, PERIPHERAL = 1, BREAK = 2;
 const LETTERS = [77, 83, 66];
-const ROOM = 1 << 16;
+const ROOM = 1 << 16, TENS = [1, 10, 100, 1e3, 1e4, 1e5, 1e6];
 
 // The text of rows, given on in pieces.
 class RowText {
@@ -317,9 +317,23 @@ class RowText {
     this.all[this.length++] = LF;
   }
 
+  // A number of up to 15 digits, seven at a time.
   number(value) {
-    const digits = String(value);
-    for (let i = 0; i < digits.length; i++) this.all[this.length++] = digits.charCodeAt(i);
+    const high = Math.floor(value / 1e7);
+    if (high) this.number(high);
+    this.digits(value - high * 1e7, high ? 7 : 1);
+  }
+
+  // So many digits at least of a number below 10^7.
+  digits(value, least) {
+    let count = least, rest = value | 0;
+    while (count < 7 && rest >= TENS[count]) count++;
+    for (let i = this.length + count - 1; i >= this.length; i--) {
+      const next = (rest / 10) | 0;
+      this.all[i] = 48 + rest - next * 10;
+      rest = next;
+    }
+    this.length += count;
   }
 
   word(value) {
