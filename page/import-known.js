@@ -41,7 +41,7 @@ const other = (words, command) => ({kind: "other", words, command});
 
 // A file that is no text, or null.
 function otherKind(bytes) {
-  const front = signsOf(bytes.subarray(0, 4096));
+  const front = String.fromCharCode(...bytes.subarray(0, 4096));
   if (front.startsWith("PK\x03\x04")) {
     const found = ZIPS.find(([name]) => name.test(front));
     return found ? other(found[1], found[2]) : other(ZIP);

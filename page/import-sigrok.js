@@ -24,12 +24,9 @@ function traceTime(digits, decimals) {
   return wholeMicros(time) < MOST_TIME ? time : null;
 }
 
-// The bytes of a line as a string, a sign for each.
-function signsOf(line) {
-  let words = "";
-  for (let i = 0; i < line.length; i += 4096) words += String.fromCharCode(...line.subarray(i, i + 4096));
-  return words;
-}
+// The bytes of a line as words, a sign for each: which one doesn't matter where it isn't ASCII.
+const LATIN = new TextDecoder("latin1");
+const lineWords = (line) => LATIN.decode(line);
 
 // How long something lasts in whole microseconds, the nearest; -1 where it ends before it begins.
 function lengthOf(from, to) {
@@ -126,10 +123,10 @@ class SigrokImport {
   }
 
   take(line) {
-    if (this.next === "record") return this.takeRecord(signsOf(line));
+    if (this.next === "record") return this.takeRecord(lineWords(line));
     if (this.next === "nothing")
       return this.refuse(this.number + 1, "wanted nothing after the line ]}, where the trace ends");
-    const words = signsOf(line);
+    const words = lineWords(line);
     if (this.next === "head") {
       if (words !== TRACE_HEAD) return this.refuse(0, NO_TRACE);
       this.next = "record";
