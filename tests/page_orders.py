@@ -272,7 +272,7 @@ def take_step(page, dice):
     elif kind == "earlier":
         page.browser.choose("#setup-file", page.work / dice.choice(["told twice.csv", "never approved.csv", "no row.csv"]))
     elif kind == "row":
-        page.value("(() => { const it = by('act-row'); if (it) { it.value = %d; it.dispatchEvent(new KeyboardEvent('keydown', {key: 'Enter', bubbles: true})); } return 1; })()" % dice.randrange(1, 120))
+        page.value("(() => { const it = by('act-row'); if (it && !it.disabled) { it.value = %d; it.dispatchEvent(new KeyboardEvent('keydown', {key: 'Enter', bubbles: true})); } return 1; })()" % dice.randrange(1, 120))
     else:
         page.press({"again": "by('again')", "late": button("Check as"), "leave": button("Leave out")}[kind])
     return kind
