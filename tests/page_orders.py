@@ -111,6 +111,8 @@ def make_files(folder):
         "begins late.csv": text_of(late),
         "late, then a cycle.csv": text_of(cycle),
         "late beside a validator.csv": text_of([*VALIDATOR_RESET, *moved(late, 100_000)]),
+        "late, then a no.csv": text_of([*late, *moved(rows_of("sale-never-approved"), end + 500_000)]),
+        "late, then no row.csv": text_of(late) + "x,M,108\n",
         "begins in a block.csv": text_of(late[2:]),
         "exchanged.csv": text_of([row.translate(str.maketrans("MS", "SM")) for row in twice[29:]]),
         "never approved.csv": text_of(rows_of("sale-never-approved")),
@@ -340,6 +342,13 @@ def try_started_before(page):
         page.compare(came)
         want(came["card"] == "card yes" and came["focus"] == "verdict" and 0 <= came["top"] < came["high"], f"{name}: {came['focus']}, {came['top']}")
         page.value("(() => { by('joined').checked = false; showWay(); return 1; })()")
+    for name, words, status in (("late, then a no.csv", "row 102 would be the one that cannot be: it breaks the rule Cashless", 1), ("late, then no row.csv", "no verdict: row 28 can't be read", 2)):
+        page.choose(name)
+        came = page.settled()
+        page.compare(came)
+        ran = page.program(name, ["--joined"])
+        want(ran[0] == status and (status == 2 or "row 102\nrule Cashless\n" in ran[1]), f"{name}: {ran}")
+        want("Was the machine running already" in came["late"] and words in came["late"], f"{name}: {came['late']!r}")
     for name, words in (("begins in a block.csv", "it would be a yes."), ("exchanged.csv", "most likely the two lines are exchanged")):
         page.choose(name)
         came = page.settled()
