@@ -93,8 +93,13 @@ function showWay() {
   by("stale").hidden = !state || isWorking || wayKey() === state.key;
 }
 
-// The options as a text, to tell whether they are those of the answer that is shown.
-const wayKey = () =>
-    JSON.stringify(DEVICES.slice(1).map(
-        (it) => [by("without-" + it).checked, by("joined").checked && by("setup-" + it).value.trim()])) +
-    by("joined").checked;
+// What the fields say as a text, to tell whether it is what the shown answer was made with. Bytes of a device that is
+// left out don't count.
+function wayKey() {
+  const joined = by("joined").checked;
+  const devices = DEVICES.slice(1).map((it) => {
+    const left = by("without-" + it).checked;
+    return [left, joined && !left ? by("setup-" + it).value.trim() : ""];
+  });
+  return JSON.stringify([joined, devices]);
+}

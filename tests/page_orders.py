@@ -112,6 +112,8 @@ def make_files(folder):
         "late, then a cycle.csv": text_of(cycle),
         "late beside a validator.csv": text_of([*VALIDATOR_RESET, *moved(late, 100_000)]),
         "late, then a no.csv": text_of([*late, *moved(rows_of("sale-never-approved"), end + 500_000)]),
+        "late, a cycle, a no.csv": text_of([*cycle, *moved(rows_of("sale-never-approved"), end + 5_000_000)]),
+        "late beside one, then a no.csv": text_of([*VALIDATOR_RESET, *moved(late, 100_000), *moved(rows_of("sale-never-approved"), end + 500_000)]),
         "late, then no row.csv": text_of(late) + "x,M,108\n",
         "begins in a block.csv": text_of(late[2:]),
         "exchanged.csv": text_of([row.translate(str.maketrans("MS", "SM")) for row in twice[29:]]),
@@ -323,6 +325,13 @@ def try_again_while_working(page):
     page.choose("long.csv")
     page.value("(() => { by('joined').checked = false; by('without-changer').checked = true; showWay(); run(); run(); return 1; })()")
     page.compare()
+    # A file whose recording takes long to be there, and another one before it is.
+    page.value("(() => { window.recordingOf = async (it) => { if (it.name.startsWith('told')) await new Promise((done) => setTimeout(done, 300)); return it; }; return 1; })()")
+    page.choose("told twice.csv")
+    page.choose("begins late.csv")
+    page.compare()
+    time.sleep(0.5)
+    page.compare()
     page.value("(() => { checker.hear({told: 'done', number: 1, answer: 1, text: 'verdict no\\n'}); return 1; })()")
     page.compare()
 
@@ -342,6 +351,13 @@ def try_started_before(page):
         page.compare(came)
         want(came["card"] == "card yes" and came["focus"] == "verdict" and 0 <= came["top"] < came["high"], f"{name}: {came['focus']}, {came['top']}")
         page.value("(() => { by('joined').checked = false; showWay(); return 1; })()")
+    # Here the module doesn't decide whether to ask: as of a machine that was running, it is a no as well.
+    for name in ("late, a cycle, a no.csv", "late beside one, then a no.csv"):
+        page.choose(name)
+        came = page.settled()
+        page.compare(came)
+        want(page.program(name, ["--joined"])[0] == 1 and "it breaks the rule Cashless" in came["late"], f"{name}: {came['late']!r}")
+        want("Was the machine running already" in came["late"] and "broke the protocol here" not in came["verdict"], f"{name}: {came['verdict']!r}")
     for name, words, status in (("late, then a no.csv", "row 102 would be the one that cannot be: it breaks the rule Cashless", 1), ("late, then no row.csv", "no verdict: row 28 can't be read", 2)):
         page.choose(name)
         came = page.settled()
