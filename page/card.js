@@ -211,9 +211,9 @@ function exchanged(bytes) {
 }
 
 async function checkExchanged() {
-  const made = exchanged(new Uint8Array(await recording.arrayBuffer())), ending = " (M and S exchanged)";
-  const {name} = file, isBack = name.endsWith(ending);
-  run(new File([made], isBack ? name.slice(0, -ending.length) : name + ending));
+  const {name} = file, ending = " (M and S exchanged)", isBack = name.endsWith(ending), before = newest;
+  const made = exchanged(new Uint8Array(await recording.arrayBuffer()));
+  if (newest === before) run(new File([made], isBack ? name.slice(0, -ending.length) : name + ending), true);
 }
 
 // A row with quotes, far down.

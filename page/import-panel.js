@@ -86,13 +86,15 @@ class Importer {
 async function recordingOf(file, then = run) {
   if (madeFiles.has(file)) return file;
   if (openImport?.file === file && openImport.then === then) return null;
-  closeImport();
+  if (then === run) closeImport();
   const turn = importTurn, importer = new Importer(file);
   const found = await importer.ask({work: "known"});
+  // A file of rows is taken whatever is asked of another one.
   if (turn !== importTurn || found.kind === "ours") {
     importer.end();
-    return turn === importTurn ? file : null;
+    return found.kind === "ours" ? file : null;
   }
+  closeImport();
   openImport = {file, then, importer, found, format: null, look: {}, answer: null, words: ""};
   if (found.kind === "quoted") return unquoted(openImport);
   if (found.kind === "other") {
@@ -516,12 +518,13 @@ function saveFile(file) {
 
 // Checks the recording that is shown without its quotes.
 async function takeQuotesOff() {
-  const given = file;
+  const given = file, before = newest;
   closeImport();
   openImport = {file: given, then: run, importer: new Importer(given), found: {kind: "quoted"}, words: ""};
   const rows = await unquoted(openImport);
+  if (newest !== before) return;
   if (rows)
-    run(rows);
+    run(rows, true);
   else
     askToImport();
 }

@@ -159,9 +159,9 @@ async function answerNow(isNow) {
   return {...told, file, key: way.key, isKept, name: shownName(file.name), when: new Date(), sum: checker.sum};
 }
 
-// Checks the file that is given, or the last one again if none is, and shows the answer. Each button that checks
-// again has the focus on the card after it.
-async function run(given) {
+// Checks the file that is given, or the last one again if none is, and shows the answer. After a button the card has
+// the focus.
+async function run(given, isButton = !given) {
   if (!given && !file) return null;
   const mine = ++newest, isNow = () => mine === newest, begin = performance.now();
   if (given || isWorking) endChecker();
@@ -171,7 +171,7 @@ async function run(given) {
   }
   showSetupFault(null);
   working(true);
-  if (!given) by("work").focus();
+  if (isButton) by("work").focus();
   try {
     const told = await answerNow(isNow);
     if (!told) return null;
@@ -180,11 +180,11 @@ async function run(given) {
     show(state);
     state.ms.all = performance.now() - begin;
     by("figures").textContent = figures(state);
-    settle(!given);
+    settle(isButton);
     showSum(state);
     return state;
   } catch (fault) {
-    if (isNow()) failed(fault, !given);
+    if (isNow()) failed(fault, isButton);
     return null;
   }
 }
@@ -205,6 +205,7 @@ function stop() {
   if (!isWorking) return;
   newest++;
   endChecker();
+  closeImport();
   working(false);
   trouble(
       "You stopped the check. There is no verdict.", true,
