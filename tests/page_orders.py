@@ -229,7 +229,8 @@ class Orders:
         words = self.value("window.noted ?? null")
         is_wrong = any("zz" in it for it in words or [])
         if self.is_stopped or is_wrong or name == GONE:
-            reason = "You stopped" if self.is_stopped else "set-up bytes" if is_wrong else "can't be read"
+            # What can't be read is told before the settings are looked at.
+            reason = "You stopped" if self.is_stopped else "can't be read" if name == GONE else "set-up bytes"
             want(came["card"] == "card none" and reason in came["verdict"], f"wanted {reason!r}: {came['verdict']!r}")
             want(not came["isState"] and not came["told"] and not came["isStale"], "something is left of an answer")
             return reason.lower().strip(": ")
