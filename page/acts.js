@@ -42,8 +42,8 @@ function actRow(it, i, isInList = false) {
         "aria-current": here ? "true" : undefined
       },
       h("td", {class: "number"}, timeLink(start)), h("td", {class: "rows"}, isInList ? rows : rowLink(first, last)),
-      h("td", {class: "wide"}, speaker(acts, i)), h("td", {class: "wide"}, h("code", {}, KINDS[acts.kind(i)])),
-      h("td", {}, h("span", {class: "narrow"}, `${speaker(acts, i)}: `), actWords(acts, i),
+      h("td", {class: "wide"}, speaker(acts, i)), h("td", {class: "wide"}, KIND_WORDS[acts.kind(i)]),
+      h("td", {}, h("span", {class: "narrow"}, `${shortSpeaker(acts, i)}: `), actWords(acts, i),
         bad ? h("strong", {}, ` – cannot be: ${it.report.rule}`) :
             isUnjudged(it, {first}) ? h("span", {class: "soft"}, " – not judged") :
                                       null,
@@ -116,7 +116,7 @@ const setupNumber = (acts, device, i) => acts.setupAt(device, i)?.from ?? "";
 function hasText(acts, i, {text, seen}) {
   const key = wordsKey(acts, i), known = seen.get(key);
   if (known !== undefined) return known;
-  const words = `${speaker(acts, i)} ${KINDS[acts.kind(i)]} ${actWords(acts, i)}`,
+  const words = `${speaker(acts, i)} ${KINDS[acts.kind(i)]} ${KIND_WORDS[acts.kind(i)]} ${actWords(acts, i)}`,
         has = words.toLowerCase().includes(text);
   if (seen.size >= MOST_SEEN) seen.clear();
   seen.set(key, has);
@@ -346,7 +346,8 @@ function actTools(it) {
         h("select", {id: "act-device", onchange: again}, option("", "all"),
           DEVICE_NAMES.slice(1).map((words, i) => option(i + 1, words)))),
       h("label", {}, "Kind",
-        h("select", {id: "act-kind", onchange: again}, option("", "all"), KINDS.map((words, i) => option(i, words)))),
+        h("select", {id: "act-kind", onchange: again}, option("", "all"),
+          KIND_CHOICES.map((words, i) => option(i, words)))),
       h("label", {}, "Words, bytes or time",
         h("input", {type: "search", id: "act-text", placeholder: "13 02, 0.285 s, 1:32.7", oninput: soon})),
       box("act-money", "Only money"), box("act-polls", "Polls without news"), ...rowTools(),

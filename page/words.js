@@ -3,6 +3,13 @@
 const DEVICES = ["", "changer", "bill", "cashless", "cashless-2"];
 const DEVICE_NAMES = ["", "coin changer", "bill validator", "card reader at 10H", "card reader at 60H"];
 const KINDS = ["ask", "ack", "nak", "reply", "vmc-ack", "vmc-nak", "vmc-ret", "repeat", "foreign", "break", "cut"];
+// What an act of a kind is, in a word or two.
+const KIND_WORDS =
+    ["command", "ACK", "NAK", "answer", "ACK", "NAK", "RET", "answer again", "not followed", "break", "cut off"];
+const KIND_CHOICES = KIND_WORDS.map(
+    (words, i) => i === 1 || i === 2 ? words + " of a device" :
+        i === 4 || i === 5           ? words + " of the controller" :
+                                       words);
 const ASK = 0, ACK = 1, NAK = 2, REPLY = 3, VMC_ACK = 4, VMC_NAK = 5, VMC_RET = 6, REPEAT = 7, FOREIGN = 8, BREAK = 9,
       CUT = 10;
 const CHANGER_COMMANDS = {
@@ -272,7 +279,7 @@ function pollMessages(device, bytes, add) {
       else if (b >= 0xC0 && b <= 0xCF)
         add("rejected, its type is disabled", type, 1);
       else if (b >= 0x40 && b <= 0x5F)
-        add(`${b & 31} tried while none was accepted`);
+        add(`${counted(b & 31, "bill")} tried while none was accepted`);
       else if (b === 6)
         add("was reset");
       else
@@ -286,7 +293,7 @@ function pollMessages(device, bytes, add) {
     } else if (b >= 0x70 && b <= 0x7F) {
       add("rejected", type, 1, bytes[++i]);
     } else if (b >= 0x20 && b <= 0x3F) {
-      add(`${b & 31} slugs`);
+      add(counted(b & 31, "slug"));
     } else if (b === 0x0B) {
       add("was reset");
     } else
@@ -305,7 +312,7 @@ function readerWords(m, setup) {
       return `display for ${m[1] / 10} s: “${
           Array.from(m.slice(2), (b) => b >= 32 && b < 127 ? String.fromCharCode(b) : "·").join("")}”`;
     case 3:
-      return `begin session, funds ${two(m, 1) === 65535 ? "not told" : amountWords(setup, two(m, 1))}`;
+      return `begin session, funds ${two(m, 1) === 65535 ? "not given" : amountWords(setup, two(m, 1))}`;
     case 4:
       return "asks to end the session";
     case 5:
@@ -341,8 +348,8 @@ function replyWords(device, ask, bytes, setup) {
         told.credits.map((c, i) => c === 255 ? "token" : money(c * told.scale, told.decimals)).join(", ") || "none"}`;
   }
   if (name === "TUBE STATUS")
-    return `${name}: full ${types(two(bytes, 0))}; coins ${Array.from(bytes.slice(2, n)).join(", ") || "not told"}`;
-  if (name === "STACKER") return `${name}: ${two(bytes, 0) & 32767} bills${bytes[0] & 128 ? ", full" : ""}`;
+    return `${name}: full ${types(two(bytes, 0))}; coins ${Array.from(bytes.slice(2, n)).join(", ") || "not reported"}`;
+  if (name === "STACKER") return `${name}: ${counted(two(bytes, 0) & 32767, "bill")}${bytes[0] & 128 ? ", full" : ""}`;
   if (name === "POLL") {
     const said = [];
     pollMessages(
@@ -350,7 +357,7 @@ function replyWords(device, ask, bytes, setup) {
         (what, type, count, left) => said.push(
             type === undefined ? what :
                                  `${count === 1 ? "" : count + " × "}${worthWords(setup, type)} ${what}${
-                                     left === undefined ? "" : `, ${left} in it`}`));
+                                     left === undefined ? "" : `, ${left} of this type in the tubes`}`));
     return `${name}: ${said.join("; ")}`;
   }
   if (name.startsWith("EXPANSION"))
@@ -359,31 +366,45 @@ function replyWords(device, ask, bytes, setup) {
   return name;
 }
 
+// A device's ACK: of a POLL it says that there is no news.
+function ackWords(ask) {
+  const name = ask ? commandName(ask) : "";
+  return name === "POLL" ? "POLL: no news (ACK)" : `${name ? name + ": " : ""}acknowledged (ACK)`;
+}
+
 // An act in words.
 function actWords(acts, i) {
   const kind = acts.kind(i), device = acts.device(i);
   if (kind === BREAK) return `break: line M low for ${seconds(acts.length(i))}`;
-  if (kind === FOREIGN) return "words to or from a device that isn't followed";
-  if (kind === CUT) return "words of a block that a break or the end cuts";
+  if (kind === FOREIGN) return "a word to or from a device that isn't followed";
+  if (kind === CUT) return "a word of a block that is cut off by a break or by the end";
   const setup = acts.setupAt(device, i), at = acts.askOf(i), ask = at >= 0 ? acts.bytes(at) : null;
   switch (kind) {
     case ASK:
       return askWords(acts.bytes(i), setup);
     case ACK:
-      return `${ask ? commandName(ask) + ": " : ""}acknowledged, nothing to tell`;
+      return ackWords(ask);
     case NAK:
       return `${ask ? commandName(ask) + ": " : ""}refused (NAK)`;
     case REPLY:
       return replyWords(device, ask, acts.bytes(i), setup);
     case REPEAT:
-      return `told again: ${replyWords(device, ask, acts.bytes(i), setup)}`;
+      return `repeats ${replyWords(device, ask, acts.bytes(i), setup)}`;
     case VMC_ACK:
-      return "the controller acknowledges it";
+      return "received (ACK)";
     case VMC_NAK:
-      return "the controller didn't receive it well (NAK)";
+      return "not received well (NAK)";
     default:
-      return "the controller asks for it again (RET)";
+      return "asks for it again (RET)";
   }
+}
+
+// The same, short, for a narrow page.
+function shortSpeaker(acts, i) {
+  const kind = acts.kind(i), device = ["", "changer", "validator", "10H", "60H"][acts.device(i)];
+  if (kind === BREAK) return "VMC";
+  if (!device) return "–";
+  return [ASK, VMC_ACK, VMC_NAK, VMC_RET].includes(kind) ? `VMC → ${device}` : `${device} → VMC`;
 }
 
 function speaker(acts, i) {
