@@ -132,7 +132,8 @@ function openSetups() {
 // A no ----
 
 function showNo(it) {
-  const r = it.report, isLate = isPerhapsLate(it), isFile = isFileLikely(it);
+  const r = it.report, isExchanged = isPerhapsExchanged(it) && !(it.late?.answer === ANSWERS.YES && it.late.isFollowed);
+  const isLate = isPerhapsLate(it) && !isExchanged, isFile = isFileLikely(it);
   const word = `No: row ${number(it.row)} cannot be`, broken = `the row breaks the rule ${r.rule}`;
   const sent = `${capital(broken)}, and ${BLAMES[r.blame]} sent it.`;
   const lead = isLate ? h("strong", {}, "Was the machine already running when the recording began?") :
@@ -142,7 +143,7 @@ function showNo(it) {
       "no", word, lead,
       isLate ? [lateNotes(it), h("p", {}, `If the recording does begin at power-on: ${small(sent)}`)] : null,
       storyList(storyOf(it), isLate ? "What to do next, in that case" : undefined),
-      isPerhapsExchanged(it) ? exchangeButton() : null, isLate ? null : lateNotes(it),
+      isPerhapsExchanged(it) ? exchangeButton() : null, isLate || isExchanged ? null : lateNotes(it),
       isLate || isFile ? null : h("p", {class: "soft"}, RECORDER), judgedWords(it), nameWords(it));
 }
 

@@ -42,7 +42,6 @@ function blockOf(near, row) {
 
 const bytesOf = (block) => block.map((r) => r.word & 255);
 const isMarked = (r) => r.word > 255;
-const lineName = (r) => r.line === "M" ? "controller" : "device";
 
 // The last command that was said whole before the row: the act, or -1.
 function lastAsk(it) {
@@ -95,10 +94,10 @@ function unitWords(it, here) {
   return it.report.rule === "Spacing" && gap > 9000 ? "nanoseconds or tenths of a microsecond" : null;
 }
 
-// Whether the two lines may be exchanged: the recording begins with a row of line S.
+// Whether the two lines may be exchanged: the recording begins with a row of line S, and no device had been asked.
 function isPerhapsExchanged(it) {
-  const [first] = rowsNear(it);
-  return it.answer === ANSWERS.NO && it.report.rule === "Speaker" && it.row === 1 && first?.line === "S";
+  const [first] = rowsNear(it), {rule, blame} = it.report;
+  return rule === "Speaker" && blame === "other" && first?.row === 1 && first.line === "S";
 }
 
 function linkFacts(it, near, here, before) {
