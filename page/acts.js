@@ -380,12 +380,14 @@ function actsSection(it) {
   const made = section(
       "All that was said", "acts", actTools(it), h("p", {id: "act-count", role: "status"}),
       h("div", {class: "scroll"},
-        h("table", {}, h("caption", {}, "The bytes are those of the whole block, its sum at the end"),
+        h("table", {},
+          h("caption", {},
+            "An act is one thing that was said: a command, an answer, an ACK or a break. The bytes are those of the whole block, with its sum at the end."),
           h("thead", {}, h("tr", {}, ACT_HEADS.map(([words, kind]) => h("th", {scope: "col", class: kind}, words)))),
           h("tbody", {id: "act-rows"}))));
   made.tabIndex = -1;
   if (it.answer === ANSWERS.NO && ["Changer", "Bill", "Cashless"].includes(it.report.rule))
-    made.insertBefore(h("p", {class: "soft"}, "The acts after the fault aren't judged."), made.children[1]);
+    made.insertBefore(h("p", {class: "soft"}, "What comes after the impossible row isn't judged."), made.children[1]);
   queueMicrotask(() => {
     listAll(it, false);
     if (it.answer === ANSWERS.NO) it.from = Math.floor(shownBefore(it, actAtRow(it, it.row)) / PAGE_ACTS) * PAGE_ACTS;

@@ -92,7 +92,7 @@ function saidUpTo(it) {
         h("tbody", {}, rows))),
     isThere ? h("p", {class: "noprint"},
                 h("button", {type: "button", onclick: (e) => jumpToRow(it.row, e.currentTarget)},
-                  "Show it in the list of everything said")) :
+                  "Show it in the list of all that was said")) :
               h("p", {class: "soft"}, `The row is in none of these: nothing is read from row ${number(it.row)} on.`),
   ];
 }

@@ -37,7 +37,7 @@ function rowLink(first, last = first, words = null) {
         href: `#row-${first}`,
         "data-row": first,
         "data-last": last,
-        title: "Show it among the acts",
+        title: "Show it in the list of all that was said",
         "aria-label": `${words ?? ""} ${first === last ? "row" : "rows"} ${rows}`.trim()
       },
       words ?? rows);
