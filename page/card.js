@@ -143,7 +143,10 @@ function showNo(it) {
       "no", word, lead,
       isLate ? [lateNotes(it), h("p", {}, `If the recording does begin at power-on: ${small(sent)}`)] : null,
       storyList(storyOf(it), isLate ? "What to do next, in that case" : undefined),
-      isPerhapsExchanged(it) ? exchangeButton() : null, isLate || isExchanged ? null : lateNotes(it),
+      isPerhapsExchanged(it) ? exchangeButton() : null,
+      isLate || !it.late ? null :
+          isExchanged    ? lateAside(it) :
+                           lateNotes(it),
       isLate || isFile ? null : h("p", {class: "soft"}, RECORDER), judgedWords(it), nameWords(it));
 }
 

@@ -59,15 +59,16 @@ function lateButton() {
   return h("button", {type: "button", class: "noprint", onclick: again}, "Check as already running");
 }
 
+// The same, beside what the card says.
+const lateAside = (it) =>
+    h("p", {id: "late"},
+      lateWords(it).replace(/^Then /, "If the machine was already running when the recording began, "));
+
 // What the card says of a machine that was already running: where that would be another answer, the question comes
 // first, with its button.
 function lateNotes(it) {
   if (!it.late) return [];
-  if (isSameLate(it)) return [h("p", {id: "late"}, lateWords(it))];
-  if (!isPerhapsLate(it))
-    return [h(
-        "p", {id: "late"},
-        "If the machine was already running when the recording began: ", small(lateWords(it)).replace(/^then /, ""))];
+  if (isSameLate(it) || !isPerhapsLate(it)) return [lateAside(it)];
   const why = isStartedBefore(it) || it.row === 1 ? "" : " (No reset of this device stands before the row.)";
   return [
     h("p", {id: "late"}, `If so, nobody is to blame for this row. ${lateWords(it)}${why}`), h("p", {}, lateButton())

@@ -372,6 +372,8 @@ def try_started_before(page):
         page.compare(came)
         want(page.program(name, ["--joined"])[0] == 0 and came["text"].startswith("verdict no\nrow 1\n"), f"{name}: {came['text']!r}")
         want(words in came["late"] and "No reset" not in came["late"], f"{name}: {came['late']!r}")
+        first = "Read it with M and S exchanged" if "exchanged" in name else "Check as already running"
+        want(came["buttons"] == [first], f"{name}: {came['buttons']}")
     page.choose("never approved.csv")
     came = page.settled()
     status, text, _ = page.program("never approved.csv", ["--joined"])
