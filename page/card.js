@@ -132,7 +132,7 @@ function openSetups() {
 // A no ----
 
 function showNo(it) {
-  const r = it.report, isExchanged = isPerhapsExchanged(it) && !(it.late?.answer === ANSWERS.YES && it.late.isFollowed);
+  const r = it.report, isExchanged = isPerhapsExchanged(it);
   const isLate = isPerhapsLate(it) && !isExchanged, isFile = isFileLikely(it);
   const word = `No: row ${number(it.row)} cannot be`, broken = `the row breaks the rule ${r.rule}`;
   const sent = `${capital(broken)}, and ${BLAMES[r.blame]} sent it.`;
@@ -143,7 +143,7 @@ function showNo(it) {
       "no", word, lead,
       isLate ? [lateNotes(it), h("p", {}, `If the recording does begin at power-on: ${small(sent)}`)] : null,
       storyList(storyOf(it), isLate ? "What to do next, in that case" : undefined),
-      isPerhapsExchanged(it) ? exchangeButton() : null,
+      isExchanged ? exchangeButton() : null,
       isLate || !it.late ? null :
           isExchanged    ? lateAside(it) :
                            lateNotes(it),

@@ -79,6 +79,7 @@ function linkCauses(it, here) {
   if (unit) return [likely(`Most likely the times aren't microseconds, but ${unit}, and nobody is to blame.`)];
   if (isPerhapsExchanged(it))
     return [likely("Most likely lines M and S are exchanged, or this is noise before the first block.")];
+  if (it.row === 1 && rule === "Speaker") return [likely("Most likely the recording begins inside a block.")];
   if (it.row === 1 && rule === "Mode")
     return [likely("Most likely the recording begins inside a block, or the recorder loses the ninth bit.")];
   return [];
@@ -94,10 +95,12 @@ function unitWords(it, here) {
   return it.report.rule === "Spacing" && gap > 9000 ? "nanoseconds or tenths of a microsecond" : null;
 }
 
-// Whether the two lines may be exchanged: the recording begins with a row of line S, and no device had been asked.
+// Whether the two lines may be exchanged: the recording begins with a row of line S, no device had been asked, and read
+// as of a machine that was already running it doesn't make sense either.
 function isPerhapsExchanged(it) {
-  const [first] = rowsNear(it), {rule, blame} = it.report;
-  return rule === "Speaker" && blame === "other" && first?.row === 1 && first.line === "S";
+  const [first] = rowsNear(it), {rule, blame} = it.report,
+        isSense = it.late?.answer === ANSWERS.YES && it.late.isFollowed;
+  return rule === "Speaker" && blame === "other" && first?.row === 1 && first.line === "S" && !isSense;
 }
 
 function linkFacts(it, near, here, before) {
