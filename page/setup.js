@@ -11,7 +11,7 @@ function takeSetups(told, name) {
       names.push(DEVICE_NAMES[d]);
     }
   if (names.length) showSetupFault(null);
-  return names.length ? `${name} shows the set-up of ${names.join(", ")}.` :
+  return names.length ? `${name} shows the set-up of the ${listed(names)}.` :
                         `${name} shows no answer to SETUP. The bytes below are as they were.`;
 }
 
