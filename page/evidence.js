@@ -64,7 +64,8 @@ const REPORT_PARTS = ["fault", "money", "before", "devices"];
 
 // Takes away what can be pressed or followed.
 function makeStill(part) {
-  for (const it of part.querySelectorAll(".noprint, button, input, select")) it.remove();
+  for (const it of part.querySelectorAll(".why")) it.replaceWith(it.textContent);
+  for (const it of part.querySelectorAll(".noprint, .why-told, button, input, select")) it.remove();
   for (const it of part.querySelectorAll("a")) it.replaceWith(...it.childNodes);
   for (const it of part.querySelectorAll("[tabindex]")) it.removeAttribute("tabindex");
 }

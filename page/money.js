@@ -73,11 +73,13 @@ function bars(name, a, d) {
 function accountArticle(r, name, a, d, isCut) {
   const {device, title, counts} = ACCOUNTS[name], whose = small(ACCOUNTS[name].owner);
   const heads = {device: `${whose}`, controller: "the controller", difference: `${whose} less the controller`};
+  const asked = (side, bound, amount) =>
+      isCut || a[side][0] === a[side][1] ? amount : whyButton(name, side, bound, amount);
   const rows = ["device", "controller", "difference"].map(
       (side) =>
           h("tr", {"data-account": name, "data-side": side}, h("th", {scope: "row"}, capital(heads[side])),
-            h("td", {class: "number least"}, money(a[side][0], d)),
-            h("td", {class: "number greatest"}, money(a[side][1], d))));
+            h("td", {class: "number least"}, asked(side, "least", money(a[side][0], d))),
+            h("td", {class: "number greatest"}, asked(side, "greatest", money(a[side][1], d)))));
   const missing = r.unvalued?.[device] ?? 0;
   const words = !isZero(a) ? sentences(name, a, d, isCut) :
       missing              ? ["Nothing with a known value was reported."] :
@@ -89,7 +91,8 @@ function accountArticle(r, name, a, d, isCut) {
           h("tr", {}, h("td", {}), h("th", {scope: "col", class: "number"}, "at least"),
             h("th", {scope: "col", class: "number"}, "at most"))),
         h("tbody", {}, rows)),
-      isZero(a) ? null : bars(name, a, d), words.map((it) => h("p", {}, it)),
+      h("p", {class: "why-told", role: "status"}), isZero(a) ? null : bars(name, a, d),
+      words.map((it) => h("p", {}, it)),
       missing ?
           h("p", {},
             h("strong", {},
