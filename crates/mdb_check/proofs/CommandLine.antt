@@ -22,7 +22,7 @@ use Rattle.clap.proofs.FaultLemmas.{stopped_fault}
 use Rattle.clap.proofs.OnLiterals.{clap_on_literals}
 use Rattle.clap.proofs.WalkLemmas.{walk_stopped}
 use Rattle.mdb_msgs.specs.declared.device_set.DeviceSet.{DeviceSet}
-use Rattle.mdb_msgs.specs.Laws.{BlockHasOneReply}
+use Rattle.mdb_msgs.specs.Laws.{AnswerTellsOneSetup}
 use Rattle.mdb_msgs.specs.Setups.{nothing_known}
 use Rattle.mdb_bus.specs.declared.scope.Scope.{Scope}
 use Rattle.mdb_bus.specs.Scopes.{leaving_out, joined as in_mid_session}
@@ -638,12 +638,12 @@ replay_asked words found takes (Replay without form) (asked, (program, rest, are
 
 -- ---- one task with one scope
 
-one_scope : (one_reply : BlockHasOneReply) (asked : Asked) (a b : Scope) → IsFromPowerOn asked a ⊎ IsJoined asked a → IsFromPowerOn asked b ⊎ IsJoined asked b → a ≡ b
-one_scope one_reply asked a b (inl is_a) (inl is_b) = is_a.is ∙ sym is_b.is
-one_scope one_reply asked a b (inl is_a) (inr is_b) = absurd (true≢false (sym is_b.joined ∙ is_a.not_joined))
-one_scope one_reply asked a b (inr is_a) (inl is_b) = absurd (true≢false (sym is_a.joined ∙ is_b.not_joined))
-one_scope one_reply asked a b (inr is_a) (inr is_b) =
-    is_a.is ∙ ap (λ setups. in_mid_session setups asked.left_out) (one_setups one_reply asked.left_out nothing_known asked.setups is_a.setups is_b.setups is_a.told is_b.told) ∙ sym is_b.is
+one_scope : (one_told : AnswerTellsOneSetup) (asked : Asked) (a b : Scope) → IsFromPowerOn asked a ⊎ IsJoined asked a → IsFromPowerOn asked b ⊎ IsJoined asked b → a ≡ b
+one_scope one_told asked a b (inl is_a) (inl is_b) = is_a.is ∙ sym is_b.is
+one_scope one_told asked a b (inl is_a) (inr is_b) = absurd (true≢false (sym is_b.joined ∙ is_a.not_joined))
+one_scope one_told asked a b (inr is_a) (inl is_b) = absurd (true≢false (sym is_a.joined ∙ is_b.not_joined))
+one_scope one_told asked a b (inr is_a) (inr is_b) =
+    is_a.is ∙ ap (λ setups. in_mid_session setups asked.left_out) (one_setups one_told asked.left_out nothing_known asked.setups is_a.setups is_b.setups is_a.told is_b.told) ∙ sym is_b.is
 
 -- the same options ask for the same
 asked_same : (words : List Text) (name : Text) (a b : Asked) → NamesTask words name a → NamesTask words name b → a ≡ b
@@ -655,10 +655,10 @@ asked_same words name a b (program, rest, are, options) (other, more, too, also)
 one_form : (asked also : Asked) (form other : Form) → asked ≡ also → form ≡ asked.form → other ≡ also.form → form ≡ other
 one_form asked also form other same in_form in_form_too = in_form ∙ ap (λ (k : Asked). k.form) same ∙ sym in_form_too
 
-pub one_check : (one_reply : BlockHasOneReply) (words : List Text) (a b : Scope) (form other : Form) → NamesCheck words a form → NamesCheck words b other → (a ≡ b) × (form ≡ other)
-one_check one_reply words a b form other (asked, names, in_form, taken) (also, names_too, in_form_too, taken_too) =
+pub one_check : (one_told : AnswerTellsOneSetup) (words : List Text) (a b : Scope) (form other : Form) → NamesCheck words a form → NamesCheck words b other → (a ≡ b) × (form ≡ other)
+one_check one_told words a b form other (asked, names, in_form, taken) (also, names_too, in_form_too, taken_too) =
     let same = asked_same words (codes "check") asked also names names_too in (
-      one_scope one_reply asked a b taken (subst (λ k. IsFromPowerOn k b ⊎ IsJoined k b) (sym same) taken_too),
+      one_scope one_told asked a b taken (subst (λ k. IsFromPowerOn k b ⊎ IsJoined k b) (sym same) taken_too),
       one_form asked also form other same in_form in_form_too,
     )
 

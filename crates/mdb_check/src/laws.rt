@@ -35,5 +35,5 @@ pub fn command_lines_name_one_task()
         → NamesExplain words goal a
         → NamesCheck words b form ⊎ NamesShow words b form ⊎ NamesReplay words b form → ⊥ }
 {
-    messages::block_has_one_reply();
+    messages::answer_tells_one_setup();
 }

@@ -2,7 +2,7 @@ use Rattle.mdb_check.proofs.CommandLine.{explain_only, not_check_and_replay, not
 use Rattle.mdb_check.proofs.laws.command_lines_name_one_task.Goals as goal
 
 pub returns-clause-check : goal.returns-clause-check
-returns-clause-check c = one_check c.block_has_one_reply.ensures
+returns-clause-check c = one_check c.answer_tells_one_setup.ensures
 
 pub returns-clause-show : goal.returns-clause-show
 returns-clause-show c = one_show
