@@ -1,12 +1,11 @@
 // How the structures of the module's calls lie in its memory. A structure has these fields in this order, each with the
-// bytes of a number and how many numbers it is, as C lays them out; REST stands for all up to the end. How large a
-// structure is, the module tells: where the fields don't fit that, nothing is read.
-const REST = 0;
+// bytes of a number and how many numbers it is, as C lays them out. How large a structure is, the module tells: where
+// the fields don't come to that, nothing is read.
 const STRUCTURES = {
-  options: {joined: [1, 1], without: [1, 4], setups: [1, REST]},
-  setup: {count: [1, 1], bytes: [1, REST]},
+  options: {joined: [1, 1], without: [1, 4], setups: [1, 4 * 37]},
+  setup: {count: [1, 1], bytes: [1, 36]},
   told: {row: [8, 1], offset: [8, 1], fault: [8, 1], entries: [8, 1]},
-  answer: {count: [8, 1], bytes: [1, REST]},
+  answer: {count: [8, 1], bytes: [1, 2048]},
   act: {
     first: [8, 1],
     last: [8, 1],
@@ -16,7 +15,7 @@ const STRUCTURES = {
     kind: [1, 1],
     device: [1, 1],
     count: [1, 1],
-    bytes: [1, REST]
+    bytes: [1, 36]
   },
   news: {
     first: [8, 1],
@@ -45,7 +44,7 @@ function placesOf(fields, size) {
   for (const [name, [wide, times]] of Object.entries(fields)) {
     at = Math.ceil(at / wide) * wide;
     places[name] = at;
-    at = times === REST ? Math.max(size, at + 1) : at + wide * times;
+    at += wide * times;
   }
   if (Math.ceil(at / widest) * widest !== size) throw new Error("this page doesn't fit its module.");
   return places;

@@ -40,17 +40,6 @@ function moneyAmount(m) {
   return m.units === null ? "value not known" : money(m.units, m.decimals);
 }
 
-// When the first row of each entry begins: as the acts have it, where they are listed.
-function addBegins(it) {
-  const acts = it.list;
-  let i = 0;
-  for (const m of it.found.money) {
-    if (m.begin !== undefined) continue;
-    while (i + 1 < acts.count && acts.last(i) < m.first) i++;
-    m.begin = hasRow(acts, i, m.first) ? acts.start(i) : m.at;
-  }
-}
-
 // The entry of money that an act has, or the first of them; −1 if it has none.
 function entryAt(it, first, last) {
   const all = it.found.money;
@@ -128,15 +117,15 @@ function sumOf(m) {
 }
 
 // The running sums after each line, as told: the side that tells an amount counts it each time, the other side where it
-// acknowledges. A sale counts with the price of its request.
+// acknowledges. A sale counts with the amount that its reader approved last.
 function addSums({lines}, entries) {
-  const running = {};
+  const running = {}, approved = {}, NONE = {units: null};
   for (const line of lines)
     for (const {i} of line.parts) {
       const m = entries[i], kind = sumOf(m);
+      if (m.what === "vend approved") approved[m.device] = m;
       if (!kind) continue;
-      const isSale = m.what === "vend success",
-            amount = isSale ? {units: line.units ?? null, decimals: line.decimals} : m;
+      const amount = m.what === "vend success" ? approved[m.device] ?? NONE : m;
       const now = running[`${kind.sum} ${m.device}`] ??= {device: NO_SUM, controller: NO_SUM};
       for (const side of ["device", "controller"])
         if (side === kind.by || m.acknowledged) now[side] = sumAfter(now[side], amount);
@@ -152,7 +141,6 @@ function sumAfter({units, known, unknown, decimals}, amount) {
 
 function statementOf(it) {
   if (it.statement) return it.statement;
-  addBegins(it);
   it.statement = linesOf(it.found.money, it.found.sessions ?? []);
   addSums(it.statement, it.found.money);
   return it.statement;

@@ -34,8 +34,8 @@ function eventLane({breaks, resets}) {
 }
 
 function silenceWords(q) {
-  const asks = q.asks === undefined ? "" : `, asked ${number(q.asks)} times`;
-  return `${DEVICE_NAMES[q.device]} said nothing from ${seconds(q.from)} for ${seconds(q.to - q.from)}${asks}`;
+  const span = `from ${seconds(q.from)} for ${seconds(q.to - q.from)}`;
+  return `${DEVICE_NAMES[q.device]} said nothing ${span}, asked ${number(q.asks)} times`;
 }
 
 function silenceLane({silences}) {
@@ -386,12 +386,15 @@ function lineTools(it) {
       h("span", {id: "line-range", role: "status"}));
 }
 
-function silenceList({silences}) {
+function silenceList(it) {
+  const {silences} = it.found;
   if (!silences.length) return [];
+  const judged = (q) => isUnjudged(it, q) ? h("span", {class: "soft"}, " – not judged") : null;
   const some = silences.slice(0, MOST_SILENCES), more = silences.length - some.length;
   return [
-    h("p", {}, "Silences, as the report counts them:"),
-    h("ul", {id: "silences"}, some.map((q) => h("li", {}, silenceWords(q), ", rows ", rowLink(q.first, q.last)))),
+    h("p", {}, it.report ? "Silences, by the limits of the report:" : "Silences, by the limits that a report has:"),
+    h("ul", {id: "silences"},
+      some.map((q) => h("li", {}, silenceWords(q), ", rows ", rowLink(q.first, q.last), judged(q)))),
     more ? h("p", {}, `and ${number(more)} more`) : null
   ];
 }
@@ -417,5 +420,5 @@ function timeSection(it) {
       h("details", {class: "hint noprint"}, h("summary", {}, "How to use the time line"),
         h("p", {id: "line-help"},
           "Click a mark to go there. Drag to zoom into a range, or hold Ctrl and turn the wheel. Keys: arrows go from mark to mark, Enter goes there, + and − zoom, Shift with an arrow moves, 0 shows all. Bars count what would lie on top of each other; the number beside a lane is that of its highest bar.")),
-      silenceList(found));
+      silenceList(it));
 }

@@ -86,7 +86,7 @@ class Walk:
 
     def __init__(self, acts):
         self.acts, self.lines, self.sums = acts, [], {}
-        self.setups, self.open, self.ask, self.money = {}, {}, None, []
+        self.setups, self.open, self.ask, self.money, self.approved = {}, {}, None, [], {}
         for index, act in enumerate(acts):
             self.index = index
             self.take(act)
@@ -139,6 +139,8 @@ class Walk:
     def take_reply(self, act, ask, data, setup):
         if act.device.startswith("cashless"):
             for message in reader_messages(data):
+                if message[0] == 5:
+                    self.approved[act.device] = (message[1] * 256 + message[2]) * setup[0] if setup else None
                 if message[0] in (5, 6):
                     self.sale(act, "approved" if message[0] == 5 else "denied", setup, "", None, self.acknowledged())
             # (A session that begins or ends here ends the sale for what comes after this act.)
@@ -192,7 +194,7 @@ class Walk:
         line["parts"].append(part)
         line["outcome"] = self.outcome(line["parts"])
         if part == "sold":
-            line["name"], line["sums"] = "sold", self.add(act, "sold", line.get("units"), "controller", heard)
+            line["name"], line["sums"] = "sold", self.add(act, "sold", self.approved.get(act.device), "controller", heard)
 
     def goes_on(self, line, part, item, price):
         parts = line["parts"]
@@ -619,6 +621,13 @@ def try_links(page, want, address):
         came = json.loads(page.browser.value(FOLLOW))
         want(not came["wrong"], f"{data}: {came['wrong'][:3]}")
     print("links followed and back: " + ", ".join(f"{what} {count}" for what, count in sorted(counts.items())))
+    # A sale is worth what the reader approved, and not what was asked for.
+    less = page.work / "less.csv"
+    less.write_text((TOP / "examples" / "sale-by-card.csv").read_text().replace("179400,S,064\n180600,S,169", "179400,S,032\n180600,S,137"))
+    page.give(less)
+    lines += try_statement(page, want, less, "less is approved than was asked for")
+    shown = json.loads(page.browser.value(LINES))
+    want(any("reader 10H 0.50" in line[5] and "controller 0.50" in line[5] for line in shown), f"less is approved: {shown}")
     long = page.work / "mixed.csv"
     with long.open("wb") as file:
         subprocess.run([TOP / "bench" / "generate", "mixed", "20000"], stdout=file, check=True)
