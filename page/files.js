@@ -2,12 +2,13 @@
 const FILE_HEADS = [["file"], ["verdict"], ["row", "number"], ["rule"], ["blame"], [""]];
 let batch = null;
 
-// Takes the files that were chosen or dropped: one is shown, of several a table is made.
-function take(files) {
+// Takes the files that were chosen or dropped: one is shown, of several a table is made. `isButton` is whether a button
+// gave them that is gone with the answer.
+function take(files, isButton = false) {
   stopBatch();
   by("files")?.remove();
   if (files.length === 1)
-    run(files[0]);
+    run(files[0], isButton);
   else
     checkAll(files);
 }
@@ -132,9 +133,9 @@ function endBatch(mine, lines, counts) {
 
 // What there is to try while nothing is chosen. EXAMPLES has the recordings' names, what they are, and their rows.
 function examplesSection() {
-  const button = ({name, words, text}) =>
-      h("li", {},
-        h("button", {type: "button", "data-example": name, onclick: () => take([new File([text], name)])}, words));
+  const button = ({name, words, text}) => h(
+      "li", {},
+      h("button", {type: "button", "data-example": name, onclick: () => take([new File([text], name)], true)}, words));
   return section(
       "Try an example", "examples", h("p", {}, "Two short recordings are built into this page:"),
       h("ul", {class: "plain"}, EXAMPLES.map(button)));

@@ -182,14 +182,16 @@ async function unquoted(it) {
 
 const rowsName = (file) => savedName({file}, "-rows.csv");
 
-// Takes the file that is asked about as one of a format, and shows the fields of that.
-async function takeAs(format) {
+// Takes the file that is asked about as one of a format, and shows the fields of that. Where a user chose the format,
+// the new field of it has the focus, as the old one had.
+async function takeAs(format, isChosen = false) {
   const it = openImport;
   it.format = format;
   it.answer = it.made = null;
   it.look = format ? await it.importer.ask({work: "look", kind: format}) : {};
   if (it !== openImport) return;
   drawImport(it);
+  if (isChosen) by("import-format").focus();
   if (format) await showFirstRows();
 }
 
@@ -203,7 +205,7 @@ function drawImport(it) {
 }
 
 function formatField(format) {
-  const choose = (e) => takeAs(e.target.value);
+  const choose = (e) => takeAs(e.target.value, true);
   const options =
       Object.entries(FORMATS).map(([value, words]) => h("option", {value, selected: value === format}, words));
   return h(
@@ -424,6 +426,7 @@ function goOnFrom(micros) {
   const field = by("import-from");
   field.value = micros;
   field.closest("details").open = true;
+  field.focus();
   showFirstRows();
 }
 
@@ -440,7 +443,7 @@ function stopImport(it) {
 
 // The whole import by what stands in the fields; null where another file came in between.
 async function importAll() {
-  const it = openImport, {preview} = it, told = by("import-told");
+  const it = openImport, {preview} = it, told = by("import-told"), pressed = document.activeElement;
   if (it.answer) return it.answer;
   const bar = h("progress", {max: 1, value: 0, "aria-label": "Importing"}), options = importOptions(it);
   told.replaceChildren("Importing ", bar, " ", button("import-stop", "Stop", () => stopImport(it)));
@@ -459,14 +462,17 @@ async function importAll() {
     if (isNow()) told.replaceChildren(`The import failed: ${fault.message}.`);
     return null;
   } finally {
-    if (isNow()) canImport(true);
+    if (isNow()) {
+      canImport(true);
+      if (document.activeElement === document.body) pressed.focus({preventScroll: true});
+    }
   }
 }
 
 function toldOf(it, answer) {
   const {refused, rows, notes, file} = answer;
   if (refused) {
-    const check = () => it.then(file);
+    const check = () => it.then(file, true);
     const before = rows ? h("p", {}, `${number(rows)} rows stand before it. They are a recording by themselves. `,
                             button("import-before", "Check these rows", check), " ", saveButton(answer)) :
                           null;
@@ -490,22 +496,29 @@ async function importAndCheck() {
   if (!answer) return;
   it.isChecked = !answer.refused;
   if (!answer.refused)
-    it.then(answer.file);
+    it.then(answer.file, true);
   else if (it.then === run)
     refuseImport(it);
 }
 
-// No verdict is of the rows of an earlier import any more.
+const seeTold = () => by("import-told").scrollIntoView({block: "nearest"});
+
+// No verdict is of the rows of an earlier import any more. The reason stands above the card, and is in sight.
 function refuseImport(it) {
   endChecker();
   file = it.file;
   recording = null;
   trouble("The import was refused. The reason is told above.", false);
+  seeTold();
 }
 
 async function importAndSave() {
   const answer = await importAll();
-  if (answer && !answer.refused) saveFile(answer.file);
+  if (!answer) return;
+  if (answer.refused)
+    seeTold();
+  else
+    saveFile(answer.file);
 }
 
 const saveButton = ({file}) => button("import-save-rows", "Save the rows", () => saveFile(file));

@@ -171,6 +171,17 @@ class Orders:
             want(time.monotonic() < end, f"it still works after {most} s")
             time.sleep(0.01)
 
+    def until(self, code, most=20):
+        """Waits until the page rests, and this is so."""
+        end = time.monotonic() + most
+        while not self.value(f"!isWorking && !document.querySelector('#import-told progress') && Boolean({code})"):
+            want(time.monotonic() < end, f"not after {most} s: {code}")
+            time.sleep(0.01)
+
+    def push(self, name):
+        """Presses a button as by the keyboard: it has the focus. The page is at its top."""
+        self.value("(() => { const it = document.getElementById('%s'); scrollTo(0, 0); it?.focus(); it?.click(); return 1; })()" % name)
+
     def give(self, name, begin):
         """Gives a file, and waits for its run to begin."""
         before = self.value("newest")
@@ -350,7 +361,7 @@ def try_started_before(page):
         page.press(button("Check as already running"))
         came = page.settled()
         page.compare(came)
-        want(came["card"] == "card yes" and came["focus"] == "verdict" and 0 <= came["top"] < came["high"], f"{name}: {came['focus']}, {came['top']}")
+        want(came["card"] == "card yes" and came["focus"] == "verdict" and -1 < came["top"] < came["high"], f"{name}: {came['focus']}, {came['top']}")
         page.value("(() => { by('joined').checked = false; showWay(); return 1; })()")
     # Here the module doesn't decide whether to ask: as of a machine that was running, it is a no as well.
     for name in ("late, a cycle, a no.csv", "late beside one, then a no.csv"):
@@ -391,8 +402,14 @@ def try_focus(page):
         page.press(button(words))
         came = page.settled()
         page.compare(came)
-        want(came["focus"] == "verdict" and 0 <= came["top"] < came["high"], f"{words}: {came['focus']}, {came['top']}")
+        want(came["focus"] == "verdict" and -1 < came["top"] < came["high"], f"{words}: {came['focus']}, {came['top']}")
         page.value("(() => { by('joined').checked = by('without-cashless').checked = false; showWay(); return 1; })()")
+    page.fresh()
+    (page.work / "coin-told-twice.csv").write_text(text_of(rows_of("coin-told-twice")))
+    page.give("coin-told-twice.csv", lambda: page.click("document.querySelector('[data-example=\"coin-told-twice.csv\"]')"))
+    came = page.settled()
+    page.compare(came)
+    want(came["focus"] == "verdict" and -1 < came["top"] < came["high"], f"an example: {came['focus']}, {came['top']}")
     page.choose("exchanged.csv")
     page.settled()
     page.press(button("Read it with M and S exchanged"))
@@ -418,6 +435,54 @@ def try_focus(page):
     came = page.settled()
     page.compare(came)
     want(came["focus"] == "verdict" and came["card"] == "card yes", f"after a stop: {came['focus']}, {came['verdict']!r}")
+
+
+IMPORTED = ["20000,M,108", "21200,M,008", "21200,S,100", "30000,M,000"]
+
+
+def open_panel(page):
+    """Chooses rows in milliseconds, of which the third can't come after the second; the panel asks for their unit."""
+    page.fresh()
+    (page.work / "ms.csv").write_text(text_of([f"{int(at) / 1000},{rest}" for at, rest in (row.split(",", 1) for row in IMPORTED)]))
+    page.browser.choose("#file", page.work / "ms.csv")
+    page.until("document.getElementById('import-go')")
+
+
+def try_focus_of_panel(page):
+    """The panel of an import has the focus when it comes. Then what was pressed keeps it, or what that filled in or drew
+    anew has it; where the import is refused, the reason is in sight."""
+    open_panel(page)
+    want(page.read()["focus"] == "import-title", f"the panel came, and the focus is on {page.read()['focus']}")
+    for format in ("saleae", "rows"):
+        page.value("(() => { const it = by('import-format'); it.focus(); it.value = '%s'; it.dispatchEvent(new Event('change')); return 1; })()" % format)
+        page.until(f"openImport.format === '{format}' && by('import-first').childNodes.length")
+        want(page.read()["focus"] == "import-format", f"a format was chosen, and the focus is on {page.read()['focus']}")
+    page.value("(() => { by('import-unit').value = 'ms'; showFirstRows(); return 1; })()")
+    page.until("by('import-first').querySelector('tbody tr')")
+    for name in ("import-save", "import-go"):
+        page.value("(() => { by('import-told').replaceChildren(); openImport.answer = null; return 1; })()")
+        page.push(name)
+        page.until("document.getElementById('import-before')")
+        focus, told, high = page.value("[document.activeElement.id, by('import-told').getBoundingClientRect().bottom, innerHeight]")
+        want(focus == name and 0 < told <= high, f"{name}, refused: {focus}, {told} of {high}")
+    page.push("import-go-on")
+    want(page.read()["focus"] == "import-from", f"the import goes on, and the focus is on {page.read()['focus']}")
+
+
+def try_focus_of_import(page):
+    """After a button of the panel that checks rows the card has the focus, and is in sight."""
+    open_panel(page)
+    page.value("(() => { by('import-unit').value = 'ms'; showFirstRows().then(() => by('import-go').click()); return 1; })()")
+    page.until("document.getElementById('import-before')")
+    for name, rows in (("import-before", IMPORTED[:2]), ("import-go", IMPORTED[3:])):
+        (page.work / "ms-rows.csv").write_text(text_of(rows))
+        page.answers.clear()
+        page.give("ms-rows.csv", lambda: page.push(name))
+        came = page.settled()
+        page.compare(came)
+        want(came["focus"] == "verdict" and -1 < came["top"] < came["high"], f"{name}: {came['focus']}, {came['top']}")
+        page.push("import-go-on")
+        page.until("by('import-first').querySelectorAll('tbody tr').length === 1")
 
 
 def try_failures(page):
@@ -562,7 +627,7 @@ def try_announced(page):
 
 def try_all(browser, work, number, seed):
     page = Orders(browser, work)
-    for one in (try_again_while_working, try_started_before, try_focus, try_failures, try_wrong_bytes, try_missing_rows, try_names, try_earlier, try_apart, try_dropping, try_announced):
+    for one in (try_again_while_working, try_started_before, try_focus, try_focus_of_panel, try_focus_of_import, try_failures, try_wrong_bytes, try_missing_rows, try_names, try_earlier, try_apart, try_dropping, try_announced):
         try:
             one(page)
         except Wrong as wrong:
