@@ -28,6 +28,7 @@ const PROGRAM_WORDS = {
   from: "--from",
   until: "--until",
 };
+const OVERTAKEN = "another file was chosen before this one was read. Choose this one again.";
 // Files of rows that this page has made, with what they were made from: they need no import.
 const madeFiles = new WeakMap();
 // The import that is asked about; the number of the newest.
@@ -134,7 +135,8 @@ function closeImport() {
 
 // There is no verdict yet: the card says so, and the panel has the focus.
 function askToImport() {
-  trouble(openImport?.words ?? "Another file was chosen before this one was read. Choose this one again.", false);
+  const isAsked = openImport?.file === file;
+  trouble(isAsked ? openImport.words : capital(OVERTAKEN), false);
   by("import-title")?.focus();
 }
 

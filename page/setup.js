@@ -37,7 +37,8 @@ async function readSetups(given) {
   try {
     const rows = await recordingOf(given, readSetups);
     if (!rows) {
-      say(`${name} isn't a recording: see what is said of it below.`);
+      const isAsked = openImport?.file === given;
+      say(isAsked ? `${name} isn't a recording: see what is said of it below.` : `${name}: ${OVERTAKEN}`);
       return;
     }
     const told = await check(rows, fromPowerOn());

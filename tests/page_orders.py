@@ -485,6 +485,23 @@ def try_focus_of_import(page):
         page.until("by('import-first').querySelectorAll('tbody tr').length === 1")
 
 
+def try_two_imports(page):
+    """Two files that have to be imported are given, and the one is told before the other: neither is taken for the other."""
+    table = EXAMPLES / "exports" / "saleae.csv"
+    for first, second, words in (("#file", "#setup-file", "the card"), ("#setup-file", "#file", "the set-up")):
+        open_panel(page)
+        page.value("(() => { by('joined').click(); const ask = Importer.prototype.ask; Importer.prototype.ask = async function(...it) {"
+                   " if (this.file.name === 'saleae.csv') await new Promise((done) => setTimeout(done, 300)); return ask.call(this, ...it); }; return 1; })()")
+        page.browser.choose(first, table)
+        page.browser.choose(second, page.work / "ms.csv")
+        page.until("openImport?.file.name === 'ms.csv'")
+        time.sleep(0.5)
+        came = page.settled()
+        told = came["verdict"] if first == "#file" else came["setupTold"]
+        want("nother file was chosen before this one was read" in told and "saleae.csv" in told, f"{words}: {told!r}")
+        want(page.value("by('import-title').textContent").startswith("These are rows"), words)
+
+
 def try_failures(page):
     """After a stop and a file that can't be read nothing of the answer before is left: the title, the answer, the note."""
     page.fresh()
@@ -627,7 +644,7 @@ def try_announced(page):
 
 def try_all(browser, work, number, seed):
     page = Orders(browser, work)
-    for one in (try_again_while_working, try_started_before, try_focus, try_focus_of_panel, try_focus_of_import, try_failures, try_wrong_bytes, try_missing_rows, try_names, try_earlier, try_apart, try_dropping, try_announced):
+    for one in (try_again_while_working, try_started_before, try_focus, try_focus_of_panel, try_focus_of_import, try_two_imports, try_failures, try_wrong_bytes, try_missing_rows, try_names, try_earlier, try_apart, try_dropping, try_announced):
         try:
             one(page)
         except Wrong as wrong:
