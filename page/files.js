@@ -34,15 +34,21 @@ function tellFile(mine, i, {doing, part}) {
   if (!mine.isStopped) by("files-bar").value = i + (doing === "Reading" ? part / 2 : 0.5);
 }
 
+// The cells of a no, as its card has it: what isn't followed is no fault of anybody, and a late beginning comes first.
+function noCells(told) {
+  const report = readReport(told.text), row = number(told.row), {rule, blame} = report;
+  if (rule === "Profile") return ["not followed: open it to leave out a device", row, rule, "nobody"];
+  const isSame = told.late && isSameLate({...told, report});
+  const isLate = told.late && !isSame && (told.late.answer === ANSWERS.YES || told.row === 1);
+  return [isLate ? "no: was the machine already running? Open it" : "no", row, rule, BLAMES[blame]];
+}
+
 // The cells of a verdict.
 function verdictCells(told) {
   if (told instanceof Error) return [`no verdict: ${told.message}`, "", "", ""];
   const {answer, row} = told;
   if (answer === ANSWERS.YES) return ["yes", "", "", ""];
-  if (answer === ANSWERS.NO) {
-    const {rule, blame} = readReport(told.text);
-    return ["no", number(row), rule, blame];
-  }
+  if (answer === ANSWERS.NO) return noCells(told);
   const why = {[ANSWERS.BAD_ROW]: "this line is no row", [ANSWERS.UNREAD]: "this page doesn’t read this row"}[answer];
   const isRow = why !== undefined;
   return [
@@ -68,7 +74,8 @@ function openFile(file, line) {
 function fileLine(file) {
   const line =
       h("tr", {}, h("th", {scope: "row"}, h("bdi", {}, shownName(file.name))), h("td", {class: "soft"}, "waits"));
-  line.append(...["number", "", "", ""].map((kind) => h("td", {class: kind || undefined})));
+  const empty = ([label, kind]) => h("td", {class: kind, "data-label": label || undefined});
+  line.append(...FILE_HEADS.slice(2).map(empty));
   line.lastChild.append(
       h("button", {type: "button", "aria-label": `Open ${shownName(file.name)}`, onclick: () => openFile(file, line)},
         "Open"));

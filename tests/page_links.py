@@ -15,6 +15,10 @@ NUMBERS = {"changer": 1, "bill": 2, "cashless": 3, "cashless-2": 4}
 KINDS = "ask ack nak reply vmc-ack vmc-nak vmc-ret repeat foreign break cut".split()
 SIZES = [1, 8, 99, 3, 1, 3, 1, 1, 1, 30, 2, 1]
 
+# What the table of several files calls those whom the program blames.
+SENDERS = {"controller": "the controller (VMC)", "changer": "the coin changer", "bill": "the bill validator",
+           "cashless": "the card reader at 10H", "cashless-2": "the card reader at 60H", "other": "a device that nobody had asked"}
+
 
 class Act:
     """An act as `show` prints it, with the times of its rows."""
@@ -565,14 +569,19 @@ def verdict_of(path):
         row = ran.stderr.decode("latin-1").split("row ")[1].split(":")[0]
         return ["no verdict", f"{int(row):,}", "", ""]
     told = dict(line.split(" ", 1) for line in ran.stdout.decode().splitlines())
-    return ["yes", "", "", ""] if ran.returncode == 0 else ["no", f"{int(told['row']):,}", told["rule"], told["blame"]]
+    if ran.returncode == 0:
+        return ["yes", "", "", ""]
+    row, rule = f"{int(told['row']):,}", told["rule"]
+    return ["not followed", row, rule, "nobody"] if rule == "Profile" else ["no", row, rule, SENDERS[told["blame"]]]
 
 
 def try_several(page, want):
     """Several files give a table of their verdicts, and each can be opened."""
     bad = page.work / "no-row.csv"
     bad.write_bytes(b"0,B,102400\n1,2,3\n")
-    paths = [*sorted((TOP / "examples").glob("*.csv")), bad]
+    late = page.work / "late.csv"
+    late.write_bytes(b"".join((TOP / "examples" / "coin-told-twice.csv").read_bytes().splitlines(True)[1:]))
+    paths = [*sorted((TOP / "examples").glob("*.csv")), bad, late]
     page.options([])
     page.browser.choose("#file", *paths)
     for _ in range(2000):
@@ -585,6 +594,8 @@ def try_several(page, want):
     for path, line in zip(paths, came):
         wanted = verdict_of(path)
         want([line[1].split(":")[0], *line[2:]] == wanted, f"{path.name}: the table has {line[1:]}, wanted {wanted}")
+    asked = [it[0] for it in came if "already running" in it[1]]
+    want(asked[-1:] == ["late.csv"] and "sale-never-approved.csv" not in asked, f"a late beginning is asked of {asked}")
     index = [it.name for it in paths].index("sale-never-approved.csv")
     before = page.shown()
     page.browser.value(f"document.querySelectorAll('#files tbody button')[{index}].click(); 1")
