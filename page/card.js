@@ -41,8 +41,16 @@ function fillCard(kind, word, lead, ...rest) {
   card.replaceChildren(h("h2", {class: "word"}, word), h("p", {id: "lead"}, lead), ...rest.flat(3).filter(Boolean));
 }
 
+// What is to be done, each thing once. Who counts the cash box counts the tubes with it.
+function stepsOf(story) {
+  const all = story.filter((it) => it.kind === "next"), key = (parts) => JSON.stringify(parts);
+  const steps = new Map(all.map((it) => [key(it.parts), it]));
+  if (steps.has(key([COUNT_NEXT["coins-in"]]))) steps.delete(key([COUNT_NEXT["paid-out"]]));
+  return [...steps.values()];
+}
+
 const storyList = (story, heading = "What to do next") => {
-  const said = story.filter((it) => it.kind !== "next"), then = story.filter((it) => it.kind === "next");
+  const said = story.filter((it) => it.kind !== "next"), then = stepsOf(story);
   return [
     said.length ? h("ul", {id: "story"}, said.map(sentence)) : null,
     then.length ? h("div", {id: "next"}, h("h3", {}, heading), h("ul", {}, then.map(sentence))) : null,

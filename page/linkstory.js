@@ -275,16 +275,17 @@ function levelWords(it, d, level, rows) {
       `The ${DEVICE_NAMES[d]} reports feature level ${level} in its answer to SETUP`, ...inRows(rows),
       ...[asked].flat()));
   facts.push(fact("From level 2 on the messages of a session have other forms, which the checker doesn't know."));
-  return {what: `the ${DEVICE_NAMES[d]} uses feature level ${level}`, facts};
+  return {what: `the ${DEVICE_NAMES[d]} uses feature level ${level}`, facts, isLevel: true};
 }
 
 function profileStory(it) {
-  const d = unfollowedDevice(it), name = DEVICE_NAMES[d];
+  const d = unfollowedDevice(it), name = DEVICE_NAMES[d], {facts, isLevel} = unfollowed(it);
+  const feature = isLevel ? "set the controller or the reader to level 1, if it can be," : "switch the feature off";
   return [
-    ...unfollowed(it).facts,
+    ...facts,
     nextStep(
         d ? `If your question is about another device, leave out the ${name} and check again.` :
             "If your question is about another device, leave out the device that this row is of, and check again."),
-    nextStep("If it is about this device, switch the feature off and record again.")
+    nextStep(`If it is about this device, ${feature} and record again.`)
   ];
 }

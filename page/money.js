@@ -162,7 +162,7 @@ function deviceNotes(r, device) {
   if (r.without.includes(device)) notes.push("Left out: its words aren't read, so its sums are 0 whatever it did.");
   if (r.setup.includes(device)) notes.push("Its values come from an earlier recording.");
   if (r.decimals[device] === null && !r.without.includes(device))
-    notes.push("Reported no values in this recording, or isn't there.");
+    notes.push(`Reported no values in this recording${missing ? "" : ", or isn't there"}.`);
   if (silences)
     notes.push(`Gave no answer for more than ${i < 2 ? "2 s" : "5 s (or the time that the reader reported)"}, ${
         counted(silences, "time")}. Look at its power and plug, and at what it was doing then.`);
