@@ -33,6 +33,8 @@ const OVERTAKEN = "another file was chosen before this one was read. Choose this
 const madeFiles = new WeakMap();
 // The import that is asked about; the number of the newest.
 let openImport = null, importTurn = 0;
+// The names of the lines in the last import: those of the next export are probably the same.
+let lastNames = {};
 
 // A worker for one file. What it answers has the number of what it was asked.
 class Importer {
@@ -226,8 +228,8 @@ function importBody(it) {
         microsField("until", "Until (microseconds)"))),
     h("p", {id: "import-asks", role: "status"}),
     h("div", {id: "import-first"}),
-    h("p", {}, button("import-go", "Import and check", importAndCheck), " ",
-      button("import-save", "Save the rows", importAndSave)),
+    h("p", {}, button("import-go", it.then === run ? "Import and check" : "Import and take the set-up", importAndCheck),
+      " ", button("import-save", "Save the rows", importAndSave)),
     h("div", {id: "import-told", role: "status"}),
     h("p", {class: "soft"},
       "This import is the page's own. It is tested against the program mdbimport, and not proved. The same by that program: ",
@@ -302,8 +304,9 @@ function lineField(id, words, letter) {
         "input",
         {type: "text", id: `import-${id}-name`, hidden: true, "aria-label": `${words}: its name`, spellcheck: "false"});
     const choose = (e) => other.hidden = e.target.value !== "another";
+    const isLast = (it) => !isThere && it === lastNames[id];
     const options = [
-      ...names.map((it, i) => h("option", {value: `name ${i}`}, shownName(it))),
+      ...names.map((it, i) => h("option", {value: `name ${i}`, selected: isLast(it)}, shownName(it))),
       h("option", {value: "another"}, "another name")
     ];
     return labelled(
@@ -456,6 +459,7 @@ async function importAll() {
         {work: "import", format: it.format, options, name: rowsName(it.file)}, (part) => bar.value = part);
     if (!isNow()) return null;
     madeFiles.set(answer.file, {file: it.file, sha256: answer.sha256, command: importCommand(it, options)});
+    if (!answer.refused) lastNames = {controller: options.controller, peripheral: options.peripheral};
     it.answer = answer;
     it.made = {key: JSON.stringify(options), answer};
     told.replaceChildren(...toldOf(it, answer));

@@ -45,6 +45,7 @@ async function readSetups(given) {
     if (mine !== newestSetup) return;
     say(takeSetups(told, name));
     showWay();
+    if (madeFiles.get(rows)?.command && !by("stale").hidden) by("again").focus();
   } catch (fault) {
     say(`${name}: ${fault.message}`);
   }
