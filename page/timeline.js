@@ -175,7 +175,7 @@ function niceStep(span, most) {
 }
 
 function drawTimes(it, room) {
-  const {from, to} = it.line, wide = to < 3600e6 ? 115 : 135;
+  const {from, to} = it.line, wide = to < 60e6 ? 125 : to < 3600e6 ? 145 : 165;
   const step = niceStep(to - from, Math.max(2, Math.floor((room.right - room.left) / wide)));
   const made = [], y = room.high - 8;
   for (let at = Math.ceil(from / step) * step; at <= to; at += step) {
