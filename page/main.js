@@ -2,7 +2,6 @@
 function show(it) {
   const acts = new Acts(it.acts, it.listed);
   it.list = acts;
-  it.found = readNews(it.news);
   noteSetups(acts, it.way.given, it.hole, it.found);
   it.report = it.answer < 2 ? readReport(it.text) : null;
   const parts = [];

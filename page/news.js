@@ -22,16 +22,16 @@ class NewsPiece {
   short(i) {
     return this.view.getUint16(i * this.at.size + this.at.number, true);
   }
-  whole(i, field) {
-    return this.view.getBigUint64(i * this.at.size + this.at[field], true);
-  }
   u64(i, field) {
-    return Number(this.whole(i, field));
+    const at = i * this.at.size + this.at[field];
+    return this.view.getUint32(at, true) + this.view.getUint32(at + 4, true) * 4294967296;
+  }
+  // A number without loss: from 2^53 on it is a BigInt.
+  whole(i, field) {
+    const n = this.u64(i, field);
+    return Number.isSafeInteger(n) ? n : this.view.getBigUint64(i * this.at.size + this.at[field], true);
   }
 }
-
-// A number without loss: from 2^53 on it stays a BigInt.
-const exact = (n) => n <= Number.MAX_SAFE_INTEGER ? Number(n) : n;
 
 function whatOf(kind, count) {
   return kind === BY_HAND && count === 1 ? "coin dispensed by hand" : WHATS[kind];
@@ -54,7 +54,7 @@ function moneyEntry(piece, i, kind) {
     device: piece.byte(i, "device"),
     what: whatOf(kind, count),
     type: typeOf(kind, piece.short(i)),
-    units: isKnown ? exact(piece.whole(i, "amount")) : null,
+    units: isKnown ? piece.whole(i, "amount") : null,
     decimals: isKnown ? piece.byte(i, "decimals") : undefined,
     acknowledged: piece.byte(i, "isAcknowledged") > 0,
     noAmount: worth === NO_WORTH,

@@ -61,9 +61,13 @@ class Checker {
       asked.progress?.(data);
       return;
     }
+    if (data.told === "news") {
+      asked.found = readNews(data.news);
+      return;
+    }
     this.waiting.delete(data.number);
     if (data.told === "done")
-      asked.done(data);
+      asked.done({...data, found: asked.found});
     else
       asked.failed(data.device ? new SetupFault(DEVICES[data.device], NO_SETUP) : new Error(data.words));
   }

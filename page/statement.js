@@ -18,7 +18,7 @@ const PART_WORDS = {
   cancelled: "request cancelled"
 };
 const NO_SUM = {
-  units: 0n,
+  units: 0,
   known: 0,
   unknown: 0,
   decimals: undefined
@@ -107,14 +107,16 @@ function linesOf(entries, sessions) {
 }
 
 // Which running sum an entry belongs to, and which side told it.
-function sumOf(m) {
-  if (m.what.includes("deposited")) return {sum: "coins", by: "device"};
-  if (m.what.includes("dispensed")) return {sum: "out", by: "device"};
-  if (m.what.includes("DISPENSE")) return {sum: "out", by: "controller"};
-  if (m.what === "bill stacked") return {sum: "bills", by: "device"};
-  if (m.what === "vend success") return {sum: "sold", by: "controller"};
-  return m.what === "cash sale" ? {sum: "cash", by: "controller"} : null;
-}
+const SUM_OF = {
+  "coin deposited to tube": {sum: "coins", by: "device"},
+  "coin deposited to cash box": {sum: "coins", by: "device"},
+  "coin dispensed by hand": {sum: "out", by: "device"},
+  "coins dispensed by hand": {sum: "out", by: "device"},
+  "coins ordered (DISPENSE)": {sum: "out", by: "controller"},
+  "bill stacked": {sum: "bills", by: "device"},
+  "vend success": {sum: "sold", by: "controller"},
+  "cash sale": {sum: "cash", by: "controller"}
+};
 
 // The running sums after each line, as told: the side that tells an amount counts it each time, the other side where it
 // acknowledges. A sale counts with the amount that its reader approved last.
@@ -122,11 +124,11 @@ function addSums({lines}, entries) {
   const running = {}, approved = {}, NONE = {units: null};
   for (const line of lines)
     for (const {i} of line.parts) {
-      const m = entries[i], kind = sumOf(m);
+      const m = entries[i], kind = SUM_OF[m.what];
       if (m.what === "vend approved") approved[m.device] = m;
       if (!kind) continue;
       const amount = m.what === "vend success" ? approved[m.device] ?? NONE : m;
-      const now = running[`${kind.sum} ${m.device}`] ??= {device: NO_SUM, controller: NO_SUM};
+      const now = (running[kind.sum] ??= [])[m.device] ??= {device: NO_SUM, controller: NO_SUM};
       for (const side of ["device", "controller"])
         if (side === kind.by || m.acknowledged) now[side] = sumAfter(now[side], amount);
       line.sum = kind.sum;
@@ -134,9 +136,15 @@ function addSums({lines}, entries) {
     }
 }
 
+// A sum without loss: from 2^53 on it is a BigInt.
+function plus(a, b) {
+  const sum = typeof a === "number" && typeof b === "number" ? a + b : NaN;
+  return Number.isSafeInteger(sum) ? sum : BigInt(a) + BigInt(b);
+}
+
 function sumAfter({units, known, unknown, decimals}, amount) {
   if (amount.units === null) return {units, known, unknown: unknown + 1, decimals};
-  return {units: units + BigInt(amount.units), known: known + 1, unknown, decimals: amount.decimals};
+  return {units: plus(units, amount.units), known: known + 1, unknown, decimals: amount.decimals};
 }
 
 function statementOf(it) {

@@ -175,7 +175,10 @@ function judge(options) {
   const before = answer === 1 && check(end.offset) === 0 ? answerText() : "";
   const summed = performance.now();
   tell("Listing", 0, (checked - begin) / 2);
-  const {acts, ...listing} = listActs(), news = listNews();
+  // The page reads the news while the acts are listed.
+  const news = listNews();
+  say({told: "news", news}, news);
+  const {acts, ...listing} = listActs();
   const done = performance.now();
   const stops = answer === 1 || answer === 2 || answer === 3 || answer === 4;
   say({
@@ -189,12 +192,11 @@ function judge(options) {
     lines: stops ? lines(end.offset, end.row) : [],
     acts,
     ...listing,
-    news,
     size,
     ms: {read, check: checked - begin, before: summed - checked, list: done - summed},
     memory: call.memory.buffer.byteLength
   },
-      [acts, ...news]);
+      [acts]);
 }
 
 // The device whose set-up the options have, and whose answer to SETUP that isn't; 0 if there is none.
