@@ -175,8 +175,9 @@ function niceStep(span, most) {
 }
 
 function drawTimes(it, room) {
-  const {from, to} = it.line, wide = to < 60e6 ? 125 : to < 3600e6 ? 145 : 165;
-  const step = niceStep(to - from, Math.max(2, Math.floor((room.right - room.left) / wide)));
+  // A label and a half: at the right edge a label ends at its mark.
+  const {from, to} = it.line, wide = 11 * seconds(Math.round(to)).length + 5;
+  const step = niceStep(to - from, Math.max(2, (room.right - room.left) / wide));
   const made = [], y = room.high - 8;
   for (let at = Math.ceil(from / step) * step; at <= to; at += step) {
     const x = room.x(at), anchor = x < room.left + 50 ? "start" : x > room.right - 50 ? "end" : "middle";
