@@ -37,9 +37,8 @@ async function start() {
 // has a number, which the worker gives back: what comes with another number answers nothing that is waited for.
 class Checker {
   constructor(recording) {
-    const url = URL.createObjectURL(new Blob([WORKER], {type: "text/javascript"}));
-    this.worker = new Worker(url);
-    URL.revokeObjectURL(url);
+    this.url = URL.createObjectURL(new Blob([WORKER], {type: "text/javascript"}));
+    this.worker = new Worker(this.url);
     this.first = {module, file: recording};
     this.waiting = new Map();
     this.number = 0;
@@ -80,6 +79,7 @@ class Checker {
     });
   }
   end() {
+    URL.revokeObjectURL(this.url);
     this.worker.terminate();
   }
 }

@@ -2,20 +2,21 @@
 
 ghost use Rattle.std.specs.Prelude.{◌≡◌, ◌≢◌, ◌≤◌, [], ◌∷◌, ◌++◌, List, ℕ, length};
 ghost use Rattle.mdb_words.specs.declared.event.Event.{Event};
+ghost use Rattle.mdb_words.specs.declared.row.RowFault.{RowFault};
 ghost use Rattle.mdb_bus.specs.declared.scope.Scope.{Scope};
 ghost use Rattle.mdb_follow.specs.Follower.{StandsFor, rows_of, scope_of};
 ghost use Rattle.mdb_follow.specs.Offences.{IsOffence};
 ghost use Rattle.mdb_follow.specs.declared.offence.Offence.{Offence};
 ghost use Rattle.mdb_text.specs.Text.{report_text};
-ghost use Rattle.mdb_page.specs.Answers.{IsNo, IsYes, written};
-ghost use Rattle.mdb_page.specs.Lines.{HasRead};
+ghost use Rattle.mdb_page.specs.Answers.{IsBadRow, IsNo, IsYes, number_of, written};
+ghost use Rattle.mdb_page.specs.Lines.{HasRead, IsNoRow};
 ghost use Rattle.mdb_page.specs.Options.{IsTakenSo};
 
 use crate::lines::{LineFault, first_line, row_of, without_mark, without_return};
 use crate::options::{PageOptions, taken_so};
 use crate::sheet::PageText;
 use mdb_bus::Scope;
-use mdb_follow::{Follower, Offence, ROWS_MAX};
+use mdb_follow::{Follower, Offence, ROWS_MAX, laws};
 use mdb_text::{Outcome, write_outcome};
 use mdb_words::RowFault;
 
@@ -61,7 +62,9 @@ enum End {
 }
 
 /// The number of the fault of a row.
-pub(crate) fn fault_number(fault: RowFault) -> u64 {
+fn fault_number(fault: RowFault) -> u64
+    ensures { result ≡ number_of fault }
+{
     match fault {
         RowFault::FieldCount => 0,
         RowFault::BadTime => 1,
@@ -92,9 +95,12 @@ pub extern "C" fn mdb_page_check(
         × IsYes scope text.now answer.new }
     ensures no { result ≡ 1 → (scope : Scope) × IsTakenSo options.now scope
         × IsNo scope text.now answer.new }
+    ensures bad_row { result ≡ 2 → (scope : Scope) × IsTakenSo options.now scope
+        × IsBadRow scope text.now told.new }
     ensures refused { result ≡ 5 → (scope : Scope) → IsTakenSo options.now scope → ⊥ }
     ensures taken { result ≢ 5 → (scope : Scope) × IsTakenSo options.now scope }
 {
+    laws::followers_stand_for_reached_rows();
     answer.count = 0;
     let Some(scope) = taken_so(options) else {
         return BAD_OPTIONS;
@@ -116,12 +122,27 @@ pub extern "C" fn mdb_page_check(
             told.row = offence.row;
             write_as(NO, &scope, &Outcome::No(offence), answer)
         }
-        End::Line(LineFault::BadRow(fault)) => {
+        End::Line(fault) => line_answer(told, fault),
+        End::TooLong => TOO_LONG,
+    }
+}
+
+/// The answer at a line that is no row.
+pub(crate) fn line_answer(told: &mut PageTold, fault: LineFault) -> u32
+    ensures bad_row { result ≡ 2 → (why : RowFault) × (fault ≡ LineFault.BadRow why)
+        × (told.new.fault ≡ number_of why) }
+    ensures yes { result ≢ 0 }
+    ensures no { result ≢ 1 }
+    ensures options { result ≢ 5 }
+    ensures row { told.new.row ≡ told.old.row }
+    ensures offset { told.new.offset ≡ told.old.offset }
+{
+    match fault {
+        LineFault::Unread => UNREAD,
+        LineFault::BadRow(fault) => {
             told.fault = fault_number(fault);
             BAD_ROW
         }
-        End::Line(LineFault::Unread) => UNREAD,
-        End::TooLong => TOO_LONG,
     }
 }
 
@@ -134,6 +155,9 @@ fn follow(follower: &mut Follower, rest: &mut &[u8]) -> End
     ensures offence { (offence : Offence) → result ≡ End.Offence offence → (rows : List Event)
         × (event : Event) × (after : List ℕ) × HasRead rest.old.now (rows ++ event ∷ []) after
         × IsOffence (scope_of follower.old) rows event offence }
+    ensures line { (why : RowFault) → result ≡ End.Line (LineFault.BadRow why)
+        → (rows : List Event) × HasRead rest.old.now rows rest.new.now
+        × StandsFor follower.new rows × IsNoRow rest.new.now why }
     ensures scope { scope_of follower.new ≡ scope_of follower.old }
 {
     while !rest.is_empty() {

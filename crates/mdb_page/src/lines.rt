@@ -6,8 +6,10 @@
 //! field of it is quoted and no CR stands alone. This crate refuses a line with either, because the
 //! program may read it as another row or as none.
 
-ghost use Rattle.std.specs.Prelude.{◌≡◌, ◌≢◌, ◌≤◌, ◌<◌, ◌∷◌, [], ℕ, List, All, IfNone, IfOk, IfSome, length};
-ghost use Rattle.mdb_page.specs.Lines.{IsBare, IsCut, IsFirstLine, IsUnmarked, TellsRow};
+ghost use Rattle.std.specs.Prelude.{◌≡◌, ◌≢◌, ◌≤◌, ◌<◌, ◌∷◌, [], ℕ, List, All, IfErr, IfNone, IfOk, IfSome, length};
+ghost use Rattle.mdb_words.specs.declared.row.RowFault.{RowFault};
+ghost use Rattle.mdb_page.specs.Lines.{AreNoRow, IsBare, IsCut, IsFirstLine, IsUnmarked, TellsNoRow, TellsRow};
+ghost use Rattle.mdb_page.specs.declared.lines.LineFault.{LineFault};
 
 use mdb_words::{Event, RowFault};
 
@@ -76,7 +78,9 @@ pub(crate) fn without_return(line: &[u8]) -> &[u8]
 /// The row that a line tells.
 #[inline(always)]
 pub(crate) fn row_of(line: &[u8]) -> Result<Event, LineFault>
-    ensures { IfOk result (TellsRow line.now) }
+    ensures row { IfOk result (TellsRow line.now) }
+    ensures none { IfErr result (λ fault. (why : RowFault) → fault ≡ LineFault.BadRow why
+        → TellsNoRow line.now why) }
 {
     match event_of(line) {
         Ok(event) => Ok(event),
@@ -87,7 +91,8 @@ pub(crate) fn row_of(line: &[u8]) -> Result<Event, LineFault>
 /// The row of the fields of a line.
 #[inline(always)]
 fn event_of(line: &[u8]) -> Result<Event, RowFault>
-    ensures { IfOk result (TellsRow line.now) }
+    ensures row { IfOk result (TellsRow line.now) }
+    ensures none { IfErr result (AreNoRow line.now) }
 {
     let Some((time, behind)) = cut(line, b',') else {
         return Err(RowFault::FieldCount);
@@ -103,7 +108,10 @@ fn event_of(line: &[u8]) -> Result<Event, RowFault>
 
 /// Why a line is no row, where its fields are none for this reason.
 #[inline(never)]
-fn fault_of(line: &[u8], fault: RowFault) -> LineFault {
+fn fault_of(line: &[u8], fault: RowFault) -> LineFault
+    ensures { (why : RowFault) → result ≡ LineFault.BadRow why → (why ≡ fault)
+        × All (λ byte. byte ≢ 34) line.now × All (λ byte. byte ≢ 13) line.now }
+{
     if cut(line, b'"').is_some() || cut(line, b'\r').is_some() {
         LineFault::Unread
     } else {

@@ -3,8 +3,8 @@
 ghost use Rattle.std.specs.Prelude.{◌≡◌, ◌≢◌, ◌<◌, ◌≤◌, ◌+◌, IfSome, length};
 ghost use Rattle.mdb_follow.specs.declared.follower.TheConstants.{ROWS_MAX};
 
-use crate::answer::{BAD_ROW, NO, PageTold, TOO_LONG, UNREAD, YES, fault_number};
-use crate::lines::{LineFault, first_line, row_of, without_return};
+use crate::answer::{NO, PageTold, TOO_LONG, YES, line_answer};
+use crate::lines::{first_line, row_of, without_return};
 use mdb_bus::{Act, Bus};
 use mdb_follow::ROWS_MAX;
 use mdb_msgs::{Device, ReaderUnit};
@@ -132,20 +132,6 @@ pub(crate) fn walk<L: Listing>(
     cut(listing, entries, &rows);
     told.row = rows.last;
     YES
-}
-
-/// The answer at a line that is no row.
-fn line_answer(told: &mut PageTold, fault: LineFault) -> u32
-    ensures row { told.new.row ≡ told.old.row }
-    ensures options { result ≢ 5 }
-{
-    match fault {
-        LineFault::Unread => UNREAD,
-        LineFault::BadRow(fault) => {
-            told.fault = fault_number(fault);
-            BAD_ROW
-        }
-    }
 }
 
 /// Takes a row that started at a time, and the act that it ends if it ends one.

@@ -1,6 +1,6 @@
-use Rattle.std.proofs.Common.{◌≡◌, ◌≤◌, ◌<◌, [], ◌∷◌, ◌++◌, List, ℕ, length, refl, sym, subst, ap, ◌∙◌, arith}
+use Rattle.std.proofs.Common.{◌≡◌, ◌≤◌, ◌<◌, [], ◌∷◌, ◌++◌, List, ℕ, length, true≢false, refl, sym, subst, ap, ◌∙◌, arith}
 use Rattle.std.proofs.Math.Nat.{le_refl}
-use Rattle.std.proofs.lemmas.Bool.{eqb-true}
+use Rattle.std.proofs.lemmas.Bool.{eq-eqb, eqb-true}
 use Rattle.std.proofs.lemmas.List.{nil_from_length}
 use Rattle.mdb_bus.specs.declared.scope.Scope.{Scope}
 use Rattle.mdb_follow.specs.Follower.{scope_of}
@@ -8,6 +8,7 @@ use Rattle.mdb_follow.specs.Offences.{IsOffence}
 use Rattle.mdb_follow.specs.declared.offence.Offence.{Offence}
 use Rattle.mdb_page.specs.Lines.{IsBare, start, blank, row}
 use Rattle.mdb_page.specs.declared.answer.End.{End}
+use Rattle.mdb_page.specs.declared.lines.LineFault.{LineFault}
 use Rattle.mdb_page.specs.declared.answer.End.TheVariants as ends
 use Rattle.mdb_page.proofs.answer.follow.Goals as goal
 
@@ -17,6 +18,13 @@ offence_of (ends.Offence offence) other = offence
 offence_of ends.Text other = other
 offence_of (ends.Line fault) other = other
 offence_of ends.TooLong other = other
+
+-- the fault of an end, and another one where it has none
+pub fault_of : End → LineFault → LineFault
+fault_of (ends.Line fault) other = fault
+fault_of ends.Text other = other
+fault_of (ends.Offence offence) other = other
+fault_of ends.TooLong other = other
 
 pub loop-line-init : goal.loop-line-init
 loop-line-init c = record {
@@ -34,9 +42,25 @@ returns-in-Err-feed-clause-offence c = λ offence same.
       rows,
       event,
       c.first_line.result.1.now,
-      row event before.read.1 (record { line = c.first_line.result.0.now; first = c.first_line.ensures.line; is = c.without_return-line.ensures }) c.in-Ok.ensures,
+      row event before.read.1 (record { line = c.first_line.result.0.now; first = c.first_line.ensures.line; is = c.without_return-line.ensures }) c.in-Ok.ensures.row,
       subst (λ (told : Offence). IsOffence (scope_of c.args.follower.now) rows event told) (ap (λ end. offence_of end c.in-Err-feed.offence) same)
           (subst (λ (scope : Scope). IsOffence scope rows event c.in-Err-feed.offence) before.scope (c.in-Err-feed.ensures.offence rows before.read.2)),
+    )
+
+pub returns-in-Err-clause-line : goal.returns-in-Err-clause-line
+unfolding fault_of
+returns-in-Err-clause-line c = λ why same.
+    let before = c.loop-line.invariant in (
+      before.read.0,
+      before.read.1,
+      before.read.2,
+      record {
+        bare = c.without_return-line.result.now;
+        after = c.first_line.result.1.now;
+        line = record { line = c.first_line.result.0.now; first = c.first_line.ensures.line; is = c.without_return-line.ensures };
+        some = λ empty. true≢false (sym (eq-eqb (length c.without_return-line.result.now) 0 (ap length empty)) ∙ sym c.if-not-is_empty.ensures);
+        is = c.in-Err.ensures.none why (ap (λ end. fault_of end c.in-Err.fault) same);
+      },
     )
 
 pub loop-line-preserved-in_default : goal.loop-line-preserved-in_default
@@ -51,7 +75,7 @@ loop-line-preserved-in_default c =
       scope = c.in_default.ensures.scope ∙ before.scope;
       read = (
         rows ++ event ∷ [],
-        row event before.read.1 (record { line = c.first_line.result.0.now; first = c.first_line.ensures.line; is = c.without_return-line.ensures }) c.in-Ok.ensures,
+        row event before.read.1 (record { line = c.first_line.result.0.now; first = c.first_line.ensures.line; is = c.without_return-line.ensures }) c.in-Ok.ensures.row,
         c.in_default.ensures.reached rows before.read.2,
       );
     }

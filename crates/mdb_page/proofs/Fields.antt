@@ -1,0 +1,96 @@
+-- The fields of a line.
+use Rattle.std.proofs.Common.{◌≡◌, ◌≢◌, ◌==◌, ◌<◌, ℕ, zero, suc, List, [], ◌∷◌, ◌++◌, All, length, refl, sym, ap, ◌∙◌, arith, inl, inr, true, false, Option, None, Some, IfSome}
+use Rattle.std.specs.Option.{is_some}
+use Rattle.std.proofs.lemmas.Bool.{cases_Bool, eqb-true}
+use Rattle.mdb_words.specs.declared.row.RowFault.TheVariants.{FieldCount}
+use Rattle.mdb_page.specs.Lines.{AreAllFields, AreNoRow, IsCut}
+
+none_of : {X : Type 0} (P : X → Type 0) → All P []
+none_of P k d low = absurd (omega (arith, low))
+
+all_from : {X : Type 0} (P : X → Type 0) (x : X) (xs : List X) → P x → All P xs → All P (x ∷ xs)
+all_from P x xs here rest zero d low = here
+all_from P x xs here rest (suc k) d low = rest k d (omega (arith, low))
+
+first_of_all : {X : Type 0} (P : X → Type 0) (x : X) (xs : List X) → All P (x ∷ xs) → P x
+first_of_all P x xs all = all 0 x (omega arith)
+
+all_after : {X : Type 0} (P : X → Type 0) (x : X) (xs : List X) → All P (x ∷ xs) → All P xs
+all_after P x xs all k d low = all (suc k) d (omega (arith, low))
+
+-- a byte that is no comma, and a field without one
+abbrev Other : ℕ → Type 0
+Other byte = byte ≢ 44
+
+abbrev Field : List ℕ → Type 0
+Field field = All Other field
+
+-- the fields of a line that has no comma
+pub alone : (line : List ℕ) → All (λ byte. byte ≢ 44) line → AreAllFields line (line ∷ [])
+alone line none = record { whole = refl; parted = all_from Field line [] none (none_of Field) }
+
+-- the fields of a line, by those behind its first comma
+pub more : (line front rest : List ℕ) (fields : List (List ℕ)) → IsCut 44 line front rest → 0 < length fields
+    → AreAllFields rest fields → AreAllFields line (front ∷ fields)
+more line front rest [] cut some all = absurd (omega (arith, some))
+more line front rest (field ∷ fields) cut some all = record {
+  whole = cut.whole ∙ ap (λ l. front ++ 44 ∷ l) all.whole;
+  parted = all_from Field front (field ∷ fields) cut.first all.parted;
+}
+
+-- a line has fields
+pub record HasFields (line : List ℕ) : Type 0 where
+  pub fields : List (List ℕ)
+  pub some : 0 < length fields
+  pub all : AreAllFields line fields
+
+longer : (byte : ℕ) (bytes : List ℕ) (fields : List (List ℕ)) → byte ≢ 44 → 0 < length fields
+    → AreAllFields bytes fields → HasFields (byte ∷ bytes)
+longer byte bytes [] other some all = absurd (omega (arith, some))
+longer byte bytes (field ∷ []) other some all = record {
+  fields = (byte ∷ field) ∷ [];
+  some = omega arith;
+  all = record { whole = ap (λ l. byte ∷ l) all.whole; parted = all_from Field (byte ∷ field) [] (all_from Other byte field other (first_of_all Field field [] all.parted)) (none_of Field) };
+}
+longer byte bytes (field ∷ next ∷ fields) other some all = record {
+  fields = (byte ∷ field) ∷ next ∷ fields;
+  some = omega arith;
+  all = record {
+    whole = ap (λ l. byte ∷ l) all.whole;
+    parted = all_from Field (byte ∷ field) (next ∷ fields) (all_from Other byte field other (first_of_all Field field (next ∷ fields) all.parted))
+        (all_after Field field (next ∷ fields) all.parted);
+  };
+}
+
+is_it : (a b : ℕ) → a ≡ b → (a == b) ≡ true
+is_it a b same = grind arith
+
+pub fields_of : (line : List ℕ) → HasFields line
+fields_of [] = record { fields = [] ∷ []; some = omega arith; all = alone [] (none_of Other) }
+fields_of (byte ∷ bytes) =
+    let rest = fields_of bytes in
+    elim (cases_Bool (byte == 44)) [
+      | inl same ↦ record {
+        fields = [] ∷ rest.fields;
+        some = omega arith;
+        all = more (byte ∷ bytes) [] bytes rest.fields (record { whole = ap (λ b. b ∷ bytes) (eqb-true byte 44 same); first = none_of Other }) rest.some rest.all;
+      }
+      | inr other ↦ longer byte bytes rest.fields (λ same. let wrong : true ≡ false = sym (is_it byte 44 same) ∙ other in absurd (cc wrong)) rest.some rest.all
+    ]
+
+-- what is told of a value that is there
+pub some_told : {X : Type 0} {P : X → Type 0} (found : Option X) → IfSome found P → is_some found ≡ true → (x : X) × P x
+some_told None told is = let wrong : false ≡ true = is in absurd (cc wrong)
+some_told (Some x) told is = (x, told)
+
+-- Three fields aren't all where the last of them has a comma.
+pub too_many : (line time behind letter value front rest : List ℕ) → IsCut 44 line time behind
+    → IsCut 44 behind letter value → IsCut 44 value front rest → AreNoRow line FieldCount
+too_many line time behind letter value front rest one two three =
+    let last = fields_of rest in
+    record {
+      fields = time ∷ letter ∷ front ∷ last.fields;
+      all = more line time behind (letter ∷ front ∷ last.fields) one (omega arith)
+          (more behind letter value (front ∷ last.fields) two (omega arith) (more value front rest last.fields three last.some last.all));
+      is = λ few. omega (arith, few, last.some);
+    }
