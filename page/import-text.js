@@ -114,8 +114,10 @@ class Decoder {
 
   end() {
     if (!this.encoding && this.front.length) {
+      const all = this.front.text().slice();
+      this.front.length = 0;
       this.encoding = "utf-8";
-      this.pass(this.front.text());
+      this.pass(all);
     } else if (this.encoding && this.encoding !== "utf-8") {
       const text = new Bytes();
       if (this.unit >= 0) pushSign(text, this.unit);
