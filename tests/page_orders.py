@@ -464,7 +464,7 @@ def try_focus_of_panel(page):
         page.push(name)
         page.until("document.getElementById('import-before')")
         focus, told, high = page.value("[document.activeElement.id, by('import-told').getBoundingClientRect().bottom, innerHeight]")
-        want(focus == name and 0 < told <= high, f"{name}, refused: {focus}, {told} of {high}")
+        want(focus == name and 0 < told < high + 1, f"{name}, refused: {focus}, {told} of {high}")
     page.push("import-go-on")
     want(page.read()["focus"] == "import-from", f"the import goes on, and the focus is on {page.read()['focus']}")
 
