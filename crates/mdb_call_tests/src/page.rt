@@ -1,8 +1,8 @@
 //! What the page's calls answer to small texts.
 
 use mdb_page::{
-    PageAct, PageLayout, PageNews, PageOptions, PageSetup, PageText, PageTold, mdb_page_acts,
-    mdb_page_check, mdb_page_layout, mdb_page_news,
+    PageAct, PageLayout, PageNews, PageOptions, PageSetup, PageText, PageTold, mdb_page_check,
+    mdb_page_layout, mdb_page_list,
 };
 
 /// Nothing is known of a device.
@@ -26,7 +26,8 @@ fn nothing() -> PageTold {
         row: 0,
         offset: 0,
         fault: 9,
-        entries: 0,
+        acts: 0,
+        news: 0,
     }
 }
 
@@ -100,10 +101,10 @@ fn acts_are_listed_and_taken_up_again(rt: HostRuntime) {
     let mut acts = [blank; 4];
     let mut told = nothing();
     assert_eq!(rt;
-        mdb_page_acts(&power_on(), text, 0, &mut told, &mut acts),
+        mdb_page_list(&power_on(), text, 0, 0, &mut told, &mut acts, &mut []),
         0
     );
-    assert_eq!(rt; (told.entries, told.row), (3, 4));
+    assert_eq!(rt; (told.acts, told.news, told.row), (3, 1, 4));
     assert_eq!(rt;
         (acts[0].first, acts[0].last, acts[0].kind, acts[0].device),
         (1, 2, 0, 1)
@@ -117,8 +118,8 @@ fn acts_are_listed_and_taken_up_again(rt: HostRuntime) {
     assert_eq!(rt; (acts[2].first, acts[2].last, acts[2].kind), (4, 4, 10));
     assert_eq!(rt; acts[3].kind, 99);
     let mut one = [blank; 1];
-    assert_eq!(rt; mdb_page_acts(&power_on(), text, 1, &mut told, &mut one), 0);
-    assert_eq!(rt; (told.entries, one[0].first, one[0].kind), (3, 3, 1));
+    assert_eq!(rt; mdb_page_list(&power_on(), text, 1, 0, &mut told, &mut one, &mut []), 0);
+    assert_eq!(rt; (told.acts, one[0].first, one[0].kind), (3, 3, 1));
 }
 
 /// A changer that is reset, tells its set-up, and then of two coins of 0.25 in a reply, which the
@@ -151,10 +152,10 @@ fn news_are_listed_and_taken_up_again(rt: HostRuntime) {
     let mut news = [blank; 7];
     let mut told = nothing();
     assert_eq!(rt;
-        mdb_page_news(&power_on(), COINS, 0, &mut told, &mut news),
+        mdb_page_list(&power_on(), COINS, 0, 0, &mut told, &mut [], &mut news),
         0
     );
-    assert_eq!(rt; (told.entries, told.row), (6, 36));
+    assert_eq!(rt; (told.news, told.row), (6, 36));
     assert_eq!(rt; (news[0].kind, news[0].is_acknowledged), (18, 1));
     assert_eq!(rt; (news[1].kind, news[1].is_acknowledged), (17, 1));
     assert_eq!(rt; (news[2].kind, news[2].device), (21, 1));
@@ -172,10 +173,10 @@ fn news_are_listed_and_taken_up_again(rt: HostRuntime) {
     assert_eq!(rt; news[6].kind, 99);
     let mut one = [blank; 1];
     assert_eq!(rt;
-        mdb_page_news(&power_on(), COINS, 4, &mut told, &mut one),
+        mdb_page_list(&power_on(), COINS, 0, 4, &mut told, &mut [], &mut one),
         0
     );
-    assert_eq!(rt; (told.entries, one[0].kind), (6, 1));
+    assert_eq!(rt; (told.news, one[0].kind), (6, 1));
     assert_eq!(rt; one[0].is_acknowledged, 1);
 }
 
@@ -190,6 +191,6 @@ fn sizes_are_told(rt: HostRuntime) {
         news: 0,
     };
     mdb_page_layout(&mut layout);
-    assert_eq!(rt; (layout.options, layout.setup, layout.told), (153, 37, 32));
+    assert_eq!(rt; (layout.options, layout.setup, layout.told), (153, 37, 40));
     assert_eq!(rt; (layout.answer, layout.act, layout.news), (2056, 80, 64));
 }

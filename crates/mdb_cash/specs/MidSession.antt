@@ -69,8 +69,7 @@ pub record TellsHeldFirst {Own Setup Asked M State : Type 0}
 
 -- What isn't known is of no matter for an act. An ask is of what doesn't count once it is asked, or
 -- the acts so far ask such a thing. A reply is of another device, or of a device that holds nothing
--- once the reply is read, or the acts so far tell a kept message. Any other act is none of these
--- two.
+-- once the reply is read, or the acts so far tell a kept message. Any other act is settled.
 abbrev pub IsSettled : {Own Setup Asked M State : Type 0} → Tables Own Setup Asked M
     → Conduct Own Setup Asked M State → List Act → Act → Choice → State → Type 0
 IsSettled tables conduct so_far (acts.Ask command) choice before =

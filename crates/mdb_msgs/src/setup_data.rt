@@ -32,9 +32,28 @@ impl Setups {
     {
         answer.bytes();
         match read_reply(&setup_of(device), answer) {
-            Ok(reply) => add(self, device, reply),
+            Ok(reply) => self.learn_reply(device, &reply),
             Err(_) => false,
         }
+    }
+
+    /// Learns how a device is set up from a reply of it, as `learn` does from a block. Returns
+    /// whether the reply reports that. If it doesn't, nothing changes.
+    pub fn learn_reply(&mut self, device: Device, reply: &Reply) -> bool
+        ensures told { result ≡ true → spec.known_with self.old device reply.now ≡ Some self.new }
+        ensures untold { result ≡ false → spec.known_with self.old device reply.now ≡ None }
+        ensures kept { result ≡ false → self.new ≡ self.old }
+    {
+        match (device, reply) {
+            (Device::Changer, Reply::ChangerSetup(table)) => self.changer = Some(table.copy()),
+            (Device::Bill, Reply::BillSetup(table)) => self.bill = Some(table.copy()),
+            (Device::Reader(unit), Reply::Reader(list)) => match config_of(list) {
+                Some(config) => add_config(self, unit, config),
+                None => return false,
+            },
+            _ => return false,
+        }
+        true
     }
 }
 
@@ -55,24 +74,6 @@ fn setup_of(device: Device) -> Command
             Command::Reader(unit, config)
         }
     }
-}
-
-/// Adds what a reply says of how a device is set up. Returns whether it says that.
-fn add(setups: &mut Setups, device: Device, reply: Reply) -> bool
-    ensures told { result ≡ true → spec.known_with setups.old device reply ≡ Some setups.new }
-    ensures untold { result ≡ false → spec.known_with setups.old device reply ≡ None }
-    ensures kept { result ≡ false → setups.new ≡ setups.old }
-{
-    match (device, reply) {
-        (Device::Changer, Reply::ChangerSetup(table)) => setups.changer = Some(table),
-        (Device::Bill, Reply::BillSetup(table)) => setups.bill = Some(table),
-        (Device::Reader(unit), Reply::Reader(list)) => match config_of(&list) {
-            Some(config) => add_config(setups, unit, config),
-            None => return false,
-        },
-        _ => return false,
-    }
-    true
 }
 
 /// Adds the config of a reader.

@@ -2,7 +2,7 @@
 use Rattle.std.specs.Prelude.{◌≡◌, ℕ, List, [], ◌∷◌, ◌++◌, ◌+◌, length, take}
 use Rattle.mdb_words.specs.declared.event.Event.{Event}
 use Rattle.mdb_words.specs.declared.row.RowFault.{RowFault}
-use Rattle.mdb_words.specs.declared.row.RowFault.TheVariants.{FieldCount, BadTime, BadLine, BadValue}
+use Rattle.mdb_words.specs.declared.row.RowFault.TheVariants as faults
 use Rattle.mdb_bus.specs.declared.scope.Scope.{Scope}
 use Rattle.mdb_follow.specs.declared.report.Report.{Report}
 use Rattle.mdb_follow.specs.declared.offence.Offence.{Offence}
@@ -19,7 +19,7 @@ use Rattle.mdb_page.specs.declared.sheet.PageText.{PageText}
 abbrev pub written : PageText → List ℕ
 written answer = take answer.count answer.bytes
 
--- All lines of a text tell rows, and the answer is the text of the report on these, taken in a scope.
+-- All lines of a text are rows, and the answer is the text of the report on these, taken in a scope.
 pub record IsYes (scope : Scope) (text : List ℕ) (answer : PageText) : Type 0 where
   pub lines : List ℕ
   pub unmarked : IsUnmarked text lines
@@ -29,8 +29,8 @@ pub record IsYes (scope : Scope) (text : List ℕ) (answer : PageText) : Type 0 
   pub is : IsReport scope rows report
   pub told : written answer ≡ report_text scope (Yes report)
 
--- The first lines of a text tell rows, the last of which is the first that can't be, and the answer is
--- the text that says so.
+-- The first lines of a text are rows, the last of which is the first impossible one, and the answer
+-- is the text that says so.
 pub record IsNo (scope : Scope) (text : List ℕ) (answer : PageText) : Type 0 where
   pub lines : List ℕ
   pub unmarked : IsUnmarked text lines
@@ -44,12 +44,12 @@ pub record IsNo (scope : Scope) (text : List ℕ) (answer : PageText) : Type 0 w
 
 -- the number of a fault of a row
 abbrev pub number_of : RowFault → ℕ
-number_of FieldCount = 0
-number_of BadTime = 1
-number_of BadLine = 2
-number_of BadValue = 3
+number_of faults.FieldCount = 0
+number_of faults.BadTime = 1
+number_of faults.BadLine = 2
+number_of faults.BadValue = 3
 
--- The first lines of a text tell rows that can be in a scope, the next line tells none, and it is told
+-- The first lines of a text are rows that can be in a scope, and the next line is none. It is told
 -- why, which row it would be, and how many bytes stand before it.
 pub record IsBadRow (scope : Scope) (text : List ℕ) (told : PageTold) : Type 0 where
   pub lines : List ℕ

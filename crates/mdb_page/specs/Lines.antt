@@ -71,7 +71,8 @@ pub record TellsNoRow (line : List ℕ) (why : RowFault) : Type 0 where
 -- without bytes tells nothing.
 pub data HasRead (text : List ℕ) : List Event → List ℕ → Type 0 where
   start : HasRead text [] text
-  blank : {rows : List Event} {rest after : List ℕ} → HasRead text rows rest → IsLine rest [] after → HasRead text rows after
+  blank : {rows : List Event} {rest after : List ℕ} → HasRead text rows rest
+      → IsLine rest [] after → HasRead text rows after
   row : {rows : List Event} {rest bare after : List ℕ} (event : Event) → HasRead text rows rest
       → IsLine rest bare after → TellsRow bare event → HasRead text (rows ++ event ∷ []) after
 

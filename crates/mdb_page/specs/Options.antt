@@ -28,13 +28,15 @@ devices_of marks = record {
 
 -- the first bytes given, as many as are counted, are the block of the device's answer to SETUP, and
 -- the device isn't left out
-pub record IsAnswerOf (left_out : DeviceSet) (device : Device) (answer : PageSetup) (before after : Setups) : Type 0 where
+pub record IsAnswerOf (left_out : DeviceSet) (device : Device) (answer : PageSetup)
+    (before after : Setups) : Type 0 where
   pub followed : has left_out device ≡ false
   pub fits : answer.count ≤ 36
   pub is : IsSetupOf device (take answer.count answer.bytes) before after
 
 -- what is known with what is given of a device: with no bytes, what was known before
-pub record Adds (left_out : DeviceSet) (device : Device) (answer : PageSetup) (before after : Setups) : Type 0 where
+pub record Adds (left_out : DeviceSet) (device : Device) (answer : PageSetup)
+    (before after : Setups) : Type 0 where
   pub not_given : answer.count ≡ 0 → after ≡ before
   pub given : answer.count ≢ 0 → IsAnswerOf left_out device answer before after
 
@@ -49,7 +51,8 @@ GivesNone answers = ((given_at answers 0).count ≡ 0) × ((given_at answers 1).
 
 -- The setup data are those that the answers tell of the four devices, in the order of a report, and
 -- no others.
-pub record AreSetups (left_out : DeviceSet) (answers : List PageSetup) (setups : Setups) : Type 0 where
+pub record AreSetups (left_out : DeviceSet) (answers : List PageSetup) (setups : Setups)
+    : Type 0 where
   pub with_changer : Setups
   pub with_bill : Setups
   pub with_first : Setups

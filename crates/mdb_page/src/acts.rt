@@ -1,16 +1,9 @@
 //! The acts of a recording, as `show` lists them.
 
-ghost use Rattle.std.specs.Prelude.{◌≡◌, ◌≢◌, ◌≤◌, ◌+◌};
-ghost use Rattle.mdb_follow.specs.declared.follower.TheConstants.{ROWS_MAX};
-
-use crate::answer::{BAD_OPTIONS, PageTold};
-use crate::lines::without_mark;
-use crate::options::{PageOptions, taken_so};
-use crate::walk::{Listing, Rows, Tally, device_number, walk};
+use crate::rows::{Rows, Tally, device_number};
 use mdb_blocks::Block;
-use mdb_bus::{Act, Bus};
+use mdb_bus::Act;
 use mdb_msgs::{Command, Reply, write_command, write_reply};
-use mdb_words::Time;
 
 /// An act on the bus.
 #[repr(C)]
@@ -43,16 +36,22 @@ const BREAK: u8 = 9;
 
 const CUT: u8 = 10;
 
-/// The list of all acts.
+/// The list of the acts.
 #[derive(Drop)]
-struct ActListing {
+pub(crate) struct ActListing {
     tally: Tally,
 }
 
-impl Listing for ActListing {
-    type Entry = PageAct;
+impl ActListing {
+    /// The list before the first act, where so many are passed over.
+    pub(crate) fn skipping(skip: u64) -> ActListing {
+        ActListing {
+            tally: Tally::skipping(skip),
+        }
+    }
 
-    fn act(&mut self, acts: &mut [PageAct], rows: &Rows, act: &Act, _at: Time) {
+    /// Takes an act, which has these rows.
+    pub(crate) fn act(&mut self, acts: &mut [PageAct], rows: &Rows, act: &Act) {
         if let Some(place) = self.tally.next(acts.len()) {
             let place = &mut acts[place];
             put_rows(place, rows);
@@ -60,42 +59,19 @@ impl Listing for ActListing {
         }
     }
 
-    fn cut(&mut self, acts: &mut [PageAct], rows: &Rows) {
+    /// Takes rows that no act has, since a break or the end cuts them.
+    pub(crate) fn cut(&mut self, acts: &mut [PageAct], rows: &Rows) {
         if let Some(place) = self.tally.next(acts.len()) {
             let place = &mut acts[place];
             put_rows(place, rows);
             place.kind = CUT;
         }
     }
-}
 
-/// Lists the acts of a recording after the first `skip`, as far as there is room. It returns what
-/// `mdb_page_check` does: 1 means that a row breaks a rule of the link. It doesn't know the rules
-/// of the devices. `told` has the number of acts.
-#[unsafe(no_mangle)]
-pub extern "C" fn mdb_page_acts(
-    options: &PageOptions,
-    text: &[u8],
-    skip: u64,
-    told: &mut PageTold,
-    acts: &mut [PageAct],
-) -> u32
-    ensures row { result ≢ 5 → told.new.row ≤ ROWS_MAX + 1 }
-    ensures none { result ≡ 5 → told.new.entries ≡ 0 }
-{
-    told.entries = 0;
-    let Some(scope) = taken_so(options) else {
-        return BAD_OPTIONS;
-    };
-    let mut bus = Bus::scoped(&scope);
-    let mut listing = ActListing {
-        tally: Tally::skipping(skip),
-    };
-    let mut rest = without_mark(text);
-    let answer = walk(&mut listing, &mut bus, &mut rest, told, acts);
-    told.offset = (text.len() - rest.len()) as u64;
-    told.entries = listing.tally.entries();
-    answer
+    /// How many there were.
+    pub(crate) fn count(&self) -> u64 {
+        self.tally.entries()
+    }
 }
 
 /// Puts rows into an act, of which nothing else is known yet.

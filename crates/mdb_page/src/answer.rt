@@ -45,8 +45,10 @@ pub struct PageTold {
     pub offset: u64,
     /// Why that line is no row: 0 to 3, in the order of `RowFault`.
     pub fault: u64,
-    /// The number of all entries: acts or news.
-    pub entries: u64,
+    /// The number of all acts.
+    pub acts: u64,
+    /// The number of all news.
+    pub news: u64,
 }
 
 /// The end of a reading of rows.

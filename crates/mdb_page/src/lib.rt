@@ -1,8 +1,8 @@
 //! The checker for a page in a browser.
 //!
 //! The recording lies in memory as text. [`mdb_page_check`] puts the verdict and its text into
-//! memory that the page provides, [`mdb_page_acts`] the acts, and [`mdb_page_news`] what the acts
-//! tell of money, sales, resets, breaks and silences. [`mdb_page_layout`] tells the sizes of what is
+//! memory that the page provides. [`mdb_page_list`] puts there the acts, and the news: what the acts
+//! report of money, sales, resets, breaks and silences. [`mdb_page_layout`] has the sizes of what is
 //! put there. The crate allocates nothing. Each call reads the whole text, and keeps nothing for the
 //! next call. Rows are numbered from 1, and times are in microseconds.
 #![tactic(auto)]
@@ -13,14 +13,16 @@ mod layout;
 mod lines;
 mod news;
 mod options;
+mod rows;
 mod sheet;
 mod walk;
 mod watch;
 mod worth;
 
-pub use acts::{PageAct, mdb_page_acts};
+pub use acts::PageAct;
 pub use answer::{PageTold, mdb_page_check};
 pub use layout::{PageLayout, mdb_page_layout};
-pub use news::{PageNews, mdb_page_news};
+pub use news::PageNews;
 pub use options::{PageOptions, PageSetup};
 pub use sheet::PageText;
+pub use walk::mdb_page_list;

@@ -1,23 +1,19 @@
 //! The news of a recording: what its acts tell of money, sales, resets, breaks and silences.
 
-ghost use Rattle.std.specs.Prelude.{◌≡◌, ◌≢◌, ◌≤◌, ◌+◌, ◌*◌, IfSome, option_map};
+ghost use Rattle.std.specs.Prelude.{◌≡◌, ◌*◌, IfSome, option_map};
 ghost use Rattle.mdb_cash.specs.Bill.{bill_value};
 ghost use Rattle.mdb_cash.specs.BillMessages as bills;
 ghost use Rattle.mdb_cash.specs.Changer.{coin_value};
 ghost use Rattle.mdb_cash.specs.ChangerMessages as coins_told;
 ghost use Rattle.mdb_page.specs.Worth.{bill_worth, coin_worth, worth_of};
-ghost use Rattle.mdb_follow.specs.declared.follower.TheConstants.{ROWS_MAX};
 
-use crate::answer::{BAD_OPTIONS, PageTold};
-use crate::lines::without_mark;
-use crate::options::{PageOptions, taken_so};
-use crate::walk::{Listing, Rows, Tally, device_number, walk};
+use crate::rows::{Rows, Tally, device_number};
 use crate::watch::{Unanswered, Watch};
 use crate::worth::{Worth, amount, bill, coins};
-use mdb_bus::{Act, Beginning, Bus};
+use mdb_bus::{Act, Beginning};
 use mdb_msgs::{
     BillCommand, BillMsg, BillSetup, ChangerCommand, ChangerMsg, ChangerSetup, Command, Device,
-    ReaderCommand, ReaderConfig, ReaderList, ReaderMsg, ReaderUnit, Reply, Setups,
+    ReaderCommand, ReaderConfig, ReaderMsg, ReaderUnit, Reply, Setups,
 };
 use mdb_words::Time;
 
@@ -27,7 +23,7 @@ use mdb_words::Time;
 pub struct PageNews {
     /// Its first row. Of a silence: the first row of the first command that wasn't answered.
     pub first: u64,
-    /// Its last row. Of a silence: the last row of the last command that wasn't answered.
+    /// Its last row. Of a silence: the last row of its last command, which an answer may end.
     pub last: u64,
     /// When its first row started, in microseconds. Of a silence: when the last word of the first
     /// command started.
@@ -38,7 +34,8 @@ pub struct PageNews {
     pub amount: u64,
     /// How long a break was, in microseconds.
     pub length: u64,
-    /// How many coins or bills there are, or how many commands weren't answered; else 1.
+    /// How many coins or bills there are. Of a silence: how many commands, with the one whose answer
+    /// ended it. Else 1.
     pub count: u64,
     /// The type of a coin or bill, or the number of an item.
     pub number: u16,
@@ -187,9 +184,9 @@ impl Fact {
     }
 }
 
-/// The list of all news.
+/// The list of the news.
 #[derive(Drop)]
-struct NewsListing {
+pub(crate) struct NewsListing {
     tally: Tally,
     /// From this entry on, of those that were put, all wait for an acknowledgement.
     waiting: usize,
@@ -198,10 +195,22 @@ struct NewsListing {
     watch: Watch,
 }
 
-impl Listing for NewsListing {
-    type Entry = PageNews;
+impl NewsListing {
+    /// The list before the first act of a recording that begins so, where so many are passed over.
+    pub(crate) fn start(begins: &Beginning, skip: u64) -> NewsListing {
+        NewsListing {
+            tally: Tally::skipping(skip),
+            waiting: 0,
+            setups: match begins {
+                Beginning::PowerOn => Setups::NONE,
+                Beginning::Joined(setups) => setups.copy(),
+            },
+            watch: Watch::start(begins),
+        }
+    }
 
-    fn act(&mut self, news: &mut [PageNews], rows: &Rows, act: &Act, at: Time) {
+    /// Takes an act, which has these rows and whose last word started at a time.
+    pub(crate) fn act(&mut self, news: &mut [PageNews], rows: &Rows, act: &Act, at: Time) {
         self.watch.follow(rows, act, at);
         match act {
             Act::Ask(command) => {
@@ -231,21 +240,9 @@ impl Listing for NewsListing {
         }
     }
 
-    fn cut(&mut self, _news: &mut [PageNews], _rows: &Rows) {}
-}
-
-impl NewsListing {
-    /// The list before the first act of a recording that begins so.
-    fn start(begins: &Beginning, skip: u64) -> NewsListing {
-        NewsListing {
-            tally: Tally::skipping(skip),
-            waiting: 0,
-            setups: match begins {
-                Beginning::PowerOn => Setups::NONE,
-                Beginning::Joined(setups) => setups.copy(),
-            },
-            watch: Watch::start(begins),
-        }
+    /// How many there were.
+    pub(crate) fn count(&self) -> u64 {
+        self.tally.entries()
     }
 
     /// Puts an entry, if it isn't passed over and there is room.
@@ -278,8 +275,8 @@ impl NewsListing {
         self.wait();
     }
 
-    /// All silences end.
-    fn end_all(&mut self, news: &mut [PageNews]) {
+    /// All silences end: at a break, and at the end of the recording.
+    pub(crate) fn end_all(&mut self, news: &mut [PageNews]) {
         self.end(news, Device::Changer);
         self.end(news, Device::Bill);
         self.end(news, Device::Reader(ReaderUnit::First));
@@ -298,7 +295,7 @@ impl NewsListing {
 
     /// A device replies.
     fn reply(&mut self, news: &mut [PageNews], rows: &Rows, device: Device, reply: &Reply) {
-        if learn(&mut self.setups, device, reply) {
+        if self.setups.learn_reply(device, reply) {
             self.tell(news, rows, device, Some(Fact::plain(Kind::SetupTold)));
         }
         match reply {
@@ -333,69 +330,6 @@ impl NewsListing {
             self.put(news, entry_of(rows, device, fact));
         }
     }
-}
-
-/// Lists the news of a recording after the first `skip`, as far as there is room. It returns what
-/// `mdb_page_acts` does. `told` has the number of all news.
-#[unsafe(no_mangle)]
-pub extern "C" fn mdb_page_news(
-    options: &PageOptions,
-    text: &[u8],
-    skip: u64,
-    told: &mut PageTold,
-    news: &mut [PageNews],
-) -> u32
-    ensures row { result ≢ 5 → told.new.row ≤ ROWS_MAX + 1 }
-    ensures none { result ≡ 5 → told.new.entries ≡ 0 }
-{
-    told.entries = 0;
-    let Some(scope) = taken_so(options) else {
-        return BAD_OPTIONS;
-    };
-    let mut bus = Bus::scoped(&scope);
-    let mut listing = NewsListing::start(&scope.begins, skip);
-    let mut rest = without_mark(text);
-    let answer = walk(&mut listing, &mut bus, &mut rest, told, news);
-    listing.end_all(news);
-    told.offset = (text.len() - rest.len()) as u64;
-    told.entries = listing.tally.entries();
-    answer
-}
-
-/// Learns what a reply of a device tells of how it is set up, and answers whether it does.
-fn learn(setups: &mut Setups, device: Device, reply: &Reply) -> bool {
-    match (device, reply) {
-        (_, Reply::ChangerSetup(setup)) => setups.changer = Some(setup.copy()),
-        (_, Reply::BillSetup(setup)) => setups.bill = Some(setup.copy()),
-        (Device::Reader(unit), Reply::Reader(list)) => match (unit, config_of(list)) {
-            (_, None) => return false,
-            (ReaderUnit::First, config) => setups.first_reader = config,
-            (ReaderUnit::Second, config) => setups.second_reader = config,
-        },
-        _ => return false,
-    }
-    true
-}
-
-/// What the last config message of a reader's answer says.
-fn config_of(list: &ReaderList) -> Option<ReaderConfig> {
-    let mut last = None;
-    for message in list.iter() {
-        if let ReaderMsg::Config {
-            scale,
-            decimals,
-            response,
-            ..
-        } = message
-        {
-            last = Some(ReaderConfig {
-                scale,
-                decimals,
-                response,
-            });
-        }
-    }
-    last
 }
 
 /// What a command to the changer tells.

@@ -1,97 +1,74 @@
-//! A walk over the acts of a text.
+//! The acts of a recording, and what they tell, in one walk over its rows.
 
-ghost use Rattle.std.specs.Prelude.{◌≡◌, ◌≢◌, ◌<◌, ◌≤◌, ◌+◌, IfSome, length};
+ghost use Rattle.std.specs.Prelude.{◌≡◌, ◌≢◌, ◌<◌, ◌≤◌, ◌+◌, length};
+ghost use Rattle.mdb_bus.specs.declared.scope.Scope.{Scope};
 ghost use Rattle.mdb_follow.specs.declared.follower.TheConstants.{ROWS_MAX};
+ghost use Rattle.mdb_page.specs.Options.{IsTakenSo};
 
-use crate::answer::{NO, PageTold, TOO_LONG, YES, line_answer};
-use crate::lines::{first_line, row_of, without_return};
+use crate::acts::{ActListing, PageAct};
+use crate::answer::{BAD_OPTIONS, NO, PageTold, TOO_LONG, YES, line_answer};
+use crate::lines::{first_line, row_of, without_mark, without_return};
+use crate::news::{NewsListing, PageNews};
+use crate::options::{PageOptions, taken_so};
+use crate::rows::Rows;
 use mdb_bus::{Act, Bus};
 use mdb_follow::ROWS_MAX;
-use mdb_msgs::{Device, ReaderUnit};
 use mdb_words::Time;
 
-/// What puts entries about acts into memory that the page provides.
-pub(crate) trait Listing: Drop {
-    /// What it puts.
-    type Entry;
-
-    /// Takes an act, which has these rows and whose last word started at a time.
-    fn act(&mut self, entries: &mut [Self::Entry], rows: &Rows, act: &Act, at: Time);
-
-    /// Takes rows that no act has, since a break or the end cuts them.
-    fn cut(&mut self, entries: &mut [Self::Entry], rows: &Rows);
+/// Lists the acts of a recording after the first `skip_acts`, and what they tell after the first
+/// `skip_news`, each as far as there is room. It returns what `mdb_page_check` does: 1 means that a
+/// row breaks a rule of the link. It doesn't know the rules of the devices. `told` shows how many
+/// acts and news there are in all.
+#[unsafe(no_mangle)]
+pub extern "C" fn mdb_page_list(
+    options: &PageOptions,
+    text: &[u8],
+    skip_acts: u64,
+    skip_news: u64,
+    told: &mut PageTold,
+    acts: &mut [PageAct],
+    news: &mut [PageNews],
+) -> u32
+    ensures row { result ≢ 5 → told.new.row ≤ ROWS_MAX + 1 }
+    ensures none { result ≡ 5 → (told.new.acts ≡ 0) × (told.new.news ≡ 0) }
+    ensures refused { result ≡ 5 → (scope : Scope) → IsTakenSo options.now scope → ⊥ }
+    ensures taken { result ≢ 5 → (scope : Scope) × IsTakenSo options.now scope }
+{
+    told.acts = 0;
+    told.news = 0;
+    let Some(scope) = taken_so(options) else {
+        return BAD_OPTIONS;
+    };
+    let mut bus = Bus::scoped(&scope);
+    let mut lists = Lists {
+        acts: ActListing::skipping(skip_acts),
+        news: NewsListing::start(&scope.begins, skip_news),
+    };
+    let mut rest = without_mark(text);
+    let answer = walk(&mut lists, &mut bus, &mut rest, told, acts, news);
+    lists.news.end_all(news);
+    told.offset = (text.len() - rest.len()) as u64;
+    told.acts = lists.acts.count();
+    told.news = lists.news.count();
+    answer
 }
 
-/// Which entries are put, and how many there were.
+/// Both lists.
 #[derive(Drop)]
-pub(crate) struct Tally {
-    /// So many are passed over yet.
-    skip: u64,
-    /// So many were put.
-    put: usize,
-    /// So many there were.
-    entries: u64,
-}
-
-impl Tally {
-    /// The tally before the first entry, where so many are passed over.
-    pub(crate) fn skipping(skip: u64) -> Tally {
-        Tally {
-            skip,
-            put: 0,
-            entries: 0,
-        }
-    }
-
-    /// The place of one entry more, if it isn't passed over and there is room for it.
-    pub(crate) fn next(&mut self, room: usize) -> Option<usize>
-        ensures { IfSome result (λ place. place < room) }
-    {
-        self.entries = self.entries.saturating_add(1);
-        if self.skip > 0 {
-            self.skip -= 1;
-            return None;
-        }
-        if self.put >= room {
-            return None;
-        }
-        let place = self.put;
-        self.put += 1;
-        Some(place)
-    }
-
-    /// How many entries were put.
-    pub(crate) fn put(&self) -> usize {
-        self.put
-    }
-
-    /// How many entries there were.
-    pub(crate) fn entries(&self) -> u64 {
-        self.entries
-    }
-}
-
-/// The rows of an act, or of one that isn't ended.
-#[derive(Drop)]
-pub(crate) struct Rows {
-    /// The first row.
-    pub(crate) first: u64,
-    /// The last row. It is less than the first where the act has no row yet.
-    pub(crate) last: u64,
-    /// When the first row started, in microseconds.
-    pub(crate) start: u64,
-    /// When the last row started.
-    pub(crate) end: u64,
+struct Lists {
+    acts: ActListing,
+    news: NewsListing,
 }
 
 /// Walks over the acts of the lines of a text, and leaves what stands from the line on that ends
 /// the walk.
-pub(crate) fn walk<L: Listing>(
-    listing: &mut L,
+fn walk(
+    lists: &mut Lists,
     bus: &mut Bus,
     rest: &mut &[u8],
     told: &mut PageTold,
-    entries: &mut [L::Entry],
+    acts: &mut [PageAct],
+    news: &mut [PageNews],
 ) -> u32
     ensures left { length rest.new.now ≤ length rest.old.now }
     ensures row { told.new.row ≤ ROWS_MAX + 1 }
@@ -111,70 +88,64 @@ pub(crate) fn walk<L: Listing>(
         if !line.is_empty() {
             told.row = rows.last + 1;
             if rows.last >= ROWS_MAX {
-                cut(listing, entries, &rows);
+                lists.cut(acts, &rows);
                 return TOO_LONG;
             }
             let event = match row_of(line) {
                 Ok(event) => event,
                 Err(fault) => {
-                    cut(listing, entries, &rows);
+                    lists.cut(acts, &rows);
                     return line_answer(told, fault);
                 }
             };
             let at = event.start();
             match bus.feed_into(event, &mut act) {
-                Ok(ended) => take(listing, entries, &mut rows, at, ended, &act),
+                Ok(ended) => lists.take(acts, news, &mut rows, at, ended, &act),
                 Err(_) => return NO,
             }
         }
         *rest = behind;
     }
-    cut(listing, entries, &rows);
+    lists.cut(acts, &rows);
     told.row = rows.last;
     YES
 }
 
-/// Takes a row that started at a time, and the act that it ends if it ends one.
-#[inline(always)]
-fn take<L: Listing>(
-    listing: &mut L,
-    entries: &mut [L::Entry],
-    rows: &mut Rows,
-    at: Time,
-    ended: bool,
-    act: &Act,
-)
-    requires { rows.old.last < ROWS_MAX }
-    ensures { rows.new.last ≡ rows.old.last + 1 }
-{
-    if let (true, Act::Break(_)) = (ended, act) {
-        cut(listing, entries, rows);
-        rows.first = rows.last + 1;
+impl Lists {
+    /// Takes a row that started at a time, and the act that it ends if it ends one.
+    #[inline(always)]
+    fn take(
+        &mut self,
+        acts: &mut [PageAct],
+        news: &mut [PageNews],
+        rows: &mut Rows,
+        at: Time,
+        ended: bool,
+        act: &Act,
+    )
+        requires { rows.old.last < ROWS_MAX }
+        ensures { rows.new.last ≡ rows.old.last + 1 }
+    {
+        if let (true, Act::Break(_)) = (ended, act) {
+            self.cut(acts, rows);
+            rows.first = rows.last + 1;
+        }
+        rows.last += 1;
+        if rows.first == rows.last {
+            rows.start = at.value();
+        }
+        rows.end = at.value();
+        if ended {
+            self.acts.act(acts, rows, act);
+            self.news.act(news, rows, act, at);
+            rows.first = rows.last + 1;
+        }
     }
-    rows.last += 1;
-    if rows.first == rows.last {
-        rows.start = at.value();
-    }
-    rows.end = at.value();
-    if ended {
-        listing.act(entries, rows, act, at);
-        rows.first = rows.last + 1;
-    }
-}
 
-/// Takes the rows that no act has, if there are some.
-fn cut<L: Listing>(listing: &mut L, entries: &mut [L::Entry], rows: &Rows) {
-    if rows.first <= rows.last {
-        listing.cut(entries, rows);
-    }
-}
-
-/// The number of a device.
-pub(crate) fn device_number(device: Device) -> u8 {
-    match device {
-        Device::Changer => 1,
-        Device::Bill => 2,
-        Device::Reader(ReaderUnit::First) => 3,
-        Device::Reader(ReaderUnit::Second) => 4,
+    /// Takes the rows that no act has, if there are some.
+    fn cut(&mut self, acts: &mut [PageAct], rows: &Rows) {
+        if rows.first <= rows.last {
+            self.acts.cut(acts, rows);
+        }
     }
 }

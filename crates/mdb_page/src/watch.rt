@@ -1,12 +1,12 @@
 //! Silences: devices that left the controller's commands unanswered for too long.
 //!
-//! When a silence is too long, `Silences` of `mdb_follow` says. So these are the silences that a
-//! report counts.
+//! `Silences` of `mdb_follow` decides when a silence is too long, as it does for a report. After the
+//! first impossible row of a device this list goes on, and a report doesn't.
 
 ghost use Rattle.std.specs.Prelude.{◌≤◌, ◌<◌};
 ghost use Rattle.mdb_follow.specs.SilenceSteps.{AreFew};
 
-use crate::walk::Rows;
+use crate::rows::Rows;
 use mdb_bus::{Act, Beginning};
 use mdb_cash::Pair;
 use mdb_cashless::{Reader, ReaderKnown};
