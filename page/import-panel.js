@@ -514,7 +514,7 @@ function refuseImport(it) {
   endChecker();
   file = it.file;
   recording = null;
-  trouble("The import was refused. The reason is told above.", false);
+  trouble("The import was refused. The reason stands above.", false);
   seeTold();
 }
 

@@ -4,7 +4,7 @@
 const STRUCTURES = {
   options: {joined: [1, 1], without: [1, 4], setups: [1, 4 * 37]},
   setup: {count: [1, 1], bytes: [1, 36]},
-  told: {row: [8, 1], offset: [8, 1], fault: [8, 1], entries: [8, 1]},
+  told: {row: [8, 1], offset: [8, 1], fault: [8, 1], acts: [8, 1], news: [8, 1]},
   answer: {count: [8, 1], bytes: [1, 2048]},
   act: {
     first: [8, 1],

@@ -23,7 +23,7 @@ WORKERS = "sha256 layout worker".split()
 IMPORT_SCRIPTS = ["sha256", *(f"import-{name}" for name in "text rows saleae edges sigrok formats known worker".split())]
 # Recordings of examples/ that the page has for those who want to try it, each with what it is.
 EXAMPLES = {
-    "coin-told-twice": "A coin that was told twice: was it one or two?",
+    "coin-told-twice": "A coin that was reported twice: was it one or two?",
     "sale-never-approved": "A sale by card that was never approved: who broke the protocol?",
 }
 # The leading words of a rule's paragraphs. What to look at is for either side, or for the one that sent the row.

@@ -103,12 +103,11 @@ function addNews(found, piece, i) {
     found.setups.push(eventEntry(piece, i, {device}));
 }
 
-// All that the pieces tell, in the order of the rows; silences in the order of their ends.
-function readNews(pieces) {
-  const found = {money: [], sessions: [], resets: [], breaks: [], silences: [], setups: []};
-  for (const buffer of pieces) {
-    const piece = new NewsPiece(buffer);
-    for (let i = 0; i < piece.count; i++) addNews(found, piece, i);
-  }
-  return found;
+// What is found: entries in the order of the rows, silences in the order of their ends.
+const noNews = () => ({money: [], sessions: [], resets: [], breaks: [], silences: [], setups: []});
+
+// Adds the entries of a piece, as it lies in memory.
+function addPiece(found, buffer) {
+  const piece = new NewsPiece(buffer);
+  for (let i = 0; i < piece.count; i++) addNews(found, piece, i);
 }

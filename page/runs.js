@@ -32,9 +32,8 @@ async function start() {
 }
 
 // A worker with one recording. It reads the recording at the first message, and keeps it for the next ones. Its
-// checksum
-// (`sum`) comes some time after the first answer. A message
-// has a number, which the worker gives back: what comes with another number answers nothing that is waited for.
+// checksum (`sum`) comes some time after the first answer. A message has a number, which the worker gives back: what
+// comes with another number answers nothing that is waited for.
 class Checker {
   constructor(recording) {
     this.url = URL.createObjectURL(new Blob([WORKER], {type: "text/javascript"}));
@@ -61,7 +60,7 @@ class Checker {
       return;
     }
     if (data.told === "news") {
-      asked.found = readNews(data.news);
+      addPiece(asked.found, data.news);
       return;
     }
     this.waiting.delete(data.number);
@@ -74,7 +73,7 @@ class Checker {
     const number = ++this.number, first = this.first;
     this.first = {};
     return new Promise((done, failed) => {
-      this.waiting.set(number, {done, failed, progress});
+      this.waiting.set(number, {done, failed, progress, found: noNews()});
       this.worker.postMessage({...first, ...message, number});
     });
   }

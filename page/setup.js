@@ -1,17 +1,30 @@
 // An earlier recording, for what it shows of the set-up.
 let newestSetup = 0;
 
+// The last answers to SETUP that stand among acts that aren't listed, with none of their devices after them; in words.
+function unlistedSetups({found, hole}, acts) {
+  if (hole < 0) return "";
+  const from = acts.last(hole - 1), to = acts.first(hole), missed = [null, null, null, null, null];
+  for (const it of found.setups)
+    if (it.first > from) missed[it.device] = it.last < to ? it : null;
+  const words = ({first, last, device}) => ` Rows ${number(first)}–${number(last)} have a later answer of the ` +
+      `${DEVICE_NAMES[device]}, which isn't listed. Cut the recording after them, and choose it again.`;
+  return missed.filter(Boolean).map(words).join("");
+}
+
 // What an earlier recording says of the set-up of each device, put into the fields; in words.
 function takeSetups(told, name) {
   if (told.answer > ANSWERS.NO) return `${name}: ${unreadWords(told)} Nothing was taken from it.`;
-  const found = findSetups(new Acts(told.acts, told.listed)), names = [];
+  const acts = new Acts(told.acts, told.listed), found = findSetups(acts), names = [],
+        more = unlistedSetups(told, acts);
   for (let d = 1; d < 5; d++)
     if (found[d]) {
       by("setup-" + DEVICES[d]).value = found[d];
       names.push(DEVICE_NAMES[d]);
     }
   if (names.length) showSetupFault(null);
-  return names.length ? `${name} shows the set-up of the ${listed(names)}.` :
+  if (!names.length && more) return `${name}:${more}`;
+  return names.length ? `${name} shows the set-up of the ${listed(names)}.${more}` :
                         `${name} shows no answer to SETUP. The bytes below are as they were.`;
 }
 

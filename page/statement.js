@@ -1,4 +1,4 @@
-// The statement: a line for each sale or payment, as it was told.
+// The statement: a line for each sale or payment, as it was reported.
 const PAGE_LINES = 100;
 // What an entry is in a sale.
 const SALE_PARTS = {
@@ -13,8 +13,8 @@ const PART_WORDS = {
   request: "requested",
   approved: "approved",
   denied: "denied",
-  sold: "told as sold",
-  failed: "told as failed",
+  sold: "reported as sold",
+  failed: "reported as failed",
   cancelled: "request cancelled"
 };
 const NO_SUM = {
@@ -24,8 +24,9 @@ const NO_SUM = {
   decimals: undefined
 };
 const OUTCOMES = ["sold", "failed", "cancelled"];
-const LINE_HEADS =
-    [["begins at"], ["told, in rows"], ["item"], ["amount", "number"], ["outcome"], ["so far, as told", "number"]];
+const LINE_HEADS = [
+  ["begins at"], ["reported, in rows"], ["item"], ["amount", "number"], ["outcome"], ["so far, as reported", "number"]
+];
 const SUM_TITLES = {
   coins: "coins in",
   out: "paid out",
@@ -176,10 +177,10 @@ function partWords(m, part) {
 function outcomeWords(it, line) {
   if (!line.isSale) return it.found.money[line.parts[0].i].acknowledged ? "acknowledged" : "not acknowledged";
   const has = (part) => line.parts.some((it) => it.part === part);
-  if (line.outcome !== "sold") return line.outcome ?? (has("denied") ? "denied" : "no outcome told");
+  if (line.outcome !== "sold") return line.outcome ?? (has("denied") ? "denied" : "no outcome reported");
   if (has("denied")) return "sold although denied";
-  if (!has("request")) return "sold, with no request told";
-  return has("approved") ? "sold" : "sold, with no approval told";
+  if (!has("request")) return "sold, with no request reported";
+  return has("approved") ? "sold" : "sold, with no approval reported";
 }
 
 // What of a line is judged, after a no.
@@ -208,7 +209,7 @@ function lineCells(it, line, parts) {
   return [
     ["", [timeLink(first.begin, first.first, first.last), h("div", {class: "soft"}, DEVICE_LABELS[line.device])]],
     ["", told], ["item", String(line.item).replace("item ", "")], ["amount", amount, "number"],
-    ["", [outcomeWords(it, line), judged]], ["so far, as told", sumCell(line), "number"]
+    ["", [outcomeWords(it, line), judged]], ["so far, as reported", sumCell(line), "number"]
   ];
 }
 
@@ -284,17 +285,17 @@ function statementTools(it) {
 }
 
 function tellSection(it) {
-  if (!it.found.money.length) return section("Coins, bills and sales", "told-money", h("p", {}, "None was told."));
+  if (!it.found.money.length) return section("Coins, bills and sales", "told-money", h("p", {}, "None was reported."));
   const where = it.answer === ANSWERS.YES || it.before ? "The checked sums stand above." :
                                                          "There are no checked sums, since there is no verdict.";
   const made = section(
       "Coins, bills and sales", "told-money",
       h("p", {},
-        "A line for each sale or payment, as it was told. A coin that was told twice stands here twice. The sums so far are as told too: the side that tells an amount counts it each time, and the other side where it acknowledges. ",
+        "A line for each sale or payment, as it was reported. A coin that was reported twice stands here twice. The sums so far follow the same reports: the side that reports an amount counts it each time, and the other side counts it where it acknowledges. ",
         h("strong", {}, where)),
       statementTools(it), h("p", {id: "statement-count", role: "status"}),
       h("div", {class: "scroll"},
-        h("table", {role: "table", class: "stacked", "aria-label": "Coins, bills and sales, as told"},
+        h("table", {role: "table", class: "stacked", "aria-label": "Coins, bills and sales, as reported"},
           h("thead", {role: "rowgroup"},
             h("tr", {role: "row"},
               LINE_HEADS.map(([words, kind]) => h("th", {scope: "col", role: "columnheader", class: kind}, words)))),

@@ -3,22 +3,23 @@
 const PAGE = 65536, CHUNK = 1 << 24;
 // So many acts are listed, the first and the last ones if there are more.
 const MOST = 800000, HALF = MOST / 2;
-// So many news are asked for at a time, after the first ones.
-const MOST_NEWS = 4000000;
+// So many news are asked for at a time.
+const MOST_NEWS = 1000000;
 // So many bytes are summed up between two messages.
 const PIECE = 1 << 22;
 // So many bytes are checked first, to know how quick this computer is.
 const FRONT = 1 << 20;
 let call, at, size, read, number, last = Promise.resolve();
 
-// Places in the module's memory, each a multiple of 8 above what the module has for itself. Acts and news lie in the
-// same place, one after the other.
+// Places in the module's memory, each a multiple of 8 above what the module has for itself. A row has 8 bytes or more,
+// and few recordings have news in more than one of six rows.
 function places(length) {
-  const up = (size) => Math.ceil(size / 8) * 8, {act} = layout;
+  const up = (size) => Math.ceil(size / 8) * 8;
   const options = freePlace(call), told = options + up(layout.options.size), answer = told + up(layout.told.size);
   const text = answer + up(layout.answer.size), acts = text + up(length) + 8;
-  const room = Math.min(MOST, Math.floor(length / 8) + 2);
-  return {options, told, answer, text, acts, room, end: acts + room * act.size};
+  const room = Math.min(MOST, Math.floor(length / 8) + 2), roomNews = Math.min(MOST_NEWS, Math.floor(length / 96) + 64);
+  const news = acts + room * layout.act.size;
+  return {options, told, answer, text, acts, room, news, roomNews, end: news + roomNews * layout.news.size};
 }
 
 // Why a file gives no recording, in words for the page.
@@ -76,7 +77,7 @@ function load(file) {
 function told() {
   const view = new DataView(call.memory.buffer, at.told), fields = layout.told;
   const u64 = (field) => Number(view.getBigUint64(fields[field], true));
-  return {row: u64("row"), offset: u64("offset"), fault: u64("fault"), entries: u64("entries")};
+  return {row: u64("row"), offset: u64("offset"), fault: u64("fault"), acts: u64("acts"), news: u64("news")};
 }
 
 // Checks so many bytes of the text.
@@ -84,35 +85,43 @@ function check(length) {
   return call.mdb_page_check(BigInt(at.options), BigInt(at.text), BigInt(length), BigInt(at.told), BigInt(at.answer));
 }
 
-function list(skip, place, room) {
-  return call.mdb_page_acts(
-      BigInt(at.options), BigInt(at.text), BigInt(size), BigInt(skip), BigInt(at.told), BigInt(place), BigInt(room));
+// Lists the first acts and the last ones as far as there is room for so many, and the news after the first `skip`.
+function list(room, skip, roomNews) {
+  const answer = call.mdb_page_list(
+      BigInt(at.options), BigInt(at.text), BigInt(size), BigInt(Math.min(HALF, room)), BigInt(skip), BigInt(at.told),
+      BigInt(at.acts), BigInt(room), BigInt(at.news), BigInt(roomNews));
+  return {...told(), answer};
 }
 
-// The first and the last acts, as far as there is room, and how many there are in all.
-function listActs() {
-  const answer = list(0, at.acts, at.room), {entries: all, row} = told(), {size: wide} = layout.act;
-  const isWhole = all <= at.room, listed = isWhole ? all : at.room;
-  if (!isWhole) list(all - HALF, at.acts + HALF * wide, at.room - HALF);
-  const acts = new Uint8Array(call.memory.buffer, at.acts, listed * wide).slice().buffer;
-  return {acts, listed, all, hole: isWhole ? -1 : HALF, link: {answer, row}};
+// The acts that are listed, in their order. If there are more than room, the last ones stand in a ring.
+function listedActs(all) {
+  const {size: wide} = layout.act, memory = new Uint8Array(call.memory.buffer, at.acts, Math.min(all, at.room) * wide);
+  if (all <= at.room) return memory.slice().buffer;
+  const ring = HALF * wide, oldest = ring + (all - HALF) % (at.room - HALF) * wide,
+        acts = new Uint8Array(memory.length);
+  acts.set(memory.subarray(0, ring));
+  acts.set(memory.subarray(oldest), ring);
+  acts.set(memory.subarray(ring, oldest), ring + memory.length - oldest);
+  return acts.buffer;
 }
 
-// All news of the recording, piece by piece: after the first piece, memory grows for many more at a time.
-function listNews() {
-  const pieces = [], {size: wide} = layout.news;
-  let got = 0, all = 1, room = Math.floor(at.room * layout.act.size / wide);
-  while (got < all) {
-    call.mdb_page_news(
-        BigInt(at.options), BigInt(at.text), BigInt(size), BigInt(got), BigInt(at.told), BigInt(at.acts), BigInt(room));
-    all = told().entries;
-    const count = Math.min(room, all - got);
-    pieces.push(new Uint8Array(call.memory.buffer, at.acts, count * wide).slice().buffer);
-    got += count;
-    room = Math.max(room, Math.min(all - got, MOST_NEWS));
-    if (got < all) grow(at.acts + room * wide);
+// Gives the page news that lie in memory. It reads them while the module goes on.
+function sayNews(count) {
+  const news = new Uint8Array(call.memory.buffer, at.news, count * layout.news.size).slice().buffer;
+  if (count > 0) say({told: "news", news}, [news]);
+}
+
+// The first and the last acts of the recording, as far as there is room, and all news, piece by piece. One walk over
+// the rows gives both; where there are many news, further walks give the rest of them.
+function listAll() {
+  const {acts: all, news: allNews, answer, row} = list(at.room, 0, at.roomNews), isWhole = all <= at.room;
+  sayNews(Math.min(at.roomNews, allNews));
+  const acts = listedActs(all);
+  for (let got = at.roomNews; got < allNews; got += at.roomNews) {
+    list(0, got, at.roomNews);
+    sayNews(Math.min(at.roomNews, allNews - got));
   }
-  return pieces;
+  return {acts, listed: Math.min(all, at.room), all, hole: isWhole ? -1 : HALF, link: {answer, row}};
 }
 
 // The lines about a place in the text: up to 40 before it (a whole block and more), that one, and up to four after it.
@@ -159,27 +168,23 @@ function setOptions(options) {
   new Uint8Array(call.memory.buffer, at.options, layout.options.size).set(options);
 }
 
+// Checks the recording, and lists its acts and news. The page reads the news while the rows are checked.
 function judge(options) {
   setOptions(options);
+  let most = 0;
   if (size > 8 * FRONT) {
     const begin = performance.now();
     check(FRONT);
-    tell("Checking", 0, (performance.now() - begin) * (size / FRONT));
-  } else
-    tell("Checking", 0, 0);
-  const begin = performance.now();
-  const answer = check(size), end = told();
-  const text = answer < 2 ? answerText() : "";
+    most = (performance.now() - begin) * (size / FRONT);
+  }
+  tell("Listing", 0, most);
+  const begin = performance.now(), {acts, ...listing} = listAll(), listed = performance.now();
+  tell("Checking", 0, most);
+  const answer = check(size), end = told(), text = answer < 2 ? answerText() : "";
   const checked = performance.now();
   // The rows before one that cannot be are a recording of their own, and its answer is a yes.
   const before = answer === 1 && check(end.offset) === 0 ? answerText() : "";
   const summed = performance.now();
-  tell("Listing", 0, (checked - begin) / 2);
-  // The page reads the news while the acts are listed.
-  const news = listNews();
-  say({told: "news", news}, news);
-  const {acts, ...listing} = listActs();
-  const done = performance.now();
   const stops = answer === 1 || answer === 2 || answer === 3 || answer === 4;
   say({
     told: "done",
@@ -193,7 +198,7 @@ function judge(options) {
     acts,
     ...listing,
     size,
-    ms: {read, check: checked - begin, before: summed - checked, list: done - summed},
+    ms: {read, check: checked - listed, before: summed - checked, list: listed - begin},
     memory: call.memory.buffer.byteLength
   },
       [acts]);
@@ -223,8 +228,7 @@ function judgeLate(options, isDevice) {
   const answer = check(size), end = told(), text = answer < 2 ? answerText() : "";
   let isFollowed = isDevice;
   if (!isDevice && answer === 0) {
-    list(0, at.acts, at.room);
-    const {size: wide, device} = layout.act, count = Math.min(told().entries, at.room);
+    const {size: wide, device} = layout.act, count = Math.min(list(at.room, 0, 0).acts, at.room);
     const acts = new Uint8Array(call.memory.buffer, at.acts, count * wide);
     for (let i = 0; i < count && !isFollowed; i++) isFollowed = acts[i * wide + device] > 0;
   }

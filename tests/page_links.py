@@ -212,13 +212,13 @@ class Walk:
     def outcome(self, parts):
         ends = [it for it in parts if it in ("sold", "failed", "cancelled")]
         if not ends:
-            return "denied" if "denied" in parts else "no outcome told"
+            return "denied" if "denied" in parts else "no outcome reported"
         if ends[-1] != "sold":
             return ends[-1]
         if "denied" in parts:
             return "sold although denied"
         return "sold" if {"request", "approved"} <= set(parts) else \
-            "sold, with no request told" if "request" not in parts else "sold, with no approval told"
+            "sold, with no request reported" if "request" not in parts else "sold, with no approval reported"
 
     def shown(self):
         """The lines as the page has them."""

@@ -85,7 +85,7 @@ fn options_that_name_no_scope_are_refused(rt: HostRuntime) {
 }
 
 #[test]
-fn acts_are_listed_and_taken_up_again(rt: HostRuntime) {
+fn acts_are_listed_the_first_and_the_last(rt: HostRuntime) {
     let blank = PageAct {
         first: 0,
         last: 0,
@@ -117,9 +117,12 @@ fn acts_are_listed_and_taken_up_again(rt: HostRuntime) {
     );
     assert_eq!(rt; (acts[2].first, acts[2].last, acts[2].kind), (4, 4, 10));
     assert_eq!(rt; acts[3].kind, 99);
-    let mut one = [blank; 1];
-    assert_eq!(rt; mdb_page_list(&power_on(), text, 1, 0, &mut told, &mut one, &mut []), 0);
-    assert_eq!(rt; (told.acts, one[0].first, one[0].kind), (3, 3, 1));
+    // The last ones stand in a ring behind the first.
+    let mut two = [blank; 2];
+    assert_eq!(rt; mdb_page_list(&power_on(), text, 1, 0, &mut told, &mut two, &mut []), 0);
+    assert_eq!(rt; (told.acts, two[0].first, two[1].first), (3, 1, 4));
+    assert_eq!(rt; mdb_page_list(&power_on(), text, 0, 0, &mut told, &mut two, &mut []), 0);
+    assert_eq!(rt; (told.acts, two[0].first, two[1].first), (3, 4, 3));
 }
 
 /// A changer that is reset, tells its set-up, and then of two coins of 0.25 in a reply, which the

@@ -1,6 +1,8 @@
 //! The acts of a recording, as `show` lists them.
 
-use crate::rows::{Rows, Tally, device_number};
+ghost use Rattle.std.specs.Prelude.{◌<◌, IfSome};
+
+use crate::rows::{Rows, device_number};
 use mdb_blocks::Block;
 use mdb_bus::Act;
 use mdb_msgs::{Command, Reply, write_command, write_reply};
@@ -36,23 +38,30 @@ const BREAK: u8 = 9;
 
 const CUT: u8 = 10;
 
-/// The list of the acts.
+/// The list of the acts: the first ones, and after them the last ones in a ring.
 #[derive(Drop)]
 pub(crate) struct ActListing {
-    tally: Tally,
+    /// So many of the first ones stay.
+    first: usize,
+    /// The place of the next one.
+    next: usize,
+    /// How many there were.
+    count: u64,
 }
 
 impl ActListing {
-    /// The list before the first act, where so many are passed over.
-    pub(crate) fn skipping(skip: u64) -> ActListing {
+    /// The list before the first act, where so many of the first ones stay.
+    pub(crate) fn keeping(first: usize) -> ActListing {
         ActListing {
-            tally: Tally::skipping(skip),
+            first,
+            next: 0,
+            count: 0,
         }
     }
 
     /// Takes an act, which has these rows.
     pub(crate) fn act(&mut self, acts: &mut [PageAct], rows: &Rows, act: &Act) {
-        if let Some(place) = self.tally.next(acts.len()) {
+        if let Some(place) = self.place(acts.len()) {
             let place = &mut acts[place];
             put_rows(place, rows);
             put_act(place, act);
@@ -61,7 +70,7 @@ impl ActListing {
 
     /// Takes rows that no act has, since a break or the end cuts them.
     pub(crate) fn cut(&mut self, acts: &mut [PageAct], rows: &Rows) {
-        if let Some(place) = self.tally.next(acts.len()) {
+        if let Some(place) = self.place(acts.len()) {
             let place = &mut acts[place];
             put_rows(place, rows);
             place.kind = CUT;
@@ -70,7 +79,21 @@ impl ActListing {
 
     /// How many there were.
     pub(crate) fn count(&self) -> u64 {
-        self.tally.entries()
+        self.count
+    }
+
+    /// The place of one more, if there is room for it.
+    fn place(&mut self, room: usize) -> Option<usize>
+        ensures { IfSome result (λ place. place < room) }
+    {
+        self.count = self.count.saturating_add(1);
+        let place = self.next;
+        if place >= room {
+            return None;
+        }
+        let after = place + 1;
+        self.next = if after < room { after } else { self.first };
+        Some(place)
     }
 }
 

@@ -1,13 +1,13 @@
 //! The news of a recording: what its acts tell of money, sales, resets, breaks and silences.
 
-ghost use Rattle.std.specs.Prelude.{◌≡◌, ◌*◌, IfSome, option_map};
+ghost use Rattle.std.specs.Prelude.{◌≡◌, ◌<◌, ◌*◌, IfSome, option_map};
 ghost use Rattle.mdb_cash.specs.Bill.{bill_value};
 ghost use Rattle.mdb_cash.specs.BillMessages as bills;
 ghost use Rattle.mdb_cash.specs.Changer.{coin_value};
 ghost use Rattle.mdb_cash.specs.ChangerMessages as coins_told;
 ghost use Rattle.mdb_page.specs.Worth.{bill_worth, coin_worth, worth_of};
 
-use crate::rows::{Rows, Tally, device_number};
+use crate::rows::{Rows, device_number};
 use crate::watch::{Unanswered, Watch};
 use crate::worth::{Worth, amount, bill, coins};
 use mdb_bus::{Act, Beginning};
@@ -181,6 +181,55 @@ impl Fact {
                 None => false,
             },
         }
+    }
+}
+
+/// Which entries are put, and how many there were.
+#[derive(Drop)]
+struct Tally {
+    /// So many are passed over yet.
+    skip: u64,
+    /// So many were put.
+    put: usize,
+    /// So many there were.
+    entries: u64,
+}
+
+impl Tally {
+    /// The tally before the first entry, where so many are passed over.
+    fn skipping(skip: u64) -> Tally {
+        Tally {
+            skip,
+            put: 0,
+            entries: 0,
+        }
+    }
+
+    /// The place of one entry more, if it isn't passed over and there is room for it.
+    fn next(&mut self, room: usize) -> Option<usize>
+        ensures { IfSome result (λ place. place < room) }
+    {
+        self.entries = self.entries.saturating_add(1);
+        if self.skip > 0 {
+            self.skip -= 1;
+            return None;
+        }
+        if self.put >= room {
+            return None;
+        }
+        let place = self.put;
+        self.put += 1;
+        Some(place)
+    }
+
+    /// How many entries were put.
+    fn put(&self) -> usize {
+        self.put
+    }
+
+    /// How many entries there were.
+    fn entries(&self) -> u64 {
+        self.entries
     }
 }
 

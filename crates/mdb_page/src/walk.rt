@@ -15,16 +15,19 @@ use mdb_bus::{Act, Bus};
 use mdb_follow::ROWS_MAX;
 use mdb_words::Time;
 
-/// Lists the acts of a recording after the first `skip_acts`, and what they tell after the first
-/// `skip_news`, each as far as there is room. It returns what `mdb_page_check` does: 1 means that a
-/// row breaks a rule of the link. It doesn't know the rules of the devices. `told` shows how many
-/// acts and news there are in all.
+/// Lists the acts of a recording, and what they report after the first `skip` news, as far as there
+/// is room. Where there are more acts than room, the first `first` stay, and behind them stand the
+/// last ones in a ring: the one numbered n from 0, at `first` and the rest of n less `first` by the
+/// room behind them.
+///
+/// It returns what `mdb_page_check` does: 1 means that a row breaks a rule of the link. It doesn't
+/// know the rules of the devices. `told` shows how many acts and news there are in all.
 #[unsafe(no_mangle)]
 pub extern "C" fn mdb_page_list(
     options: &PageOptions,
     text: &[u8],
-    skip_acts: u64,
-    skip_news: u64,
+    first: usize,
+    skip: u64,
     told: &mut PageTold,
     acts: &mut [PageAct],
     news: &mut [PageNews],
@@ -41,8 +44,8 @@ pub extern "C" fn mdb_page_list(
     };
     let mut bus = Bus::scoped(&scope);
     let mut lists = Lists {
-        acts: ActListing::skipping(skip_acts),
-        news: NewsListing::start(&scope.begins, skip_news),
+        acts: ActListing::keeping(first),
+        news: NewsListing::start(&scope.begins, skip),
     };
     let mut rest = without_mark(text);
     let answer = walk(&mut lists, &mut bus, &mut rest, told, acts, news);
