@@ -637,7 +637,7 @@ def try_announced(page):
     page.choose("long.csv")
     came = page.settled()
     heard = page.value("heard")
-    want(heard[0].startswith("Reading long.csv") or heard[0].startswith("Checking long.csv"), heard)
+    want(heard[0].startswith(("Reading long.csv", "Listing long.csv")), heard)
     want(any(it.startswith("Checking long.csv") for it in heard) and heard[-1] == f"long.csv: {came['word']}. {came['lead']}", heard)
     want(page.value("document.querySelectorAll('[role=status] button, [aria-live] button').length") == 0, "buttons in a live region")
 
