@@ -84,21 +84,23 @@ fn options_that_name_no_scope_are_refused(rt: HostRuntime) {
     assert_eq!(rt; number, 5);
 }
 
+/// Nothing was listed here yet.
+const BLANK: PageAct = PageAct {
+    first: 0,
+    last: 0,
+    start: 0,
+    end: 0,
+    length: 0,
+    kind: 99,
+    device: 9,
+    count: 9,
+    bytes: [0; 36],
+};
+
 #[test]
 fn acts_are_listed_the_first_and_the_last(rt: HostRuntime) {
-    let blank = PageAct {
-        first: 0,
-        last: 0,
-        start: 0,
-        end: 0,
-        length: 0,
-        kind: 99,
-        device: 9,
-        count: 9,
-        bytes: [0; 36],
-    };
     let text = b"0,M,108\n1146,M,008\n3000,S,100\n9000,M,10B\n";
-    let mut acts = [blank; 4];
+    let mut acts = [BLANK; 4];
     let mut told = nothing();
     assert_eq!(rt;
         mdb_page_list(&power_on(), text, 0, 0, &mut told, &mut acts, &mut []),
@@ -118,11 +120,34 @@ fn acts_are_listed_the_first_and_the_last(rt: HostRuntime) {
     assert_eq!(rt; (acts[2].first, acts[2].last, acts[2].kind), (4, 4, 10));
     assert_eq!(rt; acts[3].kind, 99);
     // The last ones stand in a ring behind the first.
-    let mut two = [blank; 2];
-    assert_eq!(rt; mdb_page_list(&power_on(), text, 1, 0, &mut told, &mut two, &mut []), 0);
+    let mut two = [BLANK; 2];
+    assert_eq!(rt;
+        mdb_page_list(&power_on(), text, 1, 0, &mut told, &mut two, &mut []),
+        0
+    );
     assert_eq!(rt; (told.acts, two[0].first, two[1].first), (3, 1, 4));
-    assert_eq!(rt; mdb_page_list(&power_on(), text, 0, 0, &mut told, &mut two, &mut []), 0);
+    assert_eq!(rt;
+        mdb_page_list(&power_on(), text, 0, 0, &mut told, &mut two, &mut []),
+        0
+    );
     assert_eq!(rt; (told.acts, two[0].first, two[1].first), (3, 4, 3));
+}
+
+#[test]
+fn a_block_that_a_break_cuts_is_listed(rt: HostRuntime) {
+    let text = b"0,M,108\n9000,B,100000\n310000,M,108\n311146,M,009\n";
+    let mut acts = [BLANK; 4];
+    let mut told = nothing();
+    assert_eq!(rt;
+        mdb_page_list(&power_on(), text, 0, 0, &mut told, &mut acts, &mut []),
+        1
+    );
+    assert_eq!(rt; (told.acts, told.row, told.offset), (2, 4, 35));
+    assert_eq!(rt; (acts[0].first, acts[0].last, acts[0].kind), (1, 1, 10));
+    assert_eq!(rt; (acts[0].device, acts[0].count), (0, 0));
+    assert_eq!(rt; (acts[1].first, acts[1].last, acts[1].kind), (2, 2, 9));
+    assert_eq!(rt; (acts[1].start, acts[1].length), (9_000, 100_000));
+    assert_eq!(rt; acts[2].kind, 99);
 }
 
 /// A changer that is reset, tells its set-up, and then of two coins of 0.25 in a reply, which the

@@ -1,4 +1,6 @@
+pub mod Acts
 pub mod Answers
 pub mod Lines
 pub mod Options
 pub mod Worth
+pub mod inner

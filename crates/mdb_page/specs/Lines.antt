@@ -1,5 +1,5 @@
 -- How a text reads as rows.
-use Rattle.std.specs.Prelude.{◌≡◌, ◌≢◌, ℕ, List, [], ◌∷◌, ◌++◌, All, drop, slice_index_or}
+use Rattle.std.specs.Prelude.{◌≡◌, ◌≢◌, ◌⊎◌, ℕ, List, [], ◌∷◌, ◌++◌, All, drop, slice_index_or}
 use Rattle.mdb_words.specs.declared.event.Event.{Event}
 use Rattle.mdb_words.specs.declared.row.RowFault.{RowFault}
 use Rattle.mdb_words.specs.Row.{IsRefusal, IsRow, joined_by_commas}
@@ -66,6 +66,11 @@ pub record TellsNoRow (line : List ℕ) (why : RowFault) : Type 0 where
   pub fields : AreNoRow line why
   pub unquoted : All (λ byte. byte ≢ 34) line
   pub unreturned : All (λ byte. byte ≢ 13) line
+
+-- a line has a quote or a CR
+abbrev pub IsUnread : List ℕ → Type 0
+IsUnread line = ((front rest : List ℕ) × IsCut 34 line front rest)
+    ⊎ ((front rest : List ℕ) × IsCut 13 line front rest)
 
 -- Lines that were read off the front of a text, the rows that they tell, and what is left. A line
 -- without bytes tells nothing.

@@ -1,6 +1,16 @@
 //! The acts of a recording, as `show` lists them.
 
-ghost use Rattle.std.specs.Prelude.{◌<◌, IfSome};
+ghost use Rattle.std.specs.Prelude.{◌<◌, ◌≡◌, ◌≤◌, ℕ, List, [], ◌∷◌, length, IfSome, None, Some};
+ghost use Rattle.mdb_words.specs.declared.event.Event.{Event};
+ghost use Rattle.mdb_blocks.specs.Block.{block_of};
+ghost use Rattle.mdb_msgs.specs.Commands.{device_of};
+ghost use Rattle.mdb_msgs.specs.Replies.{reply_bytes};
+ghost use Rattle.mdb_bus.specs.ActLists.{IsTail, Piece, Whole, events_of, piece_events};
+ghost use Rattle.mdb_bus.specs.Acts.{IsReply, NamesAReply};
+ghost use Rattle.mdb_follow.specs.declared.follower.TheConstants.{ROWS_MAX};
+ghost use Rattle.mdb_page.specs.Acts.{Shows, ShowsAct, device_number};
+ghost use Rattle.mdb_page.specs.declared.acts.PageAct.{PageAct};
+ghost use Rattle.mdb_page.specs.inner.Listing.{AreOf, HasListed, Moves, with_rows};
 
 use crate::rows::{Rows, device_number};
 use mdb_blocks::Block;
@@ -51,7 +61,9 @@ pub(crate) struct ActListing {
 
 impl ActListing {
     /// The list before the first act, where so many of the first ones stay.
-    pub(crate) fn keeping(first: usize) -> ActListing {
+    pub(crate) fn keeping(first: usize) -> ActListing
+        ensures { (acts : List PageAct) → HasListed first acts [] result acts }
+    {
         ActListing {
             first,
             next: 0,
@@ -60,31 +72,47 @@ impl ActListing {
     }
 
     /// Takes an act, which has these rows.
-    pub(crate) fn act(&mut self, acts: &mut [PageAct], rows: &Rows, act: &Act) {
+    pub(crate) fn act(&mut self, acts: &mut [PageAct], rows: &Rows, act: &Act)
+        requires { NamesAReply act.now }
+        ensures { (first : ℕ) (before : List PageAct) (earlier : List Piece)
+            (events : List Event) → HasListed first before earlier self.old acts.old
+            → length earlier ≤ ROWS_MAX → AreOf rows.now (length (events_of earlier)) events
+            → HasListed first before (Whole act.now events ∷ earlier) self.new acts.new }
+    {
         if let Some(place) = self.place(acts.len()) {
             let place = &mut acts[place];
-            put_rows(place, rows);
             put_act(place, act);
+            put_rows(place, rows);
         }
     }
 
-    /// Takes rows that no act has, since a break or the end cuts them.
-    pub(crate) fn cut(&mut self, acts: &mut [PageAct], rows: &Rows) {
+    /// Takes the words of a block that a break or the end cuts, which have these rows.
+    pub(crate) fn cut(&mut self, acts: &mut [PageAct], rows: &Rows)
+        ensures { (first : ℕ) (before : List PageAct) (earlier : List Piece) (tail : Piece)
+            → HasListed first before earlier self.old acts.old → IsTail tail
+            → length earlier ≤ ROWS_MAX
+            → AreOf rows.now (length (events_of earlier)) (piece_events tail)
+            → HasListed first before (tail ∷ earlier) self.new acts.new }
+    {
         if let Some(place) = self.place(acts.len()) {
             let place = &mut acts[place];
+            put(place, CUT, 0, 0);
             put_rows(place, rows);
-            place.kind = CUT;
         }
     }
 
     /// How many there were.
-    pub(crate) fn count(&self) -> u64 {
+    pub(crate) fn count(&self) -> u64
+        ensures { (first : ℕ) (before after : List PageAct) (listed : List Piece)
+            → HasListed first before listed self.now after → result ≡ length listed }
+    {
         self.count
     }
 
     /// The place of one more, if there is room for it.
     fn place(&mut self, room: usize) -> Option<usize>
-        ensures { IfSome result (λ place. place < room) }
+        ensures room { IfSome result (λ place. place < room) }
+        ensures moved { Moves room self.old self.new result }
     {
         self.count = self.count.saturating_add(1);
         let place = self.next;
@@ -97,57 +125,70 @@ impl ActListing {
     }
 }
 
-/// Puts rows into an act, of which nothing else is known yet.
-fn put_rows(place: &mut PageAct, rows: &Rows) {
+/// Puts the rows of an act.
+fn put_rows(place: &mut PageAct, rows: &Rows)
+    ensures { place.new ≡ with_rows place.old rows.now }
+{
     place.first = rows.first;
     place.last = rows.last;
     place.start = rows.start;
     place.end = rows.end;
-    place.length = 0;
-    place.device = 0;
-    place.count = 0;
 }
 
-/// Puts what was done into an act.
-fn put_act(place: &mut PageAct, act: &Act) {
+/// Puts what was done.
+fn put_act(place: &mut PageAct, act: &Act)
+    requires { NamesAReply act.now }
+    ensures { ShowsAct place.new (Some act.now) }
+{
     match act {
-        Act::Ask(command) => {
-            put(place, 0, command);
-            put_block(place, &write_command(command));
-        }
-        Act::Ack(command) => put(place, 1, command),
-        Act::Nak(command) => put(place, 2, command),
+        Act::Ask(command) => put_block(place, 0, command, &write_command(command)),
+        Act::Ack(command) => put_answer(place, 1, command),
+        Act::Nak(command) => put_answer(place, 2, command),
         Act::Reply(command, reply) => put_reply(place, 3, command, reply),
-        Act::VmcAck(command, _) => put(place, 4, command),
-        Act::VmcNak(command, _) => put(place, 5, command),
-        Act::VmcRet(command, _) => put(place, 6, command),
+        Act::VmcAck(command, _) => put_answer(place, 4, command),
+        Act::VmcNak(command, _) => put_answer(place, 5, command),
+        Act::VmcRet(command, _) => put_answer(place, 6, command),
         Act::Repeat(command, reply) => put_reply(place, 7, command, reply),
-        Act::Foreign => place.kind = FOREIGN,
-        Act::Break(length) => {
-            place.kind = BREAK;
-            place.length = *length;
-        }
+        Act::Foreign => put(place, FOREIGN, 0, 0),
+        Act::Break(length) => put(place, BREAK, 0, *length),
     }
 }
 
-/// Puts the kind and the device of an act.
-fn put(place: &mut PageAct, kind: u8, command: &Command) {
+/// Puts a kind, the number of a device, and how long a break was. There are no bytes.
+fn put(place: &mut PageAct, kind: u8, device: u8, length: u64)
+    ensures { Shows place.new kind device [] length }
+{
     place.kind = kind;
-    place.device = device_number(command.device());
+    place.device = device;
+    place.count = 0;
+    place.length = length;
+}
+
+/// Puts an answer of one byte.
+fn put_answer(place: &mut PageAct, kind: u8, command: &Command)
+    ensures { Shows place.new kind (device_number (device_of command.now)) [] 0 }
+{
+    put(place, kind, device_number(command.device()), 0);
 }
 
 /// Puts a reply.
-fn put_reply(place: &mut PageAct, kind: u8, command: &Command, reply: &Reply) {
-    put(place, kind, command);
-    if let Ok(block) = write_reply(command, reply) {
-        put_block(place, &block);
-    }
+fn put_reply(place: &mut PageAct, kind: u8, command: &Command, reply: &Reply)
+    requires { IsReply command.now reply.now }
+    ensures { Shows place.new kind (device_number (device_of command.now))
+        (block_of (reply_bytes reply.now)) 0 }
+{
+    let Ok(block) = write_reply(command, reply) else {
+        unreachable!()
+    };
+    put_block(place, kind, command, &block);
 }
 
-/// Puts the bytes of a block into an act.
-fn put_block(place: &mut PageAct, block: &Block) {
-    for (to, byte) in place.bytes.iter_mut().zip(block.bytes()) {
-        *to = *byte;
-    }
-    place.count = block.bytes().len() as u8;
+/// Puts the block of a command or of a reply to it.
+fn put_block(place: &mut PageAct, kind: u8, command: &Command, block: &Block)
+    ensures { Shows place.new kind (device_number (device_of command.now)) block.now 0 }
+{
+    put_answer(place, kind, command);
+    let bytes = block.bytes();
+    place.bytes[..bytes.len()].copy_from_slice(bytes);
+    place.count = bytes.len() as u8;
 }

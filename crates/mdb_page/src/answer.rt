@@ -133,6 +133,8 @@ pub extern "C" fn mdb_page_check(
 pub(crate) fn line_answer(told: &mut PageTold, fault: LineFault) -> u32
     ensures bad_row { result ≡ 2 → (why : RowFault) × (fault ≡ LineFault.BadRow why)
         × (told.new.fault ≡ number_of why) }
+    ensures row_fault { (why : RowFault) → fault ≡ LineFault.BadRow why → result ≡ 2 }
+    ensures unread { fault ≡ LineFault.Unread → result ≡ 4 }
     ensures yes { result ≢ 0 }
     ensures no { result ≢ 1 }
     ensures options { result ≢ 5 }

@@ -8,7 +8,7 @@
 
 ghost use Rattle.std.specs.Prelude.{◌≡◌, ◌≢◌, ◌≤◌, ◌<◌, ◌∷◌, [], ℕ, List, All, IfErr, IfNone, IfOk, IfSome, length};
 ghost use Rattle.mdb_words.specs.declared.row.RowFault.{RowFault};
-ghost use Rattle.mdb_page.specs.Lines.{AreNoRow, IsBare, IsCut, IsFirstLine, IsUnmarked, TellsNoRow, TellsRow};
+ghost use Rattle.mdb_page.specs.Lines.{AreNoRow, IsBare, IsCut, IsFirstLine, IsUnmarked, IsUnread, TellsNoRow, TellsRow};
 ghost use Rattle.mdb_page.specs.declared.lines.LineFault.{LineFault};
 
 use mdb_words::{Event, RowFault};
@@ -81,6 +81,7 @@ pub(crate) fn row_of(line: &[u8]) -> Result<Event, LineFault>
     ensures row { IfOk result (TellsRow line.now) }
     ensures none { IfErr result (λ fault. (why : RowFault) → fault ≡ LineFault.BadRow why
         → TellsNoRow line.now why) }
+    ensures unread { IfErr result (λ fault. fault ≡ LineFault.Unread → IsUnread line.now) }
 {
     match event_of(line) {
         Ok(event) => Ok(event),
@@ -109,8 +110,9 @@ fn event_of(line: &[u8]) -> Result<Event, RowFault>
 /// Why a line is no row, where its fields are none for this reason.
 #[inline(never)]
 fn fault_of(line: &[u8], fault: RowFault) -> LineFault
-    ensures { (why : RowFault) → result ≡ LineFault.BadRow why → (why ≡ fault)
+    ensures row { (why : RowFault) → result ≡ LineFault.BadRow why → (why ≡ fault)
         × All (λ byte. byte ≢ 34) line.now × All (λ byte. byte ≢ 13) line.now }
+    ensures unread { result ≡ LineFault.Unread → IsUnread line.now }
 {
     if cut(line, b'"').is_some() || cut(line, b'\r').is_some() {
         LineFault::Unread

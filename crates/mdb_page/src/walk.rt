@@ -1,9 +1,15 @@
 //! The acts of a recording, and what they tell, in one walk over its rows.
 
-ghost use Rattle.std.specs.Prelude.{◌≡◌, ◌≢◌, ◌<◌, ◌≤◌, ◌+◌, length};
+ghost use Rattle.std.specs.Prelude.{◌≡◌, ◌≢◌, ◌<◌, ◌≤◌, ◌+◌, ℕ, List, [], Some, length, true};
 ghost use Rattle.mdb_bus.specs.declared.scope.Scope.{Scope};
+ghost use Rattle.mdb_bus.specs.ActLists.{Piece};
+ghost use Rattle.mdb_bus.specs.Acts.{NamesAReply};
+ghost use Rattle.mdb_bus.specs.Bus.{StandsFor, ended_act, scope_of};
 ghost use Rattle.mdb_follow.specs.declared.follower.TheConstants.{ROWS_MAX};
+ghost use Rattle.mdb_page.specs.Acts.{IsListing};
 ghost use Rattle.mdb_page.specs.Options.{IsTakenSo};
+ghost use Rattle.mdb_page.specs.declared.acts.PageAct.{PageAct};
+ghost use Rattle.mdb_page.specs.inner.Listing.{HasBegun, HasListed, HasTaken, HasWalked, Lengthens};
 
 use crate::acts::{ActListing, PageAct};
 use crate::answer::{BAD_OPTIONS, NO, PageTold, TOO_LONG, YES, line_answer};
@@ -11,17 +17,18 @@ use crate::lines::{first_line, row_of, without_mark, without_return};
 use crate::news::{NewsListing, PageNews};
 use crate::options::{PageOptions, taken_so};
 use crate::rows::Rows;
-use mdb_bus::{Act, Bus};
+use mdb_bus::{Act, Bus, laws};
 use mdb_follow::ROWS_MAX;
 use mdb_words::Time;
 
 /// Lists the acts of a recording, and what they report after the first `skip` news, as far as there
 /// is room. Where there are more acts than room, the first `first` stay, and behind them stand the
 /// last ones in a ring: the one numbered n from 0, at `first` and the rest of n less `first` by the
-/// room behind them.
+/// room behind them. The words of a block that is cut are listed too, as an act of their own.
 ///
 /// It returns what `mdb_page_check` does: 1 means that a row breaks a rule of the link. It doesn't
-/// know the rules of the devices. `told` shows how many acts and news there are in all.
+/// know the rules of the devices. The words of a block that is still open before such a row aren't
+/// listed. `told` shows how many acts and news there are in all.
 #[unsafe(no_mangle)]
 pub extern "C" fn mdb_page_list(
     options: &PageOptions,
@@ -36,6 +43,9 @@ pub extern "C" fn mdb_page_list(
     ensures none { result ≡ 5 → (told.new.acts ≡ 0) × (told.new.news ≡ 0) }
     ensures refused { result ≡ 5 → (scope : Scope) → IsTakenSo options.now scope → ⊥ }
     ensures taken { result ≢ 5 → (scope : Scope) × IsTakenSo options.now scope }
+    ensures acts { result ≢ 5 → (scope : Scope) × IsTakenSo options.now scope
+        × IsListing scope text.now first acts.old acts.new told.new result }
+    ensures unchanged { result ≡ 5 → acts.new ≡ acts.old }
 {
     told.acts = 0;
     told.news = 0;
@@ -73,10 +83,15 @@ fn walk(
     acts: &mut [PageAct],
     news: &mut [PageNews],
 ) -> u32
+    requires stands { StandsFor bus.old [] }
+    requires listed { HasListed lists.old.acts.first acts.old [] lists.old.acts acts.old }
     ensures left { length rest.new.now ≤ length rest.old.now }
     ensures row { told.new.row ≤ ROWS_MAX + 1 }
     ensures options { result ≢ 5 }
+    ensures walked { HasWalked (scope_of bus.old) rest.old.now rest.new.now
+        lists.old.acts.first acts.old acts.new lists.new.acts told.new result }
 {
+    laws::acts_name_replies_of_their_commands();
     let mut act = Act::Foreign;
     let mut rows = Rows {
         first: 1,
@@ -126,27 +141,70 @@ impl Lists {
         ended: bool,
         act: &Act,
     )
-        requires { rows.old.last < ROWS_MAX }
-        ensures { rows.new.last ≡ rows.old.last + 1 }
+        requires room { rows.old.last < ROWS_MAX }
+        requires names { ended ≡ true → NamesAReply act.now }
+        ensures last { rows.new.last ≡ rows.old.last + 1 }
+        ensures taken { (first : ℕ) (before : List PageAct) (pieces longer : List Piece)
+            → HasTaken first before pieces self.old.acts acts.old rows.old
+            → Lengthens pieces at (ended_act ended act.now) longer
+            → HasTaken first before longer self.new.acts acts.new rows.new }
     {
-        if let (true, Act::Break(_)) = (ended, act) {
-            self.cut(acts, rows);
-            rows.first = rows.last + 1;
-        }
-        rows.last += 1;
-        if rows.first == rows.last {
-            rows.start = at.value();
-        }
-        rows.end = at.value();
         if ended {
-            self.acts.act(acts, rows, act);
-            self.news.act(news, rows, act, at);
+            self.end(acts, news, rows, at, act);
+        } else {
+            rows.add(at);
+        }
+    }
+
+    /// Takes a row that started at a time, and the act that it ends.
+    #[inline(always)]
+    fn end(
+        &mut self,
+        acts: &mut [PageAct],
+        news: &mut [PageNews],
+        rows: &mut Rows,
+        at: Time,
+        act: &Act,
+    )
+        requires room { rows.old.last < ROWS_MAX }
+        requires names { NamesAReply act.now }
+        ensures last { rows.new.last ≡ rows.old.last + 1 }
+        ensures taken { (first : ℕ) (before : List PageAct) (pieces longer : List Piece)
+            → HasTaken first before pieces self.old.acts acts.old rows.old
+            → Lengthens pieces at (Some act.now) longer
+            → HasTaken first before longer self.new.acts acts.new rows.new }
+    {
+        self.cut_before(acts, rows, act);
+        rows.add(at);
+        self.acts.act(acts, rows, act);
+        self.news.act(news, rows, act, at);
+        rows.first = rows.last + 1;
+    }
+
+    /// Cuts the rows that no act has, where the next act is a break.
+    #[inline(always)]
+    fn cut_before(&mut self, acts: &mut [PageAct], rows: &mut Rows, act: &Act)
+        requires { rows.old.last < ROWS_MAX }
+        ensures last { rows.new.last ≡ rows.old.last }
+        ensures begun { (first : ℕ) (before : List PageAct) (pieces longer : List Piece) (at : ℕ)
+            → HasTaken first before pieces self.old.acts acts.old rows.old
+            → (turn : Lengthens pieces at (Some act.now) longer)
+            → HasBegun first before turn.grown.earlier turn.grown.begun self.new.acts acts.new
+            rows.new }
+    {
+        if let Act::Break(_) = act {
+            self.cut(acts, rows);
             rows.first = rows.last + 1;
         }
     }
 
     /// Takes the rows that no act has, if there are some.
-    fn cut(&mut self, acts: &mut [PageAct], rows: &Rows) {
+    fn cut(&mut self, acts: &mut [PageAct], rows: &Rows)
+        ensures { (first : ℕ) (before : List PageAct) (pieces : List Piece)
+            → HasTaken first before pieces self.old.acts acts.old rows.now
+            → rows.now.last ≤ ROWS_MAX
+            → HasListed first before pieces self.new.acts acts.new }
+    {
         if rows.first <= rows.last {
             self.acts.cut(acts, rows);
         }

@@ -1,0 +1,230 @@
+-- Where pieces stand in an array, of which the first stay and the others come round.
+use Rattle.std.proofs.Common.{◌≡◌, ◌≢◌, ◌+◌, ◌-◌, ◌*◌, ◌/◌, ◌%◌, ◌<◌, ◌≤◌, ◌⊎◌, ℕ, suc, sym, ap, ◌∙◌, arith, inl, inr, add-one, nat_lt, if◌then◌else◌}
+use Rattle.std.proofs.Math.Nat.{mod-eq_of_lt, mod-le, mod-lt, mod_self, mul-le-mul_right, suc-mod, zero-mod}
+use Rattle.std.proofs.lemmas.Bool.{cases_Bool, ltb-true, ltb-false, lt-ltb}
+use Rattle.std.proofs.lemmas.Nat.{div-add-mod'}
+use Rattle.mdb_page.specs.Acts.{IsKept, place_in}
+use Rattle.mdb_page.specs.inner.Listing.{IsNextPlace}
+
+pub less_or_not : (a b : ℕ) → (a < b) ⊎ (b ≤ a)
+less_or_not a b = elim (cases_Bool (nat_lt a b)) [
+  | inl is ↦ inl (ltb-true a b is)
+  | inr not ↦ inr (ltb-false a b not)
+]
+
+-- Numbers apart by less than the ring have different rests.
+rests_apart : (a b ring : ℕ) → a < b → b < a + ring → a % ring ≡ b % ring → ⊥
+rests_apart a b ring less near same = elim (less_or_not (a / ring) (b / ring)) [
+  | inl more ↦ apart more
+  | inr few ↦ omega (
+    arith,
+    mul-le-mul_right ring few,
+    div-add-mod' a ring,
+    div-add-mod' b ring,
+    same,
+    less,
+  )
+]
+  where
+    apart : a / ring < b / ring → ⊥
+    apart more =
+        let whole : a / ring + 1 ≤ b / ring = omega (arith, more) in
+        let turned : (a / ring + 1) * ring ≤ b / ring * ring = mul-le-mul_right ring whole in
+        omega (arith, turned, div-add-mod' a ring, div-add-mod' b ring, same, near)
+
+-- the rest of the number after one
+next_rest : (a ring : ℕ) → a % ring + 1 < ring → (a + 1) % ring ≡ a % ring + 1
+next_rest a ring more =
+    rw add-one (suc-mod a ring
+    ∙ (mod-eq_of_lt (omega (arith, more)) ∙ sym (add-one (a % ring))))
+
+first_rest : (a ring : ℕ) → a % ring + 1 ≡ ring → (a + 1) % ring ≡ 0
+first_rest a ring round =
+    let last : suc (a % ring) ≡ ring = omega (arith, round) in
+    rw add-one (suc-mod a ring ∙ (ap (λ n. n % ring) last ∙ mod_self ring))
+
+-- where the first pieces stand, and the others
+pub place_first : (first room number : ℕ) → number < first → place_in first room number ≡ number
+unfolding place_in
+place_first first room number less =
+    ap (λ b. if b then number else first + (number - first) % (room - first))
+    (lt-ltb number first less)
+
+pub place_ring : (first room number : ℕ) → first ≤ number
+    → place_in first room number ≡ first + (number - first) % (room - first)
+unfolding place_in
+place_ring first room number more = elim (cases_Bool (nat_lt number first)) [
+  | inl is ↦ absurd (omega (arith, ltb-true number first is, more))
+  | inr not ↦ ap (λ b. if b then number else first + (number - first) % (room - first)) not
+]
+
+-- every piece has a place in a ring that has places
+ring_place : (first room number : ℕ) → first < room → first ≤ number
+    → place_in first room number < room
+ring_place first room number some more =
+    let rest : (number - first) % (room - first) < room - first =
+    mod-lt (number - first) (omega (arith, some)) in
+    omega (arith, place_ring first room number more, rest, some)
+
+-- the place of no piece is behind that of its number
+pub place_low : (first room number : ℕ) → place_in first room number ≤ number
+place_low first room number = elim (less_or_not number first) [
+  | inl less ↦ omega (arith, place_first first room number less)
+  | inr more ↦ omega (
+    arith,
+    place_ring first room number more,
+    mod-le (number - first) (room - first),
+    more,
+  )
+]
+
+-- before the first piece
+pub starts_at : (first room : ℕ) → IsNextPlace first room 0 0
+starts_at first room =
+    let low : place_in first room 0 ≡ 0 = omega (arith, place_low first room 0) in
+    record { there = λ some. sym low; full = λ none. omega (arith, none, low) }
+
+-- the place after one in the ring
+after_ring : (first room number next : ℕ) → first ≤ number → place_in first room number < room
+    → (place_in first room number + 1 < room → next ≡ place_in first room number + 1)
+    → (room ≤ place_in first room number + 1 → next ≡ first)
+    → next ≡ place_in first room (number + 1)
+after_ring first room number next more low on round =
+    let here = place_ring first room number more in
+    let there = place_ring first room (number + 1) (omega (arith, more)) in
+    let shifted : number + 1 - first ≡ (number - first) + 1 = omega (arith, more) in
+    let rest : place_in first room (number + 1)
+    ≡ first + ((number - first) + 1) % (room - first) =
+    there ∙ ap (λ n. first + n % (room - first)) shifted in
+    elim (less_or_not (place_in first room number + 1) room) [
+      | inl inside ↦
+          omega (
+            arith,
+            on inside,
+            rest,
+            here,
+            next_rest (number - first) (room - first)
+                (omega (arith, inside, here)),
+          )
+      | inr end ↦
+          omega (
+            arith,
+            round end,
+            rest,
+            first_rest (number - first) (room - first)
+                (omega (arith, end, here, low)),
+          )
+    ]
+
+-- where the next place is, once a piece has its own
+pub goes_on : (first room number next : ℕ) → place_in first room number < room
+    → (place_in first room number + 1 < room → next ≡ place_in first room number + 1)
+    → (room ≤ place_in first room number + 1 → next ≡ first)
+    → IsNextPlace first room (number + 1) next
+goes_on first room number next low on round = elim (less_or_not number first) [
+  | inl less ↦ among_first less (less_or_not (number + 1) first)
+  | inr more ↦ let same = after_ring first room number next more low on round in
+      record { there = λ some. same; full = λ none. omega (arith, none, same) }
+]
+  where
+    no_more : number < first → first ≤ number + 1 → number + 1 - first ≡ 0
+    no_more less end = omega (arith, less, end)
+
+    zero_rest : first + 0 % (room - first) ≡ first
+    zero_rest = omega (arith, zero-mod (room - first))
+
+    at_first : place_in first room number ≡ number → number < first → first ≤ number + 1
+        → next ≡ first
+    at_first here less end = elim (less_or_not (place_in first room number + 1) room) [
+      | inl inside ↦ omega (arith, on inside, here, less, end)
+      | inr over ↦ round over
+    ]
+
+    among_first : number < first → (number + 1 < first) ⊎ (first ≤ number + 1)
+        → IsNextPlace first room (number + 1) next
+    among_first less (inl inside) =
+        let here = place_first first room number less in
+        let there = place_first first room (number + 1) inside in
+        record {
+          there = λ some. omega (arith, on (omega (arith, here, there, some)), here, there);
+          full = λ none.
+              omega (arith, round (omega (arith, here, there, none)), there, none, inside);
+        }
+    among_first less (inr end) =
+        let here = place_first first room number less in
+        let there : place_in first room (number + 1) ≡ first =
+        place_ring first room (number + 1) end
+        ∙ (ap (λ n. first + n % (room - first)) (no_more less end) ∙ zero_rest) in
+        let same : next ≡ first = at_first here less end in
+        record {
+          there = λ some. same ∙ sym there;
+          full = λ none. omega (arith, none, same, there);
+        }
+
+-- once a piece has no place, no later one has
+pub stays_full : (first room number next : ℕ) → room ≤ place_in first room number → room ≤ next
+    → IsNextPlace first room (number + 1) next
+stays_full first room number next none past = record {
+  there = λ some. absurd (over some (less_or_not first room));
+  full = λ more. past;
+}
+  where
+    wide : first < room → ⊥
+    wide some = elim (less_or_not number first) [
+      | inl less ↦ omega (arith, place_first first room number less, none, some, less)
+      | inr more ↦ omega (arith, ring_place first room number some more, none)
+    ]
+
+    over : place_in first room (number + 1) < room → (first < room) ⊎ (room ≤ first) → ⊥
+    over some (inl there) = wide there
+    over some (inr small) = elim (less_or_not (number + 1) first) [
+      | inl less ↦ omega (
+        arith,
+        place_first first room (number + 1) less,
+        some,
+        place_low first room number,
+        none,
+      )
+      | inr more ↦ omega (arith, place_ring first room (number + 1) more, some, small)
+    ]
+
+-- a piece that is kept with one more was kept before
+pub kept_before : (first room all number : ℕ) → IsKept first room (all + 1) number
+    → IsKept first room all number
+kept_before first room all number (inl less) = inl less
+kept_before first room all number (inr near) = inr (omega (arith, near))
+
+-- a piece that is kept has another place than the next one
+pub kept_apart : (first room all number : ℕ) → number < all
+    → IsKept first room (all + 1) number → place_in first room number ≢ place_in first room all
+kept_apart first room all number less kept same = elim (less_or_not number first) [
+  | inl stays ↦ elim (less_or_not all first) [
+    | inl both ↦ omega (
+      arith,
+      place_first first room number stays,
+      place_first first room all both,
+      same,
+      less,
+    )
+    | inr comes ↦ omega (
+      arith,
+      place_first first room number stays,
+      place_ring first room all comes,
+      same,
+      stays,
+    )
+  ]
+  | inr comes ↦ near comes kept
+]
+  where
+    near : first ≤ number → IsKept first room (all + 1) number → ⊥
+    near comes (inl stays) = omega (arith, comes, stays)
+    near comes (inr close) =
+        rests_apart (number - first) (all - first) (room - first) (omega (arith, less, comes))
+        (omega (arith, close, comes))
+        (omega (
+          arith,
+          place_ring first room number comes,
+          place_ring first room all (omega (arith, comes, less)),
+          same,
+        ))
