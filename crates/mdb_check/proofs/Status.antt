@@ -16,7 +16,7 @@ use Rattle.mdb_check.specs.Program.{IsCutAnswer, IsCutReplayAnswer, Says, SaysCh
 use Rattle.mdb_explain.specs.Replay.{IsReplayAnswer}
 use Rattle.mdb_show.specs.Show.{ShowsIn}
 use Rattle.mdb_verdict.specs.Verdict.{IsAnswer, IsNoYes}
-use Rattle.mdb_verdict.specs.Written.{HasTaken}
+use Rattle.mdb_writing.specs.Written.{HasTaken}
 use Rattle.mdb_bus.specs.declared.scope.Scope.{Scope}
 
 says_checked : (scope : Scope) (form : Form) {W : Type 0} (contents : W → Option (List ℕ)) (all : List (List (List ℕ))) (old new : W) (answer : Result Outcome RunFault)

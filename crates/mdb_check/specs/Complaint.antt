@@ -8,7 +8,7 @@ use Rattle.mdb_records.specs.declared.Records.{Records}
 use Rattle.mdb_records.specs.declared.ReadCause.{ReadCause}
 use Rattle.mdb_records.specs.declared.ReadCause.TheVariants.{Failed, WouldBlock, OverLimit}
 use Rattle.mdb_text.specs.Text.{line}
-use Rattle.mdb_verdict.specs.Written.{HasTaken}
+use Rattle.mdb_writing.specs.Written.{HasTaken}
 use Rattle.mdb_verdict.specs.declared.verdict.TheConstants.{BYTES_MAX}
 
 -- the line on more rows than there may be

@@ -1,14 +1,15 @@
 //! What standard error is told where there is no answer.
 
 ghost use Rattle.std.specs.Prelude.{◌≡◌};
-ghost use Rattle.mdb_verdict.specs.Written.{HasTaken};
+ghost use Rattle.mdb_writing.specs.Written.{HasTaken};
 ghost use Rattle.mdb_check.specs.Complaint.{IsToldCause, cause_line, excess_line};
 
 use csv::ByteRecord;
 use mdb_records::{ReadCause, Records};
 use mdb_text::hex_digit;
-use mdb_verdict::{RunFault, write_text};
+use mdb_verdict::RunFault;
 use mdb_words::RowFault;
+use mdb_writing::write_text;
 use std::alloc::{AllocError, Global};
 use std::io::{Read, Write};
 

@@ -11,7 +11,7 @@ ghost use Rattle.mdb_show.specs.Show.{ShowsIn};
 ghost use Rattle.mdb_bus.specs.Scopes.{leaving_out};
 ghost use Rattle.mdb_verdict.specs.declared.verdict.TheConstants.{BYTES_MAX};
 ghost use Rattle.mdb_verdict.specs.Verdict.{IsAnswer, IsNoYes};
-ghost use Rattle.mdb_verdict.specs.Written.{HasTaken};
+ghost use Rattle.mdb_writing.specs.Written.{HasTaken};
 ghost use Rattle.mdb_explain.specs.Replay.{IsReplayAnswer};
 ghost use Rattle.mdb_records.specs.ToCome.{IsOverLimit, ToCome, limit_of};
 ghost use Rattle.csv.specs.Reading.{default_config, records, strip_bom};

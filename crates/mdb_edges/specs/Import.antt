@@ -8,7 +8,8 @@ use Rattle.mdb_records.specs.ToCome.{ToCome, fault_of}
 use Rattle.mdb_records.specs.declared.ReadFault.TheVariants as reading
 use Rattle.mdb_records.specs.declared.Records.{Records}
 use Rattle.mdb_import.specs.Exports.{export_records, is_controllers, is_from, is_marked, is_peripherals, is_until, told_count}
-use Rattle.mdb_sigrok.specs.Import.{HasTaken, rows_text}
+use Rattle.mdb_sigrok.specs.Import.{rows_text}
+use Rattle.mdb_writing.specs.Written.{HasTaken}
 use Rattle.mdb_edges.specs.Faults.{IsFirstFault}
 use Rattle.mdb_edges.specs.Table.{AreRowsOfTable}
 use Rattle.mdb_edges.specs.declared.fault.EdgesFault.{EdgesFault}

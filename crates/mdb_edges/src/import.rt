@@ -11,8 +11,9 @@ use super::part::{EdgesImported, part_of};
 use super::table::rows_of_records;
 use mdb_import::records_of;
 use mdb_records::Records;
-use mdb_sigrok::{SigrokFault, write_rows};
+use mdb_sigrok::write_rows;
 use mdb_words::Event;
+use mdb_writing::WriteFailed;
 use std::alloc::Global;
 use std::io::{Read, Write};
 
@@ -94,9 +95,8 @@ fn write_part<W: Write>(
         Ok(part) => part,
         Err(_) => return Err(EdgesFault::Memory),
     };
-    match write_rows(alloc, part.0.as_slice(), writer) {
+    match write_rows(part.0.as_slice(), writer) {
         Ok(()) => Ok(part.1),
-        Err(SigrokFault::Write) => Err(EdgesFault::Write),
-        Err(_) => Err(EdgesFault::Memory),
+        Err(WriteFailed) => Err(EdgesFault::Write),
     }
 }

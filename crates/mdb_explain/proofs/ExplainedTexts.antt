@@ -1,11 +1,8 @@
 -- What is answered and written of rows that are kept, and the lines that are written.
-use Rattle.std.proofs.Common.{arith, refl, ap, sym, subst, ◌∙◌, ◌≡◌, ◌≢◌, ◌+◌, ◌<◌, ◌≤◌, ◌/◌, ◌%◌, ◌^◌, ℕ, List, [], ◌∷◌, ◌++◌, Option, Result, Ok, Err, IfErr, IfOk, length, length-append, map, append_assoc, drop, get_or, take, take-append-drop}
-use Rattle.std.proofs.lemmas.List.{append-nil, flat_map_more, take_all, take_more}
-use Rattle.std.proofs.lemmas.List.Concat.{flat_map-append}
-use Rattle.std.proofs.lemmas.Fmt.{length-decimal-le}
-use Rattle.std.specs.Fmt.{decimal}
+use Rattle.std.proofs.Common.{arith, refl, ap, sym, subst, ◌∙◌, ◌≡◌, ◌≢◌, ◌≤◌, ℕ, List, [], ◌∷◌, ◌++◌, Option, Result, Ok, Err, IfErr, IfOk, length, map, append_assoc}
+use Rattle.std.proofs.lemmas.List.{append-nil}
 use Rattle.std.specs.List.{flat_map}
-use Rattle.std.specs.Prelude.{IsErrAnd, OnOk}
+use Rattle.std.specs.Prelude.{IsErrAnd}
 use Rattle.std.specs.Io.KnownBytes.{Appends}
 use Rattle.mdb_words.specs.declared.event.Event.{Event}
 use Rattle.mdb_words.specs.Row.{IsRefusal, IsRow, row_fields}
@@ -20,20 +17,17 @@ use Rattle.mdb_text.specs.declared.outcome.Outcome.{Outcome}
 use Rattle.mdb_text.specs.declared.outcome.Outcome.TheVariants.{Yes, No}
 use Rattle.mdb_verdict.specs.declared.fault.RunFault.{RunFault}
 use Rattle.mdb_verdict.specs.declared.fault.RunFault.TheVariants.{BadRow, TooLong, Read, Write, Memory, Mark as MarkFault}
-use Rattle.mdb_explain.specs.declared.sheet.Sheet.{Sheet}
 use Rattle.mdb_explain.specs.Explain.{IsCutExplanation, IsExplainText, IsExplainedIn, explanation_text, record_line}
 use Rattle.mdb_verdict.specs.Headline.{IfNo, IfYes}
 use Rattle.mdb_text.specs.Text.{report_text}
 use Rattle.mdb_verdict.specs.Verdict.{AreRows, IsAnswer, IsImpossible, IsNoYes}
-use Rattle.mdb_verdict.specs.Written.{HasTaken}
+use Rattle.mdb_writing.specs.Written.{HasTaken}
 use Rattle.mdb_verdict.specs.Batch.{AreAll}
 use Rattle.mdb_verdict.specs.Ending.{HasEnded, HasFollowed, IsTakenWhole}
-use Rattle.mdb_explain.specs.inner.Explaining.{HasKept, IsNoText, IsRowsText, IsTold, StopsKeeping, mark_line, marks_text, row_line, rows_text, sheet_output}
-use Rattle.mdb_verdict.specs.Output.{Breaks, Output, Puts, begun}
-use Rattle.mdb_verdict.proofs.Outputs.{break_both, put_both, put_none}
+use Rattle.mdb_explain.specs.inner.Explaining.{HasKept, IsNoText, IsRowsText, IsTold, StopsKeeping, mark_line, marks_text, row_line, rows_text}
+use Rattle.mdb_writing.specs.Output.{Breaks, Output, Puts, begun, output}
+use Rattle.mdb_writing.proofs.Outputs.{break_both, put_both, taken_longer}
 use Rattle.mdb_verdict.proofs.Rows.{are_rows}
-use Rattle.mdb_verdict.proofs.Decimals.{more_digits, one_digit, two_digits}
-use Rattle.mdb_text.proofs.Texts.{appended}
 use Rattle.mdb_verdict.proofs.Verdicts as verdicts
 use Rattle.mdb_verdict.proofs.Verdicts.{Reaches}
 
@@ -182,12 +176,18 @@ known_no first scope all outcome offence same is answers =
     subst (λ s. IsImpossible s ROWS_MAX all offence) same (subst Answers is answers)
 
 -- the writer fails at an explanation
-pub explanation_broken : {W : Type 0} (contents : W → Option (List ℕ)) (before after : W) (scope : Scope) (rows : List Event) (goal : Goal) (report : Report) (text : List ℕ) (fault : RunFault) → IsRowsText scope rows goal report (Yes report) text
-    → HasTaken (contents before) (contents after) text → fault ≡ Write → (answer : Result Outcome RunFault) → IsErrAnd answer (λ other. other ≡ fault) → IsTold contents before after (IsRowsText scope rows goal report) answer
-explanation_broken contents before after scope rows goal report text fault is taken write (Ok outcome) handed = absurd handed
-explanation_broken contents before after scope rows goal report text fault is taken write (Err other) handed =
-    let P : RunFault → Type 0 = λ f. IsTold contents before after (IsRowsText scope rows goal report) (Err f) in
-    subst P (sym (handed ∙ write)) (Yes report, text, is, taken)
+pub explanation_broken : {W : Type 0} (contents : W → Option (List ℕ)) (before after : W)
+    (scope : Scope) (rows : List Event) (goal : Goal) (report : Report) (text : List ℕ)
+    → IsRowsText scope rows goal report (Yes report) text
+    → HasTaken (contents before) (contents after) text → (answer : Result Outcome RunFault)
+    → IsErrAnd answer (λ told. told ≡ Write)
+    → IsTold contents before after (IsRowsText scope rows goal report) answer
+explanation_broken contents before after scope rows goal report text is taken (Ok outcome) handed =
+    absurd handed
+explanation_broken contents before after scope rows goal report text is taken (Err told) handed =
+    let P : RunFault → Type 0 =
+    λ f. IsTold contents before after (IsRowsText scope rows goal report) (Err f) in
+    subst P (sym handed) (Yes report, text, is, taken)
 
 -- Lines.
 
@@ -200,115 +200,45 @@ pub explanation_parts : (marks : List (ℕ × Mark)) (rows : List Event) → exp
 explanation_parts [] rows = rows_part rows
 explanation_parts (mark ∷ marks) rows = ap (λ l. mark_line mark ++ l) (explanation_parts marks rows) ∙ sym (append_assoc (mark_line mark) (marks_text marks) (rows_text rows))
 
--- a front of a text is one of a longer text
-pub taken_longer : (before after : Option (List ℕ)) (text more : List ℕ) → HasTaken before after text → HasTaken before after (text ++ more)
-taken_longer before after text more taken = record {
-  front = taken.front;
-  rest = taken.rest ++ more;
-  parts = ap (λ l. l ++ more) taken.parts ∙ append_assoc taken.front taken.rest more;
-  grown = taken.grown;
+-- Room was made for a text.
+pub put_room : (before now : Output) (waiting text : List ℕ) → Puts before now []
+    → waiting ≡ now.waiting ++ text → Puts before (output now.held waiting) text
+put_room before now waiting text made is = record {
+  taken = made.taken;
+  parts = ap (λ l. l ++ text) (sym (append-nil before.waiting) ∙ made.parts)
+      ∙ (append_assoc made.taken now.waiting text ∙ ap (λ l. made.taken ++ l) (sym is));
+  grown = made.grown;
 }
-
-pub broken_longer : (before later : Output) (text more : List ℕ) → Breaks before later text → Breaks before later (text ++ more)
-broken_longer before later text more broken =
-    subst (HasTaken before.held later.held) (append_assoc before.waiting text more) (taken_longer before.held later.held (before.waiting ++ text) more broken)
-
--- a text was written, and then a front of another
-pub taken_after : (before now later : Option (List ℕ)) (first second : List ℕ) → Appends before now first → HasTaken now later second → HasTaken before later (first ++ second)
-taken_after before now later first second written taken = record {
-  front = first ++ taken.front;
-  rest = taken.rest;
-  parts = ap (λ l. first ++ l) taken.parts ∙ sym (append_assoc first taken.front taken.rest);
-  grown = appended before now later first taken.front written taken.grown;
-}
-
--- an empty sheet
-pub sheet_begins : (contents : Option (List ℕ)) (sheet : Sheet) → sheet.lines.items ≡ [] → Puts (begun contents) (sheet_output contents sheet) []
-sheet_begins contents sheet none =
-    let P : List ℕ → Type 0 = λ l. Puts (begun contents) (record { held = contents; waiting = l }) [] in
-    subst P (sym none) (put_none (begun contents))
-
--- one line more is on its way
-pub line_more : {X : Type 0} (part : X → List ℕ) (before now later : Output) (xs : List X) (i : ℕ) (d : X) (text : List ℕ) → i < length xs → Puts before now (flat_map part (take i xs)) → text ≡ part (get_or xs i d) → Puts now later text
-    → Puts before later (flat_map part (take (i + 1) xs))
-line_more part before now later xs i d text below so_far is more =
-    subst (Puts before later)
-    (flat_map_more part [] (take i xs) (get_or xs i d) ∙ ap (flat_map part) (sym (take_more xs i d below)))
-    (put_both before now later (flat_map part (take i xs)) (part (get_or xs i d)) so_far (subst (Puts now later) is more))
-
--- the writer fails at a line
-pub line_broken : {X : Type 0} (part : X → List ℕ) (before now later : Output) (xs : List X) (i : ℕ) (d : X) (text : List ℕ) → i < length xs → Puts before now (flat_map part (take i xs)) → text ≡ part (get_or xs i d) → Breaks now later text
-    → Breaks before later (flat_map part xs)
-line_broken part before now later xs i d text below so_far is broken =
-    let first : Breaks before later (flat_map part (take i xs) ++ part (get_or xs i d)) =
-    break_both before now later (flat_map part (take i xs)) (part (get_or xs i d)) so_far (subst (Breaks now later) is broken) in
-    let more : List ℕ = flat_map part (drop (i + 1) xs) in
-    let whole : flat_map part xs ≡ (flat_map part (take i xs) ++ part (get_or xs i d)) ++ more =
-    ap (flat_map part) (sym (take-append-drop (i + 1) xs)) ∙ (flat_map-append part (take (i + 1) xs) (drop (i + 1) xs)
-    ∙ ap (λ l. l ++ more) (sym (flat_map_more part [] (take i xs) (get_or xs i d) ∙ ap (flat_map part) (sym (take_more xs i d below))))) in
-    subst (Breaks before later) (sym whole) (broken_longer before later _ more first)
-
--- all lines are on their way
-pub lines_all : {X : Type 0} (part : X → List ℕ) (before now : Output) (xs : List X) (i : ℕ) → length xs ≤ i → Puts before now (flat_map part (take i xs)) → Puts before now (flat_map part xs)
-lines_all part before now xs i past so_far = subst (λ ys. Puts before now (flat_map part ys)) (take_all i xs past) so_far
-
--- what waits is written, or a front of it
-pub lines_written : (before later : Option (List ℕ)) (now : Output) (text : List ℕ) → Puts (begun before) now text → Appends now.held later now.waiting → Appends before later text
-lines_written before later now text puts written =
-    subst (Appends before later) (sym puts.parts) (appended before now.held later puts.taken now.waiting puts.grown written)
-
-pub lines_broken : (before later : Option (List ℕ)) (now : Output) (text : List ℕ) → Puts (begun before) now text → HasTaken now.held later now.waiting → HasTaken before later text
-lines_broken before later now text puts taken = subst (HasTaken before later) (sym puts.parts) (taken_after before now.held later puts.taken now.waiting puts.grown taken)
-
--- Digits.
-
--- a number is short
-pub short_decimal : (n : ℕ) → n < 2 ^ 64 → length (decimal n) ≤ 20
-short_decimal n fits = length-decimal-le 20 n (omega arith) (omega (arith, fits)) fits
-
--- two digits more
-pub digits_after : (old between new : List ℕ) (n tens ones : ℕ) → new ≡ between ++ tens ∷ ones ∷ [] → between ≡ old ++ decimal (n / 100) → decimal n ≡ decimal (n / 100) ++ tens ∷ ones ∷ [] → new ≡ old ++ decimal n
-digits_after old between new n tens ones last first is =
-    last ∙ (ap (λ l. l ++ tens ∷ ones ∷ []) first ∙ (append_assoc old (decimal (n / 100)) (tens ∷ ones ∷ []) ∙ ap (λ l. old ++ l) (sym is)))
-
--- how many digits a number has
-pub one_long : (n : ℕ) → n < 10 → length (decimal n) ≡ 1
-one_long n small = ap length (one_digit n (48 + n % 10) small refl)
-
-pub two_long : (n : ℕ) → 10 ≤ n → n < 100 → n < 2 ^ 64 → length (decimal n) ≡ 2
-two_long n ten small fits = ap length (two_digits n (48 + n / 10 % 10) (48 + n % 10) ten small fits refl refl)
-
-pub two_longer : (n : ℕ) → 100 ≤ n → n < 2 ^ 64 → length (decimal n) ≡ length (decimal (n / 100)) + 2
-two_longer n hundred fits = ap length (more_digits n (48 + n / 10 % 10) (48 + n % 10) hundred fits refl refl) ∙ length-append (decimal (n / 100)) _
 
 -- An explanation on its way.
 
 -- its marks and its rows are on their way
-pub explanation_put : (before : Option (List ℕ)) (empty between later : Output) (marks : List (ℕ × Mark)) (rows : List Event) → Puts (begun before) empty [] → Puts empty between (marks_text marks) → Puts between later (rows_text rows) → Puts (begun before) later (explanation_text marks rows)
+pub explanation_put : (before : Option (List ℕ)) (empty between later : Output)
+    (marks : List (ℕ × Mark)) (rows : List Event) → Puts (begun before) empty []
+    → Puts empty between (marks_text marks) → Puts between later (rows_text rows)
+    → Puts (begun before) later (explanation_text marks rows)
 explanation_put before empty between later marks rows none first second =
     subst (Puts (begun before) later) (sym (explanation_parts marks rows))
-    (put_both (begun before) between later (marks_text marks) (rows_text rows) (put_both (begun before) empty between [] (marks_text marks) none first) second)
+    (put_both (begun before) between later (marks_text marks) (rows_text rows)
+    (put_both (begun before) empty between [] (marks_text marks) none first) second)
 
 -- the writer fails at a mark, or at a row
-pub broken_at_marks : (before : Option (List ℕ)) (empty later : Output) (marks : List (ℕ × Mark)) (rows : List Event) → Puts (begun before) empty [] → Breaks empty later (marks_text marks) → HasTaken before later.held (explanation_text marks rows)
+pub broken_at_marks : (before : Option (List ℕ)) (empty later : Output) (marks : List (ℕ × Mark))
+    (rows : List Event) → Puts (begun before) empty [] → Breaks empty later (marks_text marks)
+    → HasTaken before later.held (explanation_text marks rows)
 broken_at_marks before empty later marks rows none broken =
     subst (HasTaken before later.held) (sym (explanation_parts marks rows))
-    (taken_longer before later.held (marks_text marks) (rows_text rows) (break_both (begun before) empty later [] (marks_text marks) none broken))
+    (taken_longer before later.held (marks_text marks) (rows_text rows)
+    (break_both (begun before) empty later [] (marks_text marks) none broken))
 
-pub broken_at_rows : (before : Option (List ℕ)) (empty between later : Output) (marks : List (ℕ × Mark)) (rows : List Event) → Puts (begun before) empty [] → Puts empty between (marks_text marks) → Breaks between later (rows_text rows)
+pub broken_at_rows : (before : Option (List ℕ)) (empty between later : Output)
+    (marks : List (ℕ × Mark)) (rows : List Event) → Puts (begun before) empty []
+    → Puts empty between (marks_text marks) → Breaks between later (rows_text rows)
     → HasTaken before later.held (explanation_text marks rows)
 broken_at_rows before empty between later marks rows none first broken =
     subst (HasTaken before later.held) (sym (explanation_parts marks rows))
-    (break_both (begun before) between later (marks_text marks) (rows_text rows) (put_both (begun before) empty between [] (marks_text marks) none first) broken)
-
--- what holds at each fault, and at an answer
-pub at_fault : {T E : Type 0} (answer : Result T E) (P : Type 0) → P → IfErr answer (λ fault. P)
-at_fault (Ok x) P holds = tt
-at_fault (Err fault) P holds = holds
-
-pub fault_then : {T E : Type 0} (answer : Result T E) (P Q : Type 0) → (P → Q) → IfErr answer (λ fault. P) → IfErr answer (λ fault. Q)
-fault_then (Ok x) P Q weaker holds = tt
-fault_then (Err fault) P Q weaker holds = weaker holds
+    (break_both (begun before) between later (marks_text marks) (rows_text rows)
+    (put_both (begun before) empty between [] (marks_text marks) none first) broken)
 
 -- a fault of the verdict is handed on
 pub handed_on : (scope : Scope) (limit : ℕ) (all : List (List (List ℕ))) (verdict : Result Outcome RunFault) (fault : RunFault) (answer : Result Outcome RunFault) → verdict ≡ Err fault → IsErrAnd answer (λ other. other ≡ fault) → IsAnswer scope limit all verdict
@@ -338,35 +268,3 @@ pub no_yes_told : {W : Type 0} (contents : W → Option (List ℕ)) (before afte
 no_yes_told contents before after scope offence (Ok (Yes report)) told = let is = told.1.0 in absurd (cc is)
 no_yes_told contents before after scope offence (Ok (No other)) told = tt
 no_yes_told contents before after scope offence (Err fault) told = tt
-
--- what is answered where a fault of a verdict is handed on
-
-pub handed : (told answer : Result Outcome RunFault) (fault : RunFault) → told ≡ Err fault → IsErrAnd answer (λ other. other ≡ fault) → told ≡ answer
-handed told (Ok outcome) fault is on = absurd on
-handed told (Err other) fault is on = is ∙ ap Err (sym on)
-
-pub no_ok : (P : Outcome → Type 0) (answer : Result Outcome RunFault) (fault : RunFault) → IsErrAnd answer (λ other. other ≡ fault) → IfOk answer P
-no_ok P (Ok outcome) fault on = absurd on
-no_ok P (Err other) fault on = tt
-
-pub no_yes : (answer : Result Outcome RunFault) (fault : RunFault) → IsErrAnd answer (λ other. other ≡ fault) → IsNoYes answer
-no_yes (Ok outcome) fault on = absurd on
-no_yes (Err other) fault on = tt
-
--- and of a sheet
-
-pub not_on : {T : Type 0} (P : Type 0) (answer : Result T RunFault) (fault : RunFault) → IsErrAnd answer (λ other. other ≡ fault) → OnOk answer P
-not_on P (Ok done) fault on = absurd on
-not_on P (Err other) fault on = tt
-
-pub refused_on : {T : Type 0} (answer : Result T RunFault) (fault : RunFault) → fault ≡ Write → IsErrAnd answer (λ other. other ≡ fault) → IfErr answer (λ other. other ≡ Write)
-refused_on (Ok done) fault is on = absurd on
-refused_on (Err other) fault is on = on ∙ is
-
--- a line is added where there is room
-pub put_line : (before now : Output) (items line : List ℕ) → Puts before now [] → items ≡ now.waiting ++ line → Puts before (record { held = now.held; waiting = items }) line
-put_line before now items line put is = record {
-  taken = put.taken;
-  parts = ap (λ l. l ++ line) (sym (append-nil before.waiting) ∙ put.parts) ∙ (append_assoc put.taken now.waiting line ∙ ap (λ l. put.taken ++ l) (sym is));
-  grown = put.grown;
-}

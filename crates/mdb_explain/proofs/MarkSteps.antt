@@ -5,7 +5,7 @@ use Rattle.std.proofs.lemmas.Bool.Decides.{nat_tests}
 use Rattle.std.proofs.lemmas.Grind.{common_steps}
 use Rattle.std.specs.Prelude.{if◌then◌else◌}
 use Rattle.std.proofs.Math.Seq.{split_at, take-suc}
-use Rattle.mdb_verdict.specs.Ending.{HasTaken}
+use Rattle.mdb_verdict.specs.Ending.{HasTakenOrStopped}
 use Rattle.mdb_words.specs.declared.event.Event.{Event}
 use Rattle.mdb_words.specs.declared.row.RowFault.{RowFault}
 use Rattle.mdb_words.specs.declared.row.RowFault.TheVariants.{FieldCount, BadTime, BadLine, BadValue}
@@ -353,7 +353,7 @@ one_more scope taker earlier entries i entry (Some stop) below at none has = abs
 
 -- one is stopped at
 pub stopped_in : (scope : Scope) (taker : Replaying) (earlier entries : List Entry) (i : ℕ) (entry : Entry) (stop : Option (Result Offence RunFault)) → i < length entries → entry ≡ get_or entries i entry → is_some stop ≡ true → HasTakenNext scope taker (earlier ++ take i entries) entry stop
-    → HasTaken (HasReplayed scope taker) (HasStopped scope) earlier entries stop
+    → HasTakenOrStopped (HasReplayed scope taker) (HasStopped scope) earlier entries stop
 stopped_in scope taker earlier entries i entry None below at some is = absurd (cc)
 stopped_in scope taker earlier entries i entry (Some stop) below at some is = record {
   front = take i entries;

@@ -24,7 +24,7 @@ use Rattle.mdb_text.specs.Accounts.{side_word}
 use Rattle.mdb_explain.specs.Replay.{dash, mark_letter}
 use Rattle.mdb_text.specs.Text.{line, report_text}
 use Rattle.mdb_verdict.specs.Verdict.{AreRows, IsAnswer}
-use Rattle.mdb_verdict.specs.Written.{HasTaken}
+use Rattle.mdb_writing.specs.Written.{HasTaken}
 
 -- the word of an end of a range
 abbrev pub bound_word : Bound → List ℕ

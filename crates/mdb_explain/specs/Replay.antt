@@ -19,7 +19,7 @@ use Rattle.mdb_verdict.specs.declared.fault.RunFault.{RunFault}
 use Rattle.mdb_verdict.specs.declared.fault.RunFault.TheVariants as run
 use Rattle.mdb_text.specs.Text.{report_text}
 use Rattle.mdb_verdict.specs.Verdict.{AreRows}
-use Rattle.mdb_verdict.specs.Written.{HasTaken}
+use Rattle.mdb_writing.specs.Written.{HasTaken}
 
 -- the letter of a mark: `L` where something was lost, `R` for a restart
 abbrev pub mark_letter : Mark → ℕ

@@ -1,6 +1,6 @@
 //! The explanation of an end of a range: marks of a run that comes to it, and the rows.
 
-ghost use Rattle.std.specs.Prelude.{◌≡◌, ◌≢◌, ◌<◌, ◌≤◌, List, [], ℕ, OnOk, IfOk, IfErr, IfSome, IsSome, None, Err, length};
+ghost use Rattle.std.specs.Prelude.{◌≡◌, ◌≢◌, ◌<◌, ◌≤◌, List, [], ℕ, OnErr, OnOk, IfOk, IfErr, IfSome, IsSome, None, Err, length};
 ghost use Rattle.std.specs.Io.KnownBytes.{Appends};
 ghost use Rattle.csv.specs.Reading.{default_config, records, strip_bom};
 ghost use Rattle.mdb_records.specs.ToCome.{IsOverLimit, ToCome, fault_of};
@@ -9,10 +9,10 @@ ghost use Rattle.mdb_explain.specs.Explain.{IsCutExplanation, IsExplainedIn, exp
 ghost use Rattle.mdb_verdict.specs.Headline.{IfNo, IfYes};
 ghost use Rattle.mdb_text.specs.Text.{report_text};
 ghost use Rattle.mdb_verdict.specs.Verdict.{AreRows, HasCause, IsAnswer, IsNoYes};
-ghost use Rattle.mdb_verdict.specs.Written.{HasTaken};
+ghost use Rattle.mdb_writing.specs.Written.{HasTaken};
 ghost use Rattle.mdb_verdict.specs.declared.verdict.TheConstants.{BYTES_MAX};
-ghost use Rattle.mdb_explain.specs.inner.Explaining.{HasKept, IsNoText, IsRowsText, IsTold, marks_text, rows_text, sheet_output};
-ghost use Rattle.mdb_verdict.specs.Output.{Breaks, Puts};
+ghost use Rattle.mdb_explain.specs.inner.Explaining.{HasKept, IsNoText, IsRowsText, IsTold, marks_text, rows_text};
+ghost use Rattle.mdb_writing.specs.Output.{Breaks, Puts, output};
 ghost use Rattle.mdb_follow.specs.Follower.{scope_of};
 ghost use Rattle.mdb_marks.specs.Goals.{IsExplainFault};
 ghost use Rattle.mdb_follow.specs.declared.goal.Goal.{Goal};
@@ -21,17 +21,16 @@ ghost use Rattle.mdb_words.specs.declared.event.Event.{Event};
 ghost use Rattle.mdb_follow.specs.declared.follower.TheConstants.{ROWS_MAX};
 
 use super::keeping::Keeping;
-use super::sheet::Sheet;
+use super::lines::{add_mark, add_row};
 use mdb_bus::Scope;
 use mdb_follow::{Goal, Offence, ROWS_MAX, Report, laws};
 use mdb_marks::{ExplainFault, Mark, explain_run};
 use mdb_msgs::DeviceSet;
 use mdb_records::Records;
 use mdb_text::Outcome;
-use mdb_verdict::{
-    BYTES_MAX, Batch, RunFault, outcome_of, read_rows, records_of, text_scoped, write_text,
-};
+use mdb_verdict::{BYTES_MAX, Batch, RunFault, outcome_of, read_rows, records_of, text_scoped};
 use mdb_words::Event;
+use mdb_writing::{Page, WriteFailed, write_text};
 use std::alloc::Global;
 use std::io::{Read, Write};
 
@@ -229,54 +228,49 @@ fn tell_no<W: Write>(
     Ok(outcome)
 }
 
-/// Writes marks, and then rows, a sheet at a time.
+/// Writes marks, and then rows, a page at a time.
 fn write_explanation<W: Write>(
     writer: &mut W,
     marks: &[(u64, Mark)],
     rows: &[Event],
-) -> Result<(), RunFault>
+) -> Result<(), WriteFailed>
     ensures written { OnOk result (Appends (W.contents writer.old) (W.contents writer.new)
         (explanation_text marks.now rows.now)) }
-    ensures front { IfErr result (λ fault. HasTaken (W.contents writer.old)
-        (W.contents writer.new) (explanation_text marks.now rows.now)) }
-    ensures refused { IfErr result (λ fault. fault ≡ RunFault.Write) }
+    ensures front { HasTaken (W.contents writer.old) (W.contents writer.new)
+        (explanation_text marks.now rows.now) }
 {
-    let mut sheet = Sheet::new();
-    add_marks(&mut sheet, writer, marks)?;
-    add_rows(&mut sheet, writer, rows)?;
-    sheet.write_out(writer)
+    let mut page = Page::new();
+    add_marks(&mut page, writer, marks)?;
+    add_rows(&mut page, writer, rows)?;
+    page.write_out(writer)
 }
 
 /// Adds the lines of marks.
 fn add_marks<W: Write>(
-    sheet: &mut Sheet,
+    page: &mut Page,
     writer: &mut W,
     marks: &[(u64, Mark)],
-) -> Result<(), RunFault>
-    ensures added { OnOk result (Puts (sheet_output (W.contents writer.old) sheet.old)
-        (sheet_output (W.contents writer.new) sheet.new) (marks_text marks.now)) }
-    ensures refused { IfErr result (λ fault. fault ≡ RunFault.Write) }
-    ensures broken { IfErr result (λ fault. Breaks
-        (sheet_output (W.contents writer.old) sheet.old)
-        (sheet_output (W.contents writer.new) sheet.new) (marks_text marks.now)) }
+) -> Result<(), WriteFailed>
+    ensures added { OnOk result (Puts (output (W.contents writer.old) page.old)
+        (output (W.contents writer.new) page.new) (marks_text marks.now)) }
+    ensures broken { OnErr result (Breaks (output (W.contents writer.old) page.old)
+        (output (W.contents writer.new) page.new) (marks_text marks.now)) }
 {
     for mark in marks {
-        sheet.add_mark(writer, mark)?;
+        add_mark(page, writer, mark)?;
     }
     Ok(())
 }
 
 /// Adds the lines of rows.
-fn add_rows<W: Write>(sheet: &mut Sheet, writer: &mut W, rows: &[Event]) -> Result<(), RunFault>
-    ensures added { OnOk result (Puts (sheet_output (W.contents writer.old) sheet.old)
-        (sheet_output (W.contents writer.new) sheet.new) (rows_text rows.now)) }
-    ensures refused { IfErr result (λ fault. fault ≡ RunFault.Write) }
-    ensures broken { IfErr result (λ fault. Breaks
-        (sheet_output (W.contents writer.old) sheet.old)
-        (sheet_output (W.contents writer.new) sheet.new) (rows_text rows.now)) }
+fn add_rows<W: Write>(page: &mut Page, writer: &mut W, rows: &[Event]) -> Result<(), WriteFailed>
+    ensures added { OnOk result (Puts (output (W.contents writer.old) page.old)
+        (output (W.contents writer.new) page.new) (rows_text rows.now)) }
+    ensures broken { OnErr result (Breaks (output (W.contents writer.old) page.old)
+        (output (W.contents writer.new) page.new) (rows_text rows.now)) }
 {
     for row in rows {
-        sheet.add_row(writer, row)?;
+        add_row(page, writer, row)?;
     }
     Ok(())
 }

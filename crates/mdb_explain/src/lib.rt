@@ -9,9 +9,9 @@ mod entry;
 mod explaining;
 mod keeping;
 pub mod laws;
+mod lines;
 mod marked;
 mod replaying;
-mod sheet;
 
 pub use explaining::{explain, explain_records, explain_scoped};
 pub use marked::{replay, replay_outcome, replay_records, replay_scoped};

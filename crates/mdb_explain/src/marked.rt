@@ -16,7 +16,8 @@ use mdb_bus::Scope;
 use mdb_msgs::DeviceSet;
 use mdb_records::Records;
 use mdb_text::Outcome;
-use mdb_verdict::{BYTES_MAX, Batch, RunFault, read_rows, records_of, text_scoped, write_text};
+use mdb_verdict::{BYTES_MAX, Batch, RunFault, read_rows, records_of, text_scoped};
+use mdb_writing::write_text;
 use std::alloc::Global;
 use std::io::{Read, Write};
 

@@ -38,7 +38,7 @@ impl Replaying {
     ghost use Rattle.mdb_bus.specs.declared.scope.Scope.{Scope};
     ghost use Rattle.mdb_marks.specs.declared.mark.Mark.{Mark};
     ghost use Rattle.mdb_explain.specs.Replay.{mark_at};
-    ghost use Rattle.mdb_verdict.specs.Ending.{HasTaken};
+    ghost use Rattle.mdb_verdict.specs.Ending.{HasTakenOrStopped};
     ghost use Rattle.mdb_explain.specs.inner.Replaying.{Finishes, HasReplayed, HasStopped};
     ghost use Rattle.mdb_explain.specs.inner.Replaying.{HasTakenNext, IsStoppedAt};
 
@@ -59,7 +59,7 @@ impl Replaying {
     /// Takes the next entries, or tells why it stops at one of them.
     fn take_each(&mut self, entries: &[Entry]) -> Option<Stop>
         ensures taken { (scope : Scope) (earlier : List Entry) → HasReplayed scope self.old earlier
-            → HasTaken (HasReplayed scope self.new) (HasStopped scope) earlier entries.now result }
+            → HasTakenOrStopped (HasReplayed scope self.new) (HasStopped scope) earlier entries.now result }
         ensures scope { scope_of self.new.replay ≡ scope_of self.old.replay }
     {
         for entry in entries {

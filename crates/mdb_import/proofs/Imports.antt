@@ -3,7 +3,7 @@ use Rattle.std.proofs.Common.{arith, cond, refl, ap, sym, subst, inl, inr, ◌�
 use Rattle.std.proofs.Common.{true, false, ◌||◌, false, List, [], ◌∷◌, ◌++◌, length, length-append}
 use Rattle.std.proofs.Common.{append_assoc, Option, Some, None, Result, Ok, Err, OnOk, IfErr}
 use Rattle.std.proofs.Common.{IfSome, ◌↔◌, ◌<◌, ◌≤◌, ◌-◌, ◌^◌}
-use Rattle.std.specs.Prelude.{◌==◌, IfNone, IsSomeAnd, is_err}
+use Rattle.std.specs.Prelude.{◌==◌, IfNone, IsErrAnd, IsSomeAnd, is_err}
 use Rattle.std.proofs.lemmas.Bool.{eq-eqb}
 use Rattle.std.proofs.lemmas.List.{append-nil}
 use Rattle.mdb_records.specs.ToCome.{ToCome}
@@ -24,7 +24,7 @@ use Rattle.mdb_import.specs.Fields.{export_fields, line_fields}
 use Rattle.mdb_import.specs.Refusals.{IsFault}
 use Rattle.mdb_import.specs.Rows.{AreEventsWith, IsAfter, IsHeader, IsHeaderOf, IsPassed, IsRowOf}
 use Rattle.mdb_import.specs.Rows.{TellsTime, last_with}
-use Rattle.mdb_import.specs.inner.Output.{Breaks, IsNotTaken, Output, Puts, begun}
+use Rattle.mdb_writing.specs.Output.{Breaks, Output, Puts, begun}
 use Rattle.mdb_import.specs.inner.Steps.{HasImported, IsInside, IsKept, IsNext, IsNoted, IsOutside}
 use Rattle.mdb_import.specs.inner.Steps.{IsRefusalFor, counted_more, PutsExport, TakesOne}
 use Rattle.mdb_import.specs.inner.Steps.{TellsSame, part_line}
@@ -36,7 +36,7 @@ use Rattle.mdb_import.specs.declared.importing.Importing.{Importing}
 use Rattle.mdb_import.specs.declared.options.RowsOptions.{RowsOptions}
 use Rattle.mdb_import.proofs.Events.{events_header, events_more, events_of, events_passed}
 use Rattle.mdb_import.proofs.Events.{last_more, tells_same, text_more}
-use Rattle.mdb_import.proofs.Outputs.{break_both, put_both, put_none}
+use Rattle.mdb_writing.proofs.Outputs.{break_both, put_both, put_none}
 
 -- before the first record
 pub none_imported : (options : RowsOptions) (importing : Importing) (contents : Option (List ℕ))
@@ -175,14 +175,11 @@ told_more options events event before after told noted = record {
 -- an event more
 pub added_one : (options : RowsOptions) (old new : Importing) (before now later : Output)
     (done : List (List (List ℕ))) (events : List Event) (row : List (List ℕ)) (event : Event)
-    (r : Result Unit ImportFault)
     → HasImported options old before now done events → IsRowOf options (export_fields row) event
-    → IsAfter old.last event → OnOk r (new.last ≡ last_with options old.last event)
-    → IsNoted options old.tally new.tally event → OnOk r (Puts now later (part_line options event))
-    → IfErr r (λ fault. IsNotTaken fault now later (part_line options event))
-    → TakesOne options new before later done events row r
-added_one options old new before now later done events row event (Ok taken) has is after last noted
-    puts refused =
+    → IsAfter old.last event → new.last ≡ last_with options old.last event
+    → IsNoted options old.tally new.tally event → Puts now later (part_line options event)
+    → TakesOne options new before later done events row (Ok tt)
+added_one options old new before now later done events row event has is after last noted puts =
     let P : Option ℕ → Type 0 = λ o. IsAfter o event in
     let Q : List ℕ → Type 0 = λ text. Puts before later text in (
       events ++ event ∷ [],
@@ -197,26 +194,30 @@ added_one options old new before now later done events row event (Ok taken) has 
             (part_line options event) has.written puts);
       },
     )
-added_one options old new before now later done events row event
-    (Err (BadRecord number own start fault)) has is after last noted puts refused = absurd refused
-added_one options old new before now later done events row event (Err Read) has is after last noted
-    puts refused = absurd refused
-added_one options old new before now later done events row event (Err Write) has is after last noted
-    puts refused =
+
+-- the writer fails at its row
+pub broken_one : (options : RowsOptions) (old new : Importing) (before now later : Output)
+    (done : List (List (List ℕ))) (events : List Event) (row : List (List ℕ)) (event : Event)
+    → HasImported options old before now done events → IsRowOf options (export_fields row) event
+    → IsAfter old.last event → Breaks now later (part_line options event)
+    → (r : Result Unit ImportFault) → IsErrAnd r (λ told. told ≡ Write)
+    → TakesOne options new before later done events row r
+broken_one options old new before now later done events row event has is after broken (Ok taken)
+    told = absurd told
+broken_one options old new before now later done events row event has is after broken (Err fault)
+    told =
     let P : Option ℕ → Type 0 = λ o. IsAfter o event in
-    let Q : List ℕ → Type 0 = λ text. Breaks before later text in (
+    let Q : List ℕ → Type 0 = λ text. Breaks before later text in
+    let R : ImportFault → Type 0 = λ f. TakesOne options new before later done events row (Err f) in
+    subst R (sym told) (
       events ++ event ∷ [],
       events_of options old.tally.header (done ++ row ∷ []) (events ++ event ∷ [])
           (events_more options old.tally.header done events row event has.read.are is
           (subst P has.last after)),
       subst Q (sym (text_more options events event))
           (break_both before now later (rows_text (taken_of options events))
-          (part_line options event) has.written refused),
+          (part_line options event) has.written broken),
     )
-added_one options old new before now later done events row event (Err Memory) has is after last
-    noted puts refused =
-    let P : Output → Type 0 = λ o. Puts before o (rows_text (taken_of options events)) in
-    subst P (sym refused) has.written
 
 -- the header
 pub passed_header : (options : RowsOptions) (old new : Importing) (before now : Output)
@@ -500,13 +501,7 @@ pub ok_on : {T E : Type 0} (r : Result T E) (P : Type 0) → OnOk r P → is_err
 ok_on (Ok x) P on no_error = on
 ok_on (Err e) P on no_error = absurd (cc)
 
--- what isn't put there, or is refused, is no failed read
-pub added_unread : {T : Type 0} (r : Result T ImportFault) (before after : Output) (text : List ℕ)
-    → IfErr r (λ fault. IsNotTaken fault before after text) → IfErr r (λ fault. fault ≡ Read → ⊥)
-added_unread (Ok x) before after text refused = tt
-added_unread (Err fault) before after text refused =
-    λ is. subst (λ f. IsNotTaken f before after text) is refused
-
+-- what is refused is no failed read
 pub refused_unread : {T : Type 0} (r : Result T ImportFault) (options : RowsOptions)
     (fields : List (List ℕ)) (done : ℕ) (last : Option ℕ) (why : RecordFault)
     → IfErr r (IsRefusalFor options fields done last why) → IfErr r (λ fault. fault ≡ Read → ⊥)

@@ -1,58 +1,18 @@
 -- What is on its way to a writer.
-use Rattle.std.proofs.Common.{refl, ap, sym, subst, inl, inr, ◌∙◌, ◌≡◌, ℕ, List, [], ◌++◌, Option}
-use Rattle.std.proofs.Common.{Some, None, Result, Ok, Err, append_assoc}
-use Rattle.std.proofs.lemmas.List.{append-nil}
+use Rattle.std.proofs.Common.{refl, ap, subst, inl, inr, ◌≡◌, ℕ, List, Option, Result, Ok, Err}
 use Rattle.std.specs.Prelude.{IfOk, IsErrAnd}
 use Rattle.std.specs.Io.KnownBytes.{Appends}
 use Rattle.mdb_import.specs.Exports.{Exports, IsCutShort, IsExport, IsExported, export_records}
 use Rattle.mdb_import.specs.Exports.{taken_of}
-use Rattle.mdb_import.specs.inner.Output.{Breaks, Output, Puts, begun}
+use Rattle.mdb_writing.specs.Output.{Output, begun}
 use Rattle.mdb_import.specs.inner.Steps.{PutsExport}
-use Rattle.mdb_import.specs.Written.{HasTaken}
+use Rattle.mdb_writing.specs.Written.{HasTaken}
 use Rattle.mdb_import.specs.declared.fault.ImportFault.{ImportFault}
 use Rattle.mdb_import.specs.declared.fault.ImportFault.TheVariants.{Write}
 use Rattle.mdb_import.specs.declared.fault.Imported.{Imported}
 use Rattle.mdb_import.specs.declared.options.RowsOptions.{RowsOptions}
 use Rattle.mdb_import.proofs.Events.{events_of}
-use Rattle.mdb_import.proofs.Texts.{appended}
-
-grown_none : (a : Option (List ℕ)) → Appends a a []
-grown_none None = tt
-grown_none (Some bytes) = sym (append-nil bytes)
-
--- nothing is put there
-pub put_none : (now : Output) → Puts now now []
-put_none now = record { taken = []; parts = append-nil now.waiting; grown = grown_none now.held }
-
--- what was taken of two texts
-both_parts : (waiting first taken between second other rest : List ℕ)
-    → waiting ++ first ≡ taken ++ between → between ++ second ≡ other ++ rest
-    → waiting ++ (first ++ second) ≡ (taken ++ other) ++ rest
-both_parts waiting first taken between second other rest one two =
-    sym (append_assoc waiting first second)
-    ∙ (ap (λ l. l ++ second) one ∙ (append_assoc taken between second
-    ∙ (ap (λ l. taken ++ l) two ∙ sym (append_assoc taken other rest))))
-
--- two texts in turn
-pub put_both : (before now later : Output) (first second : List ℕ) → Puts before now first
-    → Puts now later second → Puts before later (first ++ second)
-put_both before now later first second one two = record {
-  taken = one.taken ++ two.taken;
-  parts = both_parts before.waiting first one.taken now.waiting second two.taken later.waiting
-      one.parts two.parts;
-  grown = appended before.held now.held later.held one.taken two.taken one.grown two.grown;
-}
-
--- the writer fails at the second
-pub break_both : (before now later : Output) (first second : List ℕ) → Puts before now first
-    → Breaks now later second → Breaks before later (first ++ second)
-break_both before now later first second one two = record {
-  front = one.taken ++ two.front;
-  rest = two.rest;
-  parts = both_parts before.waiting first one.taken now.waiting second two.front two.rest one.parts
-      two.parts;
-  grown = appended before.held now.held later.held one.taken two.front one.grown two.grown;
-}
+use Rattle.mdb_writing.proofs.Outputs as outputs
 
 -- The page is written out at last.
 pub written_out : (options : RowsOptions) (all : List (List (List ℕ)))
@@ -60,13 +20,7 @@ pub written_out : (options : RowsOptions) (all : List (List (List ℕ)))
     → PutsExport options all (begun before) now answer → (answer ≡ Err Write → ⊥)
     → Appends now.held later now.waiting → Exports options all before later answer
 written_out options all before later now answer (inl showing) not written =
-    let P : List ℕ → Type 0 = λ text. Appends before later text in
-    inl (
-      showing.0,
-      showing.1,
-      subst P (sym showing.2.parts)
-          (appended before now.held later showing.2.taken now.waiting showing.2.grown written),
-    )
+    inl (showing.0, showing.1, outputs.written_out before later now showing.0 showing.2 written)
 written_out options all before later now answer (inr broken) not written = absurd (not broken.0)
 
 -- the writer fails at the page
@@ -78,13 +32,7 @@ page_broken options all before later now answer (inl showing) not taken = record
   answer = answer;
   text = showing.0;
   export = showing.1;
-  taken = record {
-    front = showing.2.taken ++ taken.front;
-    rest = taken.rest;
-    parts = showing.2.parts ∙ (ap (λ l. showing.2.taken ++ l) taken.parts
-        ∙ sym (append_assoc showing.2.taken taken.front taken.rest));
-    grown = appended before now.held later showing.2.taken taken.front showing.2.grown taken.grown;
-  };
+  taken = outputs.broken_out before later now showing.0 showing.2 taken;
 }
 page_broken options all before later now answer (inr broken) not taken = absurd (not broken.0)
 
@@ -109,11 +57,11 @@ rows_broken options all before now answer (inr broken) is =
 
 -- That is the answer then, handed on by `?`.
 pub cut_short : (options : RowsOptions) (all : List (List (List ℕ)))
-    (before later : Option (List ℕ)) (fault : ImportFault) (answer : Result Imported ImportFault)
-    → IsErrAnd answer (λ told. told ≡ fault)
-    → fault ≡ Write → IsCutShort options all before later → Exports options all before later answer
-cut_short options all before later fault (Ok showing) is write cut = absurd is
-cut_short options all before later fault (Err told) is write cut = inr (ap Err (is ∙ write), cut)
+    (before later : Option (List ℕ)) (answer : Result Imported ImportFault)
+    → IsErrAnd answer (λ told. told ≡ Write) → IsCutShort options all before later
+    → Exports options all before later answer
+cut_short options all before later (Ok showing) is cut = absurd is
+cut_short options all before later (Err told) is cut = inr (ap Err is, cut)
 
 -- an export whose rows are all written
 pub exported_ok : (options : RowsOptions) (text : List ℕ) (before after : Option (List ℕ))

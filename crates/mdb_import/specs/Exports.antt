@@ -21,7 +21,7 @@ use Rattle.mdb_import.specs.declared.fault.RecordFault.{RecordFault}
 pub use Rattle.mdb_import.specs.Part.{is_before, is_behind, is_from, is_in, is_taken, is_until}
 use Rattle.mdb_import.specs.Rows.{AreEvents, AreEventsWith, IsAfter, IsExportedRow, IsHeader}
 use Rattle.mdb_import.specs.Rows.{TellsTime, last_with}
-use Rattle.mdb_import.specs.Written.{HasTaken}
+use Rattle.mdb_writing.specs.Written.{HasTaken}
 use Rattle.mdb_import.specs.declared.options.RowsOptions.{RowsOptions}
 use Rattle.mdb_import.specs.declared.fault.ImportFault.{ImportFault}
 use Rattle.mdb_import.specs.declared.fault.ImportFault.TheVariants.{BadRecord, Read, Write, Memory}

@@ -8,5 +8,4 @@ pub mod Refusals
 pub mod Rows
 pub mod Times
 pub mod Values
-pub mod Written
 pub mod inner

@@ -1,4 +1,3 @@
 pub mod Decoded
 pub mod Decoding
-pub mod Output
 pub mod Steps

@@ -3,6 +3,7 @@
 ghost use Rattle.std.specs.Prelude.{◌≡◌};
 
 use mdb_records::ReadFault;
+use mdb_writing::WriteFailed;
 use thiserror::Error;
 
 /// What an import reports in addition to the rows.
@@ -95,5 +96,16 @@ impl From<ReadFault> for ImportFault {
             ReadFault::Read => ImportFault::Read,
             ReadFault::Memory => ImportFault::Memory,
         }
+    }
+}
+
+impl From<WriteFailed> for ImportFault {
+    ghost use Rattle.std.specs.Prelude.{◌≡◌};
+    ghost use Rattle.mdb_import.specs.declared.fault.ImportFault.{ImportFault};
+
+    ghost from_gives = { λ failed told. told ≡ ImportFault.Write };
+
+    fn from(_: WriteFailed) -> ImportFault {
+        ImportFault::Write
     }
 }

@@ -1,15 +1,15 @@
 //! The import of rows: record by record, as they are read.
 
 ghost use Rattle.std.specs.Prelude.{◌≡◌, ◌<◌, ◌-◌, ◌^◌, [], List, ℕ, IfErr, IfOk, IfSome, OnOk};
-ghost use Rattle.std.specs.Prelude.{None, Some, length, true};
+ghost use Rattle.std.specs.Prelude.{None, OnErr, Some, length, true};
 ghost use Rattle.csv.specs.Records.{fields_of};
 ghost use Rattle.mdb_records.specs.ToCome.{ToCome, limit_of};
 ghost use Rattle.mdb_words.specs.Event.{start_of};
 ghost use Rattle.mdb_import.specs.Exports.{AreRead, Exports, HasFailed, IsExported, IsTold};
-ghost use Rattle.mdb_import.specs.Exports.{export_records};
+ghost use Rattle.mdb_import.specs.Exports.{export_records, row_line};
 ghost use Rattle.mdb_import.specs.Fields.{line_fields};
 ghost use Rattle.mdb_import.specs.inner.Decoded.{decoded_remaining};
-ghost use Rattle.mdb_import.specs.inner.Output.{IsNotTaken, Puts, begun, output};
+ghost use Rattle.mdb_writing.specs.Output.{Breaks, Puts, begun, output};
 ghost use Rattle.mdb_import.specs.Rows.{last_with};
 ghost use Rattle.mdb_import.specs.inner.Steps.{HasImported, IsKept, IsNext, IsNoted, IsOutside};
 ghost use Rattle.mdb_import.specs.inner.Steps.{IsRefusalFor, IsSaid, PutsExport};
@@ -20,11 +20,12 @@ use super::fault::{ImportFault, Imported, RecordFault};
 use super::fields::join;
 use super::options::RowsOptions;
 use super::order::expect_after;
-use super::page::Page;
 use super::rows::{event_in, is_header, time_in};
+use arrayvec::ArrayString;
 use csv::ByteRecord;
 use mdb_records::Records;
 use mdb_words::{Event, Line};
+use mdb_writing::{Page, WriteFailed};
 use std::alloc::Global;
 use std::io::{Read, Write};
 
@@ -100,7 +101,7 @@ pub(crate) struct Importing {
 impl Importing {
     ghost use Rattle.std.specs.Prelude.{Option};
     ghost use Rattle.mdb_words.specs.declared.event.Event.{Event};
-    ghost use Rattle.mdb_import.specs.inner.Output.{Output};
+    ghost use Rattle.mdb_writing.specs.Output.{Output};
     ghost use Rattle.mdb_import.specs.declared.options.RowsOptions.{RowsOptions};
 
     /// Before the first record.
@@ -108,7 +109,7 @@ impl Importing {
         ensures last { result.last ≡ None }
         ensures told { (options : RowsOptions) → IsTold options [] result.tally }
         ensures read { (options : RowsOptions) → AreRead options [] [] result.tally }
-        ensures page { result.page.lines.items ≡ [] }
+        ensures page { result.page ≡ [] }
     {
         Importing {
             last: None,
@@ -123,7 +124,7 @@ impl Importing {
                 peripheral: false,
             },
             line: Vec::new(alloc),
-            page: Page::new(alloc),
+            page: Page::new(),
         }
     }
 
@@ -137,7 +138,7 @@ impl Importing {
         requires last { self.old.last ≡ None }
         requires told { IsTold options.now [] self.old.tally }
         requires read { AreRead options.now [] [] self.old.tally }
-        requires page { self.old.page.lines.items ≡ [] }
+        requires page { self.old.page ≡ [] }
         ensures failed { IfErr result (λ fault. fault ≡ ImportFault.Read
             → HasFailed R.remaining records.old records.new) }
         ensures puts { (all : List (List (List ℕ))) → ToCome R.remaining records.old all
@@ -180,7 +181,7 @@ impl Importing {
             return Err(ImportFault::Memory);
         }
         match next_in(options, done == 0, self.last, self.line.as_slice()) {
-            Ok(Some(event)) => self.add(options, &event, writer),
+            Ok(Some(event)) => Ok(self.add(options, &event, writer)?),
             Ok(None) => {
                 self.tally.header = true;
                 Ok(())
@@ -227,14 +228,13 @@ impl Importing {
         options: &RowsOptions,
         event: &Event,
         writer: &mut W,
-    ) -> Result<(), ImportFault>
+    ) -> Result<(), WriteFailed>
         ensures last { OnOk result
             (self.new.last ≡ last_with options.now self.old.last event.now) }
         ensures noted { IsNoted options.now self.old.tally self.new.tally event.now }
         ensures added { OnOk result (Puts (output (W.contents writer.old) self.old.page)
             (output (W.contents writer.new) self.new.page) (part_line options.now event.now)) }
-        ensures refused { IfErr result (λ fault. IsNotTaken fault
-            (output (W.contents writer.old) self.old.page)
+        ensures broken { OnErr result (Breaks (output (W.contents writer.old) self.old.page)
             (output (W.contents writer.new) self.new.page) (part_line options.now event.now)) }
     {
         let at = event.start().value();
@@ -250,7 +250,7 @@ impl Importing {
         }
         self.last = Some(at);
         self.tally.rows = self.tally.rows.saturating_add(1);
-        self.page.add(writer, event)
+        self.page.add(writer, line_of(event).as_str().as_bytes())
     }
 
     /// Notes which line said something, and whether it was marked.
@@ -271,6 +271,15 @@ impl Importing {
             }
         }
     }
+}
+
+/// The row of an event, with its line end.
+pub fn line_of(event: &Event) -> ArrayString<32>
+    ensures { result.bytes ≡ row_line event.now }
+{
+    let mut line = event.row_text();
+    line.push('\n');
+    line
 }
 
 /// The event of a line after a time, nothing where the first line is a header, or what is wrong

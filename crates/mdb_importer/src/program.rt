@@ -93,7 +93,7 @@ fn run_saleae<R: Read + Drop, W: Write, E: Write>(
         (W.contents out.old) (W.contents out.new) result) }
 {
     let mut records = records_of(alloc, reader);
-    let answer = import_table(alloc, options, &mut records, out);
+    let answer = import_table(options, &mut records, out);
     tell_of_table(alloc, answer, &records, err);
     answer
 }

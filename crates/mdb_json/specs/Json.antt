@@ -5,7 +5,7 @@ use Rattle.mdb_bus.specs.declared.scope.Scope.{Scope}
 use Rattle.mdb_explain.specs.Replay.{IsReplayAnswer}
 use Rattle.mdb_text.specs.declared.outcome.Outcome.{Outcome}
 use Rattle.mdb_verdict.specs.Verdict.{IsAnswer}
-use Rattle.mdb_verdict.specs.Written.{HasTaken}
+use Rattle.mdb_writing.specs.Written.{HasTaken}
 use Rattle.mdb_json.specs.Reports.{outcome_data}
 
 -- an answer as JSON, with no space between its tokens

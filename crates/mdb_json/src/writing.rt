@@ -18,7 +18,8 @@ use mdb_msgs::DeviceSet;
 use mdb_records::Records;
 use mdb_text::Outcome;
 use mdb_verdict::laws::verdicts_say_the_headline;
-use mdb_verdict::{RunFault, verdict_on, write_text};
+use mdb_verdict::{RunFault, verdict_on};
+use mdb_writing::write_text;
 use std::alloc::{AllocError, Global};
 use std::io::{Read, Write};
 

@@ -1,7 +1,8 @@
 -- The import, record by record.
 use Rattle.std.proofs.Common.{arith, refl, ap, sym, subst, inl, inr, ◌∙◌, ◌≡◌, ◌+◌, ℕ, List, []}
 use Rattle.std.proofs.Common.{◌∷◌, ◌++◌, ◌≤◌, length, length-append, append_assoc, Option, Some}
-use Rattle.std.proofs.Common.{None, Result, Ok, Err, OnOk, IfErr}
+use Rattle.std.proofs.Common.{None, Result, Ok, Err, IfErr}
+use Rattle.std.specs.Prelude.{IsErrAnd}
 use Rattle.std.proofs.lemmas.List.{append-nil}
 use Rattle.mdb_records.specs.ToCome.{ToCome}
 use Rattle.mdb_records.specs.declared.ReadFault.{ReadFault}
@@ -12,12 +13,11 @@ use Rattle.mdb_words.specs.declared.event.Event.{Event}
 use Rattle.mdb_import.specs.Exports.{HasFailed}
 use Rattle.mdb_import.specs.Rows.{IsAfter}
 use Rattle.mdb_import.specs.declared.fault.Imported.{Imported}
-use Rattle.mdb_import.specs.inner.Output.{Breaks, Output, Puts, begun}
+use Rattle.mdb_writing.specs.Output.{Breaks, Output, Puts, begun}
 use Rattle.mdb_saleae.specs.Exports.{IsExportedInPart, IsRefusedRow, IsTold, part_text}
 use Rattle.mdb_saleae.specs.Exports.{read_fault_of}
 use Rattle.mdb_saleae.specs.Refusals.{IsFault}
 use Rattle.mdb_saleae.specs.Rows.{AreRows, IsTableRow, last_start}
-use Rattle.mdb_saleae.specs.inner.Output.{IsNotTaken}
 use Rattle.mdb_saleae.specs.inner.Steps.{Begins, HasFailedBehind, HasImported, IsNext, IsNoted}
 use Rattle.mdb_saleae.specs.inner.Steps.{PutsRows, TakesOne, fault_at, part_line}
 use Rattle.mdb_saleae.specs.declared.columns.Columns.{Columns}
@@ -28,7 +28,7 @@ use Rattle.mdb_saleae.specs.declared.fault.SaleaeFault.TheVariants.{Memory, NoHe
 use Rattle.mdb_saleae.specs.declared.importing.Importing.{Importing}
 use Rattle.mdb_saleae.specs.declared.options.SaleaeOptions.{SaleaeOptions}
 use Rattle.mdb_saleae.specs.declared.rows.Refusal.{Refusal}
-use Rattle.mdb_saleae.proofs.Outputs.{break_both, put_both, put_none}
+use Rattle.mdb_writing.proofs.Outputs.{break_both, put_both, put_none}
 use Rattle.mdb_saleae.proofs.Taken.{last_more, rows_more, text_more, told_more}
 
 -- before the first record
@@ -50,14 +50,13 @@ none_imported options columns importing contents waiting last told empty =
 -- an event more
 pub added_one : (options : SaleaeOptions) (columns : Columns) (old new : Importing)
     (before now later : Output) (done : List (List (List ℕ))) (events : List Event)
-    (row : List (List ℕ)) (event : Event) (r : Result Unit SaleaeFault)
+    (row : List (List ℕ)) (event : Event)
     → HasImported options columns old before now done events → IsTableRow options columns row event
-    → IsAfter old.last event → OnOk r (new.last ≡ Some (start_of event))
-    → IsNoted options old.tally new.tally event → OnOk r (Puts now later (part_line options event))
-    → IfErr r (λ fault. IsNotTaken fault now later (part_line options event))
-    → TakesOne options columns new before later done events row r
-added_one options columns old new before now later done events row event (Ok taken) has is after
-    last noted puts refused =
+    → IsAfter old.last event → new.last ≡ Some (start_of event)
+    → IsNoted options old.tally new.tally event → Puts now later (part_line options event)
+    → TakesOne options columns new before later done events row (Ok tt)
+added_one options columns old new before now later done events row event has is after last noted
+    puts =
     let P : Option ℕ → Type 0 = λ o. IsAfter o event in
     let Q : List ℕ → Type 0 = λ text. Puts before later text in (
       events ++ event ∷ [],
@@ -71,30 +70,30 @@ added_one options columns old new before now later done events row event (Ok tak
             has.written puts);
       },
     )
-added_one options columns old new before now later done events row event (Err NoHeader) has is after
-    last noted puts refused = absurd refused
-added_one options columns old new before now later done events row event (Err (BadHeader fault)) has
-    is after last noted puts refused = absurd refused
-added_one options columns old new before now later done events row event
-    (Err (BadRecord number fault)) has is after last noted puts refused = absurd refused
-added_one options columns old new before now later done events row event
-    (Err (BadRow number at fault)) has is after last noted puts refused = absurd refused
-added_one options columns old new before now later done events row event (Err Read) has is after
-    last noted puts refused = absurd refused
-added_one options columns old new before now later done events row event (Err Write) has is after
-    last noted puts refused =
+
+-- the writer fails at its row
+pub broken_one : (options : SaleaeOptions) (columns : Columns) (old new : Importing)
+    (before now later : Output) (done : List (List (List ℕ))) (events : List Event)
+    (row : List (List ℕ)) (event : Event)
+    → HasImported options columns old before now done events → IsTableRow options columns row event
+    → IsAfter old.last event → Breaks now later (part_line options event)
+    → (r : Result Unit SaleaeFault) → IsErrAnd r (λ told. told ≡ Write)
+    → TakesOne options columns new before later done events row r
+broken_one options columns old new before now later done events row event has is after broken
+    (Ok taken) told = absurd told
+broken_one options columns old new before now later done events row event has is after broken
+    (Err fault) told =
     let P : Option ℕ → Type 0 = λ o. IsAfter o event in
-    let Q : List ℕ → Type 0 = λ text. Breaks before later text in (
+    let Q : List ℕ → Type 0 = λ text. Breaks before later text in
+    let R : SaleaeFault → Type 0 =
+    λ f. TakesOne options columns new before later done events row (Err f) in
+    subst R (sym told) (
       events ++ event ∷ [],
       rows_more options columns None done events row event has.are is (subst P has.last after),
       subst Q (sym (text_more options events event))
           (break_both before now later (part_text options events) (part_line options event)
-          has.written refused),
+          has.written broken),
     )
-added_one options columns old new before now later done events row event (Err Memory) has is after
-    last noted puts refused =
-    let P : Output → Type 0 = λ o. Puts before o (part_text options events) in
-    subst P (sym refused) has.written
 
 -- a refusal
 refused_row : (options : SaleaeOptions) (columns : Columns) (events : List Event)
@@ -300,13 +299,7 @@ all_taken remaining now options columns importing before after count all so_far 
       so_far.has.written,
     )
 
--- what isn't put there, or is refused, is no failed read
-pub added_unread : {T : Type 0} (r : Result T SaleaeFault) (before after : Output) (text : List ℕ)
-    → IfErr r (λ fault. IsNotTaken fault before after text) → IfErr r (λ fault. fault ≡ Read → ⊥)
-added_unread (Ok x) before after text refused = tt
-added_unread (Err fault) before after text refused =
-    λ is. subst (λ f. IsNotTaken f before after text) is refused
-
+-- what is refused is no failed read
 pub told_unread : (number : ℕ) (at : Option ℕ) (fault : RowFault) (told : SaleaeFault)
     → told ≡ fault_at number at fault → told ≡ Read → ⊥
 told_unread number None fault told is read = let bad : BadRecord number fault ≡ Read =

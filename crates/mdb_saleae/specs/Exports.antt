@@ -10,7 +10,7 @@ use Rattle.mdb_records.specs.declared.ReadFault.TheVariants as reading
 use Rattle.mdb_import.specs.Exports.{export_records, is_controllers, is_from, is_marked}
 use Rattle.mdb_import.specs.Exports.{is_peripherals, is_until, rows_text, told_count}
 use Rattle.mdb_import.specs.Rows.{IsAfter}
-use Rattle.mdb_import.specs.Written.{HasTaken}
+use Rattle.mdb_writing.specs.Written.{HasTaken}
 use Rattle.mdb_import.specs.declared.fault.Imported.{Imported}
 use Rattle.mdb_saleae.specs.Columns.{IsColumns, IsHeaderFault}
 use Rattle.mdb_saleae.specs.Refusals.{IsFault}

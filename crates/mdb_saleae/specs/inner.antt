@@ -1,4 +1,3 @@
 pub mod Breaks
 pub mod Faults
-pub mod Output
 pub mod Steps

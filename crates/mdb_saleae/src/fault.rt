@@ -1,8 +1,9 @@
 //! Why a table isn't imported.
 
 use super::columns::Column;
-use mdb_import::{ImportFault, RecordFault};
+use mdb_import::RecordFault;
 use mdb_records::ReadFault;
+use mdb_writing::WriteFailed;
 use thiserror::Error;
 
 /// What is wrong with a header.
@@ -150,18 +151,13 @@ impl From<ReadFault> for SaleaeFault {
     }
 }
 
-impl From<ImportFault> for SaleaeFault {
+impl From<WriteFailed> for SaleaeFault {
     ghost use Rattle.std.specs.Prelude.{◌≡◌};
-    ghost use Rattle.mdb_saleae.specs.inner.Faults.{page_fault_of};
+    ghost use Rattle.mdb_saleae.specs.declared.fault.SaleaeFault.{SaleaeFault};
 
-    ghost from_gives = { λ fault told. told ≡ page_fault_of fault };
+    ghost from_gives = { λ failed told. told ≡ SaleaeFault.Write };
 
-    // The fault of a page, which meets no record and no reader.
-    fn from(fault: ImportFault) -> SaleaeFault {
-        match fault {
-            ImportFault::Memory => SaleaeFault::Memory,
-            ImportFault::Write => SaleaeFault::Write,
-            ImportFault::Read | ImportFault::BadRecord { .. } => SaleaeFault::Read,
-        }
+    fn from(_: WriteFailed) -> SaleaeFault {
+        SaleaeFault::Write
     }
 }

@@ -1,15 +1,14 @@
 //! The import of a table: record by record, as they are read.
 
 ghost use Rattle.std.specs.Prelude.{◌≡◌, ◌<◌, ◌≤◌, ◌+◌, ◌-◌, ◌^◌, [], List, ℕ, IfErr, IfOk, IfSome};
-ghost use Rattle.std.specs.Prelude.{OnOk, None, Some, length};
+ghost use Rattle.std.specs.Prelude.{OnErr, OnOk, None, Some, length};
 ghost use Rattle.csv.specs.Records.{fields_of};
 ghost use Rattle.mdb_records.specs.ToCome.{ToCome, fault_of};
 ghost use Rattle.mdb_words.specs.Event.{start_of};
 ghost use Rattle.mdb_import.specs.Exports.{HasFailed, export_records};
-ghost use Rattle.mdb_import.specs.inner.Output.{Puts, begun, output};
+ghost use Rattle.mdb_writing.specs.Output.{Breaks, Puts, begun, output};
 ghost use Rattle.mdb_import.specs.inner.Steps.{IsKept, IsSaid};
 ghost use Rattle.mdb_saleae.specs.Exports.{Exports, IsExported, IsTold};
-ghost use Rattle.mdb_saleae.specs.inner.Output.{IsNotTaken};
 ghost use Rattle.mdb_saleae.specs.inner.Steps.{Begins, HasFailedBehind, HasImported, IsNext};
 ghost use Rattle.mdb_saleae.specs.inner.Steps.{IsNoted, PutsRows};
 ghost use Rattle.mdb_saleae.specs.inner.Steps.{TakesOne, fault_at, part_line};
@@ -19,9 +18,10 @@ use super::fault::{RowFault, SaleaeFault};
 use super::options::SaleaeOptions;
 use super::rows::{Refusal, event_in};
 use csv::ByteRecord;
-use mdb_import::{Imported, Page, expect_after, records_of};
+use mdb_import::{Imported, expect_after, line_of, records_of};
 use mdb_records::{ReadFault, Records};
 use mdb_words::{Event, Line};
+use mdb_writing::{Page, WriteFailed};
 use std::alloc::Global;
 use std::io::{Read, Write};
 
@@ -36,7 +36,6 @@ use std::io::{Read, Write};
 /// records were. `Write` where the writer failed: then it took a front of what is written where it
 /// doesn't fail.
 pub fn import_table<R: Read + Drop, W: Write>(
-    alloc: Global,
     options: &SaleaeOptions,
     records: &mut Records<R>,
     writer: &mut W,
@@ -51,7 +50,7 @@ pub fn import_table<R: Read + Drop, W: Write>(
         Ok(columns) => columns,
         Err(fault) => return Err(fault),
     };
-    let mut importing = Importing::new(alloc);
+    let mut importing = Importing::new();
     let answer = importing.take_all(options, &columns, records, writer);
     if answer != Err(SaleaeFault::Write) {
         importing.page.write_out(writer)?;
@@ -76,7 +75,7 @@ pub fn import_saleae<R: Read + Drop, W: Write>(
         (export_records text) (W.contents writer.old) (W.contents writer.new) result) }
 {
     let mut records = records_of(alloc, reader);
-    import_table(alloc, options, &mut records, writer)
+    import_table(options, &mut records, writer)
 }
 
 /// The columns that the first of the records that are still to come names.
@@ -108,14 +107,14 @@ pub(crate) struct Importing {
 impl Importing {
     ghost use Rattle.std.specs.Prelude.{Option};
     ghost use Rattle.mdb_words.specs.declared.event.Event.{Event};
-    ghost use Rattle.mdb_import.specs.inner.Output.{Output};
+    ghost use Rattle.mdb_writing.specs.Output.{Output};
     ghost use Rattle.mdb_saleae.specs.declared.options.SaleaeOptions.{SaleaeOptions};
 
     /// Before the first record behind the header.
-    fn new(alloc: Global) -> Importing
+    fn new() -> Importing
         ensures last { result.last ≡ None }
         ensures told { (options : SaleaeOptions) → IsTold options [] result.tally }
-        ensures page { result.page.lines.items ≡ [] }
+        ensures page { result.page ≡ [] }
     {
         Importing {
             last: None,
@@ -129,7 +128,7 @@ impl Importing {
                 controller: false,
                 peripheral: false,
             },
-            page: Page::new(alloc),
+            page: Page::new(),
         }
     }
 
@@ -143,7 +142,7 @@ impl Importing {
     ) -> Result<Imported, SaleaeFault>
         requires last { self.old.last ≡ None }
         requires told { IsTold options.now [] self.old.tally }
-        requires page { self.old.page.lines.items ≡ [] }
+        requires page { self.old.page ≡ [] }
         ensures failed { IfErr result (λ fault. fault ≡ SaleaeFault.Read
             → HasFailedBehind R.remaining records.old records.new) }
         ensures puts { (all : List (List (List ℕ))) → ToCome R.remaining records.old all
@@ -185,7 +184,7 @@ impl Importing {
             (fields_of fields.now) result }
     {
         match next_in(options, columns, self.last, fields) {
-            Ok(event) => self.add(options, &event, writer),
+            Ok(event) => Ok(self.add(options, &event, writer)?),
             Err(refusal) => Err(told(number, refusal)),
         }
     }
@@ -196,13 +195,12 @@ impl Importing {
         options: &SaleaeOptions,
         event: &Event,
         writer: &mut W,
-    ) -> Result<(), SaleaeFault>
+    ) -> Result<(), WriteFailed>
         ensures last { OnOk result (self.new.last ≡ Some (start_of event.now)) }
         ensures noted { IsNoted options.now self.old.tally self.new.tally event.now }
         ensures added { OnOk result (Puts (output (W.contents writer.old) self.old.page)
             (output (W.contents writer.new) self.new.page) (part_line options.now event.now)) }
-        ensures refused { IfErr result (λ fault. IsNotTaken fault
-            (output (W.contents writer.old) self.old.page)
+        ensures broken { OnErr result (Breaks (output (W.contents writer.old) self.old.page)
             (output (W.contents writer.new) self.new.page) (part_line options.now event.now)) }
     {
         let at = event.start().value();
@@ -217,10 +215,7 @@ impl Importing {
             return Ok(());
         }
         self.tally.rows = self.tally.rows.saturating_add(1);
-        match self.page.add(writer, event) {
-            Ok(()) => Ok(()),
-            Err(fault) => Err(SaleaeFault::from(fault)),
-        }
+        self.page.add(writer, line_of(event).as_str().as_bytes())
     }
 
     /// Notes which line said something, and whether it was marked.

@@ -10,26 +10,24 @@ use Rattle.mdb_bus.specs.Bus.{StandsFor, scope_of}
 use Rattle.mdb_follow.specs.declared.follower.TheConstants.{ROWS_MAX}
 use Rattle.mdb_verdict.specs.declared.fault.RunFault.{RunFault}
 use Rattle.mdb_verdict.specs.declared.fault.RunFault.TheVariants.{BadRow, TooLong, Read, Write, Memory, Mark}
-use Rattle.mdb_show.specs.declared.page.Page.{Page}
 use Rattle.mdb_show.specs.declared.showing.Lines.{Lines}
 use Rattle.mdb_records.specs.declared.ReadFault.{ReadFault}
 use Rattle.mdb_records.specs.declared.ReadFault.TheVariants as reading
-use Rattle.mdb_verdict.specs.Ending.{AreRead, HasEnded, HasTaken, IsHeard, IsStop, IsStopped, IsTakenWhole, IsToldEnd}
+use Rattle.mdb_verdict.specs.Ending.{AreRead, HasEnded, HasTakenOrStopped, IsHeard, IsStop, IsStopped, IsTakenWhole, IsToldEnd}
 use Rattle.mdb_show.specs.Show.{AreShown, IsShowingIn, IsShownInPartIn, IsShownToFaultIn, IsShownWholeIn}
-use Rattle.mdb_verdict.specs.Output.{Output, Puts, begun}
-use Rattle.mdb_show.specs.inner.ShowSteps.{HasAdded, HasShown, HasStopped, IsAdded, IsAddedInPart, IsAddedToFault, IsNotTaken, IsShownAs, LeadInto, PutsShowing, cut_text, output}
+use Rattle.mdb_writing.specs.Output.{Output, Puts, begun, output}
+use Rattle.mdb_show.specs.inner.ShowSteps.{HasAdded, HasShown, HasStopped, IsAdded, IsAddedInPart, IsAddedToFault, IsNotTaken, IsShownAs, LeadInto, PutsShowing, cut_text}
 use Rattle.mdb_show.specs.Lines.{LineForm, closed_pieces, lines_of}
 use Rattle.mdb_verdict.specs.Verdict.{AreRows, run_fault_of}
-use Rattle.mdb_verdict.proofs.Outputs.{break_both, put_both, put_none}
+use Rattle.mdb_writing.proofs.Outputs.{break_both, put_begun, put_both}
 use Rattle.mdb_verdict.proofs.Rows.{IsReadBefore, IsReadUpTo, are_rows, read_before, read_up_to}
 use Rattle.mdb_show.proofs.ShowTexts.{all_shown}
 use Rattle.mdb_bus.specs.declared.scope.Scope.{Scope}
 
 -- before the first row
-pub begins : (form : LineForm) (scope : Scope) (lines : Lines) (page : Page) → scope_of lines.bus ≡ scope → StandsFor lines.bus [] → lines.rows ≡ 0 → lines.shown ≡ 0 → page.lines.items ≡ []
+pub begins : (form : LineForm) (scope : Scope) (lines : Lines) (page : List ℕ) → scope_of lines.bus ≡ scope → StandsFor lines.bus [] → lines.rows ≡ 0 → lines.shown ≡ 0 → page ≡ []
     → (contents : Option (List ℕ)) → HasShown form scope lines (begun contents) (output contents page) []
 begins form scope lines page is stands no_rows none empty contents =
-    let P : List ℕ → Type 0 = λ waiting. Puts (begun contents) (record { held = contents; waiting = waiting }) [] in
     record {
       in_scope = is;
       pieces = [];
@@ -38,20 +36,20 @@ begins form scope lines page is stands no_rows none empty contents =
       counted = sym no_rows;
       closed = sym none;
       few = omega (arith, none);
-      written = subst P (sym empty) (put_none (begun contents));
+      written = put_begun contents page empty;
     }
 
 -- The lines of rows are added, or they end at one of them.
 pub added : (form : LineForm) (scope : Scope) (lines : Lines) (before after : Output) (earlier rows : List Event) (answer : Result (Option LinkFault) RunFault) (stop : Option (Result LinkFault RunFault)) → stop ≡ result_transpose answer
-    → HasAdded form scope lines before after earlier rows answer → HasTaken (HasShown form scope lines before after) (HasStopped form scope lines before after) earlier rows stop
+    → HasAdded form scope lines before after earlier rows answer → HasTakenOrStopped (HasShown form scope lines before after) (HasStopped form scope lines before after) earlier rows stop
 added form scope lines before after earlier rows (Ok None) stop is adds =
-    let P : Option (Result LinkFault RunFault) → Type 0 = λ s. HasTaken (HasShown form scope lines before after) (HasStopped form scope lines before after) earlier rows s in
+    let P : Option (Result LinkFault RunFault) → Type 0 = λ s. HasTakenOrStopped (HasShown form scope lines before after) (HasStopped form scope lines before after) earlier rows s in
     subst P (sym is) adds
 added form scope lines before after earlier rows (Ok (Some fault)) stop is adds =
-    let P : Option (Result LinkFault RunFault) → Type 0 = λ s. HasTaken (HasShown form scope lines before after) (HasStopped form scope lines before after) earlier rows s in
+    let P : Option (Result LinkFault RunFault) → Type 0 = λ s. HasTakenOrStopped (HasShown form scope lines before after) (HasStopped form scope lines before after) earlier rows s in
     subst P (sym is) adds
 added form scope lines before after earlier rows (Err fault) stop is adds =
-    let P : Option (Result LinkFault RunFault) → Type 0 = λ s. HasTaken (HasShown form scope lines before after) (HasStopped form scope lines before after) earlier rows s in
+    let P : Option (Result LinkFault RunFault) → Type 0 = λ s. HasTakenOrStopped (HasShown form scope lines before after) (HasStopped form scope lines before after) earlier rows s in
     subst P (sym is) adds
 
 -- the pieces of the rows that were read

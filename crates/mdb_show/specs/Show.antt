@@ -14,7 +14,7 @@ use Rattle.mdb_show.specs.Lines.{LineForm, closed_pieces, lines_of}
 use Rattle.mdb_show.specs.ShowJson.{json_lines}
 use Rattle.mdb_show.specs.ShowText.{text_lines}
 use Rattle.mdb_verdict.specs.Verdict.{AreRows}
-use Rattle.mdb_verdict.specs.Written.{HasTaken}
+use Rattle.mdb_writing.specs.Written.{HasTaken}
 use Rattle.mdb_bus.specs.declared.scope.Scope.{Scope}
 
 -- The records up to the rest are rows, and these pieces are their act list.

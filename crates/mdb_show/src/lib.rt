@@ -8,7 +8,7 @@
 mod form;
 mod json_text;
 pub mod laws;
-mod page;
+mod printer;
 mod show_text;
 mod showing;
 

@@ -9,11 +9,11 @@ ghost use Rattle.mdb_bus.specs.Bus.{scope_of};
 ghost use Rattle.mdb_bus.specs.declared.scope.Scope.{Scope};
 ghost use Rattle.mdb_bus.specs.Scopes.{power_on};
 ghost use Rattle.mdb_show.specs.Show.{Shows, ShowsIn, ShowsJson};
-ghost use Rattle.mdb_verdict.specs.Output.{begun};
-ghost use Rattle.mdb_show.specs.inner.ShowSteps.{HasShown, IsShownAs, PutsShowing, output};
+ghost use Rattle.mdb_writing.specs.Output.{begun, output};
+ghost use Rattle.mdb_show.specs.inner.ShowSteps.{HasShown, IsShownAs, PutsShowing};
 
 use super::form::{Form, JsonForm, TextForm};
-use super::page::Page;
+use super::printer::Printer;
 use mdb_bus::{Act, Bus, LinkFault, Scope, laws};
 use mdb_follow::ROWS_MAX;
 use mdb_records::Records;
@@ -162,7 +162,7 @@ fn show_in<F: Form, R: Read + Drop, W: Write>(
     let mut showing = Showing::new(alloc, scope, form);
     let answer = show_rows(records, &mut showing, writer);
     if answer != Err(RunFault::Write) {
-        showing.page.write_out(writer)?;
+        showing.printer.page.write_out(writer)?;
     }
     answer
 }
@@ -174,10 +174,10 @@ fn show_rows<F: Form, R: Read + Drop, W: Write>(
     writer: &mut W,
 ) -> Result<Option<LinkFault>, RunFault>
     requires { HasShown F.lines (scope_of showing.old.lines.bus) showing.old.lines
-        (begun (W.contents writer.old)) (output (W.contents writer.old) showing.old.page) [] }
+        (begun (W.contents writer.old)) (output (W.contents writer.old) showing.old.printer.page) [] }
     ensures shows { (all : List (List (List ℕ))) → ToCome R.remaining records.old all
         → PutsShowing F.lines (scope_of showing.old.lines.bus) all (begun (W.contents writer.old))
-        (output (W.contents writer.new) showing.new.page) result }
+        (output (W.contents writer.new) showing.new.printer.page) result }
     ensures whole { IsOverLimit R.remaining records.old → result ≢ Ok None }
     ensures heard { IfErr result (HasCause (fault_of records.new)) }
     ensures met { fault_of records.old ≡ None → IfSome (fault_of records.new)
@@ -186,8 +186,12 @@ fn show_rows<F: Form, R: Read + Drop, W: Write>(
     if let Some(stop) = read_rows(records, &mut Batch::new(), showing, writer, ROWS_MAX)? {
         return Ok(Some(stop?));
     }
-    let Showing { lines, page, form } = showing;
-    page.add_cut(form, writer, lines.shown, lines.rows)?;
+    let Showing {
+        lines,
+        printer,
+        form,
+    } = showing;
+    printer.add_cut(form, writer, lines.shown, lines.rows)?;
     Ok(None)
 }
 
@@ -195,25 +199,25 @@ fn show_rows<F: Form, R: Read + Drop, W: Write>(
 #[derive(Drop)]
 struct Showing<F: Drop> {
     lines: Lines,
-    page: Page,
+    printer: Printer,
     form: F,
 }
 
 impl<F: Form> Showing<F> {
     ghost use Rattle.std.specs.Prelude.{[], Option};
-    ghost use Rattle.mdb_verdict.specs.Output.{begun};
-    ghost use Rattle.mdb_show.specs.inner.ShowSteps.{HasShown, output};
+    ghost use Rattle.mdb_writing.specs.Output.{begun, output};
+    ghost use Rattle.mdb_show.specs.inner.ShowSteps.{HasShown};
 
     /// Before the first row.
     fn new(alloc: Global, scope: &Scope, form: F) -> Showing<F>
         ensures shown { (contents : Option (List ℕ))
             → HasShown F.lines scope.now result.lines (begun contents)
-            (output contents result.page) [] }
+            (output contents result.printer.page) [] }
         ensures scope { scope_of result.lines.bus ≡ scope.now }
     {
         Showing {
             lines: Lines::new(scope),
-            page: Page::new(alloc),
+            printer: Printer::new(alloc),
             form,
         }
     }
@@ -223,8 +227,8 @@ impl<F: Form> Showing<F> {
 impl<F: Form, W: Write> TakeRows<W> for Showing<F> {
     ghost use Rattle.std.proofs.Common.{sym};
     ghost use Rattle.mdb_follow.specs.declared.follower.TheConstants.{ROWS_MAX};
-    ghost use Rattle.mdb_verdict.specs.Output.{begun};
-    ghost use Rattle.mdb_show.specs.inner.ShowSteps.{HasShown, HasStopped, output};
+    ghost use Rattle.mdb_writing.specs.Output.{begun, output};
+    ghost use Rattle.mdb_show.specs.inner.ShowSteps.{HasShown, HasStopped};
 
     type Row = Event;
 
@@ -237,10 +241,10 @@ impl<F: Form, W: Write> TakeRows<W> for Showing<F> {
     ghost scope = { λ showing. scope_of showing.lines.bus };
 
     ghost has = { λ showing before after rows. HasShown F.lines (scope_of showing.lines.bus)
-        showing.lines (begun (W.contents before)) (output (W.contents after) showing.page) rows };
+        showing.lines (begun (W.contents before)) (output (W.contents after) showing.printer.page) rows };
 
     ghost stops = { λ showing before after. HasStopped F.lines (scope_of showing.lines.bus)
-        showing.lines (begun (W.contents before)) (output (W.contents after) showing.page) };
+        showing.lines (begun (W.contents before)) (output (W.contents after) showing.printer.page) };
 
     fn rows_taken(&self) -> u64 {
         self.lines.rows
@@ -248,7 +252,7 @@ impl<F: Form, W: Write> TakeRows<W> for Showing<F> {
 
     fn take_all(&mut self, writer: &mut W, rows: &[Event]) -> Option<Result<LinkFault, RunFault>> {
         self.lines
-            .add_all(&self.form, rows, &mut self.page, writer)
+            .add_all(&self.form, rows, &mut self.printer, writer)
             .transpose()
     }
 
@@ -270,7 +274,7 @@ impl Lines {
     ghost use Rattle.std.specs.Prelude.{◌≤◌, ◌+◌, []};
     ghost use Rattle.mdb_words.specs.declared.event.Event.{Event};
     ghost use Rattle.mdb_bus.specs.Bus.{StandsFor, scope_of};
-    ghost use Rattle.mdb_verdict.specs.Output.{Output};
+    ghost use Rattle.mdb_writing.specs.Output.{Output, output};
     ghost use Rattle.mdb_show.specs.inner.ShowSteps.{HasAdded, HasPieces, HasShown};
 
     /// No lines: before the first row.
@@ -294,7 +298,7 @@ impl Lines {
         &mut self,
         form: &F,
         events: &[Event],
-        page: &mut Page,
+        printer: &mut Printer,
         writer: &mut W,
     ) -> Result<Option<LinkFault>, RunFault>
         requires stands { HasPieces self.old.bus }
@@ -302,9 +306,9 @@ impl Lines {
         requires room { self.old.rows + length events.now ≤ ROWS_MAX }
         ensures added { (before : Output) (earlier : List Event)
             → HasShown F.lines (scope_of self.old.bus) self.old before
-            (output (W.contents writer.old) page.old) earlier
+            (output (W.contents writer.old) printer.old.page) earlier
             → HasAdded F.lines (scope_of self.old.bus) self.new before
-            (output (W.contents writer.new) page.new) earlier events.now result }
+            (output (W.contents writer.new) printer.new.page) earlier events.now result }
         ensures scope { scope_of self.new.bus ≡ scope_of self.old.bus }
     {
         laws::acts_name_replies_of_their_commands();
@@ -312,12 +316,12 @@ impl Lines {
             let ended = match self.bus.feed_into(*event, &mut self.act) {
                 Ok(ended) => ended,
                 Err(fault) => {
-                    page.add_fault(form, writer, self.rows + 1, fault)?;
+                    printer.add_fault(form, writer, self.rows + 1, fault)?;
                     return Ok(Some(fault));
                 }
             };
             if ended {
-                page.add_ended(form, writer, self.shown, self.rows, &self.act)?;
+                printer.add_ended(form, writer, self.shown, self.rows, &self.act)?;
                 self.shown = self.rows + 1;
             }
             self.rows += 1;

@@ -6,7 +6,8 @@ use Rattle.mdb_words.specs.declared.word.Line.TheVariants.{Controller, Periphera
 use Rattle.mdb_sigrok.specs.declared.fault.SigrokFault.{SigrokFault}
 use Rattle.mdb_sigrok.specs.declared.fault.SigrokFault.TheVariants.{Memory, Read, Write}
 use Rattle.std.specs.Io.KnownBytes.{Appends}
-use Rattle.mdb_sigrok.specs.Import.{HasTaken, IsImported, IsRefused}
+use Rattle.mdb_writing.specs.Written.{HasTaken}
+use Rattle.mdb_sigrok.specs.Import.{IsImported, IsRefused}
 use Rattle.mdb_sigrok.specs.Part.{IsTold}
 use Rattle.mdb_sigrok.specs.inner.Tallies.{part_text}
 use Rattle.mdb_sigrok.specs.declared.tally.SigrokRows.{SigrokRows}
@@ -19,7 +20,7 @@ use Rattle.mdb_sigrok.specs.inner.Fronts.{AreFirst, Leaves}
 use Rattle.mdb_sigrok.specs.inner.Pairs.{Bars, Ends, GoBy, IsNext, Moves, Stand, Stops, Tells, start}
 use Rattle.mdb_sigrok.proofs.Fronts.{first_alone, line_alone, one_line}
 use Rattle.mdb_sigrok.proofs.Moves.{all_told, barred_stops, moves_by, moves_none, moves_on, moves_stop, only_told, refutes_too, start_stops}
-use Rattle.mdb_sigrok.proofs.Pages.{kept}
+use Rattle.std.proofs.KnownBytes.{Keeps-refl}
 use Rattle.mdb_sigrok.proofs.Traces.{imported_of, only_rows, partial_of, refused_of, refused_rows}
 
 -- pair by pair
@@ -129,7 +130,7 @@ partial_by options (Some text) rows fault before after are taken why = partial_o
 pub refused_by : (options : SigrokOptions) (known : Option (List ℕ)) (fault : SigrokFault) (held : Option (List ℕ)) → IfSome known (λ text. (fault ≡ Read) ⊎ ((rows : List Event) → Refutes fault (AreRowsOfTrace options.swap text rows))) → IfSome known (λ text. IsRefused options text fault held held)
 refused_by options None fault held never = tt
 refused_by options (Some text) fault held never = elim never [
-  | inl read ↦ subst (λ f. IsRefused options text f held held) (sym read) (kept held)
+  | inl read ↦ subst (λ f. IsRefused options text f held held) (sym read) (Keeps-refl held)
   | inr refutes ↦ refused_of options text fault held refutes
 ]
 

@@ -1,12 +1,14 @@
 -- The rows of a trace are those of both its lines.
 use Rattle.std.proofs.Common.{◌≡◌, ◌⊎◌, Bool, List, ℕ, [], ◌∷◌, codes, sym, subst, ◌∙◌, Option, inl, inr}
 use Rattle.std.specs.Io.KnownBytes.{Appends}
-use Rattle.mdb_sigrok.specs.Import.{HasTaken, IsImported, IsPartial, IsRefused}
+use Rattle.mdb_writing.specs.Written.{HasTaken}
+use Rattle.mdb_sigrok.specs.Import.{IsImported, IsPartial, IsRefused}
 use Rattle.mdb_sigrok.specs.Part.{IsTold}
 use Rattle.mdb_sigrok.specs.inner.Tallies.{part_text}
 use Rattle.mdb_sigrok.specs.declared.tally.SigrokRows.{SigrokRows}
 use Rattle.mdb_sigrok.specs.declared.options.SigrokOptions.{SigrokOptions}
-use Rattle.mdb_sigrok.proofs.Pages.{kept, part_text_is}
+use Rattle.std.proofs.KnownBytes.{Keeps-refl}
+use Rattle.mdb_sigrok.proofs.Pages.{part_text_is}
 use Rattle.mdb_words.specs.declared.event.Event.{Event}
 use Rattle.mdb_sigrok.specs.declared.fault.SigrokFault.{SigrokFault}
 use Rattle.mdb_sigrok.specs.declared.fault.SigrokFault.TheVariants.{Form, Order, Read, Write, Memory}
@@ -38,11 +40,11 @@ refused_rows Write swap text first rest is never = λ rows. never [] []
 refused_rows Memory swap text first rest is never = λ rows. tt
 
 pub refused_of : (options : SigrokOptions) (text : List ℕ) (fault : SigrokFault) (held : Option (List ℕ)) → ((rows : List Event) → Refutes fault (AreRowsOfTrace options.swap text rows)) → IsRefused options text fault held held
-refused_of options text (Form number wrong) held never = (never, kept held)
-refused_of options text (Order number micros line wrong) held never = (never, kept held)
+refused_of options text (Form number wrong) held never = (never, Keeps-refl held)
+refused_of options text (Order number micros line wrong) held never = (never, Keeps-refl held)
 refused_of options text Read held never = absurd (never [])
 refused_of options text Write held never = absurd (never [])
-refused_of options text Memory held never = inl (kept held)
+refused_of options text Memory held never = inl (Keeps-refl held)
 
 -- the rows of the part are written, or a front of them
 pub imported_of : (options : SigrokOptions) (text : List ℕ) (rows : List Event) (told : SigrokRows) (before after : Option (List ℕ)) → AreRowsOfTrace options.swap text rows → IsTold options rows told → Appends before after (part_text options rows) → IsImported options text told before after

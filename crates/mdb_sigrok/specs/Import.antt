@@ -1,8 +1,9 @@
 -- A trace from a reader, and its rows to a writer.
-use Rattle.std.specs.Prelude.{◌≡◌, ◌⊎◌, ◌++◌, ℕ, List, [], ◌∷◌, Option, Result, Ok, Err}
+use Rattle.std.specs.Prelude.{◌⊎◌, ◌++◌, ℕ, List, [], ◌∷◌, Option, Result, Ok, Err}
 use Rattle.std.specs.Io.KnownBytes.{Appends, Keeps}
 use Rattle.std.specs.List.{flat_map}
 use Rattle.mdb_words.specs.Row.{joined_by_commas, row_fields}
+use Rattle.mdb_writing.specs.Written.{HasTaken}
 use Rattle.mdb_words.specs.declared.event.Event.{Event}
 use Rattle.mdb_sigrok.specs.declared.fault.SigrokFault.{SigrokFault}
 use Rattle.mdb_sigrok.specs.declared.fault.SigrokFault.TheVariants.{Form, Order, Read, Write, Memory}
@@ -18,14 +19,6 @@ row_line row = joined_by_commas (row_fields row) ++ 10 ∷ []
 -- the rows as they are written
 abbrev pub rows_text : List Event → List ℕ
 rows_text rows = flat_map row_line rows
-
--- The bytes that a writer holds, where they are known, have grown by a front of the text: by all of
--- it, by some of its first bytes, or by none.
-pub record HasTaken (before after : Option (List ℕ)) (text : List ℕ) : Type 0 where
-  pub front : List ℕ
-  pub rest : List ℕ
-  pub parts : text ≡ front ++ rest
-  pub grown : Appends before after front
 
 -- the rows of the part that was asked for were written, and of all rows this is told
 pub record IsImported (options : SigrokOptions) (text : List ℕ) (told : SigrokRows)

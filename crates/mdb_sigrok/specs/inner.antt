@@ -1,6 +1,5 @@
 pub mod Fronts
 pub mod Heads
-pub mod Pages
 pub mod Pairs
 pub mod Places
 pub mod Stands

@@ -1,5 +1,8 @@
 //! Why there are no rows.
 
+ghost use Rattle.std.specs.Prelude.{◌≡◌};
+
+use mdb_writing::WriteFailed;
 use thiserror::Error;
 
 /// Why a trace gives no rows: the first fault in the order of its records.
@@ -34,6 +37,17 @@ pub enum SigrokFault {
     /// Memory was refused.
     #[error("out of memory")]
     Memory,
+}
+
+impl From<WriteFailed> for SigrokFault {
+    ghost use Rattle.std.specs.Prelude.{◌≡◌};
+    ghost use Rattle.mdb_sigrok.specs.declared.fault.SigrokFault.{SigrokFault};
+
+    ghost from_gives = { λ failed told. told ≡ SigrokFault.Write };
+
+    fn from(_: WriteFailed) -> SigrokFault {
+        SigrokFault::Write
+    }
 }
 
 /// The line of the bus that has a fault.

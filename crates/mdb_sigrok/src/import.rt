@@ -32,9 +32,9 @@ pub fn import_sigrok<R: Read + Drop, W: Write>(
         (W.contents writer.old) (W.contents writer.new) result) }
 {
     match rows_of_trace(alloc, options.swap, reader) {
-        Ok(rows) => match write_part(alloc, options, rows.as_slice(), writer) {
+        Ok(rows) => match write_part(options, rows.as_slice(), writer) {
             Ok(()) => Ok(tally_of(options, rows.as_slice())),
-            Err(fault) => Err(fault),
+            Err(failed) => Err(SigrokFault::from(failed)),
         },
         Err(fault) => Err(fault),
     }

@@ -1,31 +1,13 @@
 -- Texts that are written in parts.
-use Rattle.std.proofs.Common.{[], Bool, true, false, refl, ap, sym, ◌∙◌, ◌≡◌, ◌-◌, ℕ, List, ◌++◌, Option, Some, None, Result, Ok, Err, append_assoc, drop, get_or, length, ◌+◌, ◌<◌, ◌≤◌, subst, take, take-append-drop}
-use Rattle.std.proofs.lemmas.List.{flat_map_more, take_all, take_more, take_rest}
+use Rattle.std.proofs.Common.{[], Bool, true, false, refl, ap, sym, ◌∙◌, ◌≡◌, ℕ, List, ◌++◌, Option, Result, Ok, Err, get_or, length, ◌+◌, ◌<◌, ◌≤◌, subst, take}
+use Rattle.std.proofs.KnownBytes.{Appends-trans}
+use Rattle.std.proofs.lemmas.List.{flat_map_more, take_all, take_more}
 use Rattle.std.specs.List.{flat_map}
 use Rattle.std.specs.Prelude.{OnOk}
-use Rattle.std.specs.Io.KnownBytes.{Appends, Keeps}
+use Rattle.std.specs.Io.KnownBytes.{Appends}
 use Rattle.mdb_msgs.specs.declared.device_set.DeviceSet.{DeviceSet}
 use Rattle.mdb_msgs.specs.declared.device_set.TheConstants.DeviceSet.{NONE}
 use Rattle.mdb_text.specs.Text.{devices_text, line, line_of_devices}
-
--- two parts in turn
-pub appended : (a b c : Option (List ℕ)) (xs ys : List ℕ) → Appends a b xs → Appends b c ys → Appends a c (xs ++ ys)
-appended None b c xs ys first second = tt
-appended (Some before) None c xs ys first second = absurd first
-appended (Some before) (Some bs) None xs ys first second = absurd second
-appended (Some before) (Some bs) (Some cs) xs ys first second = second ∙ (ap (λ l. l ++ ys) first ∙ append_assoc before xs ys)
-
--- a part, and then nothing
-pub appended_kept : (a b c : Option (List ℕ)) (xs : List ℕ) → Appends a b xs → Keeps b c → Appends a c xs
-appended_kept None b c xs first second = tt
-appended_kept (Some before) None c xs first second = absurd first
-appended_kept (Some before) (Some bs) None xs first second = absurd second
-appended_kept (Some before) (Some bs) (Some cs) xs first second = second ∙ first
-
--- so many bytes more are taken of a text
-pub taken_more : (text done rest now : List ℕ) (n : ℕ) → text ≡ done ++ rest → now ≡ take (length rest - n) (drop n rest) → text ≡ (done ++ take n rest) ++ now
-taken_more text done rest now n parts is =
-    parts ∙ (ap (λ l. done ++ l) (sym (take-append-drop n rest)) ∙ (sym (append_assoc done (take n rest) (drop n rest)) ∙ ap (λ l. (done ++ take n rest) ++ l) (sym (is ∙ take_rest rest n))))
 
 -- a part after what was written, where it was
 pub on_ok : {T E : Type 0} (r : Result T E) (P Q : Type 0) → (P → Q) → OnOk r P → OnOk r Q
@@ -38,7 +20,7 @@ pub one_part_more : {X : Type 0} (part : X → List ℕ) (a b c : Option (List �
 one_part_more part a b c head xs i d text below so_far is more =
     subst (λ text. Appends a c text)
     (flat_map_more part head (take i xs) (get_or xs i d) ∙ ap (λ ys. head ++ flat_map part ys) (sym (take_more xs i d below)))
-    (appended a b c (head ++ flat_map part (take i xs)) (part (get_or xs i d)) so_far (subst (λ text. Appends b c text) is more))
+    (Appends-trans a b c (head ++ flat_map part (take i xs)) (part (get_or xs i d)) so_far (subst (λ text. Appends b c text) is more))
 
 -- and with all of them
 pub all_parts : {X : Type 0} (part : X → List ℕ) (a b : Option (List ℕ)) (head : List ℕ) (xs : List X) (i : ℕ) → length xs ≤ i

@@ -11,7 +11,7 @@ use Rattle.mdb_verdict.specs.declared.batch.Next.TheVariants as next
 use Rattle.mdb_verdict.specs.declared.fault.RunFault.{RunFault}
 use Rattle.mdb_verdict.specs.declared.fault.RunFault.TheVariants.{BadRow, TooLong, Read, Write, Memory, Mark}
 use Rattle.mdb_verdict.specs.Batch.{FitsIn, HasRead, IsMet}
-use Rattle.mdb_verdict.specs.Ending.{EndsAfter, HasEnded, HasFirst, HasTaken, IsHeard, IsStop, IsStopped, IsTakenWhole, IsToldEnd, goes_on_by}
+use Rattle.mdb_verdict.specs.Ending.{EndsAfter, HasEnded, HasFirst, HasTakenOrStopped, IsHeard, IsStop, IsStopped, IsTakenWhole, IsToldEnd, goes_on_by}
 use Rattle.mdb_verdict.specs.Verdict.{run_fault_of}
 use Rattle.mdb_verdict.proofs.Rows.{all_append, empty, first_row, no_rows}
 
@@ -45,10 +45,10 @@ pub record After {R Row : Type 0} (Is : List (List ℕ) → Row → Type 0) (Ref
 
 pub goes_on : {R Row Stop : Type 0} (Is : List (List ℕ) → Row → Type 0) (Refuses : List (List ℕ) → RowFault → Type 0) (remaining : R → Option (List ℕ)) (Has Later : List Row → Type 0) (Stops : List Row → List Row → Stop → Type 0) (start old new : Records R) (events later : List Row)
     (after : Next) (count total : ℕ) (stop : Option Stop) → Progress Is Refuses remaining Has start old next.More → ((rest : List (List (List ℕ))) → ToCome remaining old rest → HasRead Is Refuses remaining rest new later after)
-    → events ≡ later → stop ≡ None → ((earlier : List Row) → Has earlier → HasTaken Later Stops earlier events stop)
+    → events ≡ later → stop ≡ None → ((earlier : List Row) → Has earlier → HasTakenOrStopped Later Stops earlier events stop)
     → ((rows : List Row) → Has rows → count ≡ length rows) → ((rows : List Row) → Later rows → total ≡ length rows) → After Is Refuses remaining Later start new later after count total
 goes_on {Row = Row} {Stop = Stop} Is Refuses remaining Has Later Stops start old new events later after count total stop progress reads same none takes counts counts_later =
-    let P : Option Stop → Type 0 = λ s. HasTaken Later Stops progress.rows events s in
+    let P : Option Stop → Type 0 = λ s. HasTakenOrStopped Later Stops progress.rows events s in
     let Q : List Row → Type 0 = λ l. Later (progress.rows ++ l) in
     let has : Later (progress.rows ++ later) = subst Q same (subst P none (takes progress.rows progress.has)) in
     let number : total ≡ length (progress.rows ++ later) = counts_later (progress.rows ++ later) has in
@@ -66,11 +66,11 @@ goes_on {Row = Row} {Stop = Stop} Is Refuses remaining Has Later Stops start old
 pub stopped : {R Row Stop : Type 0} (Is : List (List ℕ) → Row → Type 0) (Refuses : List (List ℕ) → RowFault → Type 0) (remaining : R → Option (List ℕ)) (Has Later : List Row → Type 0) (Stops : List Row → List Row → Stop → Type 0) (limit : ℕ) (all : List (List (List ℕ)))
     (start old new : Records R) (events later : List Row) (after : Next) (count : ℕ) (answer : Option Stop) (stop : Stop) → Progress Is Refuses remaining Has start old next.More
     → ToCome remaining start all → ((rest : List (List (List ℕ))) → ToCome remaining old rest → HasRead Is Refuses remaining rest new later after) → ((rows : List Row) → Has rows → count ≡ length rows)
-    → events ≡ later → answer ≡ Some stop → ((earlier : List Row) → Has earlier → HasTaken Later Stops earlier events answer) → count + length later ≤ limit
+    → events ≡ later → answer ≡ Some stop → ((earlier : List Row) → Has earlier → HasTakenOrStopped Later Stops earlier events answer) → count + length later ≤ limit
     → IsStopped Is (λ earlier rows. Stops earlier rows stop) limit all
 stopped {Row = Row} {Stop = Stop} Is Refuses remaining Has Later Stops limit all start old new events later after count answer stop progress to_come reads counts same is takes room =
     let read = both_read Is Refuses remaining all old new progress.rows later after (progress.has_read all to_come) reads in
-    let P : Option Stop → Type 0 = λ s. HasTaken Later Stops progress.rows events s in
+    let P : Option Stop → Type 0 = λ s. HasTakenOrStopped Later Stops progress.rows events s in
     let Q : List Row → Type 0 = λ l. Stops progress.rows l stop in
     record {
       earlier = progress.rows;
@@ -284,8 +284,8 @@ fault_not_whole fault (Ok stop) handed is = handed
 fault_not_whole fault (Err other) handed is = absurd (cc)
 
 -- A stop is one of those that there are.
-pub is_stop : {Row Stop : Type 0} (Has : List Row → Type 0) (Stops : List Row → List Row → Stop → Type 0) (rows later : List Row) (answer : Option Stop) (stop : Stop) → HasTaken Has Stops rows later answer → answer ≡ Some stop → IsStop Stops stop
-is_stop Has Stops rows later answer stop taken is = (rows, later, subst (λ a. HasTaken Has Stops rows later a) is taken)
+pub is_stop : {Row Stop : Type 0} (Has : List Row → Type 0) (Stops : List Row → List Row → Stop → Type 0) (rows later : List Row) (answer : Option Stop) (stop : Stop) → HasTakenOrStopped Has Stops rows later answer → answer ≡ Some stop → IsStop Stops stop
+is_stop Has Stops rows later answer stop taken is = (rows, later, subst (λ a. HasTakenOrStopped Has Stops rows later a) is taken)
 
 -- no stop is answered with a fault
 pub fault_no_stop : {Stop : Type 0} (P : Stop → Type 0) (fault : RunFault) (answer : Result (Option Stop) RunFault) → IsErrAnd answer (λ other. other ≡ fault) → IfOk answer (λ stop. IfSome stop P)

@@ -1,9 +1,7 @@
 pub mod Batches
-pub mod Decimals
 pub mod Endings
 pub mod Fields
 pub mod Headline
 pub mod OneAnswer
-pub mod Outputs
 pub mod Rows
 pub mod Verdicts

@@ -4,7 +4,7 @@ use Rattle.mdb_bus.specs.declared.scope.Scope.{Scope}
 use Rattle.mdb_text.specs.declared.outcome.Outcome.{Outcome}
 use Rattle.mdb_text.specs.Text.{report_text}
 use Rattle.mdb_verdict.specs.Verdict.{IsAnswer}
-use Rattle.mdb_verdict.specs.Written.{HasTaken}
+use Rattle.mdb_writing.specs.Written.{HasTaken}
 
 -- The records of a text have a verdict, and a writer took a front of its text.
 pub record IsCutReport (scope : Scope) (limit : ℕ) (records : List (List (List ℕ)))

@@ -18,10 +18,10 @@ use Rattle.mdb_verdict.specs.Verdict.{run_fault_of}
 use Rattle.mdb_bus.specs.declared.scope.Scope.{Scope}
 
 -- the later rows were taken after the earlier ones, or one of them was stopped at
-abbrev pub HasTaken : {Row Stop : Type 0} → (List Row → Type 0)
+abbrev pub HasTakenOrStopped : {Row Stop : Type 0} → (List Row → Type 0)
     → (List Row → List Row → Stop → Type 0) → List Row → List Row → Option Stop → Type 0
-HasTaken Has Stops earlier later None = Has (earlier ++ later)
-HasTaken Has Stops earlier later (Some stop) = Stops earlier later stop
+HasTakenOrStopped Has Stops earlier later None = Has (earlier ++ later)
+HasTakenOrStopped Has Stops earlier later (Some stop) = Stops earlier later stop
 
 -- it was stopped at some row
 abbrev pub IsStop : {Row Stop : Type 0} → (List Row → List Row → Stop → Type 0) → Stop → Type 0

@@ -4,6 +4,7 @@ ghost use Rattle.std.specs.Prelude.{◌≡◌};
 
 use mdb_records::ReadFault;
 use mdb_words::RowFault;
+use mdb_writing::WriteFailed;
 use thiserror::Error;
 
 /// Why there is no answer.
@@ -49,5 +50,16 @@ impl From<ReadFault> for RunFault {
             ReadFault::Read => RunFault::Read,
             ReadFault::Memory => RunFault::Memory,
         }
+    }
+}
+
+impl From<WriteFailed> for RunFault {
+    ghost use Rattle.std.specs.Prelude.{◌≡◌};
+    ghost use Rattle.mdb_verdict.specs.declared.fault.RunFault.{RunFault};
+
+    ghost from_gives = { λ failed told. told ≡ RunFault.Write };
+
+    fn from(_: WriteFailed) -> RunFault {
+        RunFault::Write
     }
 }

@@ -16,7 +16,6 @@ mod reading;
 mod row;
 mod text;
 mod verdict;
-mod writing;
 
 pub use batch::{Batch, Next};
 pub use fault::RunFault;
@@ -28,4 +27,3 @@ pub use verdict::{
     BYTES_MAX, check, check_joined, check_records, check_scoped, check_scoped_within, check_within,
     outcome_of, records_of, verdict_on,
 };
-pub use writing::write_text;

@@ -3,7 +3,7 @@
 ghost use Rattle.std.specs.Prelude.{◌≡◌, ◌+◌, ◌^◌, ◌<◌, ◌≤◌, ◌≢◌, List, ℕ, [], IfErr, IfOk, IfSome, IsErr, IsErrOf, None, Ok, Option, length};
 ghost use Rattle.mdb_records.specs.ToCome.{IsOverLimit, ToCome, fault_of};
 ghost use Rattle.mdb_bus.specs.declared.scope.Scope.{Scope};
-ghost use Rattle.mdb_verdict.specs.Ending.{EndsAfter, HasEnded, HasTaken, IsHeard, IsStop, IsToldEnd, goes_on_by};
+ghost use Rattle.mdb_verdict.specs.Ending.{EndsAfter, HasEnded, HasTakenOrStopped, IsHeard, IsStop, IsToldEnd, goes_on_by};
 ghost use Rattle.mdb_verdict.specs.Verdict.{run_fault_of};
 
 use super::batch::{Batch, Next};
@@ -47,7 +47,7 @@ pub trait TakeRows<O> {
             × has self.old before out.old earlier }
         requires room { count self.old + length rows.now ≤ most }
         ensures taken { (before : O) (earlier : List Self.Row) → has self.old before out.old earlier
-            → HasTaken (has self.new before out.new) (stops self.new before out.new) earlier
+            → HasTakenOrStopped (has self.new before out.new) (stops self.new before out.new) earlier
             rows.now result }
         ensures same_scope { scope self.new ≡ scope self.old };
 

@@ -20,13 +20,13 @@ use super::fault::RunFault;
 use super::laws::verdicts_say_the_headline;
 use super::reading::{TakeRows, read_rows};
 use super::text::text_scoped;
-use super::writing::write_text;
 use mdb_bus::Scope;
 use mdb_follow::{Follower, Offence, ROWS_MAX, laws};
 use mdb_msgs::{DeviceSet, Setups};
 use mdb_records::Records;
 use mdb_text::Outcome;
 use mdb_words::Event;
+use mdb_writing::write_text;
 use std::alloc::Global;
 use std::io::{Read, Write};
 

@@ -17,12 +17,10 @@ use Rattle.mdb_text.specs.declared.outcome.Outcome.{Outcome}
 use Rattle.mdb_text.specs.declared.outcome.Outcome.TheVariants.{Yes, No}
 use Rattle.mdb_verdict.specs.declared.fault.RunFault.{RunFault}
 use Rattle.mdb_verdict.specs.declared.fault.RunFault.TheVariants.{BadRow, TooLong, Read, Write, Memory, Mark as MarkFault}
-use Rattle.mdb_explain.specs.declared.sheet.Sheet.{Sheet}
 use Rattle.mdb_explain.specs.Explain.{explanation_text, mark_fields, record_line}
 use Rattle.mdb_text.specs.Text.{report_text}
-use Rattle.mdb_verdict.specs.Written.{HasTaken}
+use Rattle.mdb_writing.specs.Written.{HasTaken}
 use Rattle.mdb_verdict.specs.Ending.{HasFollowed}
-use Rattle.mdb_verdict.specs.Output.{Output}
 
 -- These rows were taken, and no others, and they are kept.
 pub record HasKept (scope : Scope) (keeping : Keeping) (rows : List Event) : Type 0 where
@@ -51,10 +49,6 @@ marks_text marks = flat_map mark_line marks
 
 abbrev pub rows_text : List Event → List ℕ
 rows_text rows = flat_map row_line rows
-
--- what is on its way to a writer: the bytes that it holds, and the lines of a sheet
-abbrev pub sheet_output : Option (List ℕ) → Sheet → Output
-sheet_output contents sheet = record { held = contents; waiting = sheet.lines.items }
 
 -- A text of an outcome was written, which is answered, or it was not.
 abbrev pub IsTold : {W : Type 0} → (W → Option (List ℕ)) → W → W

@@ -10,7 +10,7 @@ use Rattle.mdb_import.specs.Exports.{last_start, row_line, rows_text, taken_of}
 use Rattle.mdb_import.specs.Refusals.{IsFault}
 use Rattle.mdb_import.specs.Part.{is_in}
 use Rattle.mdb_import.specs.Rows.{AreEvents, IsAfter, IsHeaderOf, IsRowOf, TellsTime}
-use Rattle.mdb_import.specs.inner.Output.{Breaks, Output, Puts}
+use Rattle.mdb_writing.specs.Output.{Breaks, Output, Puts}
 use Rattle.mdb_import.specs.declared.fault.ImportFault.{ImportFault}
 use Rattle.mdb_import.specs.declared.fault.ImportFault.TheVariants.{BadRecord, Read, Write, Memory}
 use Rattle.mdb_import.specs.declared.fault.Imported.{Imported}

@@ -1,19 +1,9 @@
 -- What a fault of `mdb_import` is told as. This file serves private functions and proofs: no public
 -- clause cites it.
-use Rattle.mdb_import.specs.declared.fault.ImportFault.{ImportFault}
-use Rattle.mdb_import.specs.declared.fault.ImportFault.TheVariants as page
 use Rattle.mdb_import.specs.declared.fault.RecordFault.{RecordFault}
 use Rattle.mdb_import.specs.declared.fault.RecordFault.TheVariants as found
 use Rattle.mdb_saleae.specs.declared.fault.RowFault.{RowFault}
 use Rattle.mdb_saleae.specs.declared.fault.RowFault.TheVariants as fault
-use Rattle.mdb_saleae.specs.declared.fault.SaleaeFault.{SaleaeFault}
-use Rattle.mdb_saleae.specs.declared.fault.SaleaeFault.TheVariants.{Read, Write, Memory}
-
-abbrev pub page_fault_of : ImportFault → SaleaeFault
-page_fault_of page.Memory = Memory
-page_fault_of page.Write = Write
-page_fault_of page.Read = Read
-page_fault_of (page.BadRecord number own last fault) = Read
 
 abbrev pub row_fault_of : RecordFault → RowFault
 row_fault_of found.FieldCount = fault.FieldCount

@@ -8,7 +8,7 @@ use Rattle.mdb_records.specs.declared.ReadFault.TheVariants as reading
 use Rattle.mdb_records.specs.declared.Records.{Records}
 use Rattle.mdb_import.specs.Exports.{row_line}
 use Rattle.mdb_import.specs.Rows.{IsAfter}
-use Rattle.mdb_import.specs.inner.Output.{Breaks, Output, Puts}
+use Rattle.mdb_writing.specs.Output.{Breaks, Output, Puts}
 use Rattle.mdb_import.specs.inner.Steps.{IsKept, IsSaid, counted_more}
 use Rattle.mdb_import.specs.declared.fault.Imported.{Imported}
 use Rattle.mdb_saleae.specs.Columns.{IsColumns}

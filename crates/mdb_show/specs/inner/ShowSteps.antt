@@ -14,10 +14,9 @@ use Rattle.mdb_records.specs.declared.ReadFault.{ReadFault}
 use Rattle.mdb_records.specs.declared.ReadFault.TheVariants as reading
 use Rattle.mdb_verdict.specs.declared.fault.RunFault.{RunFault}
 use Rattle.mdb_verdict.specs.declared.fault.RunFault.TheVariants.{BadRow, TooLong, Read, Write, Memory, Mark}
-use Rattle.mdb_show.specs.declared.page.Page.{Page}
 use Rattle.mdb_show.specs.declared.showing.Lines.{Lines}
 use Rattle.mdb_show.specs.Show.{IsShowingIn}
-use Rattle.mdb_verdict.specs.Output.{Breaks, Output, Puts}
+use Rattle.mdb_writing.specs.Output.{Breaks, Output, Puts}
 use Rattle.mdb_show.specs.Lines.{LineForm, closed_pieces, lines_of}
 use Rattle.mdb_bus.specs.declared.scope.Scope.{Scope}
 
@@ -31,10 +30,6 @@ abbrev pub ended_text : LineForm → ℕ → ℕ → Act → List ℕ
 ended_text form shown rows (acts.Break length) =
     cut_text form shown rows ++ form.act (rows + 1) (rows + 1) (acts.Break length)
 ended_text form shown rows act = form.act (shown + 1) (rows + 1) act
-
--- what is on its way to a writer with a page
-abbrev pub output : Option (List ℕ) → Page → Output
-output contents page = record { held = contents; waiting = page.lines.items }
 
 -- a text isn't put there: with want of memory nothing has changed
 abbrev pub IsNotTaken : RunFault → Output → Output → List ℕ → Type 0

@@ -1,24 +1,32 @@
 use Rattle.std.proofs.Common.{refl}
-use Rattle.mdb_explain.specs.inner.Explaining.{mark_line, sheet_output}
-use Rattle.mdb_explain.proofs.ExplainedTexts as explanations
-use Rattle.mdb_verdict.proofs.Outputs.{put_none}
+use Rattle.mdb_explain.specs.inner.Explaining.{mark_line}
+use Rattle.mdb_writing.specs.Output.{output}
+use Rattle.mdb_writing.proofs.Outputs as outputs
 use Rattle.mdb_explain.proofs.explaining.add_marks.Goals as goal
 
 pub loop-mark-init : goal.loop-mark-init
-loop-mark-init g c = put_none (sheet_output (g.W.Write.contents c.args.writer.now) c.args.sheet.now)
+loop-mark-init g c =
+    outputs.put_none (output (g.W.Write.contents c.args.writer.now) c.args.page.now)
 
 pub returns-in_err-add_mark-clause-broken : goal.returns-in_err-add_mark-clause-broken
 returns-in_err-add_mark-clause-broken g c =
     let held = g.W.Write.contents in
-    explanations.at_fault c.from_residual.result _
-    (explanations.line_broken mark_line (sheet_output (held c.args.writer.now) c.args.sheet.now) (sheet_output (held c.loop-mark.writer) c.loop-mark.sheet) (sheet_output (held c.add_mark.new.writer) c.add_mark.new.self)
-    c.args.marks.now c.loop-mark.mark-index _ _ c.loop-mark-test.true c.loop-mark.invariant refl c.in_err-add_mark.ensures.broken)
+    outputs.at_error c.from_residual.result _
+    (outputs.break_more mark_line (output (held c.args.writer.now) c.args.page.now)
+    (output (held c.loop-mark.writer) c.loop-mark.page)
+    (output (held c.add_mark.new.writer) c.add_mark.new.page) c.args.marks.now
+    c.loop-mark.mark-index _ _ c.loop-mark-test.true c.loop-mark.invariant
+    refl c.in_err-add_mark.ensures.broken)
 
 pub loop-mark-preserved : goal.loop-mark-preserved
 loop-mark-preserved g c =
     let held = g.W.Write.contents in
-    explanations.line_more mark_line (sheet_output (held c.args.writer.now) c.args.sheet.now) (sheet_output (held c.loop-mark.writer) c.loop-mark.sheet) (sheet_output (held c.add_mark.new.writer) c.add_mark.new.self)
-    c.args.marks.now c.loop-mark.mark-index _ _ c.loop-mark-test.true c.loop-mark.invariant refl c.in_ok-add_mark.ensures.added
+    outputs.put_more mark_line (output (held c.args.writer.now) c.args.page.now)
+    (output (held c.loop-mark.writer) c.loop-mark.page)
+    (output (held c.add_mark.new.writer) c.add_mark.new.page) c.args.marks.now
+    c.loop-mark.mark-index _ _ c.loop-mark-test.true c.loop-mark.invariant
+    refl c.in_ok-add_mark.ensures.added
 
 pub returns-clause-added : goal.returns-clause-added
-returns-clause-added g c = explanations.lines_all mark_line _ _ c.args.marks.now c.loop-mark.mark-index c.loop-mark-test.false c.loop-mark.invariant
+returns-clause-added g c = outputs.put_all mark_line _ _ c.args.marks.now
+    c.loop-mark.mark-index c.loop-mark-test.false c.loop-mark.invariant

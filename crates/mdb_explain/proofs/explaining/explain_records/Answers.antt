@@ -1,10 +1,8 @@
-use Rattle.std.proofs.Common.{ap, refl, subst, ◌∙◌, ◌≢◌, Ok}
-use Rattle.std.specs.Prelude.{IfErr}
+use Rattle.std.proofs.Common.{subst}
 use Rattle.mdb_bus.specs.Scopes.{leaving_out}
 use Rattle.mdb_follow.specs.Follower.{scope_of}
 use Rattle.mdb_follow.specs.declared.follower.TheConstants.{ROWS_MAX}
-use Rattle.mdb_verdict.specs.declared.fault.RunFault.TheVariants.{Write}
-use Rattle.mdb_verdict.specs.Verdict.{IsAnswer, IsNoYes}
+use Rattle.mdb_verdict.specs.Verdict.{IsAnswer}
 use Rattle.mdb_explain.specs.inner.Explaining.{IsNoText, IsRowsText}
 use Rattle.mdb_explain.proofs.ExplainedTexts as explanations
 use Rattle.mdb_explain.proofs.explaining.explain_records.Goals as goal
@@ -12,7 +10,9 @@ use Rattle.mdb_explain.proofs.explaining.explain_records.Goals as goal
 pub returns-in_err-report-clause-answer : goal.returns-in_err-report-clause-answer
 returns-in_err-report-clause-answer g c all to_come =
     subst (λ s. IsAnswer s ROWS_MAX all c.from_residual.result) c.new-keeping.ensures.scope
-    (explanations.handed_on (scope_of c.new-keeping.result.follower) ROWS_MAX all c.kept_outcome.result c.in_err-report.field-0.0 c.from_residual.result c.in_err-report.was c.from_residual.ensures.1 (c.kept_outcome.ensures.answer all to_come))
+    (explanations.handed_on (scope_of c.new-keeping.result.follower) ROWS_MAX all
+    c.kept_outcome.result c.in_err-report.field-0.0 c.from_residual.result c.in_err-report.was
+    c.from_residual.ensures.1 (c.kept_outcome.ensures.answer all to_come))
 
 pub returns-in-Yes-clause-answer : goal.returns-in-Yes-clause-answer
 returns-in-Yes-clause-answer g c all to_come =
@@ -61,22 +61,6 @@ pub returns-clause-written_no : goal.returns-clause-written_no
 returns-clause-written_no g c =
     let scope = leaving_out c.args.without in
     explanations.no_told g.W.Write.contents c.args.writer.now c.tell_no.new.writer (IsNoText scope c.in-No.offence) scope (explanations.no_written scope c.in-No.offence) c.tell_no.result c.tell_no.ensures
-
-pub returns-in_err-report-clause-whole : goal.returns-in_err-report-clause-whole
-returns-in_err-report-clause-whole g c over = explanations.no_yes c.from_residual.result c.in_err-report.field-0.0 c.from_residual.ensures.1
-
-pub returns-in_err-report-clause-written : goal.returns-in_err-report-clause-written
-returns-in_err-report-clause-written g c all to_come = explanations.no_ok _ c.from_residual.result c.in_err-report.field-0.0 c.from_residual.ensures.1
-
-pub returns-in_err-report-clause-written_no : goal.returns-in_err-report-clause-written_no
-returns-in_err-report-clause-written_no g c = explanations.no_ok _ c.from_residual.result c.in_err-report.field-0.0 c.from_residual.ensures.1
-
-pub returns-in_err-report-clause-cut : goal.returns-in_err-report-clause-cut
-returns-in_err-report-clause-cut g c all to_come is =
-    absurd (subst (λ r. IfErr r (λ f. f ≢ Write)) (explanations.handed c.kept_outcome.result c.from_residual.result c.in_err-report.field-0.0 c.in_err-report.was c.from_residual.ensures.1 ∙ is) c.kept_outcome.ensures.not_write refl)
-
-pub returns-in-Yes-clause-whole : goal.returns-in-Yes-clause-whole
-returns-in-Yes-clause-whole g c over = absurd (subst IsNoYes (c.in_ok-report.was ∙ ap Ok c.in-Yes.is) (c.kept_outcome.ensures.whole over))
 
 pub returns-in-Yes-clause-nothing_written : goal.returns-in-Yes-clause-nothing_written
 returns-in-Yes-clause-nothing_written g c =

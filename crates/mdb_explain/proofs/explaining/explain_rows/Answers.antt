@@ -10,9 +10,9 @@ returns-in_err-write_explanation-in-Ok g c =
     let scope = leaving_out c.args.without in
     let marks = c.as_slice.result.now in
     let rows = c.args.rows.now in
-    explanations.explanation_broken g.W.Write.contents c.args.writer.now c.write_explanation.new.writer scope rows c.args.goal.now c.args.report (explanation_text marks rows) c.in_err-write_explanation-in-Ok.field-0.0
+    explanations.explanation_broken g.W.Write.contents c.args.writer.now c.write_explanation.new.writer scope rows c.args.goal.now c.args.report (explanation_text marks rows)
     (refl, marks, subst (Explains scope rows c.args.goal.now) (sym c.as_slice.ensures.value) c.in-Ok.ensures.explains, refl)
-    c.in_err-write_explanation-in-Ok.ensures.front c.in_err-write_explanation-in-Ok.ensures.refused c.from_residual.result c.from_residual.ensures.1
+    c.write_explanation.ensures.front c.from_residual.result c.from_residual.ensures.1
 
 pub returns-in-Err : goal.returns-in-Err
 returns-in-Err g c = c.tell_fault.ensures c.args.rows.now c.args.goal.now c.args.report c.in-Err.ensures.offence

@@ -1,7 +1,7 @@
 use Rattle.std.proofs.Common.{rules, sym, subst}
 use Rattle.std.specs.Io.KnownBytes.{Appends}
 use Rattle.mdb_import.specs.Exports.{Exports}
-use Rattle.mdb_import.specs.inner.Output.{output}
+use Rattle.mdb_writing.specs.Output.{output}
 use Rattle.mdb_import.proofs.Outputs.{cut_short, page_broken, rows_broken, written_out}
 use Rattle.mdb_import.proofs.importing.import_records.Goals as goal
 use Rattle.mdb_import.proofs.importing.import_records.Goals.{then-ne+in_ok-write_out, else-ne}
@@ -29,12 +29,11 @@ returns-in_err-write_out-clause-exports g c all to_come =
     let now = output (g.W.Write.contents c.take_all-answer.new.writer)
     c.take_all-answer.new.self.page in
     cut_short c.args.options.now all (g.W.Write.contents c.args.writer.now)
-    (g.W.Write.contents c.write_out.new.writer) c.in_err-write_out.field-0.0
-    c.from_residual.result c.from_residual.ensures.1 c.in_err-write_out.ensures.refused
+    (g.W.Write.contents c.write_out.new.writer) c.from_residual.result c.from_residual.ensures.1
     (page_broken c.args.options.now all (g.W.Write.contents c.args.writer.now)
     (g.W.Write.contents c.write_out.new.writer) now c.take_all-answer.result
     (c.take_all-answer.ensures.puts all to_come) (search rules)
-    c.in_err-write_out.ensures.front)
+    c.write_out.ensures.front)
 
 pub take_all-answer-requires-clause-told : goal.take_all-answer-requires-clause-told
 take_all-answer-requires-clause-told g c = c.new-importing.ensures.told c.args.options.now

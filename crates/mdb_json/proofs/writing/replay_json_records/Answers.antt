@@ -1,5 +1,5 @@
 use Rattle.std.proofs.Common.{◌∙◌, ap, subst}
-use Rattle.mdb_verdict.specs.Written.{HasTaken}
+use Rattle.mdb_writing.specs.Written.{HasTaken}
 use Rattle.mdb_json.specs.Json.{json_line}
 use Rattle.mdb_json.proofs.writing.replay_json_records.Goals as goal
 

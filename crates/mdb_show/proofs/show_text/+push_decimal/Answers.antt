@@ -1,5 +1,5 @@
 use Rattle.std.proofs.Common.{arith}
-use Rattle.mdb_verdict.proofs.Decimals.{more_digits, one_digit, two_digits}
+use Rattle.mdb_writing.proofs.Decimals.{more_digits, one_digit, two_digits}
 use Rattle.mdb_show.proofs.ShowTexts.{had_more, had_room}
 use Rattle.mdb_show.proofs.show_text.+push_decimal.Goals as goal
 

@@ -7,8 +7,8 @@ use Rattle.mdb_verdict.specs.declared.fault.RunFault.{RunFault}
 use Rattle.mdb_words.specs.Row.{IsRefusal, IsRow}
 use Rattle.mdb_verdict.specs.Ending.{HasEnded, IsStop, IsStopped}
 use Rattle.mdb_bus.specs.Bus.{scope_of}
-use Rattle.mdb_verdict.specs.Output.{begun}
-use Rattle.mdb_show.specs.inner.ShowSteps.{HasShown, HasStopped, output, PutsShowing}
+use Rattle.mdb_writing.specs.Output.{begun, output}
+use Rattle.mdb_show.specs.inner.ShowSteps.{HasShown, HasStopped, PutsShowing}
 use Rattle.mdb_show.proofs.Showings as showings
 use Rattle.mdb_show.proofs.showing.show_rows.Goals as goal
 
@@ -17,7 +17,7 @@ returns-in_err-stop-clause-shows g c all to_come =
     let lines = c.read_rows.new.taker.lines in
     let scope = scope_of lines.bus in
     let before = begun (g.W.Write.contents c.args.writer.now) in
-    let now = output (g.W.Write.contents c.read_rows.new.out) c.read_rows.new.taker.page in
+    let now = output (g.W.Write.contents c.read_rows.new.out) c.read_rows.new.taker.printer.page in
     let Ended : Result (Option (Result LinkFault RunFault)) RunFault → Type 0 = λ r. HasEnded IsRow IsRefusal (HasShown g.F.Form.lines scope lines before now) (HasStopped g.F.Form.lines scope lines before now) ROWS_MAX all r in
     subst (λ s. PutsShowing g.F.Form.lines s all before now c.from_residual.result) c.read_rows.ensures.same_scope
     (showings.refused g.F.Form.lines scope all lines before now c.in_err-stop.field-0.0 (subst Ended c.in_err-stop.was (c.read_rows.ensures.ended all to_come)) c.from_residual.result c.from_residual.ensures.1)
@@ -27,7 +27,7 @@ returns-in_err-stop-2-clause-shows g c all to_come =
     let lines = c.read_rows.new.taker.lines in
     let scope = scope_of lines.bus in
     let before = begun (g.W.Write.contents c.args.writer.now) in
-    let now = output (g.W.Write.contents c.read_rows.new.out) c.read_rows.new.taker.page in
+    let now = output (g.W.Write.contents c.read_rows.new.out) c.read_rows.new.taker.printer.page in
     let Ended : Option (Result LinkFault RunFault) → Type 0 = λ stop. HasEnded IsRow IsRefusal (HasShown g.F.Form.lines scope lines before now) (HasStopped g.F.Form.lines scope lines before now) ROWS_MAX all (Ok stop) in
     let Stopped : Result LinkFault RunFault → Type 0 = λ stop. IsStopped IsRow (λ earlier later. HasStopped g.F.Form.lines scope lines before now earlier later stop) ROWS_MAX all in
     subst (λ s. PutsShowing g.F.Form.lines s all before now c.from_residual-in_err-stop-2.result) c.read_rows.ensures.same_scope
@@ -39,7 +39,7 @@ returns-in-Some-clause-shows g c all to_come =
     let lines = c.read_rows.new.taker.lines in
     let scope = scope_of lines.bus in
     let before = begun (g.W.Write.contents c.args.writer.now) in
-    let now = output (g.W.Write.contents c.read_rows.new.out) c.read_rows.new.taker.page in
+    let now = output (g.W.Write.contents c.read_rows.new.out) c.read_rows.new.taker.printer.page in
     let Ended : Option (Result LinkFault RunFault) → Type 0 = λ stop. HasEnded IsRow IsRefusal (HasShown g.F.Form.lines scope lines before now) (HasStopped g.F.Form.lines scope lines before now) ROWS_MAX all (Ok stop) in
     let Stopped : Result LinkFault RunFault → Type 0 = λ stop. IsStopped IsRow (λ earlier later. HasStopped g.F.Form.lines scope lines before now earlier later stop) ROWS_MAX all in
     subst (λ s. PutsShowing g.F.Form.lines s all before now (Ok (Some c.in_ok-stop-2.field-0))) c.read_rows.ensures.same_scope
@@ -50,10 +50,10 @@ returns-in_err-add_cut-clause-shows g c all to_come =
     let lines = c.read_rows.new.taker.lines in
     let scope = scope_of lines.bus in
     let before = begun (g.W.Write.contents c.args.writer.now) in
-    let now = output (g.W.Write.contents c.read_rows.new.out) c.read_rows.new.taker.page in
+    let now = output (g.W.Write.contents c.read_rows.new.out) c.read_rows.new.taker.printer.page in
     let Ended : Option (Result LinkFault RunFault) → Type 0 = λ stop. HasEnded IsRow IsRefusal (HasShown g.F.Form.lines scope lines before now) (HasStopped g.F.Form.lines scope lines before now) ROWS_MAX all (Ok stop) in
-    subst (λ s. PutsShowing g.F.Form.lines s all before (output (g.W.Write.contents c.add_cut.new.writer) c.add_cut.new.self) c.from_residual-in_err-add_cut.result) c.read_rows.ensures.same_scope
-    (showings.cut_refused g.F.Form.lines scope all lines before now (output (g.W.Write.contents c.add_cut.new.writer) c.add_cut.new.self) (subst Ended c.in_default.is (c.in_ok-stop.ensures.ended all to_come))
+    subst (λ s. PutsShowing g.F.Form.lines s all before (output (g.W.Write.contents c.add_cut.new.writer) c.add_cut.new.self.page) c.from_residual-in_err-add_cut.result) c.read_rows.ensures.same_scope
+    (showings.cut_refused g.F.Form.lines scope all lines before now (output (g.W.Write.contents c.add_cut.new.writer) c.add_cut.new.self.page) (subst Ended c.in_default.is (c.in_ok-stop.ensures.ended all to_come))
     c.in_err-add_cut.field-0.0 c.in_err-add_cut.ensures.refused c.from_residual-in_err-add_cut.result c.from_residual-in_err-add_cut.ensures.1)
 
 pub returns-clause-shows : goal.returns-clause-shows
@@ -61,10 +61,10 @@ returns-clause-shows g c all to_come =
     let lines = c.read_rows.new.taker.lines in
     let scope = scope_of lines.bus in
     let before = begun (g.W.Write.contents c.args.writer.now) in
-    let now = output (g.W.Write.contents c.read_rows.new.out) c.read_rows.new.taker.page in
+    let now = output (g.W.Write.contents c.read_rows.new.out) c.read_rows.new.taker.printer.page in
     let Ended : Option (Result LinkFault RunFault) → Type 0 = λ stop. HasEnded IsRow IsRefusal (HasShown g.F.Form.lines scope lines before now) (HasStopped g.F.Form.lines scope lines before now) ROWS_MAX all (Ok stop) in
-    subst (λ s. PutsShowing g.F.Form.lines s all before (output (g.W.Write.contents c.add_cut.new.writer) c.add_cut.new.self) (Ok None)) c.read_rows.ensures.same_scope
-    (showings.whole g.F.Form.lines scope all lines before now (output (g.W.Write.contents c.add_cut.new.writer) c.add_cut.new.self) (subst Ended c.in_default.is (c.in_ok-stop.ensures.ended all to_come)) c.in_ok-add_cut.ensures.added)
+    subst (λ s. PutsShowing g.F.Form.lines s all before (output (g.W.Write.contents c.add_cut.new.writer) c.add_cut.new.self.page) (Ok None)) c.read_rows.ensures.same_scope
+    (showings.whole g.F.Form.lines scope all lines before now (output (g.W.Write.contents c.add_cut.new.writer) c.add_cut.new.self.page) (subst Ended c.in_default.is (c.in_ok-stop.ensures.ended all to_come)) c.in_ok-add_cut.ensures.added)
 
 pub returns-in_err-stop-clause-whole : goal.returns-in_err-stop-clause-whole
 returns-in_err-stop-clause-whole g c over = showings.fault_not_whole c.in_err-stop.field-0.0 c.from_residual.result c.from_residual.ensures.1
@@ -83,7 +83,7 @@ returns-in_err-stop-2-clause-heard g c =
     let lines = c.read_rows.new.taker.lines in
     let scope = scope_of lines.bus in
     let before = begun (g.W.Write.contents c.args.writer.now) in
-    let now = output (g.W.Write.contents c.read_rows.new.out) c.read_rows.new.taker.page in
+    let now = output (g.W.Write.contents c.read_rows.new.out) c.read_rows.new.taker.printer.page in
     let of = showings.stop_of_output g.F.Form.lines scope lines before now c.in-Some.stop c.in_err-stop-2.field-0.0
     (subst (λ s. IfSome s (IsStop (HasStopped g.F.Form.lines scope lines before now))) c.in-Some.is c.in_ok-stop.ensures.stopped) c.in_err-stop-2.was in
     showings.heard_output (fault_of c.read_rows.new.records) c.in_err-stop-2.field-0.0 of c.from_residual-in_err-stop-2.result c.from_residual-in_err-stop-2.ensures.1
@@ -93,7 +93,7 @@ returns-in_err-stop-2-clause-met g c none =
     let lines = c.read_rows.new.taker.lines in
     let scope = scope_of lines.bus in
     let before = begun (g.W.Write.contents c.args.writer.now) in
-    let now = output (g.W.Write.contents c.read_rows.new.out) c.read_rows.new.taker.page in
+    let now = output (g.W.Write.contents c.read_rows.new.out) c.read_rows.new.taker.printer.page in
     let of = showings.stop_of_output g.F.Form.lines scope lines before now c.in-Some.stop c.in_err-stop-2.field-0.0
     (subst (λ s. IfSome s (IsStop (HasStopped g.F.Form.lines scope lines before now))) c.in-Some.is c.in_ok-stop.ensures.stopped) c.in_err-stop-2.was in
     showings.met_output (fault_of c.read_rows.new.records) c.in_err-stop-2.field-0.0 of c.from_residual-in_err-stop-2.result c.from_residual-in_err-stop-2.ensures.1

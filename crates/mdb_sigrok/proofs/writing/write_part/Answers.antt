@@ -1,41 +1,48 @@
-use Rattle.std.proofs.Common.{OnOk, inl, inr, refl, subst, arith, take}
-use Rattle.std.specs.Io.KnownBytes.{Appends}
-use Rattle.mdb_sigrok.specs.Import.{HasTaken}
-use Rattle.mdb_sigrok.proofs.Pages.{all_taken, nothing_taken, one_more, taken_at, turned, written_only}
+use Rattle.std.proofs.Common.{ap}
+use Rattle.mdb_writing.specs.Output.{begun, output}
+use Rattle.mdb_writing.proofs.Outputs as outputs
+use Rattle.mdb_sigrok.specs.inner.Tallies.{part_line, part_text}
 use Rattle.mdb_sigrok.proofs.writing.write_part.Goals as goal
 
-pub returns-in-Err-clause-front : goal.returns-in-Err-clause-front
-returns-in-Err-clause-front g c =
-    taken_at c.args.options.now _ _ _ c.loop-row.page.items c.args.rows.now c.loop-row.row-index c.loop-row.invariant c.in-Err.ensures.front
-
-pub returns-in-Err-push_row-clause-front : goal.returns-in-Err-push_row-clause-front
-returns-in-Err-push_row-clause-front g c =
-    let held = g.W.Write.contents in
-    let far = turned c.args.options.now (held c.args.writer.now) (held c.loop-row.writer) (held c.turn_page.new.writer) c.loop-row.page.items c.turn_page.new.page.items (take c.loop-row.row-index c.args.rows.now) c.loop-row.invariant c.in-Ok.ensures.turned in
-    taken_at c.args.options.now _ _ _ c.turn_page.new.page.items c.args.rows.now c.loop-row.row-index far (nothing_taken (held c.turn_page.new.writer) c.turn_page.new.page.items)
+pub loop-row-init : goal.loop-row-init
+loop-row-init g c =
+    outputs.put_begun (g.W.Write.contents c.args.writer.now) c.new-page.result c.new-page.ensures
 
 pub loop-row-preserved : goal.loop-row-preserved
 loop-row-preserved g c =
     let held = g.W.Write.contents in
-    let far = turned c.args.options.now (held c.args.writer.now) (held c.loop-row.writer) (held c.turn_page.new.writer) c.loop-row.page.items c.turn_page.new.page.items (take c.loop-row.row-index c.args.rows.now) c.loop-row.invariant c.in-Ok.ensures.turned in
-    one_more c.args.options.now (held c.args.writer.now) (held c.turn_page.new.writer) c.turn_page.new.page.items c.push_row.new.page.items c.args.rows.now c.loop-row.row-index c.row-item.result (omega arith) c.row-item.is c.in-Ok-push_row.ensures far
+    let line = part_line c.args.options.now in
+    outputs.put_more line (begun (held c.args.writer.now))
+    (output (held c.loop-row.writer) c.loop-row.page)
+    (output (held c.add_row.new.writer) c.add_row.new.page) c.args.rows.now c.loop-row.row-index _ _
+    c.loop-row-test.true c.loop-row.invariant (ap line c.row-item.is) c.in_ok-add_row.ensures.added
+
+pub returns-in_err-add_row-clause-front : goal.returns-in_err-add_row-clause-front
+returns-in_err-add_row-clause-front g c =
+    let held = g.W.Write.contents in
+    let line = part_line c.args.options.now in
+    outputs.break_more line (begun (held c.args.writer.now))
+    (output (held c.loop-row.writer) c.loop-row.page)
+    (output (held c.add_row.new.writer) c.add_row.new.page) c.args.rows.now c.loop-row.row-index _ _
+    c.loop-row-test.true c.loop-row.invariant (ap line c.row-item.is) c.in_err-add_row.ensures.broken
 
 pub returns-clause-front : goal.returns-clause-front
 returns-clause-front g c =
     let held = g.W.Write.contents in
-    taken_at c.args.options.now (held c.args.writer.now) (held c.loop-row.writer) (held c.write_text.new.writer) c.loop-row.page.items c.args.rows.now c.loop-row.row-index c.loop-row.invariant (subst (HasTaken (held c.loop-row.writer) (held c.write_text.new.writer)) c.as_slice.ensures.value c.write_text.ensures.front)
-
-pub returns-in-Err-clause-refused : goal.returns-in-Err-clause-refused
-returns-in-Err-clause-refused g c = inl c.in-Err.ensures.refused
-
-pub returns-in-Err-push_row-clause-refused : goal.returns-in-Err-push_row-clause-refused
-returns-in-Err-push_row-clause-refused g c = inr refl
+    let now = output (held c.loop-row.writer) c.loop-row.page in
+    outputs.broken_out (held c.args.writer.now) (held c.write_out.new.writer) now
+    (part_text c.args.options.now c.args.rows.now)
+    (outputs.put_all (part_line c.args.options.now) (begun (held c.args.writer.now)) now
+    c.args.rows.now c.loop-row.row-index c.loop-row-test.false c.loop-row.invariant)
+    c.write_out.ensures.front
 
 pub returns-clause-whole : goal.returns-clause-whole
 returns-clause-whole g c =
     let held = g.W.Write.contents in
-    all_taken c.write_text.result c.args.options.now (held c.args.writer.now) (held c.loop-row.writer) (held c.write_text.new.writer) c.loop-row.page.items c.args.rows.now c.loop-row.row-index (omega arith) c.loop-row.invariant
-    (subst (λ l. OnOk c.write_text.result (Appends (held c.loop-row.writer) (held c.write_text.new.writer) l)) c.as_slice.ensures.value c.write_text.ensures.whole)
-
-pub returns-clause-refused : goal.returns-clause-refused
-returns-clause-refused g c = written_only c.write_text.result c.write_text.ensures.refused
+    let now = output (held c.loop-row.writer) c.loop-row.page in
+    outputs.if_ok c.write_out.result _ _
+    (outputs.written_out (held c.args.writer.now) (held c.write_out.new.writer) now
+    (part_text c.args.options.now c.args.rows.now)
+    (outputs.put_all (part_line c.args.options.now) (begun (held c.args.writer.now)) now
+    c.args.rows.now c.loop-row.row-index c.loop-row-test.false c.loop-row.invariant))
+    c.write_out.ensures.written

@@ -1,7 +1,7 @@
 use Rattle.std.proofs.Common.{None, false, refl, subst}
 use Rattle.std.specs.Prelude.{OnOk}
 use Rattle.std.specs.Io.KnownBytes.{Appends}
-use Rattle.mdb_sigrok.specs.Import.{HasTaken}
+use Rattle.mdb_writing.specs.Written.{HasTaken}
 use Rattle.mdb_sigrok.proofs.Pages.{whole_text}
 use Rattle.mdb_sigrok.proofs.writing.write_rows.Goals as goal
 

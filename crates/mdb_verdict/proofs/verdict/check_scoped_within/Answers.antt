@@ -17,11 +17,5 @@ returns-clause-answer g c = IfSome_then _ c.records_of-records.ensures.records (
 pub returns-clause-headline : goal.returns-clause-headline
 returns-clause-headline g c = IfSome_then _ c.records_of-records.ensures.records (λ text to_come. c.check_records.ensures.headline (records default_config (strip_bom text)) to_come)
 
-pub returns-clause-written : goal.returns-clause-written
-returns-clause-written g c = c.check_records.ensures.written
-
-pub returns-clause-nothing_written : goal.returns-clause-nothing_written
-returns-clause-nothing_written g c = c.check_records.ensures.nothing_written
-
 pub returns-clause-cut : goal.returns-clause-cut
 returns-clause-cut g c = IfSome_then _ c.records_of-records.ensures.records (λ text to_come. c.check_records.ensures.cut (records default_config (strip_bom text)) to_come)

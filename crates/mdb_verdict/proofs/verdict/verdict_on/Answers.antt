@@ -1,9 +1,8 @@
-use Rattle.std.proofs.Common.{ap, subst, ◌∙◌, Ok, Option, Result}
+use Rattle.std.proofs.Common.{subst, ◌∙◌, Ok, Option, Result}
 use Rattle.mdb_follow.specs.Follower.{scope_of}
 use Rattle.mdb_follow.specs.declared.offence.Offence.{Offence}
 use Rattle.mdb_follow.specs.Offences.{HasOffence}
 use Rattle.mdb_verdict.specs.declared.fault.RunFault.{RunFault}
-use Rattle.mdb_records.specs.ToCome.{fault_of}
 use Rattle.mdb_words.specs.Row.{IsRefusal, IsRow}
 use Rattle.mdb_text.specs.declared.outcome.Outcome.TheVariants.{No}
 use Rattle.mdb_verdict.specs.Verdict.{IsAnswer}
@@ -29,28 +28,3 @@ returns-clause-answer g c all to_come =
     let Ended : Option Offence → Type 0 = λ stop. HasEnded IsRow IsRefusal (HasFollowed (scope_of c.read_rows.new.taker) c.read_rows.new.taker) (HasOffence (scope_of c.read_rows.new.taker)) c.args.rows_max all (Ok stop) in
     subst (λ s. IsAnswer s c.args.rows_max all (Ok (No c.in-Some.offence))) (c.read_rows.ensures.same_scope ∙ c.scoped-follower.ensures.scope)
     (verdicts.impossible (scope_of c.read_rows.new.taker) c.args.rows_max all c.in-Some.offence (subst Ended c.in-Some.is (c.in_ok-read_rows.ensures.ended all to_come)))
-
-pub returns-in_err-read_rows-clause-whole : goal.returns-in_err-read_rows-clause-whole
-returns-in_err-read_rows-clause-whole g c = λ over. verdicts.no_yes c.in_err-read_rows.field-0.0 c.from_residual.result c.from_residual.ensures.1
-
-pub returns-in_err-read_rows-clause-heard : goal.returns-in_err-read_rows-clause-heard
-returns-in_err-read_rows-clause-heard g c =
-    verdicts.heard c.read_rows.result c.in_err-read_rows.field-0.0 (fault_of c.read_rows.new.records) c.read_rows.ensures.heard c.in_err-read_rows.was c.from_residual.result c.from_residual.ensures.1
-
-pub returns-in_err-read_rows-clause-met : goal.returns-in_err-read_rows-clause-met
-returns-in_err-read_rows-clause-met g c = λ none.
-    verdicts.met_refused c.read_rows.result c.in_err-read_rows.field-0.0 (fault_of c.read_rows.new.records) (c.read_rows.ensures.met none) c.in_err-read_rows.was c.from_residual.result c.from_residual.ensures.1
-
-pub returns-in_err-read_rows-clause-not_write : goal.returns-in_err-read_rows-clause-not_write
-returns-in_err-read_rows-clause-not_write g c =
-    verdicts.not_write c.read_rows.result c.in_err-read_rows.field-0.0 (fault_of c.read_rows.new.records) c.read_rows.ensures.heard c.in_err-read_rows.was c.from_residual.result c.from_residual.ensures.1
-
-pub returns-in-None-clause-whole : goal.returns-in-None-clause-whole
-returns-in-None-clause-whole g c = λ over. absurd (c.read_rows.ensures.whole over (c.in_ok-read_rows.was ∙ ap Ok c.in-None.is))
-
-pub returns-in-None-clause-met : goal.returns-in-None-clause-met
-returns-in-None-clause-met g c = λ none.
-    verdicts.met_whole c.read_rows.result c.in_ok-read_rows.field-0 (fault_of c.read_rows.new.records) c.outcome_of.result (c.read_rows.ensures.met none) c.in_ok-read_rows.was c.in-None.is
-
-pub returns-clause-met : goal.returns-clause-met
-returns-clause-met g c = λ none. verdicts.met_no (fault_of c.read_rows.new.records) c.in-Some.offence

@@ -2,7 +2,7 @@ use Rattle.std.proofs.Common.{inl, inr, arith, Some, ap, sym, subst, refl, â—Œâˆ
 use Rattle.csv.specs.Records.{fields_of}
 use Rattle.mdb_records.specs.ToCome.{Advances}
 use Rattle.mdb_records.specs.declared.ReadFault.TheVariants as reading
-use Rattle.mdb_import.specs.inner.Output.{begun, output}
+use Rattle.mdb_writing.specs.Output.{begun, output}
 use Rattle.mdb_import.specs.inner.Steps.{PutsExport}
 use Rattle.mdb_import.specs.declared.fault.ImportFault.{ImportFault}
 use Rattle.mdb_import.proofs.Imports.{all_taken, counted_all, read_fault, none_imported, not_read}
@@ -18,8 +18,7 @@ loop-done-init g c all to_come = record {
   counted = refl;
   to_come = to_come;
   has = none_imported c.args.options.now c.args.self.now (g.W.Write.contents c.args.writer.now)
-      c.args.self.now.page.lines.items c.requires.last c.requires.told c.requires.read
-      c.requires.page;
+      c.args.self.now.page c.requires.last c.requires.told c.requires.read c.requires.page;
 }
 
 pub returns-in-Err-clause-puts : goal.returns-in-Err-clause-puts

@@ -1,6 +1,6 @@
 use Rattle.std.proofs.Common.{ℕ, List}
 use Rattle.mdb_records.specs.ToCome.{ToCome}
-use Rattle.mdb_import.specs.inner.Output.{begun, output}
+use Rattle.mdb_writing.specs.Output.{begun, output}
 use Rattle.mdb_import.proofs.Imports.{SoFar}
 use Rattle.mdb_import.proofs.importing.Importing.take_all.Given as goal
 

@@ -1,14 +1,14 @@
 use Rattle.std.proofs.Common.{subst, Result}
 use Rattle.csv.specs.Records.{fields_of}
 use Rattle.mdb_words.specs.declared.event.Event.{Event}
-use Rattle.mdb_import.specs.inner.Output.{output}
+use Rattle.mdb_writing.specs.Output.{output}
 use Rattle.mdb_saleae.specs.inner.Steps.{IsNext}
 use Rattle.mdb_saleae.specs.declared.rows.Refusal.{Refusal}
-use Rattle.mdb_saleae.proofs.Imports.{added_one, added_unread, refused_one, told_unread}
+use Rattle.mdb_saleae.proofs.Imports.{added_one, broken_one, refused_one, told_unread}
 use Rattle.mdb_saleae.proofs.importing.Importing.take.Goals as goal
 
-pub returns-in-Ok-clause-takes : goal.returns-in-Ok-clause-takes
-returns-in-Ok-clause-takes g c before earlier events counted has =
+pub returns-in_ok-add-in-Ok-clause-takes : goal.returns-in_ok-add-in-Ok-clause-takes
+returns-in_ok-add-in-Ok-clause-takes g c before earlier events counted has =
     let row = fields_of c.args.fields.now in
     let P : Result Event Refusal → Type 0 =
     λ r. IsNext c.args.options.now c.args.columns.now c.args.self.now.last row r in
@@ -16,9 +16,20 @@ returns-in-Ok-clause-takes g c before earlier events counted has =
     added_one c.args.options.now c.args.columns.now c.args.self.now c.add.new.self before
     (output (g.W.Write.contents c.args.writer.now) c.args.self.now.page)
     (output (g.W.Write.contents c.add.new.writer) c.add.new.self.page) earlier events row
-    c.in-Ok.event c.add.result
-    has next.0 next.1 c.add.ensures.last c.add.ensures.noted c.add.ensures.added
-    c.add.ensures.refused
+    c.in-Ok.event has next.0 next.1 c.in_ok-add-in-Ok.ensures.last c.add.ensures.noted
+    c.in_ok-add-in-Ok.ensures.added
+
+pub returns-in_err-add-in-Ok-clause-takes : goal.returns-in_err-add-in-Ok-clause-takes
+returns-in_err-add-in-Ok-clause-takes g c before earlier events counted has =
+    let row = fields_of c.args.fields.now in
+    let P : Result Event Refusal → Type 0 =
+    λ r. IsNext c.args.options.now c.args.columns.now c.args.self.now.last row r in
+    let next = subst P c.in-Ok.is c.next_in.ensures in
+    broken_one c.args.options.now c.args.columns.now c.args.self.now c.add.new.self before
+    (output (g.W.Write.contents c.args.writer.now) c.args.self.now.page)
+    (output (g.W.Write.contents c.add.new.writer) c.add.new.self.page) earlier events row
+    c.in-Ok.event has next.0 next.1 c.in_err-add-in-Ok.ensures.broken c.from_residual.result
+    c.from_residual.ensures.1
 
 pub returns-in-Err-clause-takes : goal.returns-in-Err-clause-takes
 returns-in-Err-clause-takes g c before earlier events counted has =
@@ -29,9 +40,6 @@ returns-in-Err-clause-takes g c before earlier events counted has =
     (output (g.W.Write.contents c.args.writer.now) c.args.self.now.page) earlier events row
     c.args.number c.in-Err.refusal c.told.result counted has
     (subst P c.in-Err.is c.next_in.ensures) c.told.ensures
-
-pub returns-in-Ok-clause-unread : goal.returns-in-Ok-clause-unread
-returns-in-Ok-clause-unread g c = added_unread c.add.result _ _ _ c.add.ensures.refused
 
 pub returns-in-Err-clause-unread : goal.returns-in-Err-clause-unread
 returns-in-Err-clause-unread g c = told_unread _ _ _ c.told.result c.told.ensures

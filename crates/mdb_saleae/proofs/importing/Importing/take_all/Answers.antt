@@ -3,7 +3,7 @@ use Rattle.std.proofs.Common.{[]}
 use Rattle.csv.specs.Records.{fields_of}
 use Rattle.mdb_records.specs.ToCome.{Advances}
 use Rattle.mdb_records.specs.declared.ReadFault.TheVariants as reading
-use Rattle.mdb_import.specs.inner.Output.{begun, output}
+use Rattle.mdb_writing.specs.Output.{begun, output}
 use Rattle.mdb_saleae.specs.inner.Steps.{PutsRows}
 use Rattle.mdb_saleae.specs.declared.fault.SaleaeFault.{SaleaeFault}
 use Rattle.mdb_saleae.proofs.Imports.{next_number, all_taken, counted_all, none_imported, not_read, not_taken}
@@ -19,7 +19,7 @@ loop-taken-init g c all to_come = record {
   counted = refl;
   to_come = to_come;
   has = none_imported c.args.options.now c.args.columns.now c.args.self.now
-      (g.W.Write.contents c.args.writer.now) c.args.self.now.page.lines.items c.requires.last
+      (g.W.Write.contents c.args.writer.now) c.args.self.now.page c.requires.last
       c.requires.told c.requires.page;
 }
 

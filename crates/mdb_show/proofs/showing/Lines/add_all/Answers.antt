@@ -1,7 +1,7 @@
 use Rattle.std.proofs.Common.{refl, subst, ◌+◌, List, Bool}
 use Rattle.mdb_bus.specs.ActLists.{Piece}
 use Rattle.mdb_bus.specs.Bus.{GoesOn, StandsFor, ended_act, scope_of}
-use Rattle.mdb_show.specs.inner.ShowSteps.{output}
+use Rattle.mdb_writing.specs.Output.{output}
 use Rattle.mdb_show.proofs.ShowSteps as steps
 use Rattle.mdb_show.proofs.showing.Lines.add_all.Goals as goal
 use Rattle.mdb_show.proofs.showing.Lines.add_all.Goals.{then-ended+in_ok-add_ended, else-ended}
@@ -38,12 +38,12 @@ loop-event-preserved g c =
     elim c.if-ended.branch [
       | then-ended+in_ok-add_ended w ↦
           steps.adds_is g.F.Form.lines (scope_of c.args.self.now.bus) c.args.self.now (record { bus = c.feed_into.new.self; rows = c.loop-event.self.rows; shown = c.loop-event.self.rows + 1; act = c.feed_into.new.act }) c.if-ended.self _
-          (output (g.W.Write.contents w.add_ended.new.writer) w.add_ended.new.self) _ _ _ w.self-is (cc (w.writer-is, w.page-is))
+          (output (g.W.Write.contents w.add_ended.new.writer) w.add_ended.new.self.page) _ _ _ w.self-is (cc (w.writer-is, w.printer-is))
           (steps.act_ended g.F.Form.lines (scope_of c.args.self.now.bus) c.args.self.now c.loop-event.self _ _ _ _ c.args.events.now c.loop-event.event-index c.event-item.result _ c.feed_into.new.act c.loop-event-test.true c.event-item.is
           c.loop-event.invariant refl refl c.feed_into.ensures.scope (subst On w.if-ended.true c.in-Ok.ensures.goes_on) w.in_ok-add_ended.ensures.added)
       | else-ended w ↦
           steps.adds_is g.F.Form.lines (scope_of c.args.self.now.bus) c.args.self.now (record { bus = c.feed_into.new.self; rows = c.loop-event.self.rows; shown = c.loop-event.self.shown; act = c.feed_into.new.act }) c.if-ended.self _
-          (output (g.W.Write.contents c.loop-event.writer) c.loop-event.page) _ _ _ w.self-is (cc (w.writer-is, w.page-is))
+          (output (g.W.Write.contents c.loop-event.writer) c.loop-event.printer.page) _ _ _ w.self-is (cc (w.writer-is, w.printer-is))
           (steps.goes_on g.F.Form.lines (scope_of c.args.self.now.bus) c.args.self.now c.loop-event.self _ _ _ c.args.events.now c.loop-event.event-index c.event-item.result _ c.loop-event-test.true c.event-item.is
           c.loop-event.invariant refl refl c.feed_into.ensures.scope (subst On w.if-ended.false c.in-Ok.ensures.goes_on))
     ]

@@ -1,0 +1,141 @@
+//! Short texts, gathered and written together.
+
+ghost use Rattle.std.specs.Prelude.{◌≡◌, ◌+◌, ◌≤◌, [], ◌++◌, OnErr, OnOk, length};
+ghost use Rattle.std.specs.Fmt.{decimal};
+ghost use Rattle.std.specs.Io.KnownBytes.{Appends};
+ghost use Rattle.mdb_writing.specs.Output.{Breaks, Puts, output};
+ghost use Rattle.mdb_writing.specs.Written.{HasTaken};
+
+use super::failed::WriteFailed;
+use super::text::write_text;
+use arrayvec::ArrayVec;
+use std::io::Write;
+use std::marker::Model;
+
+/// The most bytes that wait on a page.
+pub const PAGE: usize = 8_192;
+
+/// Short texts that wait to be written together, in room that never grows.
+///
+/// A clause sees the bytes that wait.
+#[derive(Drop)]
+pub struct Page {
+    bytes: ArrayVec<u8, PAGE>,
+}
+
+impl Model for Page {
+    ghost use Rattle.std.specs.Prelude.{List, ℕ};
+
+    ghost Value = { List ℕ };
+
+    ghost view = { λ page. page.bytes.items };
+}
+
+impl Page {
+    /// An empty page.
+    pub fn new() -> Page
+        ensures { result ≡ [] }
+    {
+        Page {
+            bytes: ArrayVec::new(),
+        }
+    }
+
+    /// Adds a text. If it doesn't fit, what waits is written first, and with it a text that is
+    /// longer than a page.
+    ///
+    /// # Errors
+    ///
+    /// The writer failed. It took a front of what waited and of the text.
+    pub fn add<W: Write>(&mut self, writer: &mut W, text: &[u8]) -> Result<(), WriteFailed>
+        ensures added { OnOk result (Puts (output (W.contents writer.old) self.old)
+            (output (W.contents writer.new) self.new) text.now) }
+        ensures broken { OnErr result (Breaks (output (W.contents writer.old) self.old)
+            (output (W.contents writer.new) self.new) text.now) }
+    {
+        if text.len() > PAGE {
+            self.write_out(writer)?;
+            return write_text(writer, text);
+        }
+        self.make_room(writer, text.len())?;
+        self.push(text);
+        Ok(())
+    }
+
+    /// Makes room for so many bytes. If there isn't as much, what waits is written.
+    ///
+    /// # Errors
+    ///
+    /// The writer failed. It took a front of what waited.
+    #[inline(always)]
+    pub fn make_room<W: Write>(&mut self, writer: &mut W, most: usize) -> Result<(), WriteFailed>
+        requires { most ≤ PAGE }
+        ensures room { OnOk result (length self.new + most ≤ PAGE) }
+        ensures put { OnOk result (Puts (output (W.contents writer.old) self.old)
+            (output (W.contents writer.new) self.new) []) }
+        ensures broken { OnErr result (Breaks (output (W.contents writer.old) self.old)
+            (output (W.contents writer.new) self.new) []) }
+    {
+        if self.bytes.remaining_capacity() < most {
+            self.write_out(writer)?;
+        }
+        Ok(())
+    }
+
+    /// Adds bytes for which there is room.
+    #[inline(always)]
+    pub fn push(&mut self, bytes: &[u8])
+        requires { length self.old + length bytes.now ≤ PAGE }
+        ensures { self.new ≡ self.old ++ bytes.now }
+    {
+        let Ok(()) = self.bytes.try_extend_from_slice(bytes) else {
+            unreachable!()
+        };
+    }
+
+    /// Adds a number in decimal, without leading zeros. There must be room for 20 digits.
+    #[inline(always)]
+    pub fn push_number(&mut self, number: u64)
+        requires { length self.old + 20 ≤ PAGE }
+        ensures bytes { self.new ≡ self.old ++ decimal number }
+        ensures few { length self.new ≤ length self.old + 20 }
+    {
+        self.push_decimal(number);
+    }
+
+    /// Adds a number in decimal, for which there is room: two digits at a time.
+    fn push_decimal(&mut self, number: u64)
+        requires { length self.old + length (decimal number) ≤ PAGE }
+        ensures { self.new ≡ self.old ++ decimal number }
+    {
+        let ones = b'0' + (number % 10) as u8;
+        if number < 10 {
+            self.push(&[ones]);
+            return;
+        }
+        let tens = b'0' + (number / 10 % 10) as u8;
+        if number < 100 {
+            self.push(&[tens, ones]);
+            return;
+        }
+        self.push_decimal(number / 100);
+        self.push(&[tens, ones]);
+    }
+
+    /// Writes all that waits, and leaves the page empty.
+    ///
+    /// # Errors
+    ///
+    /// The writer failed. It took a front of what waited.
+    #[inline(never)]
+    pub fn write_out<W: Write>(&mut self, writer: &mut W) -> Result<(), WriteFailed>
+        ensures written { OnOk result
+            (Appends (W.contents writer.old) (W.contents writer.new) self.old) }
+        ensures empty { OnOk result (self.new ≡ []) }
+        ensures front { HasTaken (W.contents writer.old) (W.contents writer.new) self.old }
+    {
+        write_text(writer, self.bytes.as_slice())?;
+        self.bytes.clear();
+        Ok(())
+    }
+}
