@@ -1,0 +1,9 @@
+pub mod Refusals
+pub mod LongWords
+pub mod Found
+pub mod Walks
+pub mod Rules
+pub mod Programs
+pub mod Simple
+pub mod Reading
+pub mod Building

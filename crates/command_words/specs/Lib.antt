@@ -1,0 +1,5 @@
+pub mod Grammar
+pub mod Table
+pub mod Apps
+pub mod Named
+pub mod inner
