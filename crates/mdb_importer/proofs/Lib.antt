@@ -1,10 +1,3 @@
-pub mod Refusals
-pub mod LongWords
-pub mod Options
-pub mod OptionRules
-pub mod AddedOptions
-pub mod Found
-pub mod Spellings
 pub mod CommandLine
 pub mod Values
 pub mod Status

@@ -1,45 +1,21 @@
 -- The values of an option, at most one.
-use Rattle.std.proofs.Common.{arith, ap, refl, subst, sym, false, true, ◌∙◌, ◌≡◌, ◌==◌, ◌≤◌, ◌<◌, ℕ, Bool, List, [], ◌∷◌, codes, length, map, Option, Some, None, option_map, slice_index_or, unwrap_or}
+use Rattle.std.proofs.Common.{arith, ap, refl, subst, sym, ◌∙◌, ◌≡◌, ℕ, List, [], ◌∷◌, codes}
+use Rattle.std.proofs.Common.{Option, Some, None, slice_index_or, unwrap_or}
 use Rattle.std.specs.Prelude.{option_to_list}
-use Rattle.std.specs.Borrow.{Bor}
-use Rattle.std.proofs.lemmas.Bool.{eqb-true}
 use Rattle.clap.specs.Walk.{Text}
 use Rattle.mdb_words.specs.Digits.{IsDecimal}
 use Rattle.mdb_import.specs.declared.options.Unit.{Unit}
 use Rattle.mdb_import.specs.declared.options.Unit.TheVariants as unit
 use Rattle.mdb_importer.specs.Program.{IsLength, IsLineName, IsUnit, TellsIf, TellsOnce, TellsUnit}
 
--- the words that are told, or none
-pub mapped_or : (told : Option (Bor (List (Bor Text)))) (other : Bor (List (Bor Text))) → other.now ≡ []
-    → map (λ v. v.now) (unwrap_or told other).now ≡ unwrap_or (option_map (λ s. map (λ v. v.now) s.now) told) []
-mapped_or None other none = ap (map (λ v. v.now)) none
-mapped_or (Some words) other none = refl
-
--- no word, one, or more
-pub no_word : (words : List (Bor Text)) (values : List Text) (is : Bool) → map (λ v. v.now) words ≡ values → is ≡ (length words == 0) → is ≡ true → values ≡ []
-no_word [] values is are tests holds = sym are
-no_word (w ∷ words) values is are tests holds = let e : length (w ∷ words) ≡ 0 = eqb-true (length (w ∷ words)) 0 (sym tests ∙ holds) in absurd (omega (arith, e))
-
-pub one_word : (words : List (Bor Text)) (values : List Text) (is : Bool) (other : Bor Text) → map (λ v. v.now) words ≡ values → is ≡ (length words == 0) → is ≡ false → length words ≤ 1 → values ≡ (slice_index_or words 0 other).now ∷ []
-one_word [] values is other are tests fails few = let bad : false ≡ true = sym fails ∙ tests in absurd (cc bad)
-one_word (w ∷ []) values is other are tests fails few = sym are
-one_word (w ∷ v ∷ words) values is other are tests fails few = absurd (omega (arith, few))
-
-pub more_words : (words : List (Bor Text)) (values : List Text) → map (λ v. v.now) words ≡ values → 1 < length words → (value : Option Text) → values ≡ option_to_list value → ⊥
-more_words [] values are more value is = absurd (omega (arith, more))
-more_words (w ∷ []) values are more value is = absurd (omega (arith, more))
-more_words (w ∷ v ∷ words) values are more None is = let bad : w.now ∷ v.now ∷ map (λ v. v.now) words ≡ [] = are ∙ is in cc bad
-more_words (w ∷ v ∷ words) values are more (Some value) is =
-    let both : w.now ∷ v.now ∷ map (λ v. v.now) words ≡ value ∷ [] = are ∙ is in
-    let bad : v.now ∷ map (λ v. v.now) words ≡ [] = cc both in
-    cc bad
-
 -- values are one option
-pub one_value : (values : List Text) (a b : Option Text) → values ≡ option_to_list a → values ≡ option_to_list b → a ≡ b
+pub one_value : (values : List Text) (a b : Option Text) → values ≡ option_to_list a
+    → values ≡ option_to_list b → a ≡ b
 one_value values None None is also = refl
 one_value values None (Some b) is also = let bad : [] ≡ b ∷ [] = sym is ∙ also in absurd (cc bad)
 one_value values (Some a) None is also = let bad : a ∷ [] ≡ [] = sym is ∙ also in absurd (cc bad)
-one_value values (Some a) (Some b) is also = let both : a ∷ [] ≡ b ∷ [] = sym is ∙ also in let same : a ≡ b = cc both in ap Some same
+one_value values (Some a) (Some b) is also =
+    let both : a ∷ [] ≡ b ∷ [] = sym is ∙ also in let same : a ≡ b = cc both in ap Some same
 
 -- values tell one name
 if_named : (a : Option Text) (told : Option Text) → TellsIf IsLineName a told → told ≡ a
@@ -48,12 +24,16 @@ if_named None (Some t) tells = absurd tells
 if_named (Some a) None tells = absurd tells
 if_named (Some a) (Some t) tells = ap Some tells.0
 
-pub one_name : (values : List Text) (a b : Option Text) → TellsOnce IsLineName values a → TellsOnce IsLineName values b → a ≡ b
+pub one_name : (values : List Text) (a b : Option Text) → TellsOnce IsLineName values a
+    → TellsOnce IsLineName values b → a ≡ b
 one_name values a b (one, is, tells) (other, also, tells_too) =
     if_named one a tells ∙ one_value values one other is also ∙ sym (if_named other b tells_too)
 
 -- one time, and one unit
-one_told : {A : Type 0} (Tells : Text → A → Type 0) → ((word : Text) (x y : A) → Tells word x → Tells word y → x ≡ y) → (values : List Text) (a b : Option A) → TellsOnce Tells values a → TellsOnce Tells values b → a ≡ b
+one_told : {A : Type 0} (Tells : Text → A → Type 0)
+    → ((word : Text) (x y : A) → Tells word x → Tells word y → x ≡ y)
+    → (values : List Text) (a b : Option A) → TellsOnce Tells values a → TellsOnce Tells values b
+    → a ≡ b
 one_told {A} Tells only values a b (one, is, tells) (other, also, tells_too) =
     go one a b tells (subst (λ v. TellsIf Tells v b) (one_value values other one also is) tells_too)
   where
@@ -65,35 +45,65 @@ one_told {A} Tells only values a b (one, is, tells) (other, also, tells_too) =
     go (Some word) (Some x) None t u = absurd u
     go (Some word) (Some x) (Some y) t u = ap Some (only word x y t u)
 
-pub one_time : (values : List Text) (a b : Option ℕ) → TellsOnce (IsDecimal 15) values a → TellsOnce (IsDecimal 15) values b → a ≡ b
-one_time values a b one other = one_told (IsDecimal 15) (λ word x y is also. is.value ∙ sym also.value) values a b one other
+pub one_time : (values : List Text) (a b : Option ℕ) → TellsOnce (IsDecimal 15) values a
+    → TellsOnce (IsDecimal 15) values b → a ≡ b
+one_time values a b one other =
+    one_told (IsDecimal 15) (λ word x y is also. is.value ∙ sym also.value) values a b one other
 
 unit_same : (word : Text) (x y : Unit) → IsUnit word x → IsUnit word y → x ≡ y
 unit_same word unit.Seconds unit.Seconds is also = refl
-unit_same word unit.Seconds unit.Milliseconds is also = let bad : codes "s" ≡ codes "ms" = sym is ∙ also in let first : 115 ≡ 109 = ap (λ l. slice_index_or l 0 0) bad in absurd (omega (arith, first))
-unit_same word unit.Seconds unit.Microseconds is also = let bad : codes "s" ≡ codes "us" = sym is ∙ also in let first : 115 ≡ 117 = ap (λ l. slice_index_or l 0 0) bad in absurd (omega (arith, first))
-unit_same word unit.Seconds unit.Nanoseconds is also = let bad : codes "s" ≡ codes "ns" = sym is ∙ also in let first : 115 ≡ 110 = ap (λ l. slice_index_or l 0 0) bad in absurd (omega (arith, first))
-unit_same word unit.Milliseconds unit.Seconds is also = let bad : codes "ms" ≡ codes "s" = sym is ∙ also in let first : 109 ≡ 115 = ap (λ l. slice_index_or l 0 0) bad in absurd (omega (arith, first))
+unit_same word unit.Seconds unit.Milliseconds is also =
+    let bad : codes "s" ≡ codes "ms" = sym is ∙ also in
+    let first : 115 ≡ 109 = ap (λ l. slice_index_or l 0 0) bad in absurd (omega (arith, first))
+unit_same word unit.Seconds unit.Microseconds is also =
+    let bad : codes "s" ≡ codes "us" = sym is ∙ also in
+    let first : 115 ≡ 117 = ap (λ l. slice_index_or l 0 0) bad in absurd (omega (arith, first))
+unit_same word unit.Seconds unit.Nanoseconds is also =
+    let bad : codes "s" ≡ codes "ns" = sym is ∙ also in
+    let first : 115 ≡ 110 = ap (λ l. slice_index_or l 0 0) bad in absurd (omega (arith, first))
+unit_same word unit.Milliseconds unit.Seconds is also =
+    let bad : codes "ms" ≡ codes "s" = sym is ∙ also in
+    let first : 109 ≡ 115 = ap (λ l. slice_index_or l 0 0) bad in absurd (omega (arith, first))
 unit_same word unit.Milliseconds unit.Milliseconds is also = refl
-unit_same word unit.Milliseconds unit.Microseconds is also = let bad : codes "ms" ≡ codes "us" = sym is ∙ also in let first : 109 ≡ 117 = ap (λ l. slice_index_or l 0 0) bad in absurd (omega (arith, first))
-unit_same word unit.Milliseconds unit.Nanoseconds is also = let bad : codes "ms" ≡ codes "ns" = sym is ∙ also in let first : 109 ≡ 110 = ap (λ l. slice_index_or l 0 0) bad in absurd (omega (arith, first))
-unit_same word unit.Microseconds unit.Seconds is also = let bad : codes "us" ≡ codes "s" = sym is ∙ also in let first : 117 ≡ 115 = ap (λ l. slice_index_or l 0 0) bad in absurd (omega (arith, first))
-unit_same word unit.Microseconds unit.Milliseconds is also = let bad : codes "us" ≡ codes "ms" = sym is ∙ also in let first : 117 ≡ 109 = ap (λ l. slice_index_or l 0 0) bad in absurd (omega (arith, first))
+unit_same word unit.Milliseconds unit.Microseconds is also =
+    let bad : codes "ms" ≡ codes "us" = sym is ∙ also in
+    let first : 109 ≡ 117 = ap (λ l. slice_index_or l 0 0) bad in absurd (omega (arith, first))
+unit_same word unit.Milliseconds unit.Nanoseconds is also =
+    let bad : codes "ms" ≡ codes "ns" = sym is ∙ also in
+    let first : 109 ≡ 110 = ap (λ l. slice_index_or l 0 0) bad in absurd (omega (arith, first))
+unit_same word unit.Microseconds unit.Seconds is also =
+    let bad : codes "us" ≡ codes "s" = sym is ∙ also in
+    let first : 117 ≡ 115 = ap (λ l. slice_index_or l 0 0) bad in absurd (omega (arith, first))
+unit_same word unit.Microseconds unit.Milliseconds is also =
+    let bad : codes "us" ≡ codes "ms" = sym is ∙ also in
+    let first : 117 ≡ 109 = ap (λ l. slice_index_or l 0 0) bad in absurd (omega (arith, first))
 unit_same word unit.Microseconds unit.Microseconds is also = refl
-unit_same word unit.Microseconds unit.Nanoseconds is also = let bad : codes "us" ≡ codes "ns" = sym is ∙ also in let first : 117 ≡ 110 = ap (λ l. slice_index_or l 0 0) bad in absurd (omega (arith, first))
-unit_same word unit.Nanoseconds unit.Seconds is also = let bad : codes "ns" ≡ codes "s" = sym is ∙ also in let first : 110 ≡ 115 = ap (λ l. slice_index_or l 0 0) bad in absurd (omega (arith, first))
-unit_same word unit.Nanoseconds unit.Milliseconds is also = let bad : codes "ns" ≡ codes "ms" = sym is ∙ also in let first : 110 ≡ 109 = ap (λ l. slice_index_or l 0 0) bad in absurd (omega (arith, first))
-unit_same word unit.Nanoseconds unit.Microseconds is also = let bad : codes "ns" ≡ codes "us" = sym is ∙ also in let first : 110 ≡ 117 = ap (λ l. slice_index_or l 0 0) bad in absurd (omega (arith, first))
+unit_same word unit.Microseconds unit.Nanoseconds is also =
+    let bad : codes "us" ≡ codes "ns" = sym is ∙ also in
+    let first : 117 ≡ 110 = ap (λ l. slice_index_or l 0 0) bad in absurd (omega (arith, first))
+unit_same word unit.Nanoseconds unit.Seconds is also =
+    let bad : codes "ns" ≡ codes "s" = sym is ∙ also in
+    let first : 110 ≡ 115 = ap (λ l. slice_index_or l 0 0) bad in absurd (omega (arith, first))
+unit_same word unit.Nanoseconds unit.Milliseconds is also =
+    let bad : codes "ns" ≡ codes "ms" = sym is ∙ also in
+    let first : 110 ≡ 109 = ap (λ l. slice_index_or l 0 0) bad in absurd (omega (arith, first))
+unit_same word unit.Nanoseconds unit.Microseconds is also =
+    let bad : codes "ns" ≡ codes "us" = sym is ∙ also in
+    let first : 110 ≡ 117 = ap (λ l. slice_index_or l 0 0) bad in absurd (omega (arith, first))
 unit_same word unit.Nanoseconds unit.Nanoseconds is also = refl
 
-pub one_unit : (values : List Text) (a b : Option Unit) → TellsOnce IsUnit values a → TellsOnce IsUnit values b → a ≡ b
+pub one_unit : (values : List Text) (a b : Option Unit) → TellsOnce IsUnit values a
+    → TellsOnce IsUnit values b → a ≡ b
 one_unit values a b one other = one_told IsUnit unit_same values a b one other
 
 -- where there is none, the same unit is taken
-pub one_unit_told : (values : List Text) (a b : Unit) → TellsUnit values a → TellsUnit values b → a ≡ b
+pub one_unit_told : (values : List Text) (a b : Unit) → TellsUnit values a → TellsUnit values b
+    → a ≡ b
 one_unit_told values a b (told, is, same) (other, also, too) =
     same ∙ ap (λ o. unwrap_or o unit.Seconds) (one_unit values told other is also) ∙ sym too
 
 -- one length
-pub one_length : (values : List Text) (a b : Option ℕ) → TellsOnce IsLength values a → TellsOnce IsLength values b → a ≡ b
-one_length values a b one other = one_told IsLength (λ word x y is also. is.0.value ∙ sym also.0.value) values a b one other
+pub one_length : (values : List Text) (a b : Option ℕ) → TellsOnce IsLength values a
+    → TellsOnce IsLength values b → a ≡ b
+one_length values a b one other =
+    one_told IsLength (λ word x y is also. is.0.value ∙ sym also.0.value) values a b one other

@@ -1,6 +1,9 @@
 -- What the words of a command line name, and what the answer of the program says.
-use Rattle.std.specs.Prelude.{◌≡◌, ◌≢◌, ◌⊎◌, ℕ, Bool, List, [], ◌∷◌, ◌<◌, ◌^◌, codes, ⊤, Option, Some, None, option_map, option_to_list, string_bytes, unwrap_or, Result, Ok, Err}
+use Rattle.std.specs.Prelude.{◌≡◌, ◌≢◌, ◌⊎◌, ℕ, Bool, List, [], ◌∷◌, ◌<◌, ◌^◌, codes, ⊤, Option}
+use Rattle.std.specs.Prelude.{Some, None, option_map, option_to_list, string_bytes, unwrap_or}
+use Rattle.std.specs.Prelude.{Result, Ok, Err}
 use Rattle.clap.specs.declared.error.kind.ErrorKind.TheVariants.{OutOfMemory}
+use Rattle.command_words.specs.Grammar.{Command, IsOneOf, NameCommand, Uses, chosen, is_used}
 use Rattle.mdb_words.specs.Digits.{IsDecimal}
 use Rattle.mdb_import.specs.Exports.{Exports, export_records}
 use Rattle.mdb_import.specs.declared.options.RowsOptions.{RowsOptions}
@@ -14,37 +17,48 @@ use Rattle.mdb_edges.specs.Import as edges
 use Rattle.mdb_edges.specs.declared.fault.EdgesFault.{EdgesFault}
 use Rattle.mdb_edges.specs.declared.options.EdgesOptions.{EdgesOptions}
 use Rattle.mdb_edges.specs.declared.part.EdgesImported.{EdgesImported}
-use Rattle.mdb_importer.specs.Options.{AreOptions, IsOneOf, Uses, chosen, is_used}
 use Rattle.mdb_importer.specs.declared.ended.Ended.{Ended}
-use Rattle.mdb_importer.specs.declared.ended.Ended.TheVariants.{Rows, Sigrok, Saleae, Edges, Refused}
+use Rattle.mdb_importer.specs.declared.ended.Ended.TheVariants.{Rows, Sigrok, Saleae, Edges}
+use Rattle.mdb_importer.specs.declared.ended.Ended.TheVariants.{Refused}
 use Rattle.mdb_importer.specs.declared.refusal.Refusal.{Refusal}
 use Rattle.mdb_importer.specs.declared.refusal.Refusal.TheVariants.{Words}
 
+-- ---- the commands
+
+-- what `rows` knows
+abbrev pub rows_command : Command
+rows_command = record {
+  name = codes "rows";
+  options = codes "unit" ∷ codes "controller" ∷ codes "peripheral" ∷ codes "from"
+      ∷ codes "until" ∷ [];
+  flags = [];
+  words = [];
+}
+
+-- what `sigrok` knows
+abbrev pub sigrok_command : Command
+sigrok_command = record {
+  name = codes "sigrok";
+  options = codes "from" ∷ codes "until" ∷ [];
+  flags = codes "swap" ∷ [];
+  words = [];
+}
+
+-- what `saleae` knows
+abbrev pub saleae_command : Command
+saleae_command = record {
+  name = codes "saleae";
+  options = codes "controller" ∷ codes "peripheral" ∷ codes "break" ∷ codes "from"
+      ∷ codes "until" ∷ [];
+  flags = [];
+  words = [];
+}
+
+-- what `edges` knows
+abbrev pub edges_command : Command
+edges_command = record rows_command { name = codes "edges"; flags = codes "invert" ∷ [] }
+
 -- ---- what options tell
-
--- the options of `rows`, each with a value
-abbrev pub rows_names : List (List ℕ)
-rows_names =
-    codes "unit" ∷ codes "controller" ∷ codes "peripheral" ∷ codes "from" ∷ codes "until" ∷ []
-
--- the options of `sigrok` that have a value, and the one that has none
-abbrev pub sigrok_names : List (List ℕ)
-sigrok_names = codes "from" ∷ codes "until" ∷ []
-
-abbrev pub sigrok_flags : List (List ℕ)
-sigrok_flags = codes "swap" ∷ []
-
--- the options of `saleae`, each with a value
-abbrev pub saleae_names : List (List ℕ)
-saleae_names =
-    codes "controller" ∷ codes "peripheral" ∷ codes "break" ∷ codes "from" ∷ codes "until" ∷ []
-
--- the options of `edges` that have a value, and the one that has none
-abbrev pub edges_names : List (List ℕ)
-edges_names = rows_names
-
-abbrev pub edges_flags : List (List ℕ)
-edges_flags = codes "invert" ∷ []
 
 -- a value, if there is one, tells this, if it is there
 abbrev pub TellsIf : {A : Type 0} → (List ℕ → A → Type 0) → Option (List ℕ) → Option A → Type 0
@@ -156,36 +170,24 @@ pub record AskTheSameOfEdges (a b : EdgesOptions) : Type 0 where
 
 -- ---- what words name
 
--- The words of a command line, the program's name first, name a task with these uses of its
--- options: they are its word, and after it its options.
-pub record NameTask (words : List (List ℕ)) (task : List ℕ) (names flags : List (List ℕ))
-    (uses : Uses) : Type 0 where
-  pub program : List ℕ
-  pub rest : List (List ℕ)
-  pub are : words ≡ program ∷ task ∷ rest
-  pub options : AreOptions names flags rest uses
-
--- they name `rows` with these options
+-- the words of a command line, the program's name first, name `rows` with these options
 abbrev pub NameRows : List (List ℕ) → RowsOptions → Type 0
-NameRows words options = (uses : Uses) × NameTask words (codes "rows") rows_names [] uses
+NameRows words options = (uses : Uses) × NameCommand words rows_command uses
     × AskForRows (λ name. chosen name uses) options
 
 -- they name `sigrok` with these options
 abbrev pub NameSigrok : List (List ℕ) → SigrokOptions → Type 0
-NameSigrok words options = (uses : Uses)
-    × NameTask words (codes "sigrok") sigrok_names sigrok_flags uses
+NameSigrok words options = (uses : Uses) × NameCommand words sigrok_command uses
     × AskForSigrok (λ name. chosen name uses) (λ name. is_used name uses) options
 
 -- they name `saleae` with these options
 abbrev pub NameSaleae : List (List ℕ) → SaleaeOptions → Type 0
-NameSaleae words options = (uses : Uses)
-    × NameTask words (codes "saleae") saleae_names [] uses
+NameSaleae words options = (uses : Uses) × NameCommand words saleae_command uses
     × AskForSaleae (λ name. chosen name uses) options
 
 -- they name `edges` with these options
 abbrev pub NameEdges : List (List ℕ) → EdgesOptions → Type 0
-NameEdges words options = (uses : Uses)
-    × NameTask words (codes "edges") edges_names edges_flags uses
+NameEdges words options = (uses : Uses) × NameCommand words edges_command uses
     × AskForEdges (λ name. chosen name uses) (λ name. is_used name uses) options
 
 -- they name the task with some options

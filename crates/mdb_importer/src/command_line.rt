@@ -1,29 +1,29 @@
 //! The command line: which import its words ask for.
 
-ghost use Rattle.std.specs.Prelude.{◌≡◌, ◌≢◌, ◌↔◌, [], Bool, List, ℕ, Option, IfErr, IfNone, IfOk, IfSome, IsTrue, codes, false, map, option_map, option_to_list, string_bytes};
-ghost use Rattle.clap.specs.Words.{App, FailsBy, HasMatchesOf, app_of, fault_of, found_of, rows_of, with_rule, with_subcommand};
-ghost use Rattle.clap.specs.declared.builder.command.Command.TheViews.{out-Command as fields_of};
+ghost use Rattle.std.specs.Prelude.{◌≡◌, ◌≢◌, ◌↔◌, List, ℕ, Option, IfErr, IfNone, IfOk, IfSome};
+ghost use Rattle.std.specs.Prelude.{IsTrue, codes, map, option_map, option_to_list, string_bytes};
+ghost use Rattle.command_words.specs.Grammar.{IsOneOf};
+ghost use Rattle.command_words.specs.Named.{name_in, values_in};
 ghost use Rattle.mdb_words.specs.Digits.{IsDecimal};
 ghost use Rattle.mdb_import.specs.declared.options.RowsOptions.{RowsOptions};
 ghost use Rattle.mdb_import.specs.declared.options.Unit.{Unit};
 ghost use Rattle.mdb_sigrok.specs.declared.options.SigrokOptions.{SigrokOptions};
 ghost use Rattle.mdb_saleae.specs.declared.options.SaleaeOptions.{SaleaeOptions};
 ghost use Rattle.mdb_edges.specs.declared.options.EdgesOptions.{EdgesOptions};
-ghost use Rattle.mdb_importer.specs.Options.{IsOneOf};
-ghost use Rattle.mdb_importer.specs.Program.{AreApart, IsLength, IsLineName, IsUnit, TellNames, TellsOnce, letters, no_memory};
-ghost use Rattle.mdb_importer.specs.inner.CommandLine.{AskFor, FindEdges, FindRows, FindSaleae, FindSigrok};
-ghost use Rattle.mdb_importer.specs.inner.CommandLine.{edges_app, first_tasks, flag_rule, mdbimport, option_rule};
-ghost use Rattle.mdb_importer.specs.inner.CommandLine.{rows_app, saleae_app, sigrok_app, values_of, with_part};
+ghost use Rattle.mdb_importer.specs.Program.{AreApart, IsLength, IsLineName, IsUnit, TellNames};
+ghost use Rattle.mdb_importer.specs.Program.{TellsOnce, letters, no_memory};
+ghost use Rattle.mdb_importer.specs.inner.CommandLine.{AskFor, FindEdges, FindRows, FindSaleae};
+ghost use Rattle.mdb_importer.specs.inner.CommandLine.{FindSigrok, FindTask, names};
 
 use super::refusal::{Refusal, ValueFault};
-use clap::error::{Error, ErrorKind};
-use clap::{Arg, ArgAction, ArgMatches, Command};
+use clap::error::ErrorKind;
+use command_words::{CommandRow, Named, Program, read};
 use mdb_edges::EdgesOptions;
 use mdb_import::{RowsOptions, Unit};
 use mdb_saleae::SaleaeOptions;
 use mdb_sigrok::SigrokOptions;
 use mdb_words::{Span, Time};
-use std::alloc::{AllocError, Global};
+use std::alloc::Global;
 
 /// The line that says how the program is called.
 pub(crate) const USAGE: &str = "usage: mdbimport rows [--unit s|ms|us|ns] [--controller NAME] \
@@ -61,6 +61,38 @@ const BREAK: &str = "break";
 /// The option that takes the levels of a table of edges upside down.
 const INVERT: &str = "invert";
 
+/// The program's commands, and what their words may be.
+const PROGRAM: Program<'static> = Program {
+    name: "mdbimport",
+    version: VERSION,
+    commands: &[
+        CommandRow {
+            name: "rows",
+            options: &[UNIT, CONTROLLER, PERIPHERAL, FROM, UNTIL],
+            flags: &[],
+            words: &[],
+        },
+        CommandRow {
+            name: "sigrok",
+            options: &[FROM, UNTIL],
+            flags: &[SWAP],
+            words: &[],
+        },
+        CommandRow {
+            name: "saleae",
+            options: &[CONTROLLER, PERIPHERAL, BREAK, FROM, UNTIL],
+            flags: &[],
+            words: &[],
+        },
+        CommandRow {
+            name: "edges",
+            options: &[UNIT, CONTROLLER, PERIPHERAL, FROM, UNTIL],
+            flags: &[INVERT],
+            words: &[],
+        },
+    ],
+};
+
 /// What the words of a command line ask for.
 #[derive(Drop)]
 pub(crate) enum Task {
@@ -82,161 +114,33 @@ pub(crate) fn task_of(alloc: Global, words: &[String]) -> Result<Task, Refusal>
     ensures refused { IfErr result (λ refusal. (task : Task)
         → AskFor (map string_bytes words.now) task → refusal ≡ no_memory) }
 {
-    let matches = match matches_of(alloc, words) {
-        Ok(matches) => matches,
-        Err(error) => return Err(Refusal::Words(error.kind())),
-    };
-    match matches.subcommand() {
-        Some(("rows", own)) => Ok(Task::Rows(rows_options(alloc, own)?)),
-        Some(("sigrok", own)) => Ok(Task::Sigrok(sigrok_options(own)?)),
-        Some(("saleae", own)) => Ok(Task::Saleae(saleae_options(alloc, own)?)),
-        Some(("edges", own)) => Ok(Task::Edges(edges_options(alloc, own)?)),
+    match read(alloc, &PROGRAM, words) {
+        Ok(found) => task_in(alloc, &found),
+        Err(error) => Err(Refusal::Words(error.kind())),
+    }
+}
+
+/// What the words ask for of which this was read.
+fn task_in(alloc: Global, found: &Named<'_>) -> Result<Task, Refusal>
+    requires { IsOneOf (name_in found.now) names }
+    ensures asked { IfOk result (FindTask found.now) }
+    ensures refused { IfErr result (λ refusal. (task : Task) → FindTask found.now task
+        → refusal ≡ no_memory) }
+{
+    match found.command() {
+        "rows" => Ok(Task::Rows(rows_options(alloc, found)?)),
+        "sigrok" => Ok(Task::Sigrok(sigrok_options(found)?)),
+        "saleae" => Ok(Task::Saleae(saleae_options(alloc, found)?)),
+        "edges" => Ok(Task::Edges(edges_options(alloc, found)?)),
         _ => unreachable!(),
     }
 }
 
-/// What `clap` finds in the words.
-fn matches_of<'a>(alloc: Global, words: &'a [String]) -> Result<ArgMatches<'a>, Error>
-    ensures found { IfOk result (HasMatchesOf mdbimport (map string_bytes words.now)) }
-    ensures faults { FailsBy (fault_of mdbimport (map string_bytes words.now)) result }
-{
-    command(alloc)?.try_get_matches_from(words)
-}
-
-/// The program's command, as `clap` has it.
-fn command<'a>(alloc: Global) -> Result<Command<'a>, AllocError>
-    ensures { IfOk result (λ command. app_of command ≡ mdbimport) }
-{
-    let decoded = decoded_command(alloc)?;
-    let with_saleae = add_made(decoded, saleae_command(alloc))?;
-    add_made(with_saleae, edges_command(alloc))
-}
-
-/// The command with the tasks `rows` and `sigrok`.
-fn decoded_command<'a>(alloc: Global) -> Result<Command<'a>, AllocError>
-    ensures { IfOk result (λ command. app_of command ≡ first_tasks) }
-{
-    let rows = rows_command(alloc)?;
-    let with_rows = Command::new(alloc, "mdbimport")
-        .version(VERSION)
-        .subcommand_required(true)
-        .subcommand(rows)?;
-    add_made(with_rows, sigrok_command(alloc))
-}
-
-/// A command with a task more, if memory was given for it.
-fn add_made<'a>(
-    program: Command<'a>,
-    made: Result<Command<'a>, AllocError>,
-) -> Result<Command<'a>, AllocError>
-    requires { IfOk made (λ task. (fields_of task).has_globals ≡ false) }
-    ensures { (known : App) → IfOk made.entry (λ task. app_of task ≡ known) → IfOk result
-        (λ command. app_of command ≡ with_subcommand (app_of program.entry) known.top) }
-{
-    let task = made?;
-    add_task(program, task)
-}
-
-/// A command with a task more.
-fn add_task<'a>(program: Command<'a>, task: Command<'a>) -> Result<Command<'a>, AllocError>
-    requires { (fields_of task).has_globals ≡ false }
-    ensures { IfOk result (λ command.
-        app_of command ≡ with_subcommand (app_of program.entry) (app_of task.entry).top) }
-{
-    program.subcommand(task)
-}
-
-/// The task `rows` with its options.
-fn rows_command<'a>(alloc: Global) -> Result<Command<'a>, AllocError>
-    ensures app { IfOk result (λ command. app_of command ≡ rows_app) }
-    ensures local { IfOk result (λ command. (fields_of command).has_globals ≡ false) }
-{
-    let bare = Command::new(alloc, "rows");
-    let with_unit = add_option(alloc, bare, UNIT)?;
-    let with_controller = add_option(alloc, with_unit, CONTROLLER)?;
-    let with_peripheral = add_option(alloc, with_controller, PERIPHERAL)?;
-    add_part(alloc, with_peripheral)
-}
-
-/// The task `sigrok` with its options.
-fn sigrok_command<'a>(alloc: Global) -> Result<Command<'a>, AllocError>
-    ensures app { IfOk result (λ command. app_of command ≡ sigrok_app) }
-    ensures local { IfOk result (λ command. (fields_of command).has_globals ≡ false) }
-{
-    let bare = Command::new(alloc, "sigrok");
-    let with_options = add_part(alloc, bare)?;
-    add_flag(alloc, with_options, SWAP)
-}
-
-/// The task `saleae` with its options.
-fn saleae_command<'a>(alloc: Global) -> Result<Command<'a>, AllocError>
-    ensures app { IfOk result (λ command. app_of command ≡ saleae_app) }
-    ensures local { IfOk result (λ command. (fields_of command).has_globals ≡ false) }
-{
-    let bare = Command::new(alloc, "saleae");
-    let with_controller = add_option(alloc, bare, CONTROLLER)?;
-    let with_peripheral = add_option(alloc, with_controller, PERIPHERAL)?;
-    let with_break = add_option(alloc, with_peripheral, BREAK)?;
-    add_part(alloc, with_break)
-}
-
-/// The task `edges` with its options.
-fn edges_command<'a>(alloc: Global) -> Result<Command<'a>, AllocError>
-    ensures app { IfOk result (λ command. app_of command ≡ edges_app) }
-    ensures local { IfOk result (λ command. (fields_of command).has_globals ≡ false) }
-{
-    let bare = Command::new(alloc, "edges");
-    let with_unit = add_option(alloc, bare, UNIT)?;
-    let with_controller = add_option(alloc, with_unit, CONTROLLER)?;
-    let with_peripheral = add_option(alloc, with_controller, PERIPHERAL)?;
-    let with_options = add_part(alloc, with_peripheral)?;
-    add_flag(alloc, with_options, INVERT)
-}
-
-/// A task with the options of a part more.
-fn add_part<'a>(alloc: Global, task: Command<'a>) -> Result<Command<'a>, AllocError>
-    ensures app { IfOk result (λ command. app_of command ≡ with_part (app_of task.entry)) }
-    ensures local { IfOk result (λ command.
-        (fields_of command).has_globals ≡ (fields_of task.entry).has_globals) }
-{
-    let with_from = add_option(alloc, task, FROM)?;
-    add_option(alloc, with_from, UNTIL)
-}
-
-/// A task with an option more, which has a value. That it stands once is judged when it is read.
-fn add_option<'a>(
-    alloc: Global,
-    task: Command<'a>,
-    name: &'a str,
-) -> Result<Command<'a>, AllocError>
-    ensures app { IfOk result (λ command.
-        app_of command ≡ with_rule (app_of task.entry) (option_rule name.entry.now)) }
-    ensures local { IfOk result (λ command.
-        (fields_of command).has_globals ≡ (fields_of task.entry).has_globals) }
-{
-    let option = Arg::new(alloc, name).long(name).action(ArgAction::Append);
-    task.arg(option)
-}
-
-/// A task with a flag more, which has no value, and may stand again.
-fn add_flag<'a>(alloc: Global, task: Command<'a>, name: &'a str) -> Result<Command<'a>, AllocError>
-    ensures app { IfOk result (λ command.
-        app_of command ≡ with_rule (app_of task.entry) (flag_rule name.entry.now)) }
-    ensures local { IfOk result (λ command.
-        (fields_of command).has_globals ≡ (fields_of task.entry).has_globals) }
-{
-    let flag = Arg::new(alloc, name)
-        .long(name)
-        .action(ArgAction::Append)
-        .num_args(0);
-    task.arg(flag)
-}
-
-/// What the options of `rows` ask for, of which `clap` has found these values.
-fn rows_options(alloc: Global, found: &ArgMatches<'_>) -> Result<RowsOptions, Refusal>
-    ensures asked { IfOk result (FindRows (rows_of (found_of found.now))) }
+/// What the options of `rows` ask for, of which this was read.
+fn rows_options(alloc: Global, found: &Named<'_>) -> Result<RowsOptions, Refusal>
+    ensures asked { IfOk result (FindRows found.now) }
     ensures refused { IfErr result (λ refusal. (options : RowsOptions)
-        → FindRows (rows_of (found_of found.now)) options → refusal ≡ no_memory) }
+        → FindRows found.now options → refusal ≡ no_memory) }
 {
     let unit = unit_in(found)?;
     let names = names_in(alloc, found)?;
@@ -252,22 +156,22 @@ fn rows_options(alloc: Global, found: &ArgMatches<'_>) -> Result<RowsOptions, Re
 }
 
 /// What the options of `sigrok` ask for.
-fn sigrok_options(found: &ArgMatches<'_>) -> Result<SigrokOptions, Refusal>
-    ensures asked { IfOk result (FindSigrok (rows_of (found_of found.now))) }
+fn sigrok_options(found: &Named<'_>) -> Result<SigrokOptions, Refusal>
+    ensures asked { IfOk result (FindSigrok found.now) }
     ensures refused { IfErr result (λ refusal. (options : SigrokOptions)
-        → FindSigrok (rows_of (found_of found.now)) options → ⊥) }
+        → FindSigrok found.now options → ⊥) }
 {
     let from = time_in(found, FROM)?;
     let until = time_in(found, UNTIL)?;
-    let swap = found.contains_id(SWAP);
+    let swap = found.is_used(SWAP);
     Ok(SigrokOptions { swap, from, until })
 }
 
 /// What the options of `saleae` ask for.
-fn saleae_options(alloc: Global, found: &ArgMatches<'_>) -> Result<SaleaeOptions, Refusal>
-    ensures asked { IfOk result (FindSaleae (rows_of (found_of found.now))) }
+fn saleae_options(alloc: Global, found: &Named<'_>) -> Result<SaleaeOptions, Refusal>
+    ensures asked { IfOk result (FindSaleae found.now) }
     ensures refused { IfErr result (λ refusal. (options : SaleaeOptions)
-        → FindSaleae (rows_of (found_of found.now)) options → refusal ≡ no_memory) }
+        → FindSaleae found.now options → refusal ≡ no_memory) }
 {
     let names = names_in(alloc, found)?;
     let break_length = length_in(found)?;
@@ -283,16 +187,16 @@ fn saleae_options(alloc: Global, found: &ArgMatches<'_>) -> Result<SaleaeOptions
 }
 
 /// What the options of `edges` ask for.
-fn edges_options(alloc: Global, found: &ArgMatches<'_>) -> Result<EdgesOptions, Refusal>
-    ensures asked { IfOk result (FindEdges (rows_of (found_of found.now))) }
+fn edges_options(alloc: Global, found: &Named<'_>) -> Result<EdgesOptions, Refusal>
+    ensures asked { IfOk result (FindEdges found.now) }
     ensures refused { IfErr result (λ refusal. (options : EdgesOptions)
-        → FindEdges (rows_of (found_of found.now)) options → refusal ≡ no_memory) }
+        → FindEdges found.now options → refusal ≡ no_memory) }
 {
     let told = unit_in(found)?;
     let names = names_in(alloc, found)?;
     let from = time_in(found, FROM)?;
     let until = time_in(found, UNTIL)?;
-    let invert = found.contains_id(INVERT);
+    let invert = found.is_used(INVERT);
     Ok(EdgesOptions {
         unit: told.unwrap_or(Unit::Seconds),
         controller: names.controller,
@@ -304,28 +208,24 @@ fn edges_options(alloc: Global, found: &ArgMatches<'_>) -> Result<EdgesOptions, 
 }
 
 /// The value of an option, if it has one.
-fn value_of<'a>(found: &ArgMatches<'a>, name: &str) -> Result<Option<&'a str>, Refusal>
-    ensures one { IfOk result (λ value. values_of name.now (rows_of (found_of found.now))
+fn value_of<'a>(found: &Named<'a>, name: &str) -> Result<Option<&'a str>, Refusal>
+    ensures one { IfOk result (λ value. values_in found.now name.now
         ≡ option_to_list (option_map (λ word. word.now) value)) }
     ensures more { IfErr result (λ refusal. (value : Option (List ℕ))
-        → values_of name.now (rows_of (found_of found.now)) ≡ option_to_list value → ⊥) }
+        → values_in found.now name.now ≡ option_to_list value → ⊥) }
 {
-    let words = found.get_strs(name).unwrap_or(&[]);
-    if words.is_empty() {
-        return Ok(None);
+    match found.value(name) {
+        Ok(value) => Ok(value),
+        Err(kind) => Err(Refusal::Words(kind)),
     }
-    if words.len() > 1 {
-        return Err(Refusal::Words(ErrorKind::ArgumentConflict));
-    }
-    Ok(Some(words[0]))
 }
 
 /// The unit that was told, if one was.
-fn unit_in(found: &ArgMatches<'_>) -> Result<Option<Unit>, Refusal>
+fn unit_in(found: &Named<'_>) -> Result<Option<Unit>, Refusal>
     ensures told { IfOk result (TellsOnce IsUnit
-        (values_of (codes "unit") (rows_of (found_of found.now)))) }
+        (values_in found.now (codes "unit"))) }
     ensures refused { IfErr result (λ refusal. (told : Option Unit) → TellsOnce IsUnit
-        (values_of (codes "unit") (rows_of (found_of found.now))) told → ⊥) }
+        (values_in found.now (codes "unit")) told → ⊥) }
 {
     let Some(word) = value_of(found, UNIT)? else {
         return Ok(None);
@@ -358,17 +258,17 @@ struct Names {
 }
 
 /// The names of both lines that were told.
-fn names_in(alloc: Global, found: &ArgMatches<'_>) -> Result<Names, Refusal>
+fn names_in(alloc: Global, found: &Named<'_>) -> Result<Names, Refusal>
     ensures controller { IfOk result (λ names. TellsOnce IsLineName
-        (values_of (codes "controller") (rows_of (found_of found.now)))
+        (values_in found.now (codes "controller"))
         (option_map string_bytes names.controller)) }
     ensures peripheral { IfOk result (λ names. TellsOnce IsLineName
-        (values_of (codes "peripheral") (rows_of (found_of found.now)))
+        (values_in found.now (codes "peripheral"))
         (option_map string_bytes names.peripheral)) }
     ensures apart { IfOk result (λ names. AreApart (option_map string_bytes names.controller)
         (option_map string_bytes names.peripheral)) }
     ensures refused { IfErr result (λ refusal. (controller peripheral : Option (List ℕ))
-        → TellNames (λ name. values_of name (rows_of (found_of found.now))) controller peripheral
+        → TellNames (values_in found.now) controller peripheral
         → refusal ≡ no_memory) }
 {
     let controller = name_in(found, CONTROLLER)?;
@@ -385,12 +285,12 @@ fn names_in(alloc: Global, found: &ArgMatches<'_>) -> Result<Names, Refusal>
 }
 
 /// The name of a line that an option tells, if it was used.
-fn name_in<'a>(found: &ArgMatches<'a>, option: &str) -> Result<Option<&'a str>, Refusal>
+fn name_in<'a>(found: &Named<'a>, option: &str) -> Result<Option<&'a str>, Refusal>
     ensures told { IfOk result (λ name. TellsOnce IsLineName
-        (values_of option.now (rows_of (found_of found.now)))
+        (values_in found.now option.now)
         (option_map (λ word. word.now) name)) }
     ensures refused { IfErr result (λ refusal. (told : Option (List ℕ)) → TellsOnce IsLineName
-        (values_of option.now (rows_of (found_of found.now))) told → ⊥) }
+        (values_in found.now option.now) told → ⊥) }
 {
     let Some(word) = value_of(found, option)? else {
         return Ok(None);
@@ -436,11 +336,11 @@ fn owned(alloc: Global, word: Option<&str>) -> Result<Option<String>, Refusal>
 }
 
 /// The microseconds that an option tells, if it was used.
-fn time_in(found: &ArgMatches<'_>, option: &str) -> Result<Option<u64>, Refusal>
+fn time_in(found: &Named<'_>, option: &str) -> Result<Option<u64>, Refusal>
     ensures told { IfOk result (TellsOnce (IsDecimal 15)
-        (values_of option.now (rows_of (found_of found.now)))) }
+        (values_in found.now option.now)) }
     ensures refused { IfErr result (λ refusal. (told : Option ℕ) → TellsOnce (IsDecimal 15)
-        (values_of option.now (rows_of (found_of found.now))) told → ⊥) }
+        (values_in found.now option.now) told → ⊥) }
 {
     let Some(word) = value_of(found, option)? else {
         return Ok(None);
@@ -452,11 +352,11 @@ fn time_in(found: &ArgMatches<'_>, option: &str) -> Result<Option<u64>, Refusal>
 }
 
 /// The length of each break that was told, if one was.
-fn length_in(found: &ArgMatches<'_>) -> Result<Option<Span>, Refusal>
+fn length_in(found: &Named<'_>) -> Result<Option<Span>, Refusal>
     ensures told { IfOk result (TellsOnce IsLength
-        (values_of (codes "break") (rows_of (found_of found.now)))) }
+        (values_in found.now (codes "break"))) }
     ensures refused { IfErr result (λ refusal. (told : Option ℕ) → TellsOnce IsLength
-        (values_of (codes "break") (rows_of (found_of found.now))) told → ⊥) }
+        (values_in found.now (codes "break")) told → ⊥) }
 {
     let Some(word) = value_of(found, BREAK)? else {
         return Ok(None);

@@ -1,5 +1,5 @@
 //! Laws of command lines and of what is written. Each function's contract is the law, and its body
-//! is empty.
+//! calls the laws that it rests on.
 
 ghost use Rattle.std.specs.Prelude.{◌≡◌, ◌⊎◌, List, ℕ};
 ghost use Rattle.mdb_words.specs.declared.event.Event.{Event};
@@ -15,6 +15,8 @@ ghost use Rattle.mdb_edges.specs.declared.options.EdgesOptions.{EdgesOptions};
 ghost use Rattle.mdb_importer.specs.Program.{AskTheSame, AskTheSameOfEdges, AskTheSameOfTable};
 ghost use Rattle.mdb_importer.specs.Program.{NameEdges, NameRows, NameSaleae, NameSigrok};
 ghost use Rattle.mdb_importer.specs.Program.{NamesEdges, NamesRows, NamesSaleae, NamesSigrok};
+
+use command_words::laws as command_lines;
 
 /// Words name at most one task, with options that ask for one thing.
 ///
@@ -34,7 +36,9 @@ pub fn command_lines_name_one_task()
         → NamesSaleae words ⊎ NamesEdges words → ⊥ }
     ensures saleae_alone { (words : List (List ℕ)) → NamesSaleae words
         → NamesEdges words → ⊥ }
-{}
+{
+    command_lines::words_name_one_command();
+}
 
 /// What is written of a trace is read as just the rows that were written, as is what is written of
 /// an export or a table.

@@ -2,22 +2,22 @@ use Rattle.mdb_importer.proofs.CommandLine.{one_edges, one_rows, one_saleae, one
 use Rattle.mdb_importer.proofs.laws.command_lines_name_one_task.Goals as goal
 
 pub returns-clause-rows : goal.returns-clause-rows
-returns-clause-rows c = one_rows
+returns-clause-rows c = one_rows c.words_name_one_command.ensures
 
 pub returns-clause-sigrok : goal.returns-clause-sigrok
-returns-clause-sigrok c = one_sigrok
+returns-clause-sigrok c = one_sigrok c.words_name_one_command.ensures
 
 pub returns-clause-saleae : goal.returns-clause-saleae
-returns-clause-saleae c = one_saleae
+returns-clause-saleae c = one_saleae c.words_name_one_command.ensures
 
 pub returns-clause-edges : goal.returns-clause-edges
-returns-clause-edges c = one_edges
+returns-clause-edges c = one_edges c.words_name_one_command.ensures
 
 pub returns-clause-rows_alone : goal.returns-clause-rows_alone
-returns-clause-rows_alone c = rows_alone
+returns-clause-rows_alone c = rows_alone c.words_name_one_command.ensures
 
 pub returns-clause-sigrok_alone : goal.returns-clause-sigrok_alone
-returns-clause-sigrok_alone c = sigrok_alone
+returns-clause-sigrok_alone c = sigrok_alone c.words_name_one_command.ensures
 
 pub returns-clause-saleae_alone : goal.returns-clause-saleae_alone
-returns-clause-saleae_alone c = saleae_alone
+returns-clause-saleae_alone c = saleae_alone c.words_name_one_command.ensures
