@@ -1,7 +1,8 @@
 -- What the words of a command line name, and what the program's exit status says.
-use Rattle.std.specs.Prelude.{◌≡◌, ◌⊎◌, ◌++◌, ℕ, Bool, true, false, List, [], ◌∷◌, codes, Option, Some, None, Result}
-use Rattle.std.specs.Prelude.{Ok, Err}
+use Rattle.std.specs.Prelude.{◌≡◌, ◌⊎◌, ◌++◌, ℕ, Bool, true, false, List, [], ◌∷◌, codes, Option}
+use Rattle.std.specs.Prelude.{Some, None, Result, Ok, Err}
 use Rattle.std.specs.Io.KnownBytes.{Appends}
+use Rattle.command_words.specs.Grammar.{Command, NameCommand, Uses, chosen, is_used}
 use Rattle.mdb_msgs.specs.declared.command.Device.{Device}
 use Rattle.mdb_msgs.specs.declared.device_set.DeviceSet.{DeviceSet}
 use Rattle.mdb_msgs.specs.declared.device_set.TheConstants.DeviceSet.{NONE}
@@ -11,17 +12,19 @@ use Rattle.mdb_msgs.specs.declared.setups.Setups.{Setups}
 use Rattle.mdb_msgs.specs.SetupData.{IsSetupOf}
 use Rattle.mdb_msgs.specs.Setups.{nothing_known}
 use Rattle.mdb_bus.specs.declared.fault.LinkFault.{LinkFault}
+use Rattle.mdb_follow.specs.AccountNames.{account_word}
 use Rattle.mdb_follow.specs.declared.follower.TheConstants.{ROWS_MAX}
 use Rattle.mdb_follow.specs.declared.goal.Goal.{Goal}
 use Rattle.mdb_follow.specs.declared.offence.Offence.{Offence}
 use Rattle.mdb_follow.specs.declared.report.Report.{Report}
-use Rattle.mdb_explain.specs.Explain.{IsCutExplanation, IsExplainedIn, goal_words}
+use Rattle.mdb_explain.specs.Explain.{IsCutExplanation, IsExplainedIn, bound_word}
 use Rattle.mdb_text.specs.Known.{known_devices}
 use Rattle.mdb_explain.specs.Replay.{IsCutReplay, IsReplayed, StopsAt}
 use Rattle.mdb_show.specs.Lines.{LineForm}
 use Rattle.mdb_show.specs.Show.{IsCutShortIn, IsShownToFaultIn, IsShownWholeIn}
 use Rattle.mdb_show.specs.ShowJson.{json_lines}
 use Rattle.mdb_show.specs.ShowText.{bytes_text, text_lines}
+use Rattle.mdb_text.specs.Accounts.{side_word}
 use Rattle.mdb_text.specs.Text.{report_text}
 use Rattle.mdb_verdict.specs.CutReport.{IsCutReport}
 use Rattle.mdb_verdict.specs.Verdict.{IsImpossible, IsPossible}
@@ -38,63 +41,50 @@ use Rattle.mdb_check.specs.declared.form.Form.TheVariants.{Text, Json}
 abbrev pub setup_text : Device → List ℕ → List ℕ
 setup_text device bytes = device_word device ++ bytes_text bytes
 
--- What the options of a task ask for.
-pub record Asked : Type 0 where
-  -- whether there is `--joined`
-  pub joined : Bool
-  -- the form of what is written: JSON where there is `--json`, else text
-  pub form : Form
-  -- the values of `--setup`, in their order
-  pub setups : List (List ℕ)
-  -- the devices that are left out
-  pub left_out : DeviceSet
+-- ---- the commands
 
-abbrev pub nothing_asked : Asked
-nothing_asked = record { joined = false; form = Text; setups = []; left_out = NONE }
+-- what `check` knows
+abbrev pub check_command : Command
+check_command = record {
+  name = codes "check";
+  options = codes "setup" ∷ codes "without" ∷ [];
+  flags = codes "joined" ∷ codes "json" ∷ [];
+  words = [];
+}
 
-abbrev pub asked_joined : Asked → Asked
-asked_joined asked = record asked { joined = true }
+-- what `show` and `replay` know
+abbrev pub show_command : Command
+show_command = record {
+  name = codes "show";
+  options = codes "without" ∷ [];
+  flags = codes "json" ∷ [];
+  words = [];
+}
 
-abbrev pub asked_json : Asked → Asked
-asked_json asked = record asked { form = Json }
+abbrev pub replay_command : Command
+replay_command = record show_command { name = codes "replay" }
 
-abbrev pub asked_setup : List ℕ → Asked → Asked
-asked_setup text asked = record asked { setups = text ∷ asked.setups }
+-- what `explain` knows: its words are those of a goal
+abbrev pub explain_command : Command
+explain_command = record {
+  name = codes "explain";
+  options = codes "without" ∷ [];
+  flags = [];
+  words = codes "ACCOUNT" ∷ codes "SIDE" ∷ codes "BOUND" ∷ [];
+}
 
-abbrev pub asked_without : Device → Asked → Asked
-asked_without device asked = record asked { left_out = with_device asked.left_out device }
+-- ---- what options ask for
 
--- These words are the options of a task, which ask for this: `--joined`, `--json`, `--setup` and a
--- device's word with bytes, `--without` and a device's word. A value stands in the word after its
--- option, or in one word with it and `=` between them. Each may stand again; a device is left out
--- once then. At the end may stand `--`, where the options of a command end.
-pub data AreOptions : List (List ℕ) → Asked → Type 0 where
-  end : AreOptions [] nothing_asked
-  dashes : AreOptions (codes "--" ∷ []) nothing_asked
-  joined : {more : List (List ℕ)} {asked : Asked} → AreOptions more asked
-      → AreOptions (codes "--joined" ∷ more) (asked_joined asked)
-  json : {more : List (List ℕ)} {asked : Asked} → AreOptions more asked
-      → AreOptions (codes "--json" ∷ more) (asked_json asked)
-  setup : (device : Device) (bytes : List ℕ) {more : List (List ℕ)} {asked : Asked}
-      → AreOptions more asked
-      → AreOptions (codes "--setup" ∷ setup_text device bytes ∷ more)
-      (asked_setup (setup_text device bytes) asked)
-  setup_in_one : (device : Device) (bytes : List ℕ) {more : List (List ℕ)} {asked : Asked}
-      → AreOptions more asked
-      → AreOptions ((codes "--setup=" ++ setup_text device bytes) ∷ more)
-      (asked_setup (setup_text device bytes) asked)
-  without : (device : Device) {more : List (List ℕ)} {asked : Asked} → AreOptions more asked
-      → AreOptions (codes "--without" ∷ device_word device ∷ more) (asked_without device asked)
-  without_in_one : (device : Device) {more : List (List ℕ)} {asked : Asked}
-      → AreOptions more asked
-      → AreOptions ((codes "--without=" ++ device_word device) ∷ more)
-      (asked_without device asked)
+-- the words are those of the devices of a set
+abbrev pub AreDevices : List (List ℕ) → DeviceSet → Type 0
+AreDevices [] devices = devices ≡ NONE
+AreDevices (word ∷ rest) devices = (device : Device) × (others : DeviceSet)
+    × (word ≡ device_word device) × AreDevices rest others × (devices ≡ with_device others device)
 
--- The words of a command line, the program's name first, name a task with options that ask for
--- this: they are its word, and after it its options.
-abbrev pub NamesTask : List (List ℕ) → List ℕ → Asked → Type 0
-NamesTask words task asked = (program : List ℕ) × (options : List (List ℕ))
-    × (words ≡ program ∷ task ∷ options) × AreOptions options asked
+-- the form that is asked for, by whether there is `--json`
+abbrev pub form_of : Bool → Form
+form_of true = Json
+form_of false = Text
 
 -- A value of `--setup`, the next after those with which this was known: the answer to SETUP of a
 -- device that isn't left out, and of which nothing was known.
@@ -114,55 +104,61 @@ AreSetups left_out before (text ∷ more) after = (next : Setups)
     × AddsSetup left_out before text next × AreSetups left_out next more after
 
 -- A recording from power-on on is asked for, with no setup data, and it is taken so.
-pub record IsFromPowerOn (asked : Asked) (scope : Scope) : Type 0 where
-  pub not_joined : asked.joined ≡ false
-  pub no_setups : asked.setups ≡ []
-  pub is : scope ≡ leaving_out asked.left_out
+pub record IsFromPowerOn (values : List ℕ → List (List ℕ)) (used : List ℕ → Bool)
+    (left_out : DeviceSet) (scope : Scope) : Type 0 where
+  pub not_joined : used (codes "joined") ≡ false
+  pub no_setups : values (codes "setup") ≡ []
+  pub is : scope ≡ leaving_out left_out
 
 -- A recording in mid-session is asked for, with these setup data, and it is taken so.
-pub record IsJoined (asked : Asked) (scope : Scope) : Type 0 where
-  pub joined : asked.joined ≡ true
+pub record IsJoined (values : List ℕ → List (List ℕ)) (used : List ℕ → Bool)
+    (left_out : DeviceSet) (scope : Scope) : Type 0 where
+  pub joined : used (codes "joined") ≡ true
   pub setups : Setups
-  pub told : AreSetups asked.left_out nothing_known asked.setups setups
-  pub is : scope ≡ in_mid_session setups asked.left_out
+  pub told : AreSetups left_out nothing_known (values (codes "setup")) setups
+  pub is : scope ≡ in_mid_session setups left_out
 
--- the words name `check`, of a recording that is taken so, with an answer in this form
+-- The values of the options of `check`, and whether each flag was used, ask for a recording that is
+-- taken so.
+abbrev pub AskToCheck : (List ℕ → List (List ℕ)) → (List ℕ → Bool) → Scope → Type 0
+AskToCheck values used scope = (left_out : DeviceSet)
+    × AreDevices (values (codes "without")) left_out
+    × (IsFromPowerOn values used left_out scope ⊎ IsJoined values used left_out scope)
+
+-- Those of `show`, `explain` and `replay`, which take no recording from mid-session on.
+abbrev pub AskToShow : (List ℕ → List (List ℕ)) → Scope → Type 0
+AskToShow values scope = (left_out : DeviceSet)
+    × AreDevices (values (codes "without")) left_out × (scope ≡ leaving_out left_out)
+
+-- The words of `explain` are those of this goal.
+pub record AskForGoal (values : List ℕ → List (List ℕ)) (goal : Goal) : Type 0 where
+  pub account : values (codes "ACCOUNT") ≡ account_word goal.account ∷ []
+  pub side : values (codes "SIDE") ≡ side_word goal.side ∷ []
+  pub bound : values (codes "BOUND") ≡ bound_word goal.bound ∷ []
+
+-- ---- what words name
+
+-- the words of a command line, the program's name first, name `check`, of a recording that is taken
+-- so, with an answer in this form
 abbrev pub NamesCheck : List (List ℕ) → Scope → Form → Type 0
-NamesCheck words scope form = (asked : Asked) × NamesTask words (codes "check") asked
-    × (form ≡ asked.form) × (IsFromPowerOn asked scope ⊎ IsJoined asked scope)
+NamesCheck words scope form = (uses : Uses) × NameCommand words check_command uses
+    × AskToCheck (λ name. chosen name uses) (λ name. is_used name uses) scope
+    × (form ≡ form_of (is_used (codes "json") uses))
 
--- they name `show`, which shows no recording from mid-session on
+-- they name `show`
 abbrev pub NamesShow : List (List ℕ) → Scope → Form → Type 0
-NamesShow words scope form = (asked : Asked) × NamesTask words (codes "show") asked
-    × (form ≡ asked.form) × IsFromPowerOn asked scope
+NamesShow words scope form = (uses : Uses) × NameCommand words show_command uses
+    × AskToShow (λ name. chosen name uses) scope × (form ≡ form_of (is_used (codes "json") uses))
 
--- they name `replay`, which replays no recording from mid-session on
+-- they name `replay`
 abbrev pub NamesReplay : List (List ℕ) → Scope → Form → Type 0
-NamesReplay words scope form = (asked : Asked) × NamesTask words (codes "replay") asked
-    × (form ≡ asked.form) × IsFromPowerOn asked scope
+NamesReplay words scope form = (uses : Uses) × NameCommand words replay_command uses
+    × AskToShow (λ name. chosen name uses) scope × (form ≡ form_of (is_used (codes "json") uses))
 
--- These words are those of a goal, in their order, and with them the option `--without`, which
--- leaves out these devices: before, between and after them. After `--` no option stands.
-pub data AreGoalAndOptions : List (List ℕ) → List (List ℕ) → DeviceSet → Type 0 where
-  end : AreGoalAndOptions [] [] NONE
-  dashes : {goal : List (List ℕ)} → AreGoalAndOptions (codes "--" ∷ goal) goal NONE
-  word : {word : List ℕ} {more goal : List (List ℕ)} {left_out : DeviceSet}
-      → AreGoalAndOptions more goal left_out
-      → AreGoalAndOptions (word ∷ more) (word ∷ goal) left_out
-  without : (device : Device) {more goal : List (List ℕ)} {left_out : DeviceSet}
-      → AreGoalAndOptions more goal left_out
-      → AreGoalAndOptions (codes "--without" ∷ device_word device ∷ more) goal
-      (with_device left_out device)
-  without_in_one : (device : Device) {more goal : List (List ℕ)} {left_out : DeviceSet}
-      → AreGoalAndOptions more goal left_out
-      → AreGoalAndOptions ((codes "--without=" ++ device_word device) ∷ more) goal
-      (with_device left_out device)
-
--- the words name `explain` with a goal, of a recording that is taken so; it writes text alone
+-- they name `explain` with a goal; it writes text alone
 abbrev pub NamesExplain : List (List ℕ) → Goal → Scope → Type 0
-NamesExplain words goal scope = (program : List ℕ) × (rest : List (List ℕ))
-    × (left_out : DeviceSet) × (words ≡ program ∷ codes "explain" ∷ rest)
-    × AreGoalAndOptions rest (goal_words goal) left_out × (scope ≡ leaving_out left_out)
+NamesExplain words goal scope = (uses : Uses) × NameCommand words explain_command uses
+    × AskForGoal (λ name. chosen name uses) goal × AskToShow (λ name. chosen name uses) scope
 
 -- they name one of the tasks
 abbrev pub NameATask : List (List ℕ) → Type 0
@@ -255,7 +251,8 @@ pub data Says (words : List (List ℕ)) (records : List (List (List ℕ)))
       → Says words records before after status
   refused : status ≡ 2 → after ≡ before → Says words records before after status
 
--- The rest serves private functions: the status for an answer of `check`, `explain` or `replay`, and
+-- The rest serves private functions: the status for an answer of `check`, `explain` or `replay`,
+-- and
 -- of `show`.
 abbrev pub status_of : Result Outcome RunFault → ℕ
 status_of (Ok (Yes report)) = 0

@@ -1,31 +1,29 @@
 //! The command line: which task its words ask for, and of a recording that is taken in which way.
 
-ghost use Rattle.std.specs.Prelude.{◌≡◌, IfErr, IfOk, IfSome, None, codes, false, map};
-ghost use Rattle.std.specs.Prelude.{string_bytes};
-ghost use Rattle.clap.specs.Words.{App, FailsBy, HasMatchesOf, app_of, fault_of, found_of};
-ghost use Rattle.clap.specs.Words.{rows_of, with_rule, with_subcommand};
-ghost use Rattle.clap.specs.declared.builder.command.Command.TheViews.{out-Command as fields_of};
+ghost use Rattle.std.specs.Prelude.{◌≡◌, ◌≢◌, ◌∷◌, ℕ, List, [], IfErr, IfOk, IfSome, None};
+ghost use Rattle.std.specs.Prelude.{codes, map, string_bytes};
+ghost use Rattle.clap.specs.Words.{fault_of};
+ghost use Rattle.command_words.specs.Grammar.{IsOneOf};
+ghost use Rattle.command_words.specs.Named.{name_in, used_in, values_in};
 ghost use Rattle.mdb_msgs.specs.declared.device_set.DeviceSet.{DeviceSet};
 ghost use Rattle.mdb_bus.specs.declared.scope.Scope.{Scope};
-ghost use Rattle.mdb_check.specs.inner.CommandLine.{AreDevices, AsksFor, AsksForGoal, AsksInForm};
-ghost use Rattle.mdb_check.specs.inner.CommandLine.{AsksToCheck, AsksToShow, Fails, IsOwnRefusal};
-ghost use Rattle.mdb_check.specs.inner.CommandLine.{check_app, explain_app, flag_rule, mdbcheck};
-ghost use Rattle.mdb_check.specs.inner.CommandLine.{option_rule, replay_app, show_app, values_of};
-ghost use Rattle.mdb_check.specs.inner.CommandLine.{with_two_tasks, word_rule};
-ghost use Rattle.mdb_follow.specs.declared.goal.Goal.{Goal};
 ghost use Rattle.mdb_bus.specs.Scopes.{leaving_out};
+ghost use Rattle.mdb_follow.specs.declared.goal.Goal.{Goal};
+ghost use Rattle.mdb_check.specs.Program.{AreDevices, AskForGoal, AskToCheck, AskToShow, form_of};
+ghost use Rattle.mdb_check.specs.inner.CommandLine.{AsksFor, Fails, FindTask, IsOwnRefusal};
+ghost use Rattle.mdb_check.specs.inner.CommandLine.{mdbcheck, names};
 ghost use Rattle.mdb_check.specs.inner.SetupReading.{no_memory};
 
 use super::form::Form;
 use super::goal_words::goal_of;
 use super::refusal::{Refusal, SetupFault};
 use super::setup_value::setups_of;
-use clap::error::{Error, ErrorKind};
-use clap::{Arg, ArgAction, ArgMatches, Command};
+use clap::error::ErrorKind;
+use command_words::{CommandRow, Named, Program, read};
 use mdb_bus::Scope;
 use mdb_follow::Goal;
 use mdb_msgs::{Device, DeviceSet};
-use std::alloc::{AllocError, Global};
+use std::alloc::Global;
 
 /// The line that says how the program is called.
 pub(crate) const USAGE: &str = "usage: mdbcheck check [--joined] [--setup 'DEVICE BYTES'].. \
@@ -58,8 +56,40 @@ const SIDE: &str = "SIDE";
 /// The word that names the end of its range.
 const BOUND: &str = "BOUND";
 
+/// The program's commands, and what their words may be.
+const PROGRAM: Program<'static> = Program {
+    name: "mdbcheck",
+    version: VERSION,
+    commands: &[
+        CommandRow {
+            name: "check",
+            options: &[SETUP, WITHOUT],
+            flags: &[JOINED, JSON],
+            words: &[],
+        },
+        CommandRow {
+            name: "show",
+            options: &[WITHOUT],
+            flags: &[JSON],
+            words: &[],
+        },
+        CommandRow {
+            name: "explain",
+            options: &[WITHOUT],
+            flags: &[],
+            words: &[ACCOUNT, SIDE, BOUND],
+        },
+        CommandRow {
+            name: "replay",
+            options: &[WITHOUT],
+            flags: &[JSON],
+            words: &[],
+        },
+    ],
+};
+
 /// What the words of a command line ask for.
-#[derive(PartialEq, Eq, Debug, Drop)]
+#[derive(Drop)]
 pub(crate) enum Task {
     /// `check`: the verdict on the transcript that the reader gives, of a recording that is taken
     /// so.
@@ -81,165 +111,39 @@ pub(crate) fn task_of(alloc: Global, words: &[String]) -> Result<Task, Refusal>
         → AsksFor (map string_bytes words.now) task → refusal ≡ no_memory) }
     ensures faults { Fails (fault_of mdbcheck (map string_bytes words.now)) result }
 {
-    let matches = match matches_of(alloc, words) {
-        Ok(matches) => matches,
-        Err(error) => return Err(Refusal::Words(error.kind())),
-    };
-    match matches.subcommand() {
-        Some(("check", own)) => Ok(Task::Check(scope_of_check(alloc, own)?, form_asked(own))),
-        Some(("show", own)) => Ok(Task::Show(scope_of_show(own)?, form_asked(own))),
-        Some(("explain", own)) => Ok(Task::Explain(goal_of_explain(own)?, left_out_of(own)?)),
-        Some(("replay", own)) => Ok(Task::Replay(left_out_of(own)?, form_asked(own))),
+    match read(alloc, &PROGRAM, words) {
+        Ok(found) => task_in(alloc, &found),
+        Err(error) => Err(Refusal::Words(error.kind())),
+    }
+}
+
+/// What the words ask for of which this was read.
+fn task_in(alloc: Global, found: &Named<'_>) -> Result<Task, Refusal>
+    requires { IsOneOf (name_in found.now) names }
+    ensures asked { IfOk result (FindTask found.now) }
+    ensures refused { IfErr result (λ refusal. (task : Task) → FindTask found.now task
+        → refusal ≡ no_memory) }
+    ensures own { IfErr result IsOwnRefusal }
+{
+    match found.command() {
+        "check" => Ok(Task::Check(scope_of_check(alloc, found)?, form_asked(found))),
+        "show" => Ok(Task::Show(scope_of_show(found)?, form_asked(found))),
+        "explain" => Ok(Task::Explain(goal_of_explain(found)?, left_out_of(found)?)),
+        "replay" => Ok(Task::Replay(left_out_of(found)?, form_asked(found))),
         _ => unreachable!(),
     }
 }
 
-/// What `clap` finds in the words.
-fn matches_of<'a>(alloc: Global, words: &'a [String]) -> Result<ArgMatches<'a>, Error>
-    ensures found { IfOk result (HasMatchesOf mdbcheck (map string_bytes words.now)) }
-    ensures faults { FailsBy (fault_of mdbcheck (map string_bytes words.now)) result }
-{
-    command(alloc)?.try_get_matches_from(words)
-}
-
-/// The program's command, as `clap` has it.
-fn command<'a>(alloc: Global) -> Result<Command<'a>, AllocError>
-    ensures { IfOk result (λ command. app_of command ≡ mdbcheck) }
-{
-    let with_two = command_of_two(alloc)?;
-    let with_explain = add_made(with_two, explain_command(alloc))?;
-    add_made(with_explain, replay_command(alloc))
-}
-
-/// The command with the tasks `check` and `show`.
-fn command_of_two<'a>(alloc: Global) -> Result<Command<'a>, AllocError>
-    ensures { IfOk result (λ command. app_of command ≡ with_two_tasks) }
-{
-    let check = check_command(alloc)?;
-    let with_check = Command::new(alloc, "mdbcheck")
-        .version(VERSION)
-        .subcommand_required(true)
-        .subcommand(check)?;
-    add_made(with_check, show_command(alloc))
-}
-
-/// A command with a task more, if memory was given for it.
-fn add_made<'a>(
-    program: Command<'a>,
-    made: Result<Command<'a>, AllocError>,
-) -> Result<Command<'a>, AllocError>
-    requires { IfOk made (λ task. (fields_of task).has_globals ≡ false) }
-    ensures { (known : App) → IfOk made.entry (λ task. app_of task ≡ known) → IfOk result
-        (λ command. app_of command ≡ with_subcommand (app_of program.entry) known.top) }
-{
-    let task = made?;
-    add_task(program, task)
-}
-
-/// A command with a task more.
-fn add_task<'a>(program: Command<'a>, task: Command<'a>) -> Result<Command<'a>, AllocError>
-    requires { (fields_of task).has_globals ≡ false }
-    ensures { IfOk result (λ command.
-        app_of command ≡ with_subcommand (app_of program.entry) (app_of task.entry).top) }
-{
-    program.subcommand(task)
-}
-
-/// The task `check` with its options.
-fn check_command<'a>(alloc: Global) -> Result<Command<'a>, AllocError>
-    ensures app { IfOk result (λ command. app_of command ≡ check_app) }
-    ensures local { IfOk result (λ command. (fields_of command).has_globals ≡ false) }
-{
-    let bare = Command::new(alloc, "check");
-    let with_setup = add_option(alloc, bare, SETUP)?;
-    let with_both = add_option(alloc, with_setup, WITHOUT)?;
-    let with_joined = add_flag(alloc, with_both, JOINED)?;
-    add_flag(alloc, with_joined, JSON)
-}
-
-/// The task `show` with its options.
-fn show_command<'a>(alloc: Global) -> Result<Command<'a>, AllocError>
-    ensures app { IfOk result (λ command. app_of command ≡ show_app) }
-    ensures local { IfOk result (λ command. (fields_of command).has_globals ≡ false) }
-{
-    let bare = Command::new(alloc, "show");
-    let with_option = add_option(alloc, bare, WITHOUT)?;
-    add_flag(alloc, with_option, JSON)
-}
-
-/// The task `explain` with its option and the words of a goal.
-fn explain_command<'a>(alloc: Global) -> Result<Command<'a>, AllocError>
-    ensures app { IfOk result (λ command. app_of command ≡ explain_app) }
-    ensures local { IfOk result (λ command. (fields_of command).has_globals ≡ false) }
-{
-    let bare = Command::new(alloc, "explain");
-    let with_option = add_option(alloc, bare, WITHOUT)?;
-    let with_account = add_word(alloc, with_option, ACCOUNT)?;
-    let with_side = add_word(alloc, with_account, SIDE)?;
-    add_word(alloc, with_side, BOUND)
-}
-
-/// The task `replay` with its options.
-fn replay_command<'a>(alloc: Global) -> Result<Command<'a>, AllocError>
-    ensures app { IfOk result (λ command. app_of command ≡ replay_app) }
-    ensures local { IfOk result (λ command. (fields_of command).has_globals ≡ false) }
-{
-    let bare = Command::new(alloc, "replay");
-    let with_option = add_option(alloc, bare, WITHOUT)?;
-    add_flag(alloc, with_option, JSON)
-}
-
-/// A task with an option more, which has a value, and may stand again.
-fn add_option<'a>(
-    alloc: Global,
-    task: Command<'a>,
-    name: &'a str,
-) -> Result<Command<'a>, AllocError>
-    ensures app { IfOk result (λ command.
-        app_of command ≡ with_rule (app_of task.entry) (option_rule name.entry.now)) }
-    ensures local { IfOk result (λ command.
-        (fields_of command).has_globals ≡ (fields_of task.entry).has_globals) }
-{
-    let option = Arg::new(alloc, name).long(name).action(ArgAction::Append);
-    task.arg(option)
-}
-
-/// A task with an option more, which has no value, and may stand again.
-fn add_flag<'a>(alloc: Global, task: Command<'a>, name: &'a str) -> Result<Command<'a>, AllocError>
-    ensures app { IfOk result (λ command.
-        app_of command ≡ with_rule (app_of task.entry) (flag_rule name.entry.now)) }
-    ensures local { IfOk result (λ command.
-        (fields_of command).has_globals ≡ (fields_of task.entry).has_globals) }
-{
-    let flag = Arg::new(alloc, name)
-        .long(name)
-        .action(ArgAction::Append)
-        .num_args(0);
-    task.arg(flag)
-}
-
-/// A task with a word more, which it needs.
-fn add_word<'a>(alloc: Global, task: Command<'a>, name: &'a str) -> Result<Command<'a>, AllocError>
-    ensures app { IfOk result (λ command.
-        app_of command ≡ with_rule (app_of task.entry) (word_rule name.entry.now)) }
-    ensures local { IfOk result (λ command.
-        (fields_of command).has_globals ≡ (fields_of task.entry).has_globals) }
-{
-    let word = Arg::new(alloc, name).required(true);
-    task.arg(word)
-}
-
-/// How the recording is taken that the options of `check` ask for, of which `clap` has found these
-/// values.
-fn scope_of_check(alloc: Global, found: &ArgMatches<'_>) -> Result<Scope, Refusal>
-    ensures asked { IfOk result (AsksToCheck (rows_of (found_of found.now))) }
+/// How the recording is taken that the options of `check` ask for, of which this was read.
+fn scope_of_check(alloc: Global, found: &Named<'_>) -> Result<Scope, Refusal>
+    ensures asked { IfOk result (AskToCheck (values_in found.now) (used_in found.now)) }
     ensures refused { IfErr result (λ refusal. (scope : Scope)
-        → AsksToCheck (rows_of (found_of found.now)) scope → refusal ≡ no_memory) }
+        → AskToCheck (values_in found.now) (used_in found.now) scope → refusal ≡ no_memory) }
     ensures own { IfErr result IsOwnRefusal }
 {
     let without = left_out_by(found).ok_or(Refusal::Words(ErrorKind::InvalidValue))?;
-    let texts = found.get_strs(SETUP).unwrap_or(&[]);
-    if found.contains_id(JOINED) {
+    let texts = found.values(SETUP).unwrap_or(&[]);
+    if found.is_used(JOINED) {
         let setups = setups_of(alloc, without, texts)?;
         Ok(Scope::joined(setups, without))
     } else if texts.is_empty() {
@@ -250,10 +154,10 @@ fn scope_of_check(alloc: Global, found: &ArgMatches<'_>) -> Result<Scope, Refusa
 }
 
 /// How the recording is taken that the options of `show` ask for.
-fn scope_of_show(found: &ArgMatches<'_>) -> Result<Scope, Refusal>
-    ensures asked { IfOk result (AsksToShow (rows_of (found_of found.now))) }
+fn scope_of_show(found: &Named<'_>) -> Result<Scope, Refusal>
+    ensures asked { IfOk result (AskToShow (values_in found.now)) }
     ensures refused { IfErr result (λ refusal. (scope : Scope)
-        → AsksToShow (rows_of (found_of found.now)) scope → refusal ≡ no_memory) }
+        → AskToShow (values_in found.now) scope → refusal ≡ no_memory) }
     ensures own { IfErr result IsOwnRefusal }
 {
     let without = left_out_by(found).ok_or(Refusal::Words(ErrorKind::InvalidValue))?;
@@ -261,10 +165,10 @@ fn scope_of_show(found: &ArgMatches<'_>) -> Result<Scope, Refusal>
 }
 
 /// The form that the options of `check`, `show` or `replay` ask for.
-fn form_asked(found: &ArgMatches<'_>) -> Form
-    ensures { AsksInForm (rows_of (found_of found.now)) result }
+fn form_asked(found: &Named<'_>) -> Form
+    ensures { result ≡ form_of (used_in found.now (codes "json")) }
 {
-    if found.contains_id(JSON) {
+    if found.is_used(JSON) {
         Form::Json
     } else {
         Form::Text
@@ -272,46 +176,57 @@ fn form_asked(found: &ArgMatches<'_>) -> Form
 }
 
 /// The goal that the words of `explain` name.
-fn goal_of_explain(found: &ArgMatches<'_>) -> Result<Goal, Refusal>
-    ensures asked { IfOk result (AsksForGoal (rows_of (found_of found.now))) }
+fn goal_of_explain(found: &Named<'_>) -> Result<Goal, Refusal>
+    ensures asked { IfOk result (AskForGoal (values_in found.now)) }
     ensures refused { IfErr result (λ refusal. (goal : Goal)
-        → AsksForGoal (rows_of (found_of found.now)) goal → refusal ≡ no_memory) }
+        → AskForGoal (values_in found.now) goal → refusal ≡ no_memory) }
     ensures own { IfErr result IsOwnRefusal }
 {
     goal_named_by(found).ok_or(Refusal::Words(ErrorKind::InvalidValue))
 }
 
 /// The goal of the words that were found, if they are a goal's.
-fn goal_named_by(found: &ArgMatches<'_>) -> Option<Goal>
-    ensures found { IfSome result (AsksForGoal (rows_of (found_of found.now))) }
+fn goal_named_by(found: &Named<'_>) -> Option<Goal>
+    ensures found { IfSome result (AskForGoal (values_in found.now)) }
     ensures none { result ≡ None → (goal : Goal)
-        → AsksForGoal (rows_of (found_of found.now)) goal → ⊥ }
+        → AskForGoal (values_in found.now) goal → ⊥ }
 {
-    let account = found.get_str(ACCOUNT)?;
-    let side = found.get_str(SIDE)?;
-    let bound = found.get_str(BOUND)?;
+    let account = word_in(found, ACCOUNT)?;
+    let side = word_in(found, SIDE)?;
+    let bound = word_in(found, BOUND)?;
     goal_of(account, side, bound)
 }
 
+/// The word that stands alone and is called so.
+fn word_in<'a>(found: &Named<'a>, name: &str) -> Option<&'a str>
+    ensures found { IfSome result (λ word. values_in found.now name.now ≡ word.now ∷ []) }
+    ensures none { result ≡ None → (word : List ℕ) → values_in found.now name.now ≢ word ∷ [] }
+{
+    match found.value(name) {
+        Ok(word) => word,
+        Err(_) => None,
+    }
+}
+
 /// The devices that the options of `explain` or of `replay` leave out.
-fn left_out_of(found: &ArgMatches<'_>) -> Result<DeviceSet, Refusal>
+fn left_out_of(found: &Named<'_>) -> Result<DeviceSet, Refusal>
     ensures asked { IfOk result (λ devices.
-        AsksToShow (rows_of (found_of found.now)) (leaving_out devices)) }
+        AskToShow (values_in found.now) (leaving_out devices)) }
     ensures refused { IfErr result (λ refusal. (scope : Scope)
-        → AsksToShow (rows_of (found_of found.now)) scope → refusal ≡ no_memory) }
+        → AskToShow (values_in found.now) scope → refusal ≡ no_memory) }
     ensures own { IfErr result IsOwnRefusal }
 {
     left_out_by(found).ok_or(Refusal::Words(ErrorKind::InvalidValue))
 }
 
 /// The devices that the option `--without` leaves out, if each of its values is a device's word.
-fn left_out_by(found: &ArgMatches<'_>) -> Option<DeviceSet>
+fn left_out_by(found: &Named<'_>) -> Option<DeviceSet>
     ensures found { IfSome result (AreDevices
-        (values_of (codes "without") (rows_of (found_of found.now)))) }
+        (values_in found.now (codes "without"))) }
     ensures none { result ≡ None → (devices : DeviceSet)
-        → AreDevices (values_of (codes "without") (rows_of (found_of found.now))) devices → ⊥ }
+        → AreDevices (values_in found.now (codes "without")) devices → ⊥ }
 {
-    match found.get_strs(WITHOUT) {
+    match found.values(WITHOUT) {
         Some(words) => devices_of(words),
         None => Some(DeviceSet::NONE),
     }

@@ -1,7 +1,7 @@
 //! The form of what is written.
 
 /// The form of what a task writes.
-#[derive(Clone, Copy, PartialEq, Eq, Debug)]
+#[derive(Clone, Copy)]
 pub(crate) enum Form {
     /// Text, for people.
     Text,

@@ -7,6 +7,7 @@ ghost use Rattle.mdb_follow.specs.declared.goal.Goal.{Goal};
 ghost use Rattle.mdb_check.specs.Program.{NamesCheck, NamesExplain, NamesReplay, NamesShow};
 ghost use Rattle.mdb_check.specs.declared.form.Form.{Form};
 
+use command_words::laws as command_lines;
 use mdb_msgs::laws as messages;
 
 /// The words of a command line name one task at most, of a recording that is taken in one way, with
@@ -35,5 +36,6 @@ pub fn command_lines_name_one_task()
         → NamesExplain words goal a
         → NamesCheck words b form ⊎ NamesShow words b form ⊎ NamesReplay words b form → ⊥ }
 {
+    command_lines::words_name_one_command();
     messages::answer_tells_one_setup();
 }

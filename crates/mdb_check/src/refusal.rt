@@ -4,7 +4,7 @@ use clap::error::ErrorKind;
 use thiserror::Error;
 
 /// Why a command line is refused.
-#[derive(Clone, Copy, PartialEq, Eq, Debug)]
+#[derive(Clone, Copy)]
 pub(crate) enum Refusal {
     /// For what `clap` says of its words, for a value of `--without` that is no device's word, for
     /// words of `explain` that are no goal's, or for want of memory.
@@ -14,7 +14,7 @@ pub(crate) enum Refusal {
 }
 
 /// Why the values of `--setup` are refused.
-#[derive(Clone, Copy, PartialEq, Eq, Debug, Error)]
+#[derive(Clone, Copy, Debug, Error)]
 pub(crate) enum SetupFault {
     /// They stand without `--joined`.
     #[error("--setup goes with --joined alone")]

@@ -1,5 +1,5 @@
 use Rattle.std.proofs.Common.{map, take}
-use Rattle.mdb_check.specs.inner.CommandLine.{AreDevices}
+use Rattle.mdb_check.specs.Program.{AreDevices}
 use Rattle.mdb_check.proofs.command_line.devices_of.Given as goal
 
 abbrev pub invariant-loop-word : goal.invariant-loop-word

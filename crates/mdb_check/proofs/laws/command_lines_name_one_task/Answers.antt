@@ -2,25 +2,25 @@ use Rattle.mdb_check.proofs.CommandLine.{explain_only, not_check_and_replay, not
 use Rattle.mdb_check.proofs.laws.command_lines_name_one_task.Goals as goal
 
 pub returns-clause-check : goal.returns-clause-check
-returns-clause-check c = one_check c.answer_tells_one_setup.ensures
+returns-clause-check c = one_check c.words_name_one_command.ensures c.answer_tells_one_setup.ensures
 
 pub returns-clause-show : goal.returns-clause-show
-returns-clause-show c = one_show
+returns-clause-show c = one_show c.words_name_one_command.ensures
 
 pub returns-clause-explain : goal.returns-clause-explain
-returns-clause-explain c = one_explain
+returns-clause-explain c = one_explain c.words_name_one_command.ensures
 
 pub returns-clause-replay : goal.returns-clause-replay
-returns-clause-replay c = one_replay
+returns-clause-replay c = one_replay c.words_name_one_command.ensures
 
 pub returns-clause-not_both : goal.returns-clause-not_both
-returns-clause-not_both c = not_check_and_show
+returns-clause-not_both c = not_check_and_show c.words_name_one_command.ensures
 
 pub returns-clause-no_check : goal.returns-clause-no_check
-returns-clause-no_check c = not_check_and_replay
+returns-clause-no_check c = not_check_and_replay c.words_name_one_command.ensures
 
 pub returns-clause-no_show : goal.returns-clause-no_show
-returns-clause-no_show c = not_show_and_replay
+returns-clause-no_show c = not_show_and_replay c.words_name_one_command.ensures
 
 pub returns-clause-explain_only : goal.returns-clause-explain_only
-returns-clause-explain_only c = explain_only
+returns-clause-explain_only c = explain_only c.words_name_one_command.ensures
