@@ -19,7 +19,8 @@ use Rattle.mdb_page.specs.declared.sheet.PageText.{PageText}
 abbrev pub written : PageText → List ℕ
 written answer = take answer.count answer.bytes
 
--- All lines of a text are rows, and the answer is the text of the report on these, taken in a scope.
+-- All lines of a text are rows, and the answer is the text of the report on these, taken in a
+-- scope.
 pub record IsYes (scope : Scope) (text : List ℕ) (answer : PageText) : Type 0 where
   pub lines : List ℕ
   pub unmarked : IsUnmarked text lines

@@ -34,8 +34,8 @@ pub struct PageNews {
     pub amount: u64,
     /// How long a break was, in microseconds.
     pub length: u64,
-    /// How many coins or bills there are. Of a silence: how many commands, with the one whose answer
-    /// ended it. Else 1.
+    /// How many coins or bills there are. Of a silence: how many commands, with the one whose
+    /// answer ended it. Else 1.
     pub count: u64,
     /// The type of a coin or bill, or the number of an item.
     pub number: u16,

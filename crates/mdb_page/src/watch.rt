@@ -1,7 +1,7 @@
 //! Silences: devices that left the controller's commands unanswered for too long.
 //!
-//! `Silences` of `mdb_follow` decides when a silence is too long, as it does for a report. After the
-//! first impossible row of a device this list goes on, and a report doesn't.
+//! `Silences` of `mdb_follow` decides when a silence is too long, as it does for a report. After
+//! the first impossible row of a device this list goes on, and a report doesn't.
 
 ghost use Rattle.std.specs.Prelude.{◌≤◌, ◌<◌};
 ghost use Rattle.mdb_follow.specs.SilenceSteps.{AreFew};
@@ -132,7 +132,8 @@ impl Watch {
         }
     }
 
-    /// The silence of a device that an answer, a break or the recording's end ends, if there is one.
+    /// The silence of a device that an answer, a break or the recording's end ends, if there is
+    /// one.
     pub(crate) fn ended(&mut self, device: Device) -> Option<Unanswered> {
         let unanswered = self.of(device);
         let before = *unanswered;

@@ -1,5 +1,5 @@
-//! What coins, bills and a reader's amounts are worth: as much as they add to a sum of a report that
-//! counts them.
+//! What coins, bills and a reader's amounts are worth: as much as they add to a sum of a report
+//! that counts them.
 
 ghost use Rattle.std.specs.Prelude.{◌≡◌, ◌≤◌, ◌*◌, Some, option_map};
 ghost use Rattle.mdb_cash.specs.Bill.{bill_value};
