@@ -1,5 +1,5 @@
 -- What is answered and written of rows that are kept, and the lines that are written.
-use Rattle.std.proofs.Common.{arith, refl, ap, sym, subst, ◌∙◌, ◌≡◌, ◌≢◌, ◌≤◌, ℕ, List, [], ◌∷◌, ◌++◌, Option, Result, Ok, Err, IfErr, IfOk, length, map, append_assoc}
+use Rattle.std.proofs.Common.{refl, ap, sym, subst, ◌∙◌, ◌≡◌, ◌≢◌, ℕ, List, [], ◌∷◌, ◌++◌, Option, Result, Ok, Err, IfErr, IfOk, map, append_assoc}
 use Rattle.std.proofs.lemmas.List.{append-nil}
 use Rattle.std.specs.List.{flat_map}
 use Rattle.std.specs.Prelude.{IsErrAnd}
@@ -12,6 +12,8 @@ use Rattle.mdb_follow.specs.declared.goal.Goal.{Goal}
 use Rattle.mdb_marks.specs.declared.mark.Mark.{Mark}
 use Rattle.mdb_follow.specs.declared.offence.Offence.{Offence}
 use Rattle.mdb_follow.specs.declared.report.Report.{Report}
+use Rattle.mdb_follow.specs.Follower.{StandsFor, scope_of}
+use Rattle.mdb_follow.specs.Runs.{IsReached}
 use Rattle.mdb_explain.specs.declared.keeping.Keeping.{Keeping}
 use Rattle.mdb_text.specs.declared.outcome.Outcome.{Outcome}
 use Rattle.mdb_text.specs.declared.outcome.Outcome.TheVariants.{Yes, No}
@@ -22,7 +24,6 @@ use Rattle.mdb_verdict.specs.Headline.{IfNo, IfYes}
 use Rattle.mdb_text.specs.Text.{report_text}
 use Rattle.mdb_verdict.specs.Verdict.{AreRows, IsAnswer, IsImpossible, IsNoYes}
 use Rattle.mdb_writing.specs.Written.{HasTaken}
-use Rattle.mdb_verdict.specs.Batch.{AreAll}
 use Rattle.mdb_verdict.specs.Ending.{HasEnded, HasFollowed, IsTakenWhole}
 use Rattle.mdb_explain.specs.inner.Explaining.{HasKept, IsNoText, IsRowsText, IsTold, StopsKeeping, mark_line, marks_text, row_line, rows_text}
 use Rattle.mdb_writing.specs.Output.{Breaks, Output, Puts, begun, output}
@@ -115,59 +116,62 @@ no_texts scope goal all offence outcome text is =
     let P : Outcome → Type 0 = λ o. IsExplainText scope goal all o text in
     subst P (sym is.0) is.1
 
--- a no that is told of rows that were to be explained
-pub no_rows_told : {W : Type 0} (contents : W → Option (List ℕ)) (before after : W) (scope : Scope) (rows : List Event) (goal : Goal) (report : Report) (offence : Offence) → IsRowsText scope rows goal report (No offence) (report_text scope (No offence))
-    → (answer : Result Outcome RunFault) → IsTold contents before after (IsNoText scope offence) answer → IsTold contents before after (IsRowsText scope rows goal report) answer
-no_rows_told contents before after scope rows goal report offence is (Ok outcome) told =
-    let P : Outcome → Type 0 = λ o. IsRowsText scope rows goal report o told.0 in
-    (told.0, subst P (sym told.1.0) (is.0, told.1.1), told.2)
-no_rows_told contents before after scope rows goal report offence is (Err Write) told =
-    let P : Outcome → Type 0 = λ o. IsRowsText scope rows goal report o told.1 in
-    (told.0, told.1, subst P (sym told.2.0) (is.0, told.2.1), told.3)
-no_rows_told contents before after scope rows goal report offence is (Err Memory) told = told
-no_rows_told contents before after scope rows goal report offence is (Err (BadRow row fault)) told = absurd told
-no_rows_told contents before after scope rows goal report offence is (Err TooLong) told = absurd told
-no_rows_told contents before after scope rows goal report offence is (Err Read) told = absurd told
-no_rows_told contents before after scope rows goal report offence is (Err (MarkFault row)) told = absurd told
-
 -- Rows that were to be explained.
 
-all_are : (records : List (List (List ℕ))) (rows : List Event) → AreRows records rows → AreAll IsRow records rows
-all_are [] [] told = tt
-all_are (r ∷ records) (e ∷ rows) told = (told.0, all_are records rows told.1)
-all_are [] (e ∷ rows) told = absurd told
-all_are (r ∷ records) [] told = absurd told
+pub rows_answers : (scope : Scope) (limit : ℕ) (all : List (List (List ℕ))) (rows : List Event)
+    (goal : Goal) (report : Report) → IsAnswer scope limit all (Ok (Yes report))
+    → (outcome : Outcome) (text : List ℕ) → IsRowsText scope rows goal report outcome text
+    → IsAnswer scope limit all (Ok outcome)
+rows_answers scope limit all rows goal report possible outcome text is =
+    subst (λ o. IsAnswer scope limit all (Ok o)) (sym is.0) possible
 
-pub rows_answers : (scope : Scope) (limit : ℕ) (all : List (List (List ℕ))) (rows : List Event) (goal : Goal) (report : Report) → AreRows all rows → length rows ≤ limit → IsAnswer scope limit all (Ok (Yes report))
-    → (outcome : Outcome) (text : List ℕ) → IsRowsText scope rows goal report outcome text → IsAnswer scope limit all (Ok outcome)
-rows_answers scope limit all rows goal report told few possible (Yes other) text is =
-    let P : Report → Type 0 = λ r. IsAnswer scope limit all (Ok (Yes r)) in
-    subst P (sym is.0) possible
-rows_answers scope limit all rows goal report told few possible (No offence) text is =
-    verdicts.impossible scope limit all offence (record { earlier = []; later = rows; rest = []; read = record { done = all; split = sym (append-nil all); told = all_are all rows told }; few = few; stops = is.0 })
+pub rows_texts : (scope : Scope) (all : List (List (List ℕ))) (rows : List Event) (goal : Goal)
+    (report : Report) → AreRows all rows → (outcome : Outcome) (text : List ℕ)
+    → IsRowsText scope rows goal report outcome text → IsExplainText scope goal all outcome text
+rows_texts scope all rows goal report told outcome text is =
+    subst (λ o. IsExplainText scope goal all o text) (sym is.0)
+    (record { rows = rows; told = told; marks = is.1; explains = is.2; is = is.3 })
 
-pub rows_texts : (scope : Scope) (all : List (List (List ℕ))) (rows : List Event) (goal : Goal) (report : Report) → AreRows all rows → (outcome : Outcome) (text : List ℕ) → IsRowsText scope rows goal report outcome text → IsExplainText scope goal all outcome text
-rows_texts scope all rows goal report told (Yes other) text is = record { rows = rows; told = told; marks = is.1; explains = is.2; is = is.3 }
-rows_texts scope all rows goal report told (No offence) text is = is.1
+-- a yes has no text of a no
+pub rows_no_no : (scope : Scope) (rows : List Event) (goal : Goal) (report : Report)
+    (offence : Offence) (text : List ℕ) → IsRowsText scope rows goal report (No offence) text
+    → text ≡ report_text scope (No offence)
+rows_no_no scope rows goal report offence text is = let never = is.0 in absurd (cc never)
 
 -- what is known of rows that were kept, where the verdict is yes
-pub record AreKnown (scope : Scope) (all : List (List (List ℕ))) (rows : List Event) (report : Report) : Type 0 where
+pub record AreKnown (scope : Scope) (all : List (List (List ℕ))) (rows : List Event)
+    (report : Report) : Type 0 where
   pub told : AreRows all rows
-  pub few : length rows ≤ ROWS_MAX
   pub possible : IsAnswer scope ROWS_MAX all (Ok (Yes report))
 
-pub known : (first scope : Scope) (all : List (List (List ℕ))) (kept rows : List Event) (outcome : Outcome) (report : Report) → first ≡ scope → outcome ≡ Yes report → rows ≡ kept → IsAnswer first ROWS_MAX all (Ok outcome) → IfYes outcome (λ report. AreRows all kept)
-    → IfYes outcome (λ report. length kept ≤ ROWS_MAX) → AreKnown scope all rows report
-known first scope all kept rows outcome report same is are answers told few =
+pub known : (first scope : Scope) (all : List (List (List ℕ))) (kept rows : List Event)
+    (outcome : Outcome) (report : Report) → first ≡ scope → outcome ≡ Yes report → rows ≡ kept
+    → IsAnswer first ROWS_MAX all (Ok outcome) → IfYes outcome (λ report. AreRows all kept)
+    → AreKnown scope all rows report
+known first scope all kept rows outcome report same is are answers told =
     let Answers : Outcome → Type 0 = λ o. IsAnswer first ROWS_MAX all (Ok o) in
     let Told : Outcome → Type 0 = λ o. IfYes o (λ report. AreRows all kept) in
-    let Few : Outcome → Type 0 = λ o. IfYes o (λ report. length kept ≤ ROWS_MAX) in
-    let short : length kept ≤ ROWS_MAX = subst Few is few in
     record {
       told = subst (AreRows all) (sym are) (subst Told is told);
-      few = omega (arith, ap length are, short);
-      possible = subst (λ s. IsAnswer s ROWS_MAX all (Ok (Yes report))) same (subst Answers is answers);
+      possible = subst (λ s. IsAnswer s ROWS_MAX all (Ok (Yes report))) same
+          (subst Answers is answers);
     }
+
+-- the rows of a yes are reached
+pub reached_rows : (first scope : Scope) (kept rows : List Event) (outcome : Outcome)
+    (report : Report) → first ≡ scope → outcome ≡ Yes report → rows ≡ kept
+    → IfYes outcome (λ report. IsReached first kept) → IsReached scope rows
+reached_rows first scope kept rows outcome report same is are reached =
+    subst (IsReached scope) (sym are) (subst (λ s. IsReached s kept) same
+    (subst (λ o. IfYes o (λ report. IsReached first kept)) is reached))
+
+pub kept_reached : (scope : Scope) (keeping : Keeping)
+    → ((rows : List Event) → StandsFor keeping.follower rows → IsReached (scope_of keeping.follower) rows)
+    → (rows : List Event) × HasKept (scope_of keeping.follower) keeping rows
+    → scope_of keeping.follower ≡ scope → IsReached scope keeping.rows.items
+kept_reached scope keeping law (rows, has) same =
+    subst (λ s. IsReached s keeping.rows.items) same
+    (subst (IsReached (scope_of keeping.follower)) (sym has.kept) (law rows has.followed.stands))
 
 -- the verdict is a no
 pub known_no : (first scope : Scope) (all : List (List (List ℕ))) (outcome : Outcome) (offence : Offence) → first ≡ scope → outcome ≡ No offence → IsAnswer first ROWS_MAX all (Ok outcome) → IsImpossible scope ROWS_MAX all offence

@@ -14,7 +14,7 @@ ghost use Rattle.mdb_verdict.specs.declared.verdict.TheConstants.{BYTES_MAX};
 ghost use Rattle.mdb_explain.specs.inner.Explaining.{HasKept, IsNoText, IsRowsText, IsTold, marks_text, rows_text};
 ghost use Rattle.mdb_writing.specs.Output.{Breaks, Puts, output};
 ghost use Rattle.mdb_follow.specs.Follower.{scope_of};
-ghost use Rattle.mdb_marks.specs.Goals.{IsExplainFault};
+ghost use Rattle.mdb_follow.specs.Runs.{IsReached};
 ghost use Rattle.mdb_follow.specs.declared.goal.Goal.{Goal};
 ghost use Rattle.mdb_follow.specs.declared.report.Report.{Report};
 ghost use Rattle.mdb_words.specs.declared.event.Event.{Event};
@@ -24,7 +24,7 @@ use super::keeping::Keeping;
 use super::lines::{add_mark, add_row};
 use mdb_bus::Scope;
 use mdb_follow::{Goal, Offence, ROWS_MAX, Report, laws};
-use mdb_marks::{ExplainFault, Mark, explain_run};
+use mdb_marks::{Mark, explain_reached};
 use mdb_msgs::DeviceSet;
 use mdb_records::Records;
 use mdb_text::Outcome;
@@ -158,6 +158,8 @@ fn kept_outcome<R: Read + Drop>(
         → IfOk result (λ outcome. IfYes outcome (λ report. AreRows all keeping.new.rows.items)) }
     ensures few { IfOk result (λ outcome. IfYes outcome (λ report.
         length keeping.new.rows.items ≤ ROWS_MAX)) }
+    ensures reached { IfOk result (λ outcome. IfYes outcome (λ report.
+        IsReached (scope_of keeping.old.follower) keeping.new.rows.items)) }
     ensures whole { IsOverLimit R.remaining records.old → IsNoYes result }
     ensures heard { IfErr result (HasCause (fault_of records.new)) }
     ensures met { fault_of records.old ≡ None → IsSome (fault_of records.new) → IsNoYes result }
@@ -171,7 +173,7 @@ fn kept_outcome<R: Read + Drop>(
     }
 }
 
-/// Writes what explains a goal of rows that have this report.
+/// Writes what explains a goal of rows that are reached, and have this report.
 fn explain_rows<W: Write>(
     alloc: Global,
     without: DeviceSet,
@@ -180,34 +182,16 @@ fn explain_rows<W: Write>(
     report: Report,
     writer: &mut W,
 ) -> Result<Outcome, RunFault>
-    requires { length rows.now ≤ ROWS_MAX }
+    requires few { length rows.now ≤ ROWS_MAX }
+    requires reached { IsReached (leaving_out without) rows.now }
     ensures { IsTold W.contents writer.old writer.new
         (IsRowsText (leaving_out without) rows.now goal.now report) result }
 {
-    match explain_run(alloc, without, rows, goal) {
-        Ok(marks) => {
-            write_explanation(writer, marks.as_slice(), rows)?;
-            Ok(Outcome::Yes(report))
-        }
-        Err(fault) => tell_fault(alloc, without, fault, writer),
-    }
-}
-
-/// Tells why rows aren't explained.
-fn tell_fault<W: Write>(
-    alloc: Global,
-    without: DeviceSet,
-    fault: ExplainFault,
-    writer: &mut W,
-) -> Result<Outcome, RunFault>
-    ensures { (rows : List Event) (goal : Goal) (report : Report)
-        → IsExplainFault (leaving_out without) rows fault → IsTold W.contents writer.old writer.new
-        (IsRowsText (leaving_out without) rows goal report) result }
-{
-    match fault {
-        ExplainFault::Offence(offence) => tell_no(alloc, without, offence, writer),
-        ExplainFault::Memory => Err(RunFault::Memory),
-    }
+    let Ok(marks) = explain_reached(alloc, without, rows, goal) else {
+        return Err(RunFault::Memory);
+    };
+    write_explanation(writer, marks.as_slice(), rows)?;
+    Ok(Outcome::Yes(report))
 }
 
 /// Writes the text of a no.

@@ -58,18 +58,18 @@ pub fn explain_run(
     if let Err(offence) = follower.feed_all(events) {
         return Err(ExplainFault::Offence(offence));
     }
-    match best_marks(alloc, without, events, goal) {
+    match explain_reached(alloc, without, events, goal) {
         Ok(marks) => Ok(marks),
         Err(_) => Err(ExplainFault::Memory),
     }
 }
 
-/// The marks that explain a goal, of rows that are reached.
+/// Does what [`explain_run`] does, for rows that some run reaches: a follower has taken them.
 ///
 /// # Errors
 ///
 /// Memory was refused.
-fn best_marks(
+pub fn explain_reached(
     alloc: Global,
     without: DeviceSet,
     events: &[Event],

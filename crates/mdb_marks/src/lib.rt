@@ -12,6 +12,6 @@ mod replay;
 mod track;
 mod tracks;
 
-pub use explain::{ExplainFault, explain_run};
+pub use explain::{ExplainFault, explain_reached, explain_run};
 pub use mark::Mark;
 pub use replay::{Replay, ReplayFault};

@@ -79,6 +79,8 @@ pub fn read_rows<R: Read + Drop, O, T: TakeRows<O>>(
         (T.stops taker.new out.old out.new) rows_max all result }
     ensures whole { IsOverLimit R.remaining records.old → result ≢ Ok None }
     ensures few { result ≡ Ok None → T.count taker.new ≤ rows_max }
+    ensures kept { result ≡ Ok None
+        → (rows : List T.Row) × T.has taker.new out.old out.new rows }
     ensures stopped { IfOk result (λ stop. IfSome stop
         (IsStop (T.stops taker.new out.old out.new))) }
     ensures heard { IfErr result (IsHeard (fault_of records.new)) }

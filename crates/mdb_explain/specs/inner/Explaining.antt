@@ -1,6 +1,6 @@
 -- How an explanation comes about: rows that are kept, and the lines of marks and rows. This file
 -- serves private functions.
-use Rattle.std.specs.Prelude.{◌≡◌, ℕ, List, [], ⊤, Option, Result, Ok, Err}
+use Rattle.std.specs.Prelude.{◌≡◌, ℕ, List, ⊤, Option, Result, Ok, Err}
 use Rattle.std.specs.Io.KnownBytes.{Appends}
 use Rattle.std.specs.List.{flat_map}
 use Rattle.mdb_words.specs.declared.event.Event.{Event}
@@ -68,10 +68,9 @@ abbrev pub IsNoText : Scope → Offence → Outcome → List ℕ → Type 0
 IsNoText scope offence outcome text =
     (outcome ≡ No offence) × (text ≡ report_text scope (No offence))
 
--- The text of rows that were kept, which have a report: that of marks that explain a goal, and of
--- the rows. Where one of them cannot be, it is that of a no.
+-- the text of rows that were kept, which have a report: that of marks that explain a goal, and of
+-- the rows
 abbrev pub IsRowsText : Scope → List Event → Goal → Report → Outcome → List ℕ → Type 0
-IsRowsText scope rows goal report (Yes told) text = (told ≡ report) × (marks : List (ℕ × Mark))
-    × Explains scope rows goal marks × (text ≡ explanation_text marks rows)
-IsRowsText scope rows goal report (No offence) text =
-    HasOffence scope [] rows offence × (text ≡ report_text scope (No offence))
+IsRowsText scope rows goal report outcome text =
+    (outcome ≡ Yes report) × (marks : List (ℕ × Mark)) × Explains scope rows goal marks
+    × (text ≡ explanation_text marks rows)

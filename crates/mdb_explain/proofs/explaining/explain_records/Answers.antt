@@ -18,15 +18,15 @@ pub returns-in-Yes-clause-answer : goal.returns-in-Yes-clause-answer
 returns-in-Yes-clause-answer g c all to_come =
     let scope = leaving_out c.args.without in
     let rows = c.as_slice.result.now in
-    let known = explanations.known _ scope all _ rows _ c.in-Yes.report c.new-keeping.ensures.scope c.in-Yes.is c.as_slice.ensures.value (c.in_ok-report.ensures.answer all to_come) (c.in_ok-report.ensures.rows all to_come) c.in_ok-report.ensures.few in
+    let known = explanations.known _ scope all _ rows _ c.in-Yes.report c.new-keeping.ensures.scope c.in-Yes.is c.as_slice.ensures.value (c.in_ok-report.ensures.answer all to_come) (c.in_ok-report.ensures.rows all to_come) in
     explanations.answer_told g.W.Write.contents c.args.writer.now c.explain_rows.new.writer (IsRowsText scope rows c.args.goal.now c.in-Yes.report) scope ROWS_MAX all
-    (explanations.rows_answers scope ROWS_MAX all rows c.args.goal.now c.in-Yes.report known.told known.few known.possible) c.explain_rows.result c.explain_rows.ensures
+    (explanations.rows_answers scope ROWS_MAX all rows c.args.goal.now c.in-Yes.report known.possible) c.explain_rows.result c.explain_rows.ensures
 
 pub returns-in-Yes-clause-written : goal.returns-in-Yes-clause-written
 returns-in-Yes-clause-written g c all to_come =
     let scope = leaving_out c.args.without in
     let rows = c.as_slice.result.now in
-    let known = explanations.known _ scope all _ rows _ c.in-Yes.report c.new-keeping.ensures.scope c.in-Yes.is c.as_slice.ensures.value (c.in_ok-report.ensures.answer all to_come) (c.in_ok-report.ensures.rows all to_come) c.in_ok-report.ensures.few in
+    let known = explanations.known _ scope all _ rows _ c.in-Yes.report c.new-keeping.ensures.scope c.in-Yes.is c.as_slice.ensures.value (c.in_ok-report.ensures.answer all to_come) (c.in_ok-report.ensures.rows all to_come) in
     explanations.written_told g.W.Write.contents c.args.writer.now c.explain_rows.new.writer (IsRowsText scope rows c.args.goal.now c.in-Yes.report) scope c.args.goal.now all
     (explanations.rows_texts scope all rows c.args.goal.now c.in-Yes.report known.told) c.explain_rows.result c.explain_rows.ensures
 
@@ -34,9 +34,9 @@ pub returns-in-Yes-clause-cut : goal.returns-in-Yes-clause-cut
 returns-in-Yes-clause-cut g c all to_come =
     let scope = leaving_out c.args.without in
     let rows = c.as_slice.result.now in
-    let known = explanations.known _ scope all _ rows _ c.in-Yes.report c.new-keeping.ensures.scope c.in-Yes.is c.as_slice.ensures.value (c.in_ok-report.ensures.answer all to_come) (c.in_ok-report.ensures.rows all to_come) c.in_ok-report.ensures.few in
+    let known = explanations.known _ scope all _ rows _ c.in-Yes.report c.new-keeping.ensures.scope c.in-Yes.is c.as_slice.ensures.value (c.in_ok-report.ensures.answer all to_come) (c.in_ok-report.ensures.rows all to_come) in
     explanations.cut_told g.W.Write.contents c.args.writer.now c.explain_rows.new.writer (IsRowsText scope rows c.args.goal.now c.in-Yes.report) scope ROWS_MAX c.args.goal.now all
-    (explanations.rows_answers scope ROWS_MAX all rows c.args.goal.now c.in-Yes.report known.told known.few known.possible) (explanations.rows_texts scope all rows c.args.goal.now c.in-Yes.report known.told) c.explain_rows.result c.explain_rows.ensures
+    (explanations.rows_answers scope ROWS_MAX all rows c.args.goal.now c.in-Yes.report known.possible) (explanations.rows_texts scope all rows c.args.goal.now c.in-Yes.report known.told) c.explain_rows.result c.explain_rows.ensures
 
 pub returns-clause-answer : goal.returns-clause-answer
 returns-clause-answer g c all to_come =
@@ -55,7 +55,9 @@ returns-clause-cut g c all to_come =
 pub returns-in-Yes-clause-written_no : goal.returns-in-Yes-clause-written_no
 returns-in-Yes-clause-written_no g c =
     let scope = leaving_out c.args.without in
-    explanations.no_told g.W.Write.contents c.args.writer.now c.explain_rows.new.writer (IsRowsText scope c.as_slice.result.now c.args.goal.now c.in-Yes.report) scope (λ offence text is. is.1) c.explain_rows.result c.explain_rows.ensures
+    explanations.no_told g.W.Write.contents c.args.writer.now c.explain_rows.new.writer (IsRowsText scope c.as_slice.result.now c.args.goal.now c.in-Yes.report) scope
+    (explanations.rows_no_no scope c.as_slice.result.now c.args.goal.now c.in-Yes.report)
+    c.explain_rows.result c.explain_rows.ensures
 
 pub returns-clause-written_no : goal.returns-clause-written_no
 returns-clause-written_no g c =
@@ -77,3 +79,8 @@ returns-clause-written g c all to_come =
 pub returns-clause-nothing_written : goal.returns-clause-nothing_written
 returns-clause-nothing_written g c =
     explanations.nothing_told g.W.Write.contents c.args.writer.now c.tell_no.new.writer (IsNoText (leaving_out c.args.without) c.in-No.offence) c.tell_no.result c.tell_no.ensures
+
+pub explain_rows-requires-clause-reached : goal.explain_rows-requires-clause-reached
+explain_rows-requires-clause-reached g c =
+    explanations.reached_rows _ (leaving_out c.args.without) _ _ _ c.in-Yes.report
+    c.new-keeping.ensures.scope c.in-Yes.is c.as_slice.ensures.value c.in_ok-report.ensures.reached

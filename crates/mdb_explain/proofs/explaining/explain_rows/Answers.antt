@@ -5,14 +5,18 @@ use Rattle.mdb_explain.specs.Explain.{explanation_text}
 use Rattle.mdb_explain.proofs.ExplainedTexts as explanations
 use Rattle.mdb_explain.proofs.explaining.explain_rows.Goals as goal
 
-pub returns-in_err-write_explanation-in-Ok : goal.returns-in_err-write_explanation-in-Ok
-returns-in_err-write_explanation-in-Ok g c =
+pub returns-in_err-write_explanation : goal.returns-in_err-write_explanation
+returns-in_err-write_explanation g c =
     let scope = leaving_out c.args.without in
     let marks = c.as_slice.result.now in
     let rows = c.args.rows.now in
-    explanations.explanation_broken g.W.Write.contents c.args.writer.now c.write_explanation.new.writer scope rows c.args.goal.now c.args.report (explanation_text marks rows)
-    (refl, marks, subst (Explains scope rows c.args.goal.now) (sym c.as_slice.ensures.value) c.in-Ok.ensures.explains, refl)
+    explanations.explanation_broken g.W.Write.contents c.args.writer.now
+    c.write_explanation.new.writer scope rows c.args.goal.now c.args.report
+    (explanation_text marks rows) (
+      refl,
+      marks,
+      subst (Explains scope rows c.args.goal.now)
+          (sym c.as_slice.ensures.value) c.in-Ok.ensures,
+      refl,
+    )
     c.write_explanation.ensures.front c.from_residual.result c.from_residual.ensures.1
-
-pub returns-in-Err : goal.returns-in-Err
-returns-in-Err g c = c.tell_fault.ensures c.args.rows.now c.args.goal.now c.args.report c.in-Err.ensures.offence

@@ -1,4 +1,4 @@
-use Rattle.std.proofs.Common.{subst, Ok, Option, Result}
+use Rattle.std.proofs.Common.{ap, subst, Ok, Option, Result}
 use Rattle.mdb_words.specs.Row.{IsRefusal, IsRow}
 use Rattle.mdb_follow.specs.Follower.{scope_of}
 use Rattle.mdb_follow.specs.declared.follower.TheConstants.{ROWS_MAX}
@@ -43,3 +43,11 @@ returns-in_ok-stop-in-Some-clause-answer g c all to_come =
     let Stopped : Result Offence RunFault → Type 0 = λ stop. IsStopped IsRow (λ earlier later. StopsKeeping scope earlier later stop) ROWS_MAX all in
     subst (λ s. IsImpossible s ROWS_MAX all c.in_ok-stop-in-Some.field-0) c.read_rows.ensures.same_scope
     (verdicts.impossible scope ROWS_MAX all c.in_ok-stop-in-Some.field-0 (subst Stopped c.in_ok-stop-in-Some.was (subst Ended c.in-Some.is (c.in_ok-read_rows.ensures.ended all to_come))))
+
+pub returns-in-None-clause-reached : goal.returns-in-None-clause-reached
+returns-in-None-clause-reached g c =
+    let keeping = c.read_rows.new.taker in
+    explanations.if_yes c.outcome_of.result _
+    (explanations.kept_reached _ keeping (c.followers_stand_for_reached_rows.ensures keeping.follower)
+    (c.in_ok-read_rows.ensures.kept (ap Ok c.in-None.is))
+    c.read_rows.ensures.same_scope)

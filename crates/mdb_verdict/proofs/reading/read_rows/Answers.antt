@@ -1,6 +1,7 @@
-use Rattle.std.proofs.Common.{arith, refl, subst, ◌∙◌, ◌≡◌, ◌-◌}
+use Rattle.std.proofs.Common.{arith, refl, subst, ◌∙◌, ◌≡◌, ◌-◌, ◌++◌}
 use Rattle.mdb_verdict.specs.declared.batch.Next.TheVariants as next
 use Rattle.mdb_verdict.specs.Batch.{FitsIn, GoesOnOver, IsMet}
+use Rattle.mdb_verdict.specs.Ending.{HasTakenOrStopped}
 use Rattle.mdb_records.specs.ToCome.{fault_of}
 use Rattle.mdb_verdict.proofs.Batches.{fits}
 use Rattle.mdb_verdict.proofs.Endings as endings
@@ -202,3 +203,28 @@ loop-batch-init g c = record {
   few = omega (arith, g.met.T.TakeRows.counts c.args.taker.now c.args.out.now c.args.out.now _ c.requires.begun);
   same_scope = refl;
 }
+
+pub returns-in_err-goes_on-clause-kept : goal.returns-in_err-goes_on-clause-kept
+returns-in_err-goes_on-clause-kept g c = λ is.
+    absurd (endings.fault_not_whole c.in_err-goes_on.field-0.0 c.from_residual.result
+    c.from_residual.ensures.1 is)
+
+pub returns-then-not-branch-clause-kept : goal.returns-then-not-branch-clause-kept
+returns-then-not-branch-clause-kept g c = λ is.
+    let progress = c.loop-batch.invariant.progress in (
+      progress.rows ++ c.as_slice.result.now,
+      subst (HasTakenOrStopped
+          (g.T.TakeRows.has c.take_all.new.self c.args.out.now c.take_all.new.out)
+          (g.T.TakeRows.stops c.take_all.new.self c.args.out.now c.take_all.new.out) progress.rows
+          c.as_slice.result.now) c.in_default.is
+          (c.take_all.ensures.taken c.args.out.now progress.rows progress.has),
+    )
+
+pub returns-in_err-expect_end-clause-kept : goal.returns-in_err-expect_end-clause-kept
+returns-in_err-expect_end-clause-kept g c = λ is.
+    absurd (endings.fault_not_whole c.in_err-expect_end.field-0.0
+    c.from_residual-in_err-expect_end.result c.from_residual-in_err-expect_end.ensures.1 is)
+
+pub returns-clause-kept : goal.returns-clause-kept
+returns-clause-kept g c = λ is.
+    (c.loop-batch.invariant.progress.rows, c.loop-batch.invariant.progress.has)

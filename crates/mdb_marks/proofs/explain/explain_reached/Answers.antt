@@ -6,7 +6,7 @@ use Rattle.mdb_marks.specs.inner.Merges.{IsOfBoth}
 use Rattle.mdb_marks.proofs.Explained.{explained_by, has-way, list-of-seeker}
 use Rattle.mdb_follow.proofs.Following.{if-ok}
 use Rattle.mdb_marks.proofs.Merging.{of_both_as}
-use Rattle.mdb_marks.proofs.explain.best_marks.Goals as goal
+use Rattle.mdb_marks.proofs.explain.explain_reached.Goals as goal
 
 pub marks_of_two-requires : goal.marks_of_two-requires
 marks_of_two-requires c =
