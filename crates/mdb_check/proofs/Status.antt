@@ -12,8 +12,9 @@ use Rattle.mdb_verdict.specs.declared.fault.RunFault.{RunFault}
 use Rattle.mdb_verdict.specs.declared.fault.RunFault.TheVariants.{Write}
 use Rattle.mdb_explain.specs.Explain.{IsCutExplanation, IsExplainedIn}
 use Rattle.mdb_check.specs.declared.form.Form.{Form}
-use Rattle.mdb_check.specs.Program.{IsCutAnswer, IsCutReplayAnswer, Says, SaysChecked, SaysExplained, SaysReplayed, SaysShown, answer_text, lines_in, refused, show_status_of, status_of}
-use Rattle.mdb_explain.specs.Replay.{IsReplayAnswer}
+use Rattle.mdb_check.specs.Program.{Says, SaysChecked, SaysExplained, SaysReplayed, SaysShown, answer_text, lines_in, refused, show_status_of, status_of}
+use Rattle.mdb_explain.specs.Replay.{IsCutReplayIn, IsReplayAnswer}
+use Rattle.mdb_verdict.specs.CutReport.{IsCutIn}
 use Rattle.mdb_show.specs.Show.{ShowsIn}
 use Rattle.mdb_verdict.specs.Verdict.{IsAnswer, IsNoYes}
 use Rattle.mdb_writing.specs.Written.{HasTaken}
@@ -22,7 +23,7 @@ use Rattle.mdb_bus.specs.declared.scope.Scope.{Scope}
 says_checked : (scope : Scope) (form : Form) {W : Type 0} (contents : W → Option (List ℕ)) (all : List (List (List ℕ))) (old new : W) (answer : Result Outcome RunFault)
     → IsAnswer scope ROWS_MAX all answer
     → IfOk answer (λ outcome. Appends (contents old) (contents new) (answer_text form scope outcome))
-    → IfErr answer (λ fault. fault ≢ Write → new ≡ old) → (answer ≡ Err Write → IsCutAnswer form scope all (contents old) (contents new))
+    → IfErr answer (λ fault. fault ≢ Write → new ≡ old) → (answer ≡ Err Write → IsCutIn (answer_text form) scope ROWS_MAX all (contents old) (contents new))
     → SaysChecked scope form all (contents old) (contents new) (status_of answer)
 says_checked scope form contents all old new (Ok (Yes report)) is written kept cut =
     record { possible = λ e. (report, is, written); impossible = λ e. absurd (omega (arith, e)); unanswered = λ e. absurd (omega (arith, e)) }
@@ -37,7 +38,7 @@ says_checked scope form contents all old new (Err fault) is written kept cut =
 says_replayed : (scope : Scope) (form : Form) {W : Type 0} (contents : W → Option (List ℕ)) (all : List (List (List ℕ))) (old new : W) (answer : Result Outcome RunFault)
     → IsReplayAnswer scope ROWS_MAX all answer
     → IfOk answer (λ outcome. Appends (contents old) (contents new) (answer_text form scope outcome))
-    → IfErr answer (λ fault. fault ≢ Write → new ≡ old) → (answer ≡ Err Write → IsCutReplayAnswer form scope all (contents old) (contents new))
+    → IfErr answer (λ fault. fault ≢ Write → new ≡ old) → (answer ≡ Err Write → IsCutReplayIn (answer_text form) scope ROWS_MAX all (contents old) (contents new))
     → SaysReplayed scope form all (contents old) (contents new) (status_of answer)
 says_replayed scope form contents all old new (Ok (Yes report)) is written kept cut =
     record { possible = λ e. (report, is, written); impossible = λ e. absurd (omega (arith, e)); unanswered = λ e. absurd (omega (arith, e)) }
@@ -105,7 +106,7 @@ pub checked_says : (scope : Scope) (form : Form) {W : Type 0} (contents : W → 
     → IfSome known (λ text. IsAnswer scope ROWS_MAX (records default_config (strip_bom text)) answer)
     → IfOk answer (λ outcome. Appends (contents old) (contents new) (answer_text form scope outcome))
     → IfErr answer (λ fault. fault ≢ Write → new ≡ old)
-    → IfSome known (λ text. answer ≡ Err Write → IsCutAnswer form scope (records default_config (strip_bom text)) (contents old) (contents new))
+    → IfSome known (λ text. answer ≡ Err Write → IsCutIn (answer_text form) scope ROWS_MAX (records default_config (strip_bom text)) (contents old) (contents new))
     → status ≡ status_of answer
     → IfSome known (λ text. SaysChecked scope form (records default_config (strip_bom text)) (contents old) (contents new) status)
 checked_says scope form contents None old new answer status is written kept cut same = tt
@@ -119,7 +120,7 @@ pub replayed_says : (scope : Scope) (form : Form) {W : Type 0} (contents : W →
     → IfSome known (λ text. IsReplayAnswer scope ROWS_MAX (records default_config (strip_bom text)) answer)
     → IfOk answer (λ outcome. Appends (contents old) (contents new) (answer_text form scope outcome))
     → IfErr answer (λ fault. fault ≢ Write → new ≡ old)
-    → IfSome known (λ text. answer ≡ Err Write → IsCutReplayAnswer form scope (records default_config (strip_bom text)) (contents old) (contents new))
+    → IfSome known (λ text. answer ≡ Err Write → IsCutReplayIn (answer_text form) scope ROWS_MAX (records default_config (strip_bom text)) (contents old) (contents new))
     → status ≡ status_of answer
     → IfSome known (λ text. SaysReplayed scope form (records default_config (strip_bom text)) (contents old) (contents new) status)
 replayed_says scope form contents None old new answer status is written kept cut same = tt

@@ -19,19 +19,19 @@ use Rattle.mdb_follow.specs.declared.offence.Offence.{Offence}
 use Rattle.mdb_follow.specs.declared.report.Report.{Report}
 use Rattle.mdb_explain.specs.Explain.{IsCutExplanation, IsExplainedIn, bound_word}
 use Rattle.mdb_text.specs.Known.{known_devices}
-use Rattle.mdb_explain.specs.Replay.{IsCutReplay, IsReplayed, StopsAt}
+use Rattle.mdb_explain.specs.Replay.{IsCutReplayIn, IsReplayed, StopsAt}
 use Rattle.mdb_show.specs.Lines.{LineForm}
 use Rattle.mdb_show.specs.Show.{IsCutShortIn, IsShownToFaultIn, IsShownWholeIn}
 use Rattle.mdb_show.specs.ShowJson.{json_lines}
 use Rattle.mdb_show.specs.ShowText.{bytes_text, text_lines}
 use Rattle.mdb_text.specs.Accounts.{side_word}
 use Rattle.mdb_text.specs.Text.{report_text}
-use Rattle.mdb_verdict.specs.CutReport.{IsCutReport}
+use Rattle.mdb_verdict.specs.CutReport.{IsCutIn}
 use Rattle.mdb_verdict.specs.Verdict.{IsImpossible, IsPossible}
 use Rattle.mdb_text.specs.declared.outcome.Outcome.{Outcome}
 use Rattle.mdb_text.specs.declared.outcome.Outcome.TheVariants.{Yes, No}
 use Rattle.mdb_verdict.specs.declared.fault.RunFault.{RunFault}
-use Rattle.mdb_json.specs.Json.{IsCutJson, IsCutReplayJson, json_line}
+use Rattle.mdb_json.specs.Json.{json_line}
 use Rattle.mdb_bus.specs.declared.scope.Scope.{Scope}
 use Rattle.mdb_bus.specs.Scopes.{leaving_out, joined as in_mid_session}
 use Rattle.mdb_check.specs.declared.form.Form.{Form}
@@ -172,20 +172,6 @@ abbrev pub answer_text : Form → Scope → Outcome → List ℕ
 answer_text Text scope outcome = report_text scope outcome
 answer_text Json scope outcome = json_line scope outcome
 
--- the records have a verdict, and the writer took a front of that
-abbrev pub IsCutAnswer : Form → Scope → List (List (List ℕ)) → Option (List ℕ) → Option (List ℕ)
-    → Type 0
-IsCutAnswer Text scope records before after = IsCutReport scope ROWS_MAX records before after
-IsCutAnswer Json scope records before after = IsCutJson scope ROWS_MAX records before after
-
--- the same of a replay
-abbrev pub IsCutReplayAnswer : Form → Scope → List (List (List ℕ)) → Option (List ℕ)
-    → Option (List ℕ) → Type 0
-IsCutReplayAnswer Text scope records before after =
-    IsCutReplay scope ROWS_MAX records before after
-IsCutReplayAnswer Json scope records before after =
-    IsCutReplayJson scope ROWS_MAX records before after
-
 -- the lines that are written of what is shown: those of the text, or objects of JSON
 abbrev pub lines_in : Form → LineForm
 lines_in Text = text_lines
@@ -200,7 +186,8 @@ pub record SaysChecked (scope : Scope) (form : Form) (records : List (List (List
       × Appends before after (answer_text form scope (Yes report))
   pub impossible : status ≡ 1 → (offence : Offence) × IsImpossible scope ROWS_MAX records offence
       × Appends before after (answer_text form scope (No offence))
-  pub unanswered : status ≡ 2 → (after ≡ before) ⊎ IsCutAnswer form scope records before after
+  pub unanswered : status ≡ 2 → (after ≡ before)
+      ⊎ IsCutIn (answer_text form) scope ROWS_MAX records before after
 
 -- The same of `show`. At 2 a front of a text was written that the records are shown with: its lines
 -- up to the fault, or fewer, where the writer failed.
@@ -230,7 +217,8 @@ pub record SaysReplayed (scope : Scope) (form : Form) (records : List (List (Lis
   pub impossible : status ≡ 1 → (offence : Offence) × StopsAt scope ROWS_MAX records (Ok offence)
       × Appends before after (answer_text form scope (No offence))
   pub unanswered : status ≡ 2
-      → (after ≡ before) ⊎ IsCutReplayAnswer form scope records before after
+      → (after ≡ before)
+      ⊎ IsCutReplayIn (answer_text form) scope ROWS_MAX records before after
 
 -- What the status of the program says: what it says of the task that the words name, of a recording
 -- that is taken as they ask and in the form that they ask for, or that the words were refused, with

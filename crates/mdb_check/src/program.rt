@@ -1,18 +1,15 @@
 //! The program over its words.
 
 ghost use Rattle.std.specs.Prelude.{◌≡◌, ◌≢◌, ◌<◌, ◌⊎◌, ℕ, List, None, Ok, Err};
-ghost use Rattle.std.specs.Prelude.{IfErr, IfOk, IfSome, length, map, string_bytes};
-ghost use Rattle.std.specs.Io.KnownBytes.{Appends};
+ghost use Rattle.std.specs.Prelude.{IfSome, length, map, string_bytes};
 ghost use Rattle.mdb_check.specs.Complaint.{IsToldCause, excess_line};
-ghost use Rattle.mdb_check.specs.Program.{IsCutAnswer, IsCutReplayAnswer, NameATask, Says};
+ghost use Rattle.mdb_check.specs.Program.{NameATask, Says};
 ghost use Rattle.mdb_check.specs.Program.{SaysChecked, SaysExplained, SaysReplayed, SaysShown};
-ghost use Rattle.mdb_check.specs.Program.{answer_text, lines_in, show_status_of, status_of};
+ghost use Rattle.mdb_check.specs.Program.{lines_in, show_status_of, status_of};
 ghost use Rattle.mdb_show.specs.Show.{ShowsIn};
 ghost use Rattle.mdb_bus.specs.Scopes.{leaving_out};
 ghost use Rattle.mdb_verdict.specs.declared.verdict.TheConstants.{BYTES_MAX};
-ghost use Rattle.mdb_verdict.specs.Verdict.{IsAnswer, IsNoYes};
 ghost use Rattle.mdb_writing.specs.Written.{HasTaken};
-ghost use Rattle.mdb_explain.specs.Replay.{IsReplayAnswer};
 ghost use Rattle.mdb_records.specs.ToCome.{IsOverLimit, ToCome, limit_of};
 ghost use Rattle.csv.specs.Reading.{default_config, records, strip_bom};
 
@@ -24,7 +21,6 @@ use clap::error::ErrorKind;
 use mdb_bus::{LinkFault, Scope};
 use mdb_explain::{explain_records, replay_records};
 use mdb_follow::{Goal, ROWS_MAX};
-use mdb_json::{check_json_records, replay_json_records};
 use mdb_msgs::DeviceSet;
 use mdb_records::Records;
 use mdb_show::{show_json_records, show_records};
@@ -121,7 +117,7 @@ fn run_check<R: Read + Drop, W: Write, E: Write>(
     ensures silent { result < 2 → err.new ≡ err.old }
 {
     let mut records = input_of(alloc, reader);
-    let answer = check_in(alloc, scope, form, &mut records, out);
+    let answer = check_records(alloc, &form, scope, &mut records, out, ROWS_MAX);
     finish_check(alloc, answer, Wanted::Row, &records, err)
 }
 
@@ -165,7 +161,7 @@ fn run_replay<R: Read + Drop, W: Write, E: Write>(
     ensures silent { result < 2 → err.new ≡ err.old }
 {
     let mut records = input_of(alloc, reader);
-    let answer = replay_in(alloc, without, form, &mut records, out);
+    let answer = replay_records(alloc, &form, without, &mut records, out);
     finish_check(alloc, answer, Wanted::MarkOrRow, &records, err)
 }
 
@@ -189,57 +185,6 @@ fn run_explain<R: Read + Drop, W: Write, E: Write>(
     let mut records = input_of(alloc, reader);
     let answer = explain_records(alloc, without, &mut records, out, goal);
     finish_check(alloc, answer, Wanted::Row, &records, err)
-}
-
-/// Checks the records that are still to come, and writes the answer in this form.
-fn check_in<R: Read + Drop, W: Write>(
-    alloc: Global,
-    scope: &Scope,
-    form: Form,
-    records: &mut Records<R>,
-    out: &mut W,
-) -> Result<Outcome, RunFault>
-    ensures answer { (all : List (List (List ℕ))) → ToCome R.remaining records.old all
-        → IsAnswer scope.now ROWS_MAX all result }
-    ensures whole { IsOverLimit R.remaining records.old → IsNoYes result }
-    ensures written { IfOk result (λ outcome. Appends (W.contents out.old) (W.contents out.new)
-        (answer_text form scope.now outcome)) }
-    ensures nothing_written { IfErr result (λ fault. fault ≢ RunFault.Write
-        → out.new ≡ out.old) }
-    ensures cut { (all : List (List (List ℕ))) → ToCome R.remaining records.old all
-        → result ≡ Err RunFault.Write
-        → IsCutAnswer form scope.now all (W.contents out.old) (W.contents out.new) }
-{
-    match form {
-        Form::Text => check_records(alloc, scope, records, out, ROWS_MAX),
-        Form::Json => check_json_records(alloc, scope, records, out, ROWS_MAX),
-    }
-}
-
-/// Replays the records that are still to come, and writes the answer in this form.
-fn replay_in<R: Read + Drop, W: Write>(
-    alloc: Global,
-    without: DeviceSet,
-    form: Form,
-    records: &mut Records<R>,
-    out: &mut W,
-) -> Result<Outcome, RunFault>
-    ensures answer { (all : List (List (List ℕ))) → ToCome R.remaining records.old all
-        → IsReplayAnswer (leaving_out without) ROWS_MAX all result }
-    ensures whole { IsOverLimit R.remaining records.old → IsNoYes result }
-    ensures written { IfOk result (λ outcome. Appends (W.contents out.old) (W.contents out.new)
-        (answer_text form (leaving_out without) outcome)) }
-    ensures nothing_written { IfErr result (λ fault. fault ≢ RunFault.Write
-        → out.new ≡ out.old) }
-    ensures cut { (all : List (List (List ℕ))) → ToCome R.remaining records.old all
-        → result ≡ Err RunFault.Write
-        → IsCutReplayAnswer form (leaving_out without) all (W.contents out.old)
-        (W.contents out.new) }
-{
-    match form {
-        Form::Text => replay_records(alloc, without, records, out),
-        Form::Json => replay_json_records(alloc, without, records, out),
-    }
 }
 
 /// Shows the records that are still to come in this form.

@@ -207,9 +207,14 @@ IsReplayAnswer scope limit records (Err run.Read) = ⊤
 IsReplayAnswer scope limit records (Err run.Write) = ⊤
 IsReplayAnswer scope limit records (Err run.Memory) = ⊤
 
--- The records have a verdict, and a writer took a front of its text.
-pub record IsCutReplay (scope : Scope) (limit : ℕ) (records : List (List (List ℕ)))
-    (before after : Option (List ℕ)) : Type 0 where
+-- The records have a replay, and a writer took a front of what is written of it.
+pub record IsCutReplayIn (text : Scope → Outcome → List ℕ) (scope : Scope) (limit : ℕ)
+    (records : List (List (List ℕ))) (before after : Option (List ℕ)) : Type 0 where
   pub outcome : Outcome
   pub is : IsReplayAnswer scope limit records (Ok outcome)
-  pub taken : HasTaken before after (report_text scope outcome)
+  pub taken : HasTaken before after (text scope outcome)
+
+-- the same of its text
+abbrev pub IsCutReplay : Scope → ℕ → List (List (List ℕ)) → Option (List ℕ) → Option (List ℕ)
+    → Type 0
+IsCutReplay = IsCutReplayIn report_text

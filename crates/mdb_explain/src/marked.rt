@@ -5,7 +5,7 @@ ghost use Rattle.std.specs.Io.KnownBytes.{Appends};
 ghost use Rattle.csv.specs.Reading.{default_config, records, strip_bom};
 ghost use Rattle.mdb_records.specs.ToCome.{IsOverLimit, ToCome, fault_of};
 ghost use Rattle.mdb_bus.specs.Scopes.{leaving_out, power_on};
-ghost use Rattle.mdb_explain.specs.Replay.{IsCutReplay, IsReplayAnswer};
+ghost use Rattle.mdb_explain.specs.Replay.{IsCutReplay, IsCutReplayIn, IsReplayAnswer};
 ghost use Rattle.mdb_text.specs.Text.{report_text};
 ghost use Rattle.mdb_verdict.specs.Verdict.{HasCause, IsNoYes};
 ghost use Rattle.mdb_verdict.specs.declared.verdict.TheConstants.{BYTES_MAX};
@@ -16,7 +16,7 @@ use mdb_bus::Scope;
 use mdb_msgs::DeviceSet;
 use mdb_records::Records;
 use mdb_text::Outcome;
-use mdb_verdict::{BYTES_MAX, Batch, RunFault, read_rows, records_of, text_scoped};
+use mdb_verdict::{AnswerForm, BYTES_MAX, Batch, ReportText, RunFault, read_rows, records_of};
 use mdb_writing::write_text;
 use std::alloc::Global;
 use std::io::{Read, Write};
@@ -87,17 +87,18 @@ pub fn replay_scoped<R: Read + Drop, W: Write>(
         (W.contents writer.old) (W.contents writer.new)) }
 {
     let mut records = records_of(alloc, reader, BYTES_MAX);
-    replay_records(alloc, without, &mut records, writer)
+    replay_records(alloc, &ReportText, without, &mut records, writer)
 }
 
-/// Replays the records that are still to come, and writes the text of what that tells. What the
+/// Replays the records that are still to come, and writes what that tells in this form. What the
 /// records tell of where the reading ended is still to be asked then.
 ///
 /// # Errors
 ///
 /// Those of [`replay`], where the records have their own limit of bytes.
-pub fn replay_records<R: Read + Drop, W: Write>(
+pub fn replay_records<F: AnswerForm, R: Read + Drop, W: Write>(
     alloc: Global,
+    form: &F,
     without: DeviceSet,
     records: &mut Records<R>,
     writer: &mut W,
@@ -108,15 +109,15 @@ pub fn replay_records<R: Read + Drop, W: Write>(
     ensures heard { IfErr result (HasCause (fault_of records.new)) }
     ensures met { fault_of records.old ≡ None → IsSome (fault_of records.new) → IsNoYes result }
     ensures written { IfOk result (λ outcome. Appends (W.contents writer.old)
-        (W.contents writer.new) (report_text (leaving_out without) outcome)) }
+        (W.contents writer.new) (F.text form.now (leaving_out without) outcome)) }
     ensures nothing_written { IfErr result (λ fault. fault ≢ RunFault.Write
         → writer.new ≡ writer.old) }
     ensures cut { (all : List (List (List ℕ))) → ToCome R.remaining records.old all
-        → result ≡ Err RunFault.Write → IsCutReplay (leaving_out without) ROWS_MAX all
-        (W.contents writer.old) (W.contents writer.new) }
+        → result ≡ Err RunFault.Write → IsCutReplayIn (F.text form.now) (leaving_out without)
+        ROWS_MAX all (W.contents writer.old) (W.contents writer.new) }
 {
     let outcome = replay_outcome(alloc, without, records)?;
-    let Ok(text) = text_scoped(alloc, &Scope::leaving_out(without), &outcome) else {
+    let Some(text) = form.text_of(alloc, &Scope::leaving_out(without), &outcome) else {
         return Err(RunFault::Memory);
     };
     write_text(writer, text.as_slice())?;
@@ -124,7 +125,7 @@ pub fn replay_records<R: Read + Drop, W: Write>(
 }
 
 /// What the replay of the records that are still to come tells. Nothing is written: this is what
-/// [`replay_records`] writes the text of. What the records tell of where the reading ended is still
+/// [`replay_records`] writes. What the records tell of where the reading ended is still
 /// to be asked then.
 ///
 /// # Errors

@@ -8,8 +8,8 @@
 
 mod account;
 mod device;
+mod line;
 mod outcome;
-mod writing;
 
+pub use line::line_of;
 pub use outcome::json_of;
-pub use writing::{check_json_records, replay_json_records};

@@ -11,6 +11,7 @@
 
 mod batch;
 mod fault;
+mod form;
 pub mod laws;
 mod reading;
 mod row;
@@ -19,6 +20,7 @@ mod verdict;
 
 pub use batch::{Batch, Next};
 pub use fault::RunFault;
+pub use form::{AnswerForm, ReportText};
 pub use mdb_text::Outcome;
 pub use reading::{TakeRows, read_rows};
 pub use row::{FromRecord, field};

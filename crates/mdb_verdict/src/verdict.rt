@@ -6,7 +6,7 @@ ghost use Rattle.csv.specs.Reading.{default_config, records, strip_bom};
 ghost use Rattle.mdb_records.specs.ToCome.{IsOverLimit, IsUncut, ToCome, fault_of, limit_of};
 ghost use Rattle.mdb_verdict.specs.Headline.{Headline};
 ghost use Rattle.mdb_text.specs.Text.{report_text};
-ghost use Rattle.mdb_verdict.specs.CutReport.{IsCutReport};
+ghost use Rattle.mdb_verdict.specs.CutReport.{IsCutIn, IsCutReport};
 ghost use Rattle.mdb_verdict.specs.Verdict.{HasCause, HasNoRoom, IsAnswer, IsYes, HasMet, IsNoYes, IsToldAs};
 ghost use Rattle.mdb_verdict.specs.Ending.{HasFollowed};
 ghost use Rattle.mdb_follow.specs.Follower.{StandsFor, rows_of, scope_of};
@@ -17,9 +17,9 @@ ghost use Rattle.mdb_words.specs.declared.event.Event.{Event};
 
 use super::batch::Batch;
 use super::fault::RunFault;
+use super::form::{AnswerForm, ReportText};
 use super::laws::verdicts_say_the_headline;
 use super::reading::{TakeRows, read_rows};
-use super::text::text_scoped;
 use mdb_bus::Scope;
 use mdb_follow::{Follower, Offence, ROWS_MAX, laws};
 use mdb_msgs::{DeviceSet, Setups};
@@ -194,13 +194,14 @@ pub fn check_scoped_within<R: Read + Drop, W: Write>(
         (W.contents writer.old) (W.contents writer.new)) }
 {
     let mut records = records_of(alloc, reader, bytes_max);
-    check_records(alloc, scope, &mut records, writer, rows_max)
+    check_records(alloc, &ReportText, scope, &mut records, writer, rows_max)
 }
 
-/// Checks the records that are still to come, at most `rows_max`, and writes the text of the
-/// verdict. Afterwards `records` can still be asked where reading ended.
-pub fn check_records<R: Read + Drop, W: Write>(
+/// Checks the records that are still to come, at most `rows_max`, and writes the verdict in this
+/// form. Afterwards `records` can still be asked where reading ended.
+pub fn check_records<F: AnswerForm, R: Read + Drop, W: Write>(
     alloc: Global,
+    form: &F,
     scope: &Scope,
     records: &mut Records<R>,
     writer: &mut W,
@@ -218,16 +219,17 @@ pub fn check_records<R: Read + Drop, W: Write>(
         → result ≡ Err RunFault.Memory
         → HasNoRoom scope.now rows_max all (fault_of records.new) }
     ensures written { IfOk result (λ outcome. Appends (W.contents writer.old)
-        (W.contents writer.new) (report_text scope.now outcome)) }
+        (W.contents writer.new) (F.text form.now scope.now outcome)) }
     ensures nothing_written { IfErr result (λ fault. fault ≢ RunFault.Write
         → writer.new ≡ writer.old) }
     ensures cut { (all : List (List (List ℕ))) → ToCome R.remaining records.old all
         → result ≡ Err RunFault.Write
-        → IsCutReport scope.now rows_max all (W.contents writer.old) (W.contents writer.new) }
+        → IsCutIn (F.text form.now) scope.now rows_max all (W.contents writer.old)
+        (W.contents writer.new) }
 {
     verdicts_say_the_headline();
     let outcome = verdict_on(scope, records, rows_max)?;
-    let Ok(text) = text_scoped(alloc, scope, &outcome) else {
+    let Some(text) = form.text_of(alloc, scope, &outcome) else {
         return Err(RunFault::Memory);
     };
     write_text(writer, text.as_slice())?;

@@ -1,6 +1,5 @@
 use Rattle.std.proofs.Common.{◌∙◌, ap, subst}
 use Rattle.mdb_writing.specs.Written.{HasTaken}
-use Rattle.mdb_text.specs.Text.{report_text}
 use Rattle.mdb_explain.proofs.marked.replay_records.Goals as goal
 
 pub returns-in_err-write_text-clause-cut : goal.returns-in_err-write_text-clause-cut
@@ -10,7 +9,7 @@ returns-in_err-write_text-clause-cut g c all to_come refused =
       outcome = c.in_ok-outcome.outcome;
       is = c.in_ok-outcome.ensures.answer all to_come;
       taken = subst (HasTaken (held c.args.writer.now) (held c.write_text.new.writer))
-          (c.as_slice.ensures.value ∙ (c.in-Ok.ensures
-          ∙ ap (λ s. report_text s c.in_ok-outcome.outcome) c.leaving_out.ensures))
+          (c.as_slice.ensures.value ∙ (c.in-Some.ensures
+          ∙ ap (λ s. g.F.AnswerForm.text c.args.form.now s c.in_ok-outcome.outcome) c.leaving_out.ensures))
           c.write_text.ensures.front;
     }

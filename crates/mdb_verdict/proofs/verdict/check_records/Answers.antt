@@ -14,7 +14,7 @@ returns-in_err-write_text-clause-cut g c all to_come refused =
       outcome = c.in_ok-outcome.outcome;
       is = c.in_ok-outcome.ensures.answer all to_come;
       taken = subst (HasTaken (held c.args.writer.now) (held c.write_text.new.writer))
-          (c.as_slice.ensures.value ∙ c.in-Ok.ensures) c.write_text.ensures.front;
+          (c.as_slice.ensures.value ∙ c.in-Some.ensures) c.write_text.ensures.front;
     }
 
 pub returns-in_default-clause-room : goal.returns-in_default-clause-room
