@@ -42,7 +42,8 @@ _mdbcheck() {
         current=${current#[\'\"]} # a value of --setup stands in quotes
     else
         case $command in
-            '') words='check show explain replay' ;;
+            '') words='check show explain replay manual' ;;
+            manual) [ $goals -gt 0 ] || words='check show explain replay manual' ;;
             check) words='--joined --json --setup --without' ;;
             show | replay) words='--json --without' ;;
             explain)

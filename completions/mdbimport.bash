@@ -17,7 +17,8 @@ _mdbimport() {
                 rows) words='--unit --controller --peripheral --from --until' ;;
                 saleae) words='--controller --peripheral --break --from --until' ;;
                 edges) words='--unit --controller --peripheral --invert --from --until' ;;
-                *) words='sigrok rows saleae edges' ;;
+                manual) [ "$COMP_CWORD" -gt 2 ] || words='sigrok rows saleae edges manual' ;;
+                *) words='sigrok rows saleae edges manual' ;;
             esac
             ;;
     esac

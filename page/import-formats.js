@@ -108,14 +108,16 @@ const isTime = (words) => /^[0-9]{1,15}$/.test(words);
 // What mdbimport says of options that it refuses, or null. All are words, as they stand in fields.
 function optionsFault({unit, controller, peripheral, from, until, length}) {
   const isGiven = (words) => words !== undefined && words !== null;
-  if (isGiven(unit) && !(unit in UNITS)) return "--unit is one of s, ms, us and ns";
-  const names = [controller, peripheral].filter(isGiven);
-  if (names.some((it) => it === "" || LINE_LETTERS.includes(it)) || names.length === 2 && names[0] === names[1])
-    return "--controller and --peripheral have two names, none of them empty, M, S or B";
+  const wrong = (option, words, why) => `--${option} "${wordExcerpt(words)}" ${why}`;
+  if (isGiven(unit) && !(unit in UNITS)) return wrong("unit", unit, "isn't s, ms, us or ns");
+  for (const [option, name] of Object.entries({controller, peripheral}))
+    if (name === "" || LINE_LETTERS.includes(name)) return wrong(option, name, "can't name a line");
+  if (isGiven(controller) && controller === peripheral) return "--controller and --peripheral have one name";
   if (isGiven(length) && !(isTime(length) && Number(length) < MOST_LENGTH))
-    return "--break is a length in microseconds, below 1000000000";
-  if ([from, until].filter(isGiven).some((it) => !isTime(it)))
-    return "--from and --until have 1 to 15 digits, a time in microseconds";
+    return wrong("break", length, "isn't microseconds below 1000000000");
+  for (const [option, time] of Object.entries({from, until}))
+    if (isGiven(time) && !isTime(time))
+      return wrong(option, time, /^[0-9]+$/.test(time) ? "has more than 15 digits" : "isn't whole microseconds");
   return null;
 }
 

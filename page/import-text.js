@@ -243,12 +243,19 @@ function placeIn({all, from, to}, byte) {
 const wordsOf = ({all, from, to}) => new TextDecoder().decode(all.slice(from, to));
 
 // What mdbimport says it found in a record: 48 signs of it or a few more, and `..` where it goes on.
-function excerpt(record) {
-  const {all, length} = record.line;
+const excerpt = ({line: {all, length}}) => quotedFront(all, length, 48);
+
+// What it says of a value: 24 signs of it or a few more.
+function wordExcerpt(word) {
+  const bytes = new TextEncoder().encode(word);
+  return quotedFront(bytes, bytes.length, 24);
+}
+
+function quotedFront(bytes, length, most) {
   let words = "";
   for (let i = 0; i < length; i++) {
-    if (words.length >= 48) return words + "..";
-    words += escaped(all[i]);
+    if (words.length >= most) return words + "..";
+    words += escaped(bytes[i]);
   }
   return words;
 }

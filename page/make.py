@@ -76,10 +76,10 @@ def rule_texts():
 
 def version():
     """The program's version."""
-    text = (HERE.parent / "crates" / "mdb_check" / "src" / "command_line.rt").read_text()
+    text = (HERE.parent / "crates" / "mdbcheck_run" / "src" / "command_line.rt").read_text()
     found = re.search(r'const VERSION: &str = "([^"]+)";', text)
     if not found:
-        sys.exit("crates/mdb_check/src/command_line.rt: no VERSION")
+        sys.exit("crates/mdbcheck_run/src/command_line.rt: no VERSION")
     return found[1]
 
 

@@ -1272,7 +1272,7 @@ def read_words(words: list[str]) -> set[str]:
         if word == "--without":
             value = next(rest, "")
             if value.startswith("-"):  # that is another option, so this one has no value
-                raise NoAnswer("one of the values isn't valid for an argument")
+                raise NoAnswer("--without has no value")
             values.append(value)
         elif word.startswith("--without="):
             values.append(word[len("--without="):])
@@ -1281,9 +1281,10 @@ def read_words(words: list[str]) -> set[str]:
         elif word == "--" and next(rest, None) is None:
             break
         else:
-            raise NoAnswer("unexpected argument found")
-    if any(value not in DEVICES for value in values):
-        raise NoAnswer("one of the values isn't valid for an argument")
+            raise NoAnswer(f"unknown word {word!r}")
+    for value in values:
+        if value not in DEVICES:
+            raise NoAnswer(f"--without {value!r} isn't changer, bill, cashless or cashless-2")
     return set(values)
 
 

@@ -73,21 +73,24 @@ mapped : (make : Text → Rule) (names : List (Bor Text))
 mapped make [] = refl
 mapped make (name ∷ rest) = ap (λ rules. make name.now ∷ rules) (mapped make rest)
 
-pub row_is : (row : CommandRow) (bare with_options with_flags made : App)
+pub row_is : (row : CommandRow) (bare with_options with_flags with_words made : App)
     → bare ≡ new_app row.name.now
     → with_options ≡ with_rules bare (map (λ name. option_rule name.now) row.options.now)
     → with_flags ≡ with_rules with_options (map (λ name. flag_rule name.now) row.flags.now)
-    → made ≡ with_rules with_flags (map (λ name. word_rule name.now) row.words.now)
+    → with_words ≡ with_rules with_flags (map (λ name. word_rule true name.now) row.words.now)
+    → made ≡ with_rules with_words (map (λ name. word_rule false name.now) row.further.now)
     → made ≡ leaf_app (command_shape (command_of row))
-row_is row bare with_options with_flags made is_bare of_options of_flags of_words =
+row_is row bare with_options with_flags with_words made is_bare of_options of_flags of_words
+    of_further =
     let options = map (λ name. option_rule name.now) row.options.now in
     let flags = map (λ name. flag_rule name.now) row.flags.now in
-    let words = map (λ name. word_rule name.now) row.words.now in
-    of_words ∙ ap (λ a. with_rules a words)
-    (of_flags ∙ ap (λ a. with_rules a flags) (of_options ∙ ap (λ a. with_rules a options) is_bare))
+    let words = map (λ name. word_rule true name.now) row.words.now in
+    let further = map (λ name. word_rule false name.now) row.further.now in
+    of_further ∙ ap (λ a. with_rules a further) (of_words ∙ ap (λ a. with_rules a words)
+    (of_flags ∙ ap (λ a. with_rules a flags) (of_options ∙ ap (λ a. with_rules a options) is_bare)))
     ∙ (λ i. leaf_app (record (new_shape row.name.now) {
-      rules = (mapped option_rule row.options.now i ++ mapped flag_rule row.flags.now i) ++ mapped
-          word_rule row.words.now i;
+      rules = ((mapped option_rule row.options.now i ++ mapped flag_rule row.flags.now i) ++ mapped
+          (word_rule true) row.words.now i) ++ mapped (word_rule false) row.further.now i;
     }))
 
 -- ---- the program with its commands

@@ -1,9 +1,11 @@
 pub mod Refusals
 pub mod LongWords
 pub mod Found
+pub mod Steps
 pub mod Walks
 pub mod Rules
 pub mod Programs
 pub mod Simple
 pub mod Reading
 pub mod Building
+pub mod Manuals

@@ -1,8 +1,7 @@
 -- What `clap` makes of a program's commands.
-use Rattle.std.proofs.Common.{arith, ap, fold, refl, subst, sym, true, false, true≢false, ◌∙◌}
-use Rattle.std.proofs.Common.{◌≡◌, ◌≢◌, ◌⊎◌, ◌&&◌, ◌||◌, ◌+◌, ◌≤◌, ◌<◌, ℕ, Bool, List, [], ◌∷◌}
-use Rattle.std.proofs.Common.{◌++◌, codes, inl, inr, length, map, min, Option, Some, None}
-use Rattle.std.proofs.Common.{unwrap_or}
+use Rattle.std.proofs.Common.{arith, ap, fold, refl, subst, sym, true, false, true≢false, ◌∙◌, ◌≡◌}
+use Rattle.std.proofs.Common.{◌≢◌, ◌⊎◌, ◌&&◌, ◌||◌, ◌+◌, ◌≤◌, ◌<◌, ℕ, Bool, List, [], ◌∷◌, ◌++◌}
+use Rattle.std.proofs.Common.{codes, inl, inr, length, map, min, Option, Some, None, unwrap_or}
 use Rattle.std.specs.Prelude.{find, is_some, if◌then◌else◌}
 use Rattle.std.specs.List.{list_all}
 use Rattle.std.specs.Option.{option_map, option_map_or}
@@ -12,40 +11,36 @@ use Rattle.std.proofs.lemmas.Bool.{cases_Bool, ltb-true}
 use Rattle.std.proofs.lemmas.List.{append_assoc}
 use Rattle.std.proofs.lemmas.Slice.Eq.{bytes_eq-Decides}
 use Rattle.clap.specs.Words.{App, Kinds, Row, Rule, Shape, Text, built, fault_of, subcommand_of}
-use Rattle.clap.specs.Faults.{check_fault, defaults_fault, entered_fault}
-use Rattle.clap.specs.Faults.{level_fault, long_fault, other_fault}
-use Rattle.clap.specs.Faults.{settle_fault, short_fault, step_fault, turn_fault, walk_fault}
+use Rattle.clap.specs.Faults.{check_fault, defaults_fault, entered_fault, level_fault, long_fault}
+use Rattle.clap.specs.Faults.{other_fault, settle_fault, short_fault, step_fault, turn_fault}
+use Rattle.clap.specs.Faults.{walk_fault}
 use Rattle.clap.specs.Kinds.{or_else}
 use Rattle.clap.specs.declared.error.kind.ErrorKind.TheVariants as kind
 use Rattle.clap.specs.Lexer.{usize_max}
 use Rattle.clap.specs.Simple.{built_leaf, entered, filled, filled_from, help_rule, help_shape}
-use Rattle.clap.specs.Simple.{inherited, label_of}
-use Rattle.clap.specs.Simple.{marked_built, names_of, new_shape, rows_at, version_rule, with_index}
-use Rattle.clap.specs.Simple.{with_leaf_noted}
-use Rattle.clap.specs.Walk.{Held, Step, Walk, after_step, answers_to, finished, has_long}
-use Rattle.clap.specs.Walk.{has_short, idle, nothing_held, rows_after, settled}
-use Rattle.clap.specs.Walk.{subcommand_met, subcommand_or_other, walk, walk_from}
-use Rattle.clap.specs.Walk.{walked}
+use Rattle.clap.specs.Simple.{inherited, label_of, marked_built, names_of, new_shape, rows_at}
+use Rattle.clap.specs.Simple.{version_rule, with_index, with_leaf_noted}
+use Rattle.clap.specs.Walk.{Held, Step, Walk, after_step, answers_to, finished, has_long, has_short}
+use Rattle.clap.specs.Walk.{idle, nothing_held, rows_after, settled, subcommand_met}
+use Rattle.clap.specs.Walk.{subcommand_or_other, walk, walk_from, walked}
 use Rattle.clap.proofs.FaultLemmas.{stopped_fault}
 use Rattle.clap.proofs.OnLiterals.{clap_on_literals}
 use Rattle.clap.proofs.WalkLemmas.{both, walk_stopped}
 use Rattle.command_words.specs.Apps.{app_with, command_shape, flag_rule, option_rule, word_rule}
-use Rattle.command_words.specs.Grammar.{Command, IsOneOf}
-use Rattle.command_words.specs.Grammar.{are_readable, command_named}
+use Rattle.command_words.specs.Grammar.{Command, IsOneOf, are_readable, command_named}
 use Rattle.command_words.specs.Grammar.{is_readable_command}
 use Rattle.command_words.proofs.Refusals.{TakesNothing, after_dashes, both_pass, is_dashes, is_met}
 use Rattle.command_words.proofs.Refusals.{none_or_one, one_of_both, one_of_more, without_aliases}
-use Rattle.command_words.proofs.Rules.{help, not_true}
-use Rattle.command_words.proofs.Rules.{option_rules, parts_of}
-use Rattle.command_words.proofs.Rules.{words_from}
-use Rattle.command_words.proofs.Walks.{built_flag, built_option}
+use Rattle.command_words.proofs.Rules.{help, not_true, both_kinds, option_rules, parts_of}
+use Rattle.command_words.proofs.Rules.{words_from, words_of}
+use Rattle.command_words.proofs.Steps.{built_flag, built_option, built_word}
 
 -- ---- a command as it is built
 
 -- its settings, and what it knows
 abbrev pub own : Command → Shape
 own c = record (new_shape c.name) {
-  rules = option_rules c.options c.flags c.words;
+  rules = option_rules c.options c.flags (words_of c);
   disable_help_subcommand = true;
   is_built = true;
 }
@@ -54,17 +49,32 @@ own c = record (new_shape c.name) {
 abbrev pub Level : Command → List Text → Kinds
 Level c rest = level_fault (own c) [] nothing_held rest false []
 
-few_words : (c : Command) → is_readable_command c ≡ true → length c.words < usize_max
-few_words c e = ltb-true (length c.words) usize_max (parts_of c e).few
+few_words : (c : Command) → is_readable_command c ≡ true → length (c.words ++ c.further) < usize_max
+few_words c e = ltb-true (length (c.words ++ c.further)) usize_max (parts_of c e).few
 
-filled_words : (p : ℕ) (words : List Text) → p + length words ≤ usize_max
-    → filled_from p (map word_rule words ++ help_rule ∷ []) ≡ words_from p words
-filled_words p [] few = refl
-filled_words p (first ∷ rest) few =
+-- the rules of words, as they are before they are built
+abbrev word_rules : List Text → List Text → List Rule
+word_rules words further =
+    map (word_rule true) words ++ (map (word_rule false) further ++ help_rule ∷ [])
+
+-- one word more
+filled_more : (must : Bool) (p : ℕ) (name : Text) (rules built : List Rule) → p + 1 ≤ usize_max
+    → filled_from (p + 1) rules ≡ built
+    → filled_from p (word_rule must name ∷ rules) ≡ built_word must p name ∷ built
+filled_more must p name rules built few are =
     let after : min (p + 1) usize_max ≡ p + 1 = min-eq_left (omega (arith, few)) in
-    ap (λ rules. with_index p (filled (word_rule first)) ∷ rules)
-    (ap (λ q. filled_from q (map word_rule rest ++ help_rule ∷ [])) after
-    ∙ filled_words (p + 1) rest (omega (arith, few)))
+    ap (λ all. built_word must p name ∷ all) (ap (λ q. filled_from q rules) after ∙ are)
+
+filled_words : (p : ℕ) (words further : List Text) → p + length (words ++ further) ≤ usize_max
+    → filled_from p (word_rules words further) ≡ words_from p (both_kinds words further)
+filled_words p [] [] few = refl
+filled_words p [] (first ∷ rest) few =
+    filled_more false p first (word_rules [] rest) (words_from (p + 1) (both_kinds [] rest))
+    (omega (arith, few)) (filled_words (p + 1) [] rest (omega (arith, few)))
+filled_words p (first ∷ rest) further few =
+    filled_more true p first (word_rules rest further)
+    (words_from (p + 1) (both_kinds rest further)) (omega (arith, few))
+    (filled_words (p + 1) rest further (omega (arith, few)))
 
 filled_flags : (flags : List Text) (more : List Rule) → filled_from 1 (map flag_rule flags ++ more)
     ≡ map built_flag flags ++ filled_from 1 more
@@ -79,18 +89,22 @@ filled_options (first ∷ rest) more =
 
 filled_rules : (c : Command) → is_readable_command c ≡ true
     → filled_from 1 ((command_shape c).rules ++ help_rule ∷ []) ≡ option_rules c.options c.flags
-    c.words
+    (words_of c)
 filled_rules c readable =
     let options = map option_rule c.options in
     let flags = map flag_rule c.flags in
-    let words = map word_rule c.words in
-    let few : length c.words < usize_max = few_words c readable in
-    ap (filled_from 1) (append_assoc (options ++ flags) words (help_rule ∷ [])
-    ∙ append_assoc options flags (words ++ help_rule ∷ []))
-    ∙ filled_options c.options (flags ++ (words ++ help_rule ∷ []))
+    let words = map (word_rule true) c.words in
+    let further = map (word_rule false) c.further in
+    let last = word_rules c.words c.further in
+    let few : length (c.words ++ c.further) < usize_max = few_words c readable in
+    ap (filled_from 1) (append_assoc ((options ++ flags) ++ words) further (help_rule ∷ [])
+    ∙ append_assoc (options ++ flags) words (further ++ help_rule ∷ [])
+    ∙ append_assoc options flags last)
+    ∙ filled_options c.options (flags ++ last)
     ∙ ap (λ rules. map built_option c.options ++ rules)
-    (filled_flags c.flags (words ++ help_rule ∷ [])
-    ∙ ap (λ rules. map built_flag c.flags ++ rules) (filled_words 1 c.words (omega (arith, few))))
+    (filled_flags c.flags last
+    ∙ ap (λ rules. map built_flag c.flags ++ rules)
+    (filled_words 1 c.words c.further (omega (arith, few))))
 
 -- ---- commands by their names
 

@@ -1,7 +1,7 @@
 -- What was read of the words of a command line, by the matches of `clap`.
 use Rattle.std.proofs.Common.{Global, ap, ap₂, refl, subst, sym, true, false, true≢false, ◌∙◌, ◌≡◌}
-use Rattle.std.proofs.Common.{◌⊎◌, ◌||◌, not, Bool, List, [], ◌∷◌, inl, inr}
-use Rattle.std.proofs.Common.{Option, Some, None, option_map, unwrap_or}
+use Rattle.std.proofs.Common.{◌⊎◌, ◌||◌, ◌++◌, ◌≤◌, ◌<◌, arith, length, not, suc, Bool, List, []}
+use Rattle.std.proofs.Common.{◌∷◌, inl, inr, Option, Some, None, option_map, unwrap_or}
 use Rattle.std.specs.Prelude.{Box, drop, slice_get}
 use Rattle.std.specs.Box.{box_value}
 use Rattle.std.specs.Str.{bytes_eq}
@@ -27,14 +27,26 @@ use Rattle.command_words.specs.Named.{HasUses, IsReadFrom, NameACommand, name_in
 use Rattle.command_words.specs.Named.{values_in}
 use Rattle.command_words.specs.declared.named.Named.{Named}
 use Rattle.command_words.proofs.Found.{found_after, given_found, row_found, values_found, values_of}
-use Rattle.command_words.proofs.Programs.{Level, app, entered_by, in_command, is_named}
-use Rattle.command_words.proofs.Programs.{is_one, named_so, names_in, own, readable_named}
-use Rattle.command_words.proofs.Programs.{same_some, subcommand_is, whole_fault}
-use Rattle.command_words.proofs.Rules.{has_options, has_words, is_wanting, wanting_fault}
+use Rattle.command_words.proofs.Programs.{Level, app, entered_by, in_command, is_named, is_one}
+use Rattle.command_words.proofs.Programs.{named_so, names_in, own, readable_named, same_some}
+use Rattle.command_words.proofs.Programs.{subcommand_is, whole_fault}
+use Rattle.command_words.proofs.Rules.{has_options, has_words, is_wanting, new_parts, one_of_either}
+use Rattle.command_words.proofs.Rules.{parts_of, wanting_fault}
 use Rattle.command_words.proofs.Simple.{is_free_here, is_simple_here}
 use Rattle.command_words.proofs.Walks.{Finished, NoneOf, finds_uses, takes_uses}
 
 -- ---- words that are wanting
+
+-- these names are the last of all
+abbrev StandLast : List Text → List Text → Type 0
+StandLast left all = (before : List Text) × (all ≡ before ++ left)
+
+all_last : (all : List Text) → StandLast all all
+all_last all = ([], refl)
+
+one_before : (first : Text) (left all : List Text) → StandLast left all
+    → StandLast left (first ∷ all)
+one_before first left all (before, are) = (first ∷ before, ap (λ names. first ∷ names) are)
 
 -- a name is wanting, or one of these uses is its
 abbrev IsMet : List Text → Text → Bool → Type 0
@@ -88,28 +100,63 @@ module _ (options flags : List Text) where
       or_earlier wanting name (bytes_eq other name) (is_used name more)
       (word_met wanting next rest more are name is)
 
-  -- what is wanting at the end was so from the beginning
-  placed_before : (wanting next words : List Text) (uses : Uses) → ArePlaced wanting next words uses
-      → (name : Text) → IsOneOf name wanting → IsOneOf name next
-  placed_before wanting next words uses no_more name is = is
-  placed_before wanting next words uses (one_more {next = fewer} {words = rest} {uses = more} are)
-      name is = inr (placed_before wanting fewer rest more are name is)
+  -- what is wanting at the end stood last in the beginning
+  pub placed_last : (wanting next words : List Text) (uses : Uses)
+      → ArePlaced wanting next words uses → StandLast wanting next
+  placed_last wanting next words uses no_more = all_last wanting
+  placed_last wanting next words uses
+      (one_more {name = first} {next = fewer} {words = rest} {uses = more} are) =
+      one_before first wanting fewer (placed_last wanting fewer rest more are)
 
-  wanting_before : (wanting next words : List Text) (uses : Uses)
-      → AreUses options flags wanting next words uses → (name : Text) → IsOneOf name wanting
-      → IsOneOf name next
-  wanting_before wanting next words uses named.end name is = is
-  wanting_before wanting next words uses (named.dashes {words = rest} are) name is =
-      placed_before wanting next rest uses are name is
-  wanting_before wanting next words uses
-      (named.alone {next = fewer} {more = rest} {uses = more} plain are) name is = inr
-      (wanting_before wanting fewer rest more are name is)
-  wanting_before wanting next words uses (named.apart {more = rest} {uses = more} known plain are)
-      name is = wanting_before wanting next rest more are name is
-  wanting_before wanting next words uses (named.in_one {more = rest} {uses = more} known are) name
-      is = wanting_before wanting next rest more are name is
-  wanting_before wanting next words uses (named.flag {more = rest} {uses = more} known are) name is
-      = wanting_before wanting next rest more are name is
+  pub wanting_last : (wanting next words : List Text) (uses : Uses)
+      → AreUses options flags wanting next words uses → StandLast wanting next
+  wanting_last wanting next words uses named.end = all_last wanting
+  wanting_last wanting next words uses (named.dashes {words = rest} are) =
+      placed_last wanting next rest uses are
+  wanting_last wanting next words uses
+      (named.alone {name = first} {next = fewer} {more = rest} {uses = more} plain are) =
+      one_before first wanting fewer (wanting_last wanting fewer rest more are)
+  wanting_last wanting next words uses (named.apart {more = rest} {uses = more} known plain are) =
+      wanting_last wanting next rest more are
+  wanting_last wanting next words uses (named.in_one {more = rest} {uses = more} known are) =
+      wanting_last wanting next rest more are
+  wanting_last wanting next words uses (named.flag {more = rest} {uses = more} known are) =
+      wanting_last wanting next rest more are
+
+-- What is left of words and further ones: a word that must be there and all after it, or further
+-- ones alone.
+data IsLeft (words further left : List Text) : Type 0 where
+  word_left : {name : Text} {more : List Text} → left ≡ name ∷ more → IsOneOf name words
+      → length further < length left → IsLeft words further left
+  further_left : StandLast left further → IsLeft words further left
+
+is_left : (words further left : List Text) → StandLast left (words ++ further)
+    → IsLeft words further left
+is_left [] further left last = further_left last
+is_left (first ∷ rest) further left ([], are) =
+    word_left (sym are) (inl refl) (subst (λ all. length further < length all) are
+    (within rest further))
+  where
+    within : (words further : List Text) → length further < suc (length (words ++ further))
+    within [] further = omega arith
+    within (first ∷ rest) further = omega (arith, within rest further)
+is_left (first ∷ rest) further left (other ∷ before, are) =
+    with_first (is_left rest further left (before, ap (drop 1) are))
+  where
+    with_first : IsLeft rest further left → IsLeft (first ∷ rest) further left
+    with_first (word_left begins is many) = word_left begins (inr is) many
+    with_first (further_left last) = further_left last
+
+-- no more are left than these, and each is one of them
+last_few : (left all : List Text) → StandLast left all → length left ≤ length all
+last_few left all ([], are) = subst (λ some. length left ≤ length some) (sym are) (omega arith)
+last_few left all (first ∷ before, are) = subst (λ some. length left ≤ length some) (sym are)
+    (omega (arith, last_few left (before ++ left) (before, refl)))
+
+last_among : (left all : List Text) → StandLast left all → (name : Text) → IsOneOf name left
+    → IsOneOf name all
+last_among left all (before, are) name is =
+    subst (IsOneOf name) (sym are) (one_of_either name before left (inr is))
 
 -- where each word is given, none is wanting; where one isn't, it is
 none_wanting : (rows : List Row) (words : List Text)
@@ -136,59 +183,79 @@ one_wanting rows (first ∷ rest) name (inr is) missing =
 -- ---- a command, and its words
 
 module _ (c : Command) (readable : is_readable_command c ≡ true) where
+  -- its words that stand alone
+  abbrev alone : List Text
+  alone = c.words ++ c.further
+
   -- what uses of all that it needs come to
   pub record Finds (rest : List Text) (uses : Uses) : Type 0 where
     pub no_fault : Level c rest ≡ []
     pub found : rows_after (own c).rules [] rest ≡ found_after uses []
 
   finished : (wanting rest : List Text) (uses : Uses)
-      → AreUses c.options c.flags wanting c.words rest uses
+      → AreUses c.options c.flags wanting alone rest uses
       → Finished (own c) c.options c.flags (has_options (own c) c readable) wanting rest uses
   finished wanting rest uses are =
-      finds_uses (own c) c.options c.flags (has_options (own c) c readable) wanting c.words rest
+      finds_uses (own c) c.options c.flags (has_options (own c) c readable) wanting alone rest
       uses (has_words (own c) c readable) are
 
-  finds : (rest : List Text) (uses : Uses) → AreUses c.options c.flags [] c.words rest uses
-      → Finds rest uses
-  finds rest uses are =
-      let done = finished [] rest uses are in
+  finds : (rest left : List Text) (uses : Uses) → length left ≤ length c.further
+      → AreUses c.options c.flags left alone rest uses → Finds rest uses
+  finds rest left uses few are =
+      let done = finished left rest uses are in
+      let last = few_last (is_left c.words c.further left
+      (wanting_last c.options c.flags left alone rest uses are)) in
       let given : (name : Text) → IsOneOf name c.words
       → is_given name (found_after uses []) ≡ true = λ name is.
       given_found name uses []
-      ∙ used_so name uses (word_met c.options c.flags [] c.words rest uses are name is) in
+      ∙ used_so name uses is last (word_met c.options c.flags left alone rest uses are name
+      (one_of_either name c.words c.further (inl is))) in
       record {
         no_fault = done.fault ∙ wanting_fault (own c) c (found_after uses [])
             ∙ ap (check_kinds false false) (none_wanting (found_after uses []) c.words given);
         found = done.found;
       }
     where
-      used_so : (name : Text) (uses : Uses) → IsMet [] name (is_used name uses)
-          → is_used name uses ≡ true
-      used_so name uses (inl none) = absurd none
-      used_so name uses (inr used) = used
+      few_last : IsLeft c.words c.further left → StandLast left c.further
+      few_last (word_left begins is many) = absurd (omega (arith, few, many))
+      few_last (further_left last) = last
+
+      used_so : (name : Text) (uses : Uses) → IsOneOf name c.words → StandLast left c.further
+          → IsMet left name (is_used name uses) → is_used name uses ≡ true
+      used_so name uses is last (inl wanting) =
+          absurd (new_parts c.words c.further (c.options ++ c.flags)
+          (parts_of c readable).new_words name is (last_among left c.further last name wanting))
+      used_so name uses is last (inr used) = used
 
   -- words without fault are uses of all that it needs
   pub record Takes (rest : List Text) : Type 0 where
     pub uses : Uses
-    pub are : AreUses c.options c.flags [] c.words rest uses
+    pub left : List Text
+    pub few : length left ≤ length c.further
+    pub are : AreUses c.options c.flags left alone rest uses
 
   takes : (rest : List Text) → Level c rest ≡ [] → Takes rest
   takes rest e =
-      let of = takes_uses (own c) c.options c.flags (has_options (own c) c readable) c.words rest
+      let of = takes_uses (own c) c.options c.flags (has_options (own c) c readable) alone rest
       (has_words (own c) c readable) e in
-      let wanting_here = sym (wanting_fault (own c) c (found_after of.uses [])) ∙ of.given in
-      none_left rest of.uses of.wanting of.are of.finished.free wanting_here
+      record {
+        uses = of.uses;
+        left = of.wanting;
+        few = none_left of.uses of.wanting of.finished.free
+            (sym (wanting_fault (own c) c (found_after of.uses [])) ∙ of.given)
+            (is_left c.words c.further of.wanting
+            (wanting_last c.options c.flags of.wanting alone rest of.uses of.are));
+        are = of.are;
+      }
     where
-      none_left : (rest : List Text) (uses : Uses) (wanting : List Text)
-          → AreUses c.options c.flags wanting c.words rest uses
-          → NoneOf wanting (found_after uses [])
-          → check_kinds false false (is_wanting (found_after uses []) c.words) ≡ [] → Takes rest
-      none_left rest uses [] are free none = record { uses = uses; are = are }
-      none_left rest uses (name ∷ more) are free none =
-          let is = wanting_before c.options c.flags (name ∷ more) c.words rest uses are name
-          (inl refl) in
+      none_left : (uses : Uses) (left : List Text) → NoneOf left (found_after uses [])
+          → check_kinds false false (is_wanting (found_after uses []) c.words) ≡ []
+          → IsLeft c.words c.further left → length left ≤ length c.further
+      none_left uses left free none (further_left last) = last_few left c.further last
+      none_left uses left free none (word_left {name = name} {more = more} begins is many) =
           let missing : is_given name (found_after uses []) ≡ false = given_found name uses []
-          ∙ sym (row_found name uses []) ∙ free name (inl refl) in
+          ∙ sym (row_found name uses [])
+          ∙ free name (subst (IsOneOf name) (sym begins) (inl refl)) in
           absurd (cc (sym (ap (check_kinds false false)
           (one_wanting (found_after uses []) c.words name is missing)) ∙ none))
 
@@ -211,7 +278,7 @@ name_of_rows m = go (out-ArgMatches m).subcommand
     go None = refl
     go (Some b) = refl
 
--- the second of the words, and those behind it
+-- the second of the words, and those after it
 same_name : (words : List Text) (a b program other : Text) (rest more : List Text)
     → words ≡ program ∷ a ∷ rest → words ≡ other ∷ b ∷ more → a ≡ b
 same_name words a b program other rest more are too =
@@ -238,8 +305,8 @@ module _ (program : Text) (first : Command) (others : List Command)
   no_fault words c uses knows names =
       ap (fault_of (app program first others readable)) names.are
       ∙ whole_fault program first others readable names.program c.name c knows names.rest
-      ∙ (finds c (readable_named program first others readable c.name c knows) names.rest uses
-      names.uses_are).no_fault
+      ∙ (finds c (readable_named program first others readable c.name c knows) names.rest
+      names.left uses names.few names.uses_are).no_fault
 
   -- so they are refused for want of memory, if at all
   pub wants_memory : (words : List Text) (error : Error)
@@ -271,9 +338,10 @@ module _ (program : Text) (first : Command) (others : List Command)
           let rests = same_rest words c.name c.name names.program too.program names.rest too.rest
           names.are too.are in
           let readable_c = readable_named program first others readable c.name c knows in
-          let of = finds c readable_c names.rest uses names.uses_are in
-          let of_too = finds c readable_c names.rest also
-          (subst (λ ws. AreUses c.options c.flags [] c.words ws also) (sym rests) too.uses_are) in
+          let of = finds c readable_c names.rest names.left uses names.few names.uses_are in
+          let of_too = finds c readable_c names.rest too.left also too.few
+          (subst (λ ws. AreUses c.options c.flags too.left (c.words ++ c.further) ws also)
+          (sym rests) too.uses_are) in
           let rows : found_after uses [] ≡ found_after also [] = sym of.found ∙ of_too.found in
           record {
             values = λ name. sym (values_found name uses []) ∙ ap (values_of name) rows
@@ -293,7 +361,7 @@ module _ (program : Text) (first : Command) (others : List Command)
       let readable_c = readable_named program first others readable name c known in
       let in_it = in_command program first others readable name c known entered.rest in
       let of = takes c readable_c entered.rest (sym in_it.fault ∙ entered.taken) in
-      let of_uses = finds c readable_c entered.rest of.uses of.are in
+      let of_uses = finds c readable_c entered.rest of.left of.uses of.few of.are in
       let sub : subcommand_rows_of named.matches
       ≡ Some (c.name, rows_after (own c).rules [] entered.rest) =
       (has (is_simple_here program first others readable)).1
@@ -306,8 +374,14 @@ module _ (program : Text) (first : Command) (others : List Command)
       let are : words ≡ entered.first_word ∷ c.name ∷ entered.rest = entered.are
       ∙ ap (λ n. entered.first_word ∷ n ∷ entered.rest) (sym c_name) in
       let knows : Knows commands c = ap (λ n. command_named n commands) c_name ∙ known in
-      let names : NameCommand words c of.uses = record
-      { program = entered.first_word; rest = entered.rest; are = are; uses_are = of.are } in
+      let names : NameCommand words c of.uses = record {
+        program = entered.first_word;
+        rest = entered.rest;
+        left = of.left;
+        are = are;
+        few = of.few;
+        uses_are = of.are;
+      } in
       record {
         command = c;
         uses = of.uses;
@@ -321,8 +395,9 @@ module _ (program : Text) (first : Command) (others : List Command)
             let too_c = subst (λ k. NameCommand words k also) same too in
             let rests = same_rest words c.name c.name too_c.program entered.first_word too_c.rest
             entered.rest too_c.are are in
-            let of_also = finds c readable_c entered.rest also
-            (subst (λ ws. AreUses c.options c.flags [] c.words ws also) rests too_c.uses_are) in
+            let of_also = finds c readable_c entered.rest too_c.left also too_c.few
+            (subst (λ ws. AreUses c.options c.flags too_c.left (c.words ++ c.further) ws also)
+            rests too_c.uses_are) in
             (same, has_uses named also (rows ∙ of_also.found));
       }
 

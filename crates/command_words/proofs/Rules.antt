@@ -25,21 +25,41 @@ use Rattle.clap.specs.Walk.{arg_by_short, has_long, has_row, has_short, with_def
 use Rattle.command_words.specs.Grammar.{Command, IsOneOf, are_new, is_among, is_name}
 use Rattle.command_words.specs.Grammar.{is_readable_command}
 use Rattle.command_words.proofs.Refusals.{both_pass}
-use Rattle.command_words.proofs.Walks.{HasOptions, HasWords, built_flag, built_option, built_word}
+use Rattle.command_words.proofs.Steps.{built_flag, built_option, built_word}
+use Rattle.command_words.proofs.Walks.{HasOptions, HasWords}
 
 -- the flag of each command that asks for help, as it is built
 abbrev pub help : Rule
 help = with_index 1 (filled help_rule)
 
--- the words, from this place on
-abbrev pub words_from : ℕ → List Text → List Rule
-words_from p [] = help ∷ []
-words_from p (name ∷ rest) = built_word p name ∷ words_from (p + 1) rest
+-- words that stand alone, in their order: whether each must be there, and what it is called
+abbrev pub Words : Type 0
+Words = List (Bool × Text)
 
-abbrev pub flag_rules : List Text → List Text → List Rule
+-- words that must be there, and further ones after them
+abbrev pub both_kinds : List Text → List Text → Words
+both_kinds words further = map (λ name. (true, name)) words ++ map (λ name. (false, name)) further
+
+abbrev pub words_of : Command → Words
+words_of c = both_kinds c.words c.further
+
+abbrev pub called : Words → List Text
+called words = map (λ word. word.1) words
+
+called_both : (words further : List Text) → called (both_kinds words further) ≡ words ++ further
+called_both [] [] = refl
+called_both [] (first ∷ rest) = ap (λ names. first ∷ names) (called_both [] rest)
+called_both (first ∷ rest) further = ap (λ names. first ∷ names) (called_both rest further)
+
+-- the words, from this place on
+abbrev pub words_from : ℕ → Words → List Rule
+words_from p [] = help ∷ []
+words_from p (word ∷ rest) = built_word word.0 p word.1 ∷ words_from (p + 1) rest
+
+abbrev pub flag_rules : List Text → Words → List Rule
 flag_rules flags words = map built_flag flags ++ words_from 1 words
 
-abbrev pub option_rules : List Text → List Text → List Text → List Rule
+abbrev pub option_rules : List Text → List Text → Words → List Rule
 option_rules names flags words = map built_option names ++ flag_rules flags words
 
 -- ---- names that differ
@@ -92,6 +112,22 @@ new_apart (first ∷ rest) others new name (inr is) other among =
     (both (not (is_among first rest)) _ (both (not (is_among first others)) _ new).1).1 name is
     other among
 
+-- and none of the first of them has the name of one of the last
+pub new_parts : (some more others : List Text) → are_new (some ++ more) others ≡ true
+    → (name : Text) → IsOneOf name some → IsOneOf name more → ⊥
+new_parts [] more others new name is too = is
+new_parts (first ∷ rest) more others new name (inl same) too =
+    let parts = both (not (is_among first others)) _ new in
+    let none = not_true (is_among first (rest ++ more))
+    (both (not (is_among first (rest ++ more))) _ parts.1).0 in
+    let differs = none_among first (rest ++ more) none name
+    (one_of_either name rest more (inr too)) in
+    absurd (true≢false (sym ((bytes_eq-Decides name first).1 (sym same)) ∙ differs))
+new_parts (first ∷ rest) more others new name (inr is) too =
+    new_parts rest more others
+    (both (not (is_among first (rest ++ more))) _ (both (not (is_among first others)) _ new).1).1
+    name is too
+
 -- ---- how a name is spelled
 
 lacks : (name : Text) → has_byte 61 name ≡ false → Lacks 61 name
@@ -123,7 +159,7 @@ each_is_name (first ∷ rest) all name (inr is) =
 
 -- ---- what is found by a name
 
-id_known : (names flags words : List Text) (name : Text) → IsOneOf name names
+id_known : (names flags : List Text) (words : Words) (name : Text) → IsOneOf name names
     → arg_by_id (option_rules names flags words) name ≡ Some (built_option name)
 id_known [] flags words name known = absurd known
 id_known (first ∷ rest) flags words name known = elim (cases_Bool (bytes_eq first name)) [
@@ -141,7 +177,7 @@ id_known (first ∷ rest) flags words name known = elim (cases_Bool (bytes_eq fi
 abbrev LongIf : Rule → List Rule → Text → Bool → Option Rule
 LongIf first rest name b = if b || false then Some first else arg_by_long rest name
 
-long_known : (names flags words : List Text) (name : Text) → IsOneOf name names
+long_known : (names flags : List Text) (words : Words) (name : Text) → IsOneOf name names
     → arg_by_long (option_rules names flags words) name ≡ Some (built_option name)
 long_known [] flags words name known = absurd known
 long_known (first ∷ rest) flags words name known = elim (cases_Bool (bytes_eq first name)) [
@@ -158,7 +194,7 @@ long_known (first ∷ rest) flags words name known = elim (cases_Bool (bytes_eq 
   ]
 ]
 
-flag_known : (flags words : List Text) (name : Text) → IsOneOf name flags
+flag_known : (flags : List Text) (words : Words) (name : Text) → IsOneOf name flags
     → arg_by_long (flag_rules flags words) name ≡ Some (built_flag name)
 flag_known [] words name known = absurd known
 flag_known (first ∷ rest) words name known = elim (cases_Bool (bytes_eq first name)) [
@@ -176,7 +212,7 @@ flag_known (first ∷ rest) words name known = elim (cases_Bool (bytes_eq first 
 ]
 
 -- it isn't found among the options with a value
-past_options : (names flags words : List Text) (name : Text)
+past_options : (names flags : List Text) (words : Words) (name : Text)
     → ((other : Text) → IsOneOf other names → bytes_eq other name ≡ false)
     → arg_by_long (option_rules names flags words) name ≡ arg_by_long (flag_rules flags words) name
 past_options [] flags words name none = refl
@@ -188,13 +224,13 @@ past_options (first ∷ rest) flags words name none =
 abbrev HelpIf : Text → Option Rule
 HelpIf name = if has_long help name then Some help else None
 
-past_words : (p : ℕ) (words : List Text) (name : Text)
+past_words : (p : ℕ) (words : Words) (name : Text)
     → arg_by_long (words_from p words) name ≡ HelpIf name
 past_words p [] name = refl
 past_words p (first ∷ rest) name = past_words (p + 1) rest name
 
 -- an option without a value is one of these, or `--help`, or there is none
-flag_found : (flags words : List Text) (name : Text)
+flag_found : (flags : List Text) (words : Words) (name : Text)
     → IsOneOf name flags ⊎ (arg_by_long (flag_rules flags words) name ≡ HelpIf name)
 flag_found [] words name = inr (past_words 1 words name)
 flag_found (first ∷ rest) words name = elim (cases_Bool (bytes_eq first name)) [
@@ -206,7 +242,7 @@ flag_found (first ∷ rest) words name = elim (cases_Bool (bytes_eq first name))
 ]
 
 -- and so is any option
-long_found : (names flags words : List Text) (name : Text)
+long_found : (names flags : List Text) (words : Words) (name : Text)
     → (IsOneOf name names ⊎ IsOneOf name flags) ⊎
     (arg_by_long (option_rules names flags words) name ≡ HelpIf name)
 long_found [] flags words name = elim (flag_found flags words name) [
@@ -227,12 +263,12 @@ long_found (first ∷ rest) flags words name = elim (cases_Bool (bytes_eq first 
 abbrev ShortHelpIf : ℕ → Option Rule
 ShortHelpIf c = if has_short help c then Some help else None
 
-short_words : (p : ℕ) (words : List Text) (c : ℕ)
+short_words : (p : ℕ) (words : Words) (c : ℕ)
     → arg_by_short (words_from p words) c ≡ ShortHelpIf c
 short_words p [] c = refl
 short_words p (first ∷ rest) c = short_words (p + 1) rest c
 
-short_found : (names flags words : List Text) (c : ℕ)
+short_found : (names flags : List Text) (words : Words) (c : ℕ)
     → arg_by_short (option_rules names flags words) c ≡ ShortHelpIf c
 short_found [] [] words c = short_words 1 words c
 short_found [] (first ∷ rest) words c = short_found [] rest words c
@@ -244,11 +280,12 @@ abbrev HaveNoDefaults : List Rule → Type 0
 HaveNoDefaults [] = Unit {0}
 HaveNoDefaults (a ∷ rest) = (a.defaults ≡ []) × HaveNoDefaults rest
 
-words_default : (p : ℕ) (words : List Text) → HaveNoDefaults (words_from p words)
+words_default : (p : ℕ) (words : Words) → HaveNoDefaults (words_from p words)
 words_default p [] = (refl, tt)
 words_default p (first ∷ rest) = (refl, words_default (p + 1) rest)
 
-none_default : (names flags words : List Text) → HaveNoDefaults (option_rules names flags words)
+none_default : (names flags : List Text) (words : Words)
+    → HaveNoDefaults (option_rules names flags words)
 none_default [] [] words = words_default 1 words
 none_default [] (first ∷ rest) words = (refl, none_default [] rest words)
 none_default (first ∷ rest) flags words = (refl, none_default rest flags words)
@@ -273,27 +310,37 @@ no_defaults (a ∷ rest) none rows =
       ap (λ all. fold with_default all rest) one.1 ∙ more.1,
     )
 
--- a word that isn't given is wanting
+-- a word that must be there and isn't given is wanting
 abbrev pub is_wanting : List Row → List Text → Bool
 is_wanting rows words = list_any (λ word. not (is_given word rows)) words
 
-wanting_words : (rows : List Row) (p : ℕ) (words : List Text)
+abbrev wants : List Row → Words → Bool
+wants rows words = list_any (λ word. word.0 && not (is_given word.1 rows)) words
+
+wanting_both : (rows : List Row) (words further : List Text)
+    → wants rows (both_kinds words further) ≡ is_wanting rows words
+wanting_both rows [] [] = refl
+wanting_both rows [] (first ∷ rest) = wanting_both rows [] rest
+wanting_both rows (first ∷ rest) further =
+    ap (λ b. not (is_given first rows) || b) (wanting_both rows rest further)
+
+wanting_words : (rows : List Row) (p : ℕ) (words : Words)
     → list_any (λ a. a.required && not (is_given a.id rows)) (words_from p words)
-    ≡ is_wanting rows words
+    ≡ wants rows words
 wanting_words rows p [] = refl
 wanting_words rows p (first ∷ rest) =
-    ap (λ b. not (is_given first rows) || b) (wanting_words rows (p + 1) rest)
+    ap (λ b. (first.0 && not (is_given first.1 rows)) || b) (wanting_words rows (p + 1) rest)
 
-wanting_rules : (rows : List Row) (names flags words : List Text)
+wanting_rules : (rows : List Row) (names flags : List Text) (words : Words)
     → list_any (λ a. a.required && not (is_given a.id rows)) (option_rules names flags words)
-    ≡ is_wanting rows words
+    ≡ wants rows words
 wanting_rules rows [] [] words = wanting_words rows 1 words
 wanting_rules rows [] (first ∷ rest) words = wanting_rules rows [] rest words
 wanting_rules rows (first ∷ rest) flags words = wanting_rules rows rest flags words
 
 -- ---- the words by their places
 
-past_id : (names flags words : List Text) (name : Text)
+past_id : (names flags : List Text) (words : Words) (name : Text)
     → ((other : Text) → IsOneOf other names ⊎ IsOneOf other flags → bytes_eq other name ≡ false)
     → arg_by_id (option_rules names flags words) name ≡ arg_by_id (words_from 1 words) name
 past_id [] [] words name apart = refl
@@ -309,7 +356,7 @@ past_id (first ∷ rest) flags words name apart =
     (λ other known. elim known
     [ inl is ↦ apart other (inl (inr is)) | inr is ↦ apart other (inr is) ])
 
-past_index : (names flags words : List Text) (p : ℕ)
+past_index : (names flags : List Text) (words : Words) (p : ℕ)
     → arg_by_index (option_rules names flags words) p ≡ arg_by_index (words_from 1 words) p
 past_index [] [] words p = refl
 past_index [] (first ∷ rest) words p = past_index [] rest words p
@@ -326,49 +373,53 @@ other_test p i beyond = elim (cases_Bool (p == i)) [
 
 module _ (s : Shape) (names flags : List Text) where
   -- what is left of the words from this place on, where each place and each name leads there
-  has_words_from : (p : ℕ) (left : List Text) → p + length left ≤ usize_max
+  has_words_from : (p : ℕ) (left : Words) → p + length (called left) ≤ usize_max
       → ((i : ℕ) → p ≤ i → arg_by_index s.rules i ≡ arg_by_index (words_from p left) i)
-      → ((name : Text) → IsOneOf name left
+      → ((name : Text) → IsOneOf name (called left)
       → arg_by_id s.rules name ≡ arg_by_id (words_from p left) name)
-      → are_new left (names ++ flags) ≡ true → HasWords s names flags p left
+      → are_new (called left) (names ++ flags) ≡ true → HasWords s names flags p (called left)
   has_words_from p [] few by_index by_id new = by_index p (omega arith)
-  has_words_from p (name ∷ left) few by_index by_id new = (
+  has_words_from p ((must, name) ∷ left) few by_index by_id new = (
     record {
+      must = must;
       by_index = by_index p (omega arith)
-          ∙ ap (λ b. if b then Some (built_word p name) else arg_by_index (words_from (p + 1) left)
-          p) (self_test p);
+          ∙ ap (HereIf (arg_by_index (words_from (p + 1) left) p)) (self_test p);
       by_id = by_id name (inl refl)
-          ∙ ap (λ b. if b then Some (built_word p name) else arg_by_id (words_from (p + 1) left)
-          name) ((bytes_eq-Decides name name).1 refl);
+          ∙ ap (HereIf (arg_by_id (words_from (p + 1) left) name))
+          ((bytes_eq-Decides name name).1 refl);
       after = min-eq_left (omega (arith, few));
     },
-    λ other known. new_apart (name ∷ left) (names ++ flags) new name (inl refl) other
+    λ other known. new_apart (name ∷ called left) (names ++ flags) new name (inl refl) other
         (one_of_either other names flags known),
     apart_left,
     has_words_from (p + 1) left (omega (arith, few))
         (λ i beyond. by_index i (omega (arith, beyond))
-        ∙ ap (λ b. if b then Some (built_word p name) else arg_by_index (words_from (p + 1) left) i)
-        (other_test p i beyond))
+        ∙ ap (HereIf (arg_by_index (words_from (p + 1) left) i)) (other_test p i beyond))
         (λ other is. by_id other (inr is)
-        ∙ ap (λ b. if b then Some (built_word p name) else arg_by_id (words_from (p + 1) left)
-        other) (apart_left other is))
+        ∙ ap (HereIf (arg_by_id (words_from (p + 1) left) other)) (apart_left other is))
         parts.1,
   )
     where
-      parts : (not (is_among name left) ≡ true) × (are_new left (names ++ flags) ≡ true)
-      parts =
-          both (not (is_among name left)) _ (both (not (is_among name (names ++ flags))) _ new).1
+      rest : List Text
+      rest = called left
 
-      apart_left : (other : Text) → IsOneOf other left → bytes_eq name other ≡ false
+      HereIf : Option Rule → Bool → Option Rule
+      HereIf further b = if b then Some (built_word must p name) else further
+
+      parts : (not (is_among name rest) ≡ true) × (are_new rest (names ++ flags) ≡ true)
+      parts =
+          both (not (is_among name rest)) _ (both (not (is_among name (names ++ flags))) _ new).1
+
+      apart_left : (other : Text) → IsOneOf other rest → bytes_eq name other ≡ false
       apart_left other is =
-          unlike other name (none_among name left (not_true (is_among name left) parts.0) other is)
+          unlike other name (none_among name rest (not_true (is_among name rest) parts.0) other is)
 
 -- ---- the command with these rules
 
 abbrev pub with_built : Shape → Command → Shape
 with_built s c =
     record s {
-      rules = option_rules c.options c.flags c.words;
+      rules = option_rules c.options c.flags (words_of c);
       arg_required_else_help = false;
       subcommand_required = false;
       subcommand_negates_reqs = false;
@@ -380,8 +431,8 @@ pub record IsReadable (c : Command) : Type 0 where
   pub options : list_all is_name c.options ≡ true
   pub flags : list_all is_name c.flags ≡ true
   pub new_flags : are_new c.flags c.options ≡ true
-  pub new_words : are_new c.words (c.options ++ c.flags) ≡ true
-  pub few : nat_lt (length c.words) usize_max ≡ true
+  pub new_words : are_new (c.words ++ c.further) (c.options ++ c.flags) ≡ true
+  pub few : nat_lt (length (c.words ++ c.further)) usize_max ≡ true
 
 pub parts_of : (c : Command) → is_readable_command c ≡ true → IsReadable c
 parts_of c e =
@@ -389,7 +440,7 @@ parts_of c e =
     let options = both (list_all is_name c.options) _ own_name.1 in
     let flags = both (list_all is_name c.flags) _ options.1 in
     let new_flags = both (are_new c.flags c.options) _ flags.1 in
-    let new_words = both (are_new c.words (c.options ++ c.flags)) _ new_flags.1 in
+    let new_words = both (are_new (c.words ++ c.further) (c.options ++ c.flags)) _ new_flags.1 in
     record {
       own_name = own_name.0;
       options = options.0;
@@ -402,12 +453,12 @@ parts_of c e =
 pub has_options : (s : Shape) (c : Command) → is_readable_command c ≡ true
     → HasOptions (with_built s c) c.options c.flags
 has_options s c readable = record {
-  by_id = id_known c.options c.flags c.words;
-  by_long = long_known c.options c.flags c.words;
-  by_flag = λ name known. past_options c.options c.flags c.words name
+  by_id = id_known c.options c.flags (words_of c);
+  by_long = long_known c.options c.flags (words_of c);
+  by_flag = λ name known. past_options c.options c.flags (words_of c) name
       (λ other is. new_apart c.flags c.options parts.new_flags name known other is)
-      ∙ flag_known c.flags c.words name known;
-  others = λ name. elim (long_found c.options c.flags c.words name) [
+      ∙ flag_known c.flags (words_of c) name known;
+  others = λ name. elim (long_found c.options c.flags (words_of c) name) [
     | inl known ↦ inl known
     | inr found ↦
         inr (λ value h e. long_fails (has_long help name) value h
@@ -415,8 +466,8 @@ has_options s c readable = record {
   ];
   no_short = λ x rest h next e. short_fails (has_short help x) rest h next
       (sym (ap (λ a. short_fault rules s.args_override_self a rest h next)
-      (short_found c.options c.flags c.words x)) ∙ e);
-  no_defaults = λ rows. no_defaults rules (none_default c.options c.flags c.words) rows;
+      (short_found c.options c.flags (words_of c) x)) ∙ e);
+  no_defaults = λ rows. no_defaults rules (none_default c.options c.flags (words_of c)) rows;
   spelled = λ name known. elim known [
     | inl is ↦ name_alone name (each_is_name c.options parts.options name is)
     | inr is ↦ name_alone name (each_is_name c.flags parts.flags name is)
@@ -429,7 +480,7 @@ has_options s c readable = record {
     parts = parts_of c readable
 
     rules : List Rule
-    rules = option_rules c.options c.flags c.words
+    rules = option_rules c.options c.flags (words_of c)
 
     asks : (k : Kinds) → ◌≢◌ {A = Kinds} (or_else k (kind.DisplayHelp ∷ [])) []
     asks [] e = cc e
@@ -448,19 +499,28 @@ has_options s c readable = record {
     short_fails false rest h next e = cc e
 
 pub has_words : (s : Shape) (c : Command) → is_readable_command c ≡ true
-    → HasWords (with_built s c) c.options c.flags 1 c.words
+    → HasWords (with_built s c) c.options c.flags 1 (c.words ++ c.further)
 has_words s c readable =
     let parts = parts_of c readable in
-    let few : length c.words < usize_max = ltb-true (length c.words) usize_max parts.few in
-    has_words_from (with_built s c) c.options c.flags 1 c.words (omega (arith, few))
-    (λ i beyond. past_index c.options c.flags c.words i)
-    (λ name is. past_id c.options c.flags c.words name
-    (λ other known. new_apart c.words (c.options ++ c.flags) parts.new_words name is other
+    let words = words_of c in
+    let names = called words in
+    let same : names ≡ c.words ++ c.further = called_both c.words c.further in
+    let few : length (c.words ++ c.further) < usize_max = ltb-true
+    (length (c.words ++ c.further)) usize_max parts.few in
+    let fewer : length names < usize_max = subst (λ all. length all < usize_max) (sym same) few in
+    let new : are_new names (c.options ++ c.flags) ≡ true = ap
+    (λ all. are_new all (c.options ++ c.flags)) same ∙ parts.new_words in
+    subst (HasWords (with_built s c) c.options c.flags 1) same
+    (has_words_from (with_built s c) c.options c.flags 1 words (omega (arith, fewer))
+    (λ i beyond. past_index c.options c.flags words i)
+    (λ name is. past_id c.options c.flags words name
+    (λ other known. new_apart names (c.options ++ c.flags) new name is other
     (one_of_either other c.options c.flags known)))
-    parts.new_words
+    new)
 
 -- its last fault is that a word is wanting
 pub wanting_fault : (s : Shape) (c : Command) (rows : List Row)
     → check_fault (with_built s c) rows false ≡ check_kinds false false (is_wanting rows c.words)
 wanting_fault s c rows =
-    ap (λ b. check_kinds false false b) (wanting_rules rows c.options c.flags c.words)
+    ap (λ b. check_kinds false false b)
+    (wanting_rules rows c.options c.flags (words_of c) ∙ wanting_both rows c.words c.further)

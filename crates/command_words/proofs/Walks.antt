@@ -1,56 +1,34 @@
 -- What a command of `clap` takes that has no subcommand: options that have one value each, or none,
--- and words that stand
--- alone, of which it needs each.
+-- and words that stand alone.
 use Rattle.std.proofs.Common.{ap, ap₂, refl, subst, sym, true, false, ◌∙◌, ◌≡◌, ◌≢◌, ◌⊎◌, ◌&&◌}
-use Rattle.std.proofs.Common.{◌||◌, ◌+◌, ◌++◌, not, min, ℕ, Bool, List, [], ◌∷◌, inl, inr, length}
-use Rattle.std.proofs.Common.{codes, Option, Some, None, IfSome}
-use Rattle.std.specs.Prelude.{drop, encode_utf8, fold, if◌then◌else◌, nat_lt, slice_get}
+use Rattle.std.proofs.Common.{◌||◌, ◌+◌, ◌++◌, not, ℕ, Bool, List, [], ◌∷◌, inl, inr, length, codes}
+use Rattle.std.proofs.Common.{Option, Some, None, IfSome}
+use Rattle.std.specs.Prelude.{drop, encode_utf8, fold, if◌then◌else◌, slice_get}
 use Rattle.std.specs.Option.{option_map_or}
 use Rattle.std.specs.Str.{bytes_eq, chars}
 use Rattle.std.proofs.lemmas.Bool.{cases_Bool}
 use Rattle.std.proofs.lemmas.Slice.Eq.{bytes_eq-Decides}
 use Rattle.clap.specs.Faults.{bundle_fault, bundle_step_fault, check_fault, defaults_fault}
-use Rattle.clap.specs.Faults.{flag_word_fault, flags_fault, level_fault, long_fault, other_fault}
-use Rattle.clap.specs.Faults.{positional_fault, settle_fault, short_fault, step_fault, stray_fault}
-use Rattle.clap.specs.Faults.{turn_fault, use_fault, walk_fault}
+use Rattle.clap.specs.Faults.{flag_word_fault, flags_fault, level_fault, long_fault, settle_fault}
+use Rattle.clap.specs.Faults.{short_fault, step_fault, turn_fault, use_fault, walk_fault}
 use Rattle.clap.specs.Kinds.{Kinds, or_else}
 use Rattle.clap.specs.declared.error.kind.ErrorKind.TheVariants as kind
-use Rattle.clap.specs.Lexer.{long_of, short_of, usize_max}
-use Rattle.clap.specs.Simple.{Shape, filled, with_index}
-use Rattle.clap.specs.Walk.{Held, Row, Rule, Step, Text, Waiting, Outcome, Walk, after_flag}
-use Rattle.clap.specs.Walk.{after_step, arg_by_id, arg_by_index, arg_by_long, arg_by_short, has_row}
-use Rattle.clap.specs.Walk.{idle, is_pending, pushed, settled, to_positional, without}
-use Rattle.clap.specs.Walk.{long_or_other, long_met, next as to_next, nothing_held, option}
-use Rattle.clap.specs.Walk.{option_word, plain, plain_word, positional, rows_after, settled_rows}
-use Rattle.clap.specs.Walk.{short_or_plain, subcommand_or_other, trailing, used_by_id}
-use Rattle.clap.specs.Walk.{value as stray, walked, with_default}
-use Rattle.clap.proofs.FaultLemmas.{fault_ends}
-use Rattle.clap.proofs.WalkLemmas.{bundle_ends}
-use Rattle.command_words.specs.Apps.{flag_rule, option_rule, word_rule}
+use Rattle.clap.specs.Lexer.{long_of, short_of}
+use Rattle.clap.specs.Simple.{Shape}
+use Rattle.clap.specs.Walk.{Held, Row, Text, Waiting, Walk, arg_by_id, arg_by_index, arg_by_long}
+use Rattle.clap.specs.Walk.{arg_by_short, has_row, idle, without, nothing_held, option, rows_after}
+use Rattle.clap.specs.Walk.{settled_rows, used_by_id, value as stray, walked, with_default}
 use Rattle.command_words.specs.Grammar.{ArePlaced, AreUses, IsOneOf, IsPlain, Uses, no_more}
 use Rattle.command_words.specs.Grammar.{one_more}
 use Rattle.command_words.specs.Grammar as named
 use Rattle.command_words.proofs.Found.{found_after, found_with, row_more}
 use Rattle.command_words.proofs.LongWords.{long_is}
 use Rattle.command_words.proofs.Refusals.{both_pass}
-
--- an option as it is built
-abbrev pub built_option : Text → Rule
-built_option name = with_index 1 (filled (option_rule name))
-
--- and one without a value
-abbrev pub built_flag : Text → Rule
-built_flag name = with_index 1 (filled (flag_rule name))
-
--- and a word that stands alone, where it has this place among them
-abbrev pub built_word : ℕ → Text → Rule
-built_word p name = with_index p (filled (word_rule name))
-
--- The next word that stands alone goes to this one.
-pub record IsNext (s : Shape) (p : ℕ) (name : Text) : Type 0 where
-  pub by_index : arg_by_index s.rules p ≡ Some (built_word p name)
-  pub by_id : arg_by_id s.rules name ≡ Some (built_word p name)
-  pub after : min (p + 1) usize_max ≡ p + 1
+use Rattle.command_words.proofs.Steps.{Finds, IsNext, Passes, at, built_flag, built_option}
+use Rattle.command_words.proofs.Steps.{dashes_end, end_of, ended_at, ended_to, fails, flag_fault}
+use Rattle.command_words.proofs.Steps.{flag_with_value, goes_alone, goes_flag, goes_in_one}
+use Rattle.command_words.proofs.Steps.{goes_plain, held, no_place, one_finds, one_passes}
+use Rattle.command_words.proofs.Steps.{place_fault, plain_to, plain_turn, to_place, turn_is}
 
 -- The command knows these words from this place on, and no others. Neither they nor these options
 -- and flags have one name.
@@ -84,10 +62,6 @@ pub record HasOptions (s : Shape) (names flags : List Text) : Type 0 where
 abbrev pub NoneOf : List Text → List Row → Type 0
 NoneOf left rows = (name : Text) → IsOneOf name left → has_row name rows ≡ false
 
-and_false : (b : Bool) → (b && false) ≡ false
-and_false true = refl
-and_false false = refl
-
 -- rows without one that isn't there
 none_without : (name : Text) (rows : List Row) → has_row name rows ≡ false
     → without name rows ≡ rows
@@ -102,55 +76,10 @@ none_without name (row ∷ rows) none = elim (cases_Bool (bytes_eq row.id name))
 ]
 
 module _ (s : Shape) (names flags : List Text) (has : HasOptions s names flags) where
-  abbrev pub again : Bool
+  abbrev again : Bool
   again = s.args_override_self
 
-  abbrev pub held : List Row → Option (Text × List Text) → Held
-  held rows pending = record { rows = rows; pending = pending; skip = 0 }
-
-  abbrev pub Fault : Text → Held → Kinds
-  Fault word h = other_fault s None word h
-
-  -- neither of two steps fails, or the first does
-  pub or_nothing : (a : Kinds) → or_else a [] ≡ a
-  or_nothing [] = refl
-  or_nothing (k ∷ ks) = refl
-
-  -- a word that is no `--`
-  pub flag_fault : (word : Text) (h : Held) → bytes_eq word (codes "--") ≡ false
-      → Fault word h ≡ flag_word_fault s.rules again (long_of word) word h
-  flag_fault word h other =
-      ap (λ b. if b then [] else flag_word_fault s.rules again (long_of word) word h) other
-
-  pub no_dashes : (word : Text) (p : Text × Option Text) → long_of word ≡ Some p
-      → bytes_eq word (codes "--") ≡ false
-  no_dashes word p long = elim (cases_Bool (bytes_eq word (codes "--"))) [
-    | inl same ↦
-        let bad : None ≡ Some p = ap long_of (sym ((bytes_eq-Decides word (codes "--")).0 same))
-        ∙ long in absurd (cc bad)
-    | inr other ↦ other
-  ]
-
-  -- which has one all the same
-  pub flag_with_value : (name value : Text) → arg_by_long s.rules name ≡ Some (built_flag name)
-      → (h : Held) → long_fault s.rules again (arg_by_long s.rules name) (Some value) h ≢ []
-  flag_with_value name value found h e =
-      let bad : ◌≡◌ {A = Kinds} (kind.TooManyValues ∷ []) [] = sym
-      (ap (λ a. long_fault s.rules again a (Some value) h) found) ∙ e in cc bad
-
-  -- a word that is no flag
-  pub plain_fault : (word : Text) (h : Held) → IsPlain word → Fault word h ≡ []
-  plain_fault word h is =
-      flag_fault word h is.no_dashes ∙ ap (λ o. flag_word_fault s.rules again o word h) is.no_long
-      ∙ go (short_of word) is.no_flags
-    where
-      go : (o : Option Text) → IfSome o (λ flags. slice_get (chars flags) 0 ≡ None)
-          → option_map_or (λ flags. bundle_fault s.rules again flags h) o [] ≡ []
-      go None none = refl
-      go (Some flags) none =
-          sym (fault_ends s.rules again (length flags) flags h.skip (record h { skip = 0 })
-          (sym none))
-
+  -- a flag of one letter fails
   pub short_fails : (c : ℕ) (flags : Text) (h : Held) → h.skip ≡ 0
       → slice_get (chars flags) 0 ≡ Some c → bundle_fault s.rules again flags h ≢ []
   unfolding flags_fault chars
@@ -163,36 +92,6 @@ module _ (s : Shape) (names flags : List Text) (has : HasOptions s names flags) 
       in
       let rest = drop (length (encode_utf8 c)) flags in
       has.no_short c rest start (after rest 0) (sym (λ i. Step (first i) (skip i)) ∙ e)
-
-  -- ---- the words of a walk
-
-  -- where a walk over words ends
-  abbrev pub end_of : Walk → List Text → Held
-  end_of w words = (fold (walked s.rules []) w words).held
-
-  -- the words fail nowhere, up to the end
-  pub record Passes (w : Walk) (words : List Text) : Type 0 where
-    pub walk : walk_fault s [] w words ≡ []
-    pub end : settle_fault s.rules again (end_of w words) ≡ []
-
-  -- a word passes, and so do those after it
-  pub one_passes : (w : Walk) (word : Text) (rest : List Text) → Passes w (word ∷ rest)
-      → (turn_fault s [] w word ≡ []) × Passes (walked s.rules [] w word) rest
-  unfolding walk_fault
-  one_passes w word rest passes =
-      let parts = both_pass (turn_fault s [] w word)
-      (walk_fault s [] (walked s.rules [] w word) rest) passes.walk in
-      (parts.0, record { walk = parts.1; end = passes.end })
-
-  pub all_pass : (w : Walk) (word : Text) (rest : List Text) → turn_fault s [] w word ≡ []
-      → Passes (walked s.rules [] w word) rest → Passes w (word ∷ rest)
-  unfolding walk_fault
-  all_pass w word rest turn passes =
-      record {
-        walk = ap (λ k. or_else k (walk_fault s [] (walked s.rules [] w word) rest)) turn
-            ∙ passes.walk;
-        end = passes.end;
-      }
 
   -- an option whose value is to come fails, if no value comes
   pub wants_value : (name : Text) (rows : List Row) → IsOneOf name names
@@ -213,168 +112,9 @@ module _ (s : Shape) (names flags : List Text) (has : HasOptions s names flags) 
   value_found name value rows known =
       ap (λ a. used_by_id a (value ∷ []) rows) (has.by_id name known)
 
-  -- uses of options pass, and each value is found
-  pub record Finds (w : Walk) (words : List Text) (rows : List Row) : Type 0 where
-    pub passes : Passes w words
-    pub found : settled_rows s.rules (end_of w words).pending (end_of w words).rows ≡ rows
+  -- ---- what a word is
 
-  pub one_finds : (w after : Walk) (word : Text) (rest : List Text) (rows : List Row)
-      → turn_fault s [] w word ≡ [] → walked s.rules [] w word ≡ after → Finds after rest rows
-      → Finds w (word ∷ rest) rows
-  one_finds w after word rest rows turn to finds =
-      let there = subst (λ v. Finds v rest rows) (sym to) finds in
-      record { passes = all_pass w word rest turn there.passes; found = there.found }
-
-  -- ---- a word where the next one that stands alone would go to the positional at this place
   module _ (p : ℕ) where
-    abbrev pub at : List Row → Option (Text × List Text) → Waiting → Walk
-    at rows pending waiting =
-        record {
-          held = held rows pending;
-          waiting = waiting;
-          position = p;
-          is_trailing = false;
-          stopped = None;
-        }
-
-    abbrev pub Met : Waiting → Text → Held → Held × Step
-    Met waiting word h = subcommand_or_other s.rules None waiting p word h
-
-    pub turn_is : (waiting : Waiting) (word : Text) (rows : List Row)
-        (pending : Option (Text × List Text))
-        → turn_fault s [] (at rows pending waiting) word
-        ≡ or_else (Fault word (held rows pending))
-        (step_fault s p (Met waiting word (held rows pending)).0
-        (Met waiting word (held rows pending)).1)
-    turn_is idle word rows pending = refl
-    turn_is (option id) word rows pending = refl
-    turn_is positional word rows pending = refl
-
-    pub walked_is : (waiting : Waiting) (word : Text) (rows : List Row)
-        (pending : Option (Text × List Text))
-        → walked s.rules [] (at rows pending waiting) word
-        ≡ after_step s.rules word (at rows pending waiting) (Met waiting word (held rows pending)).0
-        (Met waiting word (held rows pending)).1
-    unfolding walked
-    walked_is idle word rows pending = refl
-    walked_is (option id) word rows pending = refl
-    walked_is positional word rows pending = refl
-
-    pub flag_met : (waiting : Waiting) (word : Text) (h : Held) → bytes_eq word (codes "--") ≡ false
-        → Met waiting word h ≡ long_or_other s.rules waiting word (long_of word) h
-    flag_met waiting word h other =
-        ap (λ b. if b then (h, trailing p) else long_or_other s.rules waiting word (long_of word) h)
-        other
-
-    -- where a word leads, and whether it fails
-    pub record Goes (waiting : Waiting) (word : Text) (rows : List Row)
-        (pending : Option (Text × List Text)) (fault : Kinds) (after : Walk) : Type 0 where
-      pub turn : turn_fault s [] (at rows pending waiting) word ≡ fault
-      pub to : walked s.rules [] (at rows pending waiting) word ≡ after
-
-    pub goes : (waiting : Waiting) (word : Text) (rows : List Row)
-        (pending : Option (Text × List Text)) (fault : Kinds) (after : Held) (next : Waiting)
-        → Fault word (held rows pending) ≡ fault
-        → Met waiting word (held rows pending) ≡ (after, to_next next)
-        → Goes waiting word rows pending fault
-        (record (at rows pending waiting) { held = after; waiting = next })
-    goes waiting word rows pending fault after next fails met = record {
-      turn = turn_is waiting word rows pending
-          ∙ (λ i. or_else (fails i) (step_fault s p (met i).0 (met i).1)) ∙ or_nothing fault;
-      to = walked_is waiting word rows pending
-          ∙ ap (λ (m : Held × Step). after_step s.rules word (at rows pending waiting) m.0 m.1) met;
-    }
-
-    -- `--name`, and a value is to come
-    pub goes_alone : (waiting : Waiting) (word name : Text) (rows : List Row)
-        (pending : Option (Text × List Text)) → long_of word ≡ Some (name, None)
-        → arg_by_long s.rules name ≡ Some (built_option name)
-        → Goes waiting word rows pending (settle_fault s.rules again (held rows pending))
-        (at (settled_rows s.rules pending rows) (Some (name, [])) (option name))
-    goes_alone waiting word name rows pending long found =
-        let h = held rows pending in
-        let other = no_dashes word (name, None) long in
-        goes waiting word rows pending (settle_fault s.rules again h)
-        (held (settled_rows s.rules pending rows) (Some (name, []))) (option name)
-        (flag_fault word h other ∙ ap (λ o. flag_word_fault s.rules again o word h) long
-        ∙ ap (λ a. long_fault s.rules again a None h) found)
-        (flag_met waiting word h other ∙ ap (λ o. long_or_other s.rules waiting word o h) long
-        ∙ ap (λ a. after_flag s.rules waiting word (long_met s.rules a None h).0
-        (long_met s.rules a None h).1) found)
-
-    -- `--name=value`
-    pub goes_in_one : (waiting : Waiting) (word name value : Text) (rows : List Row)
-        (pending : Option (Text × List Text)) → long_of word ≡ Some (name, Some value)
-        → arg_by_long s.rules name ≡ Some (built_option name)
-        → Goes waiting word rows pending (settle_fault s.rules again (held rows pending))
-        (at (found_with (settled_rows s.rules pending rows) (name, value ∷ [])) None idle)
-    goes_in_one waiting word name value rows pending long found =
-        let h = held rows pending in
-        let other = no_dashes word (name, Some value) long in
-        goes waiting word rows pending (settle_fault s.rules again h)
-        (held (found_with (settled_rows s.rules pending rows) (name, value ∷ [])) None) idle
-        (flag_fault word h other ∙ ap (λ o. flag_word_fault s.rules again o word h) long
-        ∙ ap (λ a. long_fault s.rules again a (Some value) h) found
-        ∙ or_nothing (settle_fault s.rules again h))
-        (flag_met waiting word h other ∙ ap (λ o. long_or_other s.rules waiting word o h) long
-        ∙ ap (λ a. after_flag s.rules waiting word (long_met s.rules a (Some value) h).0
-        (long_met s.rules a (Some value) h).1) found)
-
-    -- `--name` of an option that has no value
-    pub goes_flag : (waiting : Waiting) (word name : Text) (rows : List Row)
-        (pending : Option (Text × List Text)) → long_of word ≡ Some (name, None)
-        → arg_by_long s.rules name ≡ Some (built_flag name)
-        → Goes waiting word rows pending (settle_fault s.rules again (held rows pending))
-        (at (found_with (settled_rows s.rules pending rows) (name, [])) None idle)
-    goes_flag waiting word name rows pending long found =
-        let h = held rows pending in
-        let other = no_dashes word (name, None) long in
-        goes waiting word rows pending (settle_fault s.rules again h)
-        (held (found_with (settled_rows s.rules pending rows) (name, [])) None) idle
-        (flag_fault word h other ∙ ap (λ o. flag_word_fault s.rules again o word h) long
-        ∙ ap (λ a. long_fault s.rules again a None h) found
-        ∙ or_nothing (settle_fault s.rules again h))
-        (flag_met waiting word h other ∙ ap (λ o. long_or_other s.rules waiting word o h) long
-        ∙ ap (λ a. after_flag s.rules waiting word (long_met s.rules a None h).0
-        (long_met s.rules a None h).1) found)
-
-    pub plain_met : (waiting : Waiting) (word : Text) (rows : List Row)
-        (pending : Option (Text × List Text)) → IsPlain word
-        → Met waiting word (held rows pending) ≡ plain_word s.rules waiting word (held rows pending)
-    plain_met waiting word rows pending is =
-        flag_met waiting word h is.no_dashes
-        ∙ ap (λ o. long_or_other s.rules waiting word o h) is.no_long
-        ∙ go (short_of word) is.no_flags
-      where
-        h : Held
-        h = held rows pending
-
-        go : (o : Option Text) → IfSome o (λ flags. slice_get (chars flags) 0 ≡ None)
-            → short_or_plain s.rules waiting word o h ≡ plain_word s.rules waiting word h
-        go None none = refl
-        go (Some flags) none =
-            ap (λ (p : Held × Outcome). after_flag s.rules waiting word p.0 p.1)
-            (sym (bundle_ends s.rules (length flags) flags 0 plain h (sym none)))
-
-    pub goes_plain : (word name : Text) (rows : List Row) → IsPlain word
-        → arg_by_id s.rules name ≡ Some (built_option name)
-        → Goes (option name) word rows (Some (name, [])) [] (at rows (Some (name, word ∷ [])) idle)
-    goes_plain word name rows is found =
-        let h = held rows (Some (name, [])) in
-        let pushed = held rows (Some (name, word ∷ [])) in
-        goes (option name) word rows (Some (name, [])) [] pushed idle (plain_fault word h is)
-        (plain_met (option name) word rows (Some (name, [])) is
-        ∙ ap (λ (a : Option Rule).
-        ((option_word a name word h).0, to_next (option_word a name word h).1)) found
-        ∙ ap (λ (b : Bool). (
-          pushed,
-          to_next
-              (if nat_lt (if b then 1 else 0) 1 then option name else idle),
-        ))
-        ((bytes_eq-Decides name name).1 refl))
-
-    -- ---- what a word is
-
     pub data WordKind (word : Text) : Type 0 where
       is_dashes : word ≡ codes "--" → WordKind word
       is_alone : (name : Text) → long_of word ≡ Some (name, None) → IsOneOf name names
@@ -385,16 +125,7 @@ module _ (s : Shape) (names flags : List Text) (has : HasOptions s names flags) 
           → WordKind word
       is_plain : IsPlain word → WordKind word
       is_refused : ((waiting : Waiting) (rows : List Row) (pending : Option (Text × List Text))
-          → turn_fault s [] (at rows pending waiting) word ≢ []) → WordKind word
-
-    -- a word that fails as a flag fails
-    pub fails : (word : Text) → ((h : Held) → h.skip ≡ 0 → Fault word h ≢ [])
-        → (waiting : Waiting) (rows : List Row) (pending : Option (Text × List Text))
-        → turn_fault s [] (at rows pending waiting) word ≢ []
-    fails word refuses waiting rows pending e =
-        refuses (held rows pending) refl
-        (both_pass (Fault word (held rows pending)) _
-        (sym (turn_is waiting word rows pending) ∙ e)).0
+          → turn_fault s [] (at p rows pending waiting) word ≢ []) → WordKind word
 
     pub kind_of_word : (word : Text) → WordKind word
     kind_of_word word = elim (cases_Bool (bytes_eq word (codes "--"))) [
@@ -411,9 +142,9 @@ module _ (s : Shape) (names flags : List Text) (has : HasOptions s names flags) 
           no_flags = subst (λ o. IfSome o (λ flags. slice_get (chars flags) 0 ≡ None)) (sym short)
               first;
         })
-        by_first other long flags short (Some c) first = is_refused (fails word (λ h skip e.
+        by_first other long flags short (Some c) first = is_refused (fails s p word (λ h skip e.
             short_fails c flags h skip first
-            (sym (flag_fault word h other ∙ ap (λ o. flag_word_fault s.rules again o word h) long
+            (sym (flag_fault s word h other ∙ ap (λ o. flag_word_fault s.rules again o word h) long
             ∙ ap (λ o. option_map_or (λ f. bundle_fault s.rules again f h) o []) short) ∙ e)))
 
         by_short : (other : bytes_eq word (codes "--") ≡ false) → long_of word ≡ None
@@ -435,9 +166,9 @@ module _ (s : Shape) (names flags : List Text) (has : HasOptions s names flags) 
         without_value : bytes_eq word (codes "--") ≡ false → (name : Text) (value : Option Text)
             → long_of word ≡ Some (name, value) → IsOneOf name flags → WordKind word
         without_value other name None long known = is_flag name long known
-        without_value other name (Some value) long known = is_refused (fails word (λ h skip e.
-            flag_with_value name value (has.by_flag name known) h
-            (sym (flag_fault word h other ∙ ap (λ o. flag_word_fault s.rules again o word h) long)
+        without_value other name (Some value) long known = is_refused (fails s p word (λ h skip e.
+            flag_with_value s name value (has.by_flag name known) h
+            (sym (flag_fault s word h other ∙ ap (λ o. flag_word_fault s.rules again o word h) long)
             ∙ e)))
 
         by_long : (other : bytes_eq word (codes "--") ≡ false)
@@ -447,120 +178,28 @@ module _ (s : Shape) (names flags : List Text) (has : HasOptions s names flags) 
           | inl (inl known) ↦ with_value name value long known
           | inl (inr known) ↦ without_value other name value long known
           | inr refuses ↦
-              is_refused (fails word
+              is_refused (fails s p word
               (λ h skip e. refuses value h
-              (sym (flag_fault word h other ∙ ap (λ o. flag_word_fault s.rules again o word h) long)
-              ∙ e)))
+              (sym (flag_fault s word h other
+              ∙ ap (λ o. flag_word_fault s.rules again o word h) long) ∙ e)))
         ]
-
-    -- where the walk stands after `--`
-    abbrev pub ended_at : List Row → Option (Text × List Text) → Waiting → Walk
-    ended_at rows pending waiting = record (at rows pending waiting) { is_trailing = true }
-
-    -- a value that stands alone fails where there is no positional
-    pub no_place : arg_by_index s.rules p ≡ None → (h : Held) → step_fault s p h stray ≢ []
-    no_place none h e =
-        some s.is_leaf (sym (ap
-        (λ found. option_map_or (λ a. positional_fault s.rules again a h) found (stray_fault s))
-        none) ∙ e)
-      where
-        some : (leaf : Bool)
-            → ◌≢◌ {A = Kinds} (if leaf then kind.UnknownArgument ∷ [] else
-            kind.UnknownArgument ∷ kind.InvalidSubcommand ∷ []) []
-        some true e = cc e
-        some false e = cc e
-
-    pub dashes_end : (waiting : Waiting) (rows : List Row) (pending : Option (Text × List Text))
-        → walked s.rules [] (at rows pending waiting) (codes "--") ≡ ended_at rows pending waiting
-    dashes_end waiting rows pending = walked_is waiting (codes "--") rows pending
-
-  abbrev stands : Bool → ℕ → List Row → Option (Text × List Text) → Waiting → Walk
-  stands beyond p rows pending waiting =
-      record {
-        held = held rows pending;
-        waiting = waiting;
-        position = p;
-        is_trailing = beyond;
-        stopped = None;
-      }
-
-  -- ---- a word that stands alone
-
-  place_fault : (p : ℕ) (name : Text) → IsNext s p name → (h : Held)
-      → step_fault s p h stray ≡ settle_fault s.rules again h
-  place_fault p name is_next h =
-      ap (λ found. option_map_or (λ a. positional_fault s.rules again a h) found (stray_fault s))
-      is_next.by_index
-      ∙ ap (λ b. if b then [] else settle_fault s.rules again h)
-      (and_false (is_pending (built_word p name) h.pending))
-
-  to_place : (beyond : Bool) (p : ℕ) (name : Text) → IsNext s p name
-      → (word : Text) (rows : List Row) (pending : Option (Text × List Text)) (waiting : Waiting)
-      → to_positional s.rules (arg_by_index s.rules p) word (stands beyond p rows pending waiting)
-      (held rows pending)
-      ≡ stands beyond (p + 1) (settled_rows s.rules pending rows) (Some (name, word ∷ [])) idle
-  to_place beyond p name is_next word rows pending waiting =
-      let h = held rows pending in
-      let At : Bool → ℕ → Bool
-      → Walk = λ b q t. record {
-        held = pushed name word (if b then h else settled s.rules h);
-        waiting = idle;
-        position = q;
-        is_trailing = t;
-        stopped = None;
-      } in
-      ap (λ a. to_positional s.rules a word (stands beyond p rows pending waiting) h)
-      is_next.by_index
-      ∙ (λ i. At (and_false (is_pending (built_word p name) pending) i) (is_next.after i)
-      (or_false beyond i))
-    where
-      or_false : (b : Bool) → (b || false) ≡ b
-      or_false true = refl
-      or_false false = refl
-
-  -- where it stands before `--`, and after it
-  plain_turn : (p : ℕ) (word : Text) → IsPlain word
-      → (rows : List Row) (pending : Option (Text × List Text))
-      → turn_fault s [] (at p rows pending idle) word ≡ step_fault s p (held rows pending) stray
-  plain_turn p word is rows pending =
-      let h = held rows pending in
-      turn_is p idle word rows pending
-      ∙ ap₂ (λ k (m : Held × Step). or_else k (step_fault s p m.0 m.1)) (plain_fault word h is)
-      (plain_met p idle word rows pending is)
-
-  plain_to : (p : ℕ) (word : Text) → IsPlain word
-      → (rows : List Row) (pending : Option (Text × List Text))
-      → walked s.rules [] (at p rows pending idle) word
-      ≡ to_positional s.rules (arg_by_index s.rules p) word (at p rows pending idle)
-      (held rows pending)
-  plain_to p word is rows pending =
-      walked_is p idle word rows pending
-      ∙ ap (λ (m : Held × Step). after_step s.rules word (at p rows pending idle) m.0 m.1)
-      (plain_met p idle word rows pending is)
-
-  ended_to : (p : ℕ) (word : Text) (rows : List Row) (pending : Option (Text × List Text))
-      → walked s.rules [] (ended_at p rows pending idle) word
-      ≡ to_positional s.rules (arg_by_index s.rules p) word (ended_at p rows pending idle)
-      (held rows pending)
-  unfolding walked
-  ended_to p word rows pending = refl
 
   -- ---- from the words to their uses
 
   -- an option whose value is to come fails, whatever comes after `--`
   settles_at : (p : ℕ) (left : List Text) → HasWords s names flags p left → (h : Held)
       → step_fault s p h stray ≡ [] → settle_fault s.rules again h ≡ []
-  settles_at p [] none h e = absurd (no_place p none h e)
-  settles_at p (name ∷ left) knows h e = sym (place_fault p name knows.0 h) ∙ e
+  settles_at p [] none h e = absurd (no_place s p none h e)
+  settles_at p (name ∷ left) knows h e = sym (place_fault s p name knows.0 h) ∙ e
 
   ended_settles : (p : ℕ) (left : List Text) → HasWords s names flags p left → (words : List Text)
       (rows : List Row) (pending : Option (Text × List Text)) (waiting : Waiting)
-      → Passes (ended_at p rows pending waiting) words
+      → Passes s (ended_at p rows pending waiting) words
       → settle_fault s.rules again (held rows pending) ≡ []
   ended_settles p left knows [] rows pending waiting passes = passes.end
   ended_settles p left knows (word ∷ rest) rows pending waiting passes =
       settles_at p left knows (held rows pending)
-      (one_passes (ended_at p rows pending waiting) word rest passes).0
+      (one_passes s (ended_at p rows pending waiting) word rest passes).0
 
   -- words after `--`, by what was left before them
   record ArePlacedOf (left words : List Text) : Type 0 where
@@ -570,18 +209,18 @@ module _ (s : Shape) (names flags : List Text) (has : HasOptions s names flags) 
 
   are_placed : (words : List Text) (p : ℕ) (left : List Text) → HasWords s names flags p left
       → (rows : List Row) (pending : Option (Text × List Text))
-      → Passes (ended_at p rows pending idle) words → ArePlacedOf left words
+      → Passes s (ended_at p rows pending idle) words → ArePlacedOf left words
   are_placed [] p left knows rows pending passes =
       record { wanting = left; uses = []; are = no_more }
   are_placed (word ∷ rest) p [] none rows pending passes =
-      absurd (no_place p none (held rows pending)
-      (one_passes (ended_at p rows pending idle) word rest passes).0)
+      absurd (no_place s p none (held rows pending)
+      (one_passes s (ended_at p rows pending idle) word rest passes).0)
   are_placed (word ∷ rest) p (name ∷ left) knows rows pending passes =
-      let to = ended_to p word rows pending
-      ∙ to_place true p name knows.0 word rows pending idle in
+      let to = ended_to s p word rows pending
+      ∙ to_place s true p name knows.0 word rows pending idle in
       let more = are_placed rest (p + 1) left knows.3 (settled_rows s.rules pending rows)
-      (Some (name, word ∷ [])) (subst (λ w. Passes w rest) to
-      (one_passes (ended_at p rows pending idle) word rest passes).1) in
+      (Some (name, word ∷ [])) (subst (λ w. Passes s w rest) to
+      (one_passes s (ended_at p rows pending idle) word rest passes).1) in
       record {
         wanting = more.wanting;
         uses = (name, word ∷ []) ∷ more.uses;
@@ -615,12 +254,12 @@ module _ (s : Shape) (names flags : List Text) (has : HasOptions s names flags) 
   abbrev AreFromIdle : List Text → Type 0
   AreFromIdle words = (p : ℕ) (left : List Text) → HasWords s names flags p left
       → (rows : List Row) (pending : Option (Text × List Text))
-      → Passes (at p rows pending idle) words → AreOf left words
+      → Passes s (at p rows pending idle) words → AreOf left words
 
   abbrev AreFromName : List Text → Type 0
   AreFromName words = (p : ℕ) (left : List Text) → HasWords s names flags p left
       → (name : Text) → IsOneOf name names → (rows : List Row)
-      → Passes (at p rows (Some (name, [])) (option name)) words → HasValue left words
+      → Passes s (at p rows (Some (name, [])) (option name)) words → HasValue left words
 
   from_idle : (word : Text) (rest : List Text) → AreFromIdle rest → AreFromName rest
       → AreFromIdle (word ∷ rest)
@@ -628,48 +267,49 @@ module _ (s : Shape) (names flags : List Text) (has : HasOptions s names flags) 
       by (kind_of_word p word) left knows
     where
       first : (turn_fault s [] (at p rows pending idle) word ≡ [])
-          × Passes (walked s.rules [] (at p rows pending idle) word) rest
-      first = one_passes (at p rows pending idle) word rest passes
+          × Passes s (walked s.rules [] (at p rows pending idle) word) rest
+      first = one_passes s (at p rows pending idle) word rest passes
 
       by : WordKind p word → (left : List Text) → HasWords s names flags p left
           → AreOf left (word ∷ rest)
       by (is_dashes is) left knows =
-          let Here : Text → Type 0 = λ w. Passes (walked s.rules [] (at p rows pending idle) w) rest
-          in
-          let there = subst (λ w. Passes w rest) (dashes_end p idle rows pending)
+          let Here : Text → Type 0 = λ w.
+          Passes s (walked s.rules [] (at p rows pending idle) w) rest in
+          let there = subst (λ w. Passes s w rest) (dashes_end s p idle rows pending)
           (subst Here is first.1) in
           let more = are_placed rest p left knows rows pending there in
           spelled_as left word (codes "--") rest more.uses is (more.wanting, named.dashes more.are)
       by (is_alone name long known) left knows =
-          let to = goes_alone p idle word name rows pending long (has.by_long name known) in
+          let to = goes_alone s p idle word name rows pending long (has.by_long name known) in
           let more = names_too p left knows name known (settled_rows s.rules pending rows)
-          (subst (λ w. Passes w rest) to.to first.1) in
+          (subst (λ w. Passes s w rest) to.to first.1) in
           let uses = (name, more.value ∷ []) ∷ more.of.uses in
           let spelled = spelled_as left word (codes "--" ++ name) (more.value ∷ more.rest) uses
           (long_is word name None long) (more.of.wanting, named.apart known more.is more.of.are) in
           subst (λ ws. AreOf left (word ∷ ws)) (sym more.first) spelled
       by (is_in_one name value long known) left knows =
-          let to = goes_in_one p idle word name value rows pending long (has.by_long name known) in
+          let to = goes_in_one s p idle word name value rows pending long
+          (has.by_long name known) in
           let more = idles p left knows
           (found_with (settled_rows s.rules pending rows) (name, value ∷ [])) None
-          (subst (λ w. Passes w rest) to.to first.1) in
+          (subst (λ w. Passes s w rest) to.to first.1) in
           spelled_as left word (codes "--" ++ name ++ 61 ∷ value) rest
           ((name, value ∷ []) ∷ more.uses)
           (long_is word name (Some value) long) (more.wanting, named.in_one known more.are)
       by (is_flag name long known) left knows =
-          let to = goes_flag p idle word name rows pending long (has.by_flag name known) in
+          let to = goes_flag s p idle word name rows pending long (has.by_flag name known) in
           let more = idles p left knows (found_with (settled_rows s.rules pending rows) (name, []))
-          None (subst (λ w. Passes w rest) to.to first.1) in
+          None (subst (λ w. Passes s w rest) to.to first.1) in
           spelled_as left word (codes "--" ++ name) rest ((name, []) ∷ more.uses)
           (long_is word name None long) (more.wanting, named.flag known more.are)
       by (is_plain is) [] none =
-          absurd (no_place p none (held rows pending)
-          (sym (plain_turn p word is rows pending) ∙ first.0))
+          absurd (no_place s p none (held rows pending)
+          (sym (plain_turn s p word is rows pending) ∙ first.0))
       by (is_plain is) (name ∷ left) knows =
-          let to = plain_to p word is rows pending
-          ∙ to_place false p name knows.0 word rows pending idle in
+          let to = plain_to s p word is rows pending
+          ∙ to_place s false p name knows.0 word rows pending idle in
           let more = idles (p + 1) left knows.3 (settled_rows s.rules pending rows)
-          (Some (name, word ∷ [])) (subst (λ w. Passes w rest) to first.1) in
+          (Some (name, word ∷ [])) (subst (λ w. Passes s w rest) to first.1) in
           record {
             wanting = more.wanting;
             uses = (name, word ∷ []) ∷ more.uses;
@@ -681,38 +321,38 @@ module _ (s : Shape) (names flags : List Text) (has : HasOptions s names flags) 
   from_name word rest idles p left knows name known rows passes = by (kind_of_word p word)
     where
       first : (turn_fault s [] (at p rows (Some (name, [])) (option name)) word ≡ [])
-          × Passes (walked s.rules [] (at p rows (Some (name, [])) (option name)) word) rest
-      first = one_passes (at p rows (Some (name, [])) (option name)) word rest passes
+          × Passes s (walked s.rules [] (at p rows (Some (name, [])) (option name)) word) rest
+      first = one_passes s (at p rows (Some (name, [])) (option name)) word rest passes
 
       by : WordKind p word → HasValue left (word ∷ rest)
       by (is_dashes is) =
           let Here : Text → Type 0 = λ w.
-          Passes (walked s.rules [] (at p rows (Some (name, [])) (option name)) w) rest in
-          let there = subst (λ w. Passes w rest)
-          (dashes_end p (option name) rows (Some (name, []))) (subst Here is first.1) in
+          Passes s (walked s.rules [] (at p rows (Some (name, [])) (option name)) w) rest in
+          let there = subst (λ w. Passes s w rest)
+          (dashes_end s p (option name) rows (Some (name, []))) (subst Here is first.1) in
           absurd (wants_value name rows known
           (ended_settles p left knows rest rows (Some (name, [])) (option name) there))
       by (is_alone other long also) =
-          let to = goes_alone p (option name) word other rows (Some (name, [])) long
+          let to = goes_alone s p (option name) word other rows (Some (name, [])) long
           (has.by_long other also) in
           absurd (wants_value name rows known (sym to.turn ∙ first.0))
       by (is_in_one other value long also) =
-          let to = goes_in_one p (option name) word other value rows (Some (name, [])) long
+          let to = goes_in_one s p (option name) word other value rows (Some (name, [])) long
           (has.by_long other also) in
           absurd (wants_value name rows known (sym to.turn ∙ first.0))
       by (is_flag other long also) =
-          let to = goes_flag p (option name) word other rows (Some (name, [])) long
+          let to = goes_flag s p (option name) word other rows (Some (name, [])) long
           (has.by_flag other also) in
           absurd (wants_value name rows known (sym to.turn ∙ first.0))
       by (is_plain is) =
-          let to = goes_plain p word name rows is (has.by_id name known) in
+          let to = goes_plain s p word name rows is (has.by_id name known) in
           record {
             value = word;
             rest = rest;
             first = refl;
             is = is;
             of = idles p left knows rows (Some (name, word ∷ []))
-                (subst (λ w. Passes w rest) to.to first.1);
+                (subst (λ w. Passes s w rest) to.to first.1);
           }
       by (is_refused refuses) = absurd (refuses (option name) rows (Some (name, [])) first.0)
 
@@ -774,14 +414,14 @@ module _ (s : Shape) (names flags : List Text) (has : HasOptions s names flags) 
 
   -- where words pass from here on, and what is wanting isn't found
   record Ends (w : Walk) (words wanting : List Text) (rows : List Row) : Type 0 where
-    finds : Finds w words rows
+    finds : Finds s w words rows
     free : NoneOf wanting rows
 
   one_ends : (w after : Walk) (word : Text) (rest wanting : List Text) (rows : List Row)
       → turn_fault s [] w word ≡ [] → walked s.rules [] w word ≡ after
       → Ends after rest wanting rows → Ends w (word ∷ rest) wanting rows
   one_ends w after word rest wanting rows turn to ends =
-      record { finds = one_finds w after word rest rows turn to ends.finds; free = ends.free }
+      record { finds = one_finds s w after word rest rows turn to ends.finds; free = ends.free }
 
   ended_pass : (wanting left words : List Text) (uses : Uses) → ArePlaced wanting left words uses
       → (p : ℕ) → HasWords s names flags p left
@@ -797,11 +437,11 @@ module _ (s : Shape) (names flags : List Text) (has : HasOptions s names flags) 
       (one_more {name = name} {word = word} {next = fewer} {words = rest} {uses = more} are)
       p knows rows pending after ready =
       let Next : List Row → Walk = λ all. ended_at (p + 1) all (Some (name, word ∷ [])) idle in
-      let to = ended_to p word rows pending
-      ∙ to_place true p name knows.0 word rows pending idle ∙ ap Next ready.found in
+      let to = ended_to s p word rows pending
+      ∙ to_place s true p name knows.0 word rows pending idle ∙ ap Next ready.found in
       one_ends (ended_at p rows pending idle) (Next after) word rest wanting
       (found_after more (found_with after (name, word ∷ [])))
-      (place_fault p name knows.0 (held rows pending) ∙ ready.settles) to
+      (place_fault s p name knows.0 (held rows pending) ∙ ready.settles) to
       (ended_pass wanting fewer rest more are (p + 1) knows.3 after (Some (name, word ∷ []))
       (found_with after (name, word ∷ [])) (ready_word p name fewer knows word after ready.free))
 
@@ -818,18 +458,18 @@ module _ (s : Shape) (names flags : List Text) (has : HasOptions s names flags) 
   uses_pass wanting left words uses (named.dashes {words = rest} are) p knows rows pending after
       ready =
       one_ends (at p rows pending idle) (ended_at p rows pending idle) (codes "--") rest wanting
-      (found_after uses after) (turn_is p idle (codes "--") rows pending)
-      (dashes_end p idle rows pending)
+      (found_after uses after) (turn_is s p idle (codes "--") rows pending)
+      (dashes_end s p idle rows pending)
       (ended_pass wanting left rest uses are p knows rows pending after ready)
   uses_pass wanting left words uses
       (named.alone {name = name} {word = word} {next = fewer} {more = rest} {uses = more} is are)
       p knows rows pending after ready =
       let Next : List Row → Walk = λ all. at (p + 1) all (Some (name, word ∷ [])) idle in
-      let to = plain_to p word is rows pending
-      ∙ to_place false p name knows.0 word rows pending idle ∙ ap Next ready.found in
+      let to = plain_to s p word is rows pending
+      ∙ to_place s false p name knows.0 word rows pending idle ∙ ap Next ready.found in
       one_ends (at p rows pending idle) (Next after) word rest wanting
       (found_after more (found_with after (name, word ∷ [])))
-      (plain_turn p word is rows pending ∙ place_fault p name knows.0 (held rows pending)
+      (plain_turn s p word is rows pending ∙ place_fault s p name knows.0 (held rows pending)
       ∙ ready.settles) to
       (uses_pass wanting fewer rest more are (p + 1) knows.3 after (Some (name, word ∷ []))
       (found_with after (name, word ∷ [])) (ready_word p name fewer knows word after ready.free))
@@ -839,9 +479,9 @@ module _ (s : Shape) (names flags : List Text) (has : HasOptions s names flags) 
       let word = codes "--" ++ name in
       let Waits : List Row → Walk = λ all. at p all (Some (name, [])) (option name) in
       let holds = at p after (Some (name, value ∷ [])) idle in
-      let to = goes_alone p idle word name rows pending (has.spelled name (inl known))
+      let to = goes_alone s p idle word name rows pending (has.spelled name (inl known))
       (has.by_long name known) in
-      let takes = goes_plain p value name after is (has.by_id name known) in
+      let takes = goes_plain s p value name after is (has.by_id name known) in
       let all = found_after more (found_with after (name, value ∷ [])) in
       one_ends (at p rows pending idle) (Waits after) word (value ∷ rest) wanting all
       (to.turn ∙ ready.settles) (to.to ∙ ap Waits ready.found)
@@ -854,7 +494,7 @@ module _ (s : Shape) (names flags : List Text) (has : HasOptions s names flags) 
       p knows rows pending after ready =
       let word = codes "--" ++ name ++ 61 ∷ value in
       let Next : List Row → Walk = λ all. at p (found_with all (name, value ∷ [])) None idle in
-      let to = goes_in_one p idle word name value rows pending (has.spelled_with name value known)
+      let to = goes_in_one s p idle word name value rows pending (has.spelled_with name value known)
       (has.by_long name known) in
       one_ends (at p rows pending idle) (Next after) word rest wanting
       (found_after more (found_with after (name, value ∷ [])))
@@ -871,7 +511,7 @@ module _ (s : Shape) (names flags : List Text) (has : HasOptions s names flags) 
       p knows rows pending after ready =
       let word = codes "--" ++ name in
       let Next : List Row → Walk = λ all. at p (found_with all (name, [])) None idle in
-      let to = goes_flag p idle word name rows pending (has.spelled name (inr known))
+      let to = goes_flag s p idle word name rows pending (has.spelled name (inr known))
       (has.by_flag name known) in
       one_ends (at p rows pending idle) (Next after) word rest wanting
       (found_after more (found_with after (name, [])))
@@ -898,7 +538,7 @@ module _ (s : Shape) (names flags : List Text) (has : HasOptions s names flags) 
   pub finds_uses : (wanting left words : List Text) (uses : Uses) → HasWords s names flags 1 left
       → AreUses names flags wanting left words uses → Finished wanting words uses
   finds_uses wanting left words uses knows are =
-      let end = end_of (at 1 [] None idle) words in
+      let end = end_of s (at 1 [] None idle) words in
       let ends = uses_pass wanting left words uses are 1 knows [] None []
       (record { settles = refl; found = refl; free = λ name is. refl }) in
       let rows = settled_rows s.rules end.pending end.rows in
@@ -927,7 +567,7 @@ module _ (s : Shape) (names flags : List Text) (has : HasOptions s names flags) 
   pub takes_uses : (left words : List Text) → HasWords s names flags 1 left → fault_at words ≡ []
       → Taken left words
   takes_uses left words knows e =
-      let end = end_of (at 1 [] None idle) words in
+      let end = end_of s (at 1 [] None idle) words in
       let level = both_pass (walk_fault s [] (at 1 [] None idle) words) _ e in
       let settles = both_pass (settle_fault s.rules again end) _ level.1 in
       let of = (are_uses words).0 1 left knows [] None

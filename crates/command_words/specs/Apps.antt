@@ -19,14 +19,14 @@ flag_rule name = record (new_rule name) {
   range = Some (record { start_inclusive = 0; end_inclusive = 0 });
 }
 
--- a word that stands alone, and must be there
-abbrev pub word_rule : List ℕ → Rule
-word_rule name = record (new_rule name) { required = true }
+-- a word that stands alone, and whether it must be there
+abbrev pub word_rule : Bool → List ℕ → Rule
+word_rule must name = record (new_rule name) { required = must }
 
 abbrev pub command_shape : Command → Shape
 command_shape command = record (new_shape command.name) {
-  rules = (map option_rule command.options ++ map flag_rule command.flags)
-      ++ map word_rule command.words;
+  rules = ((map option_rule command.options ++ map flag_rule command.flags)
+      ++ map (word_rule true) command.words) ++ map (word_rule false) command.further;
 }
 
 abbrev pub is_none : List Command → Bool

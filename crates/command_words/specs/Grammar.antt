@@ -1,6 +1,6 @@
 -- What the words of a command line name: a command, and the uses of what it knows.
-use Rattle.std.specs.Prelude.{◌≡◌, ◌⊎◌, ◌++◌, ◌||◌, ◌&&◌, ℕ, Bool, true, false, not, List, [], ◌∷◌}
-use Rattle.std.specs.Prelude.{codes, None, Option, Some, IfSome, if◌then◌else◌, length, nat_lt}
+use Rattle.std.specs.Prelude.{◌≡◌, ◌⊎◌, ◌++◌, ◌||◌, ◌&&◌, ◌≤◌, ℕ, Bool, true, false, not, List, []}
+use Rattle.std.specs.Prelude.{◌∷◌, codes, None, Option, Some, IfSome, if◌then◌else◌, length, nat_lt}
 use Rattle.std.specs.Prelude.{find}
 use Rattle.std.specs.Prelude.{slice_get}
 use Rattle.std.specs.List.{list_all, list_any}
@@ -16,6 +16,8 @@ pub record Command : Type 0 where
   pub flags : List (List ℕ)
   -- the words that stand alone, in their order, by what they are called: each must be there
   pub words : List (List ℕ)
+  -- those after them, of which each may be missing, and then those after it are missing too
+  pub further : List (List ℕ)
 
 -- the word is one of these
 abbrev pub IsOneOf : List ℕ → List (List ℕ) → Type 0
@@ -23,7 +25,7 @@ IsOneOf word [] = ⊥
 IsOneOf word (name ∷ rest) = (name ≡ word) ⊎ IsOneOf word rest
 
 -- A word that may stand alone, or as the value of the option before it: it is no `--`, doesn't
--- begin with `--`, and not with `-` and a sign behind that.
+-- begin with `--`, and not with `-` and a sign after that.
 pub record IsPlain (word : List ℕ) : Type 0 where
   pub no_dashes : bytes_eq word (codes "--") ≡ false
   pub no_long : long_of word ≡ None
@@ -75,12 +77,16 @@ is_used name [] = false
 is_used name (one ∷ uses) = bytes_eq one.0 name || is_used name uses
 
 -- The words of a command line, the program's name first, name a command with these uses: they are
--- its word, and after it what it knows, of which none is wanting.
+-- its word, and after it what it knows. Of its words that stand alone those that are left at the
+-- end are further ones: no more are left than there are of those.
 pub record NameCommand (words : List (List ℕ)) (command : Command) (uses : Uses) : Type 0 where
   pub program : List ℕ
   pub rest : List (List ℕ)
+  pub left : List (List ℕ)
   pub are : words ≡ program ∷ command.name ∷ rest
-  pub uses_are : AreUses command.options command.flags [] command.words rest uses
+  pub few : length left ≤ length command.further
+  pub uses_are : AreUses command.options command.flags left (command.words ++ command.further) rest
+      uses
 
 -- the first command of this name
 abbrev pub command_named : List ℕ → List Command → Option Command
@@ -97,7 +103,7 @@ pub record AreAlike (a b : Uses) : Type 0 where
 
 -- ---- commands that can be told from each other
 
--- a name that can stand behind `--`: it isn't empty, and has no `=` (61)
+-- a name that can stand after `--`: it isn't empty, and has no `=` (61)
 abbrev pub is_name : List ℕ → Bool
 is_name [] = false
 is_name (first ∷ rest) = not (has_byte 61 (first ∷ rest))
@@ -115,11 +121,12 @@ abbrev pub is_readable_command : Command → Bool
 is_readable_command command =
     not (bytes_eq command.name (codes "help")) && (list_all is_name command.options
     && (list_all is_name command.flags && (are_new command.flags command.options
-    && (are_new command.words (command.options ++ command.flags)
-    && nat_lt (length command.words) usize_max))))
+    && (are_new (command.words ++ command.further) (command.options ++ command.flags)
+    && nat_lt (length (command.words ++ command.further)) usize_max))))
 
--- A program can have these commands: there is one at least, none is called `help`, and in none two
--- names are the same.
+-- A program can have these commands: there is one at least, and none is called `help`. In each the
+-- names of flags and of words, further ones too, differ from each other, and from those of the
+-- options.
 abbrev pub are_readable : List Command → Bool
 are_readable [] = false
 are_readable (first ∷ rest) = is_readable_command first && list_all is_readable_command rest

@@ -1,5 +1,6 @@
 pub mod Grammar
 pub mod Table
+pub mod Manual
 pub mod Apps
 pub mod Named
 pub mod inner

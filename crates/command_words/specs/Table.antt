@@ -1,4 +1,4 @@
--- The commands that a table tells.
+-- The commands of a table.
 use Rattle.std.specs.Prelude.{List, map}
 use Rattle.command_words.specs.Grammar.{Command}
 use Rattle.command_words.specs.declared.table.CommandRow.{CommandRow}
@@ -10,6 +10,7 @@ command_of row = record {
   options = map (λ name. name.now) row.options.now;
   flags = map (λ name. name.now) row.flags.now;
   words = map (λ name. name.now) row.words.now;
+  further = map (λ name. name.now) row.further.now;
 }
 
 abbrev pub commands_of : Program → List Command

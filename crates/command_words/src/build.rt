@@ -18,8 +18,10 @@ enum Kind {
     Option,
     /// A flag, which has none.
     Flag,
-    /// A word that stands alone.
+    /// A word that stands alone, and must be there.
     Word,
+    /// A word that stands alone, and may be missing.
+    Further,
 }
 
 /// The program's command, as `clap` has it.
@@ -47,7 +49,8 @@ fn row_command<'a>(alloc: Global, row: &CommandRow<'a>) -> Result<Command<'a>, A
     let bare = Command::new(alloc, row.name);
     let with_options = add_args(alloc, bare, Kind::Option, row.options)?;
     let with_flags = add_args(alloc, with_options, Kind::Flag, row.flags)?;
-    add_args(alloc, with_flags, Kind::Word, row.words)
+    let with_words = add_args(alloc, with_flags, Kind::Word, row.words)?;
+    add_args(alloc, with_words, Kind::Further, row.further)
 }
 
 /// A command that knows these names too.
@@ -79,5 +82,6 @@ fn arg_of<'a>(alloc: Global, kind: Kind, name: &'a str) -> Arg<'a>
         Kind::Option => arg.long(name).action(ArgAction::Append),
         Kind::Flag => arg.long(name).action(ArgAction::Append).num_args(0),
         Kind::Word => arg.required(true),
+        Kind::Further => arg,
     }
 }

@@ -2,13 +2,21 @@
 //!
 //! A [`Program`] has a [`CommandRow`] for each command: its name, and what its words may be.
 //! [`read`] returns what the words of a command line name, or the error of `clap` that refuses
-//! them. What the values mean is the program's business.
+//! them. [`tell_refused`] writes the line that says why. What the values mean is the program's
+//! business, and [`tell_fault`] writes the line on one that it refuses. [`write_manual`] writes the
+//! program's manual.
 #![tactic(auto)]
 
 mod build;
+mod fault;
 pub mod laws;
+mod manual;
 mod named;
+mod refused;
 mod table;
+mod told;
 
+pub use manual::{manual_asked, write_manual};
 pub use named::{Named, read};
+pub use refused::{row_of, tell_fault, tell_refused};
 pub use table::{CommandRow, Program};

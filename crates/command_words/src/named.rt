@@ -71,7 +71,8 @@ impl<'a> Named<'a> {
         }
     }
 
-    /// The values of an option, or of a word, in their order; `None` where it has none.
+    /// The values of an option, or of a word, in their order. Where it has none, this is `None` or
+    /// an empty slice.
     pub fn values(&self, name: &str) -> Option<&[&'a str]>
         ensures { unwrap_or (option_map (λ values. map (λ value. value.now) values.now) result) []
             ≡ values_in self.now name.now }
@@ -92,6 +93,7 @@ impl<'a> Named<'a> {
             values_in self.now name.now ≡ option_to_list (option_map (λ word. word.now) value)) }
         ensures more { IfErr result (λ kind. (value : Option (List ℕ))
             → values_in self.now name.now ≡ option_to_list value → ⊥) }
+        ensures kind { IfErr result (λ kind. kind ≡ ErrorKind.ArgumentConflict) }
     {
         match self.values(name) {
             None | Some([]) => Ok(None),

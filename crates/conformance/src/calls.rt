@@ -397,7 +397,7 @@ const FOREIGN_ACTS: &[u8] = b"1-1 foreign\n2-2 foreign\n3-3 foreign\n4-4 foreign
 const WITHOUT_CHANGER: &[u8] = b"\nwithout changer\n";
 
 /// Whether an answer is a yes on so many rows.
-fn is_yes_of(answer: &Result<Outcome, RunFault>, rows: u64) -> bool {
+fn is_yes_of<F>(answer: &Result<Outcome, F>, rows: u64) -> bool {
     match answer {
         Ok(Outcome::Yes(report)) => report.rows == rows,
         _ => false,
@@ -405,7 +405,7 @@ fn is_yes_of(answer: &Result<Outcome, RunFault>, rows: u64) -> bool {
 }
 
 /// Whether the text of an answer, made anew, is the one that was written.
-fn is_text(alloc: Global, scope: &Scope, answer: &Result<Outcome, RunFault>, out: &[u8]) -> bool {
+fn is_text<F>(alloc: Global, scope: &Scope, answer: &Result<Outcome, F>, out: &[u8]) -> bool {
     let Ok(outcome) = answer else {
         return false;
     };

@@ -241,7 +241,7 @@ impl<'a> Case<'a> {
         let mut out = Vec::new(rt.alloc());
         let mut err = Vec::new(rt.alloc());
         let transcript = self.rows.transcript.as_slice();
-        let status = mdb_check::run(rt.alloc(), words, transcript, &mut out, &mut err);
+        let status = mdbcheck_run::run(rt.alloc(), words, transcript, &mut out, &mut err);
         self.judge(rt, status, out.as_slice(), err.as_slice())
     }
 

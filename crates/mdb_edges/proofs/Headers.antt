@@ -1,7 +1,7 @@
 -- The columns of a header.
 use Rattle.std.proofs.Common.{◌≡◌, inl, inr, ◌<◌, ◌≤◌, ◌+◌, ℕ, zero, suc, List, [], ◌∷◌, length, Option, Some, None, IfSome, IfNone, sym, ap, subst, ◌∙◌, arith}
 use Rattle.csv.specs.Records.{field_at}
-use Rattle.mdb_import.specs.Fields.{bare}
+use Rattle.mdb_exports.specs.Fields.{bare}
 use Rattle.mdb_edges.specs.declared.columns.Columns.{Columns}
 use Rattle.mdb_edges.specs.declared.options.EdgesOptions.{EdgesOptions}
 use Rattle.mdb_edges.specs.Table.{IsColumn, IsField, IsHeader, IsName}

@@ -5,10 +5,9 @@ use Rattle.mdb_words.specs.declared.event.Event.{Event}
 use Rattle.mdb_words.specs.declared.event.Event.TheVariants.{Word, Break}
 use Rattle.mdb_words.specs.declared.word.Line.{Line}
 use Rattle.mdb_words.specs.declared.word.Line.TheVariants.{Controller, Peripheral}
-use Rattle.mdb_sigrok.specs.Order.{Precedes}
-use Rattle.mdb_sigrok.specs.Rows.{Merges}
-use Rattle.mdb_sigrok.proofs.Merges.{one_merge}
-use Rattle.mdb_sigrok.proofs.Orders.{Ordered, all_pairs, merged_in_order}
+use Rattle.mdb_exports.specs.Order.{Precedes, Merges}
+use Rattle.mdb_exports.proofs.Merges.{one_merge}
+use Rattle.mdb_exports.proofs.Orders.{Ordered, all_pairs, merged_in_order}
 use Rattle.mdb_edges.specs.Levels.{AreRowsOfLine, Follows, micros_of, middle_of, silent, word, broken}
 use Rattle.mdb_edges.specs.Table.{AreMoments, AreRowsOfTable, IsHeader, level_at}
 use Rattle.mdb_edges.specs.declared.options.EdgesOptions.{EdgesOptions}

@@ -2,11 +2,11 @@
 use Rattle.std.proofs.Common.{◌≡◌, inl, inr, ◌<◌, ◌≤◌, ◌+◌, ◌-◌, ◌*◌, ◌^◌, ℕ, List, sym, ap, subst, ◌∙◌, arith}
 use Rattle.std.proofs.Math.Nat.{mul-pos, one-le-pow, lt_of_mul-lt-mul_right, mul-mul-mul_comm, mul_assoc, mul_comm, mul-lt-mul_of_pos_right}
 use Rattle.std.proofs.lemmas.Nat.{pow-add}
-use Rattle.mdb_import.specs.Numbers.{IsNumber}
-use Rattle.mdb_import.specs.Times.{per_second}
-use Rattle.mdb_import.specs.declared.options.Unit.{Unit}
-use Rattle.mdb_import.specs.declared.options.Unit.TheVariants as units
-use Rattle.mdb_import.proofs.Readings.{number_same}
+use Rattle.mdb_exports.specs.Numbers.{IsNumber}
+use Rattle.mdb_exports.specs.Times.{per_second}
+use Rattle.mdb_exports.specs.declared.units.Unit.{Unit}
+use Rattle.mdb_exports.specs.declared.units.Unit.TheVariants as units
+use Rattle.mdb_exports.proofs.Readings.{number_same}
 use Rattle.mdb_edges.specs.Table.{AreParts, IsInstant}
 use Rattle.mdb_edges.proofs.Orders.{compared}
 

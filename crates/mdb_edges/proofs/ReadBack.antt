@@ -1,17 +1,17 @@
 -- The rows of a table are rows of a transcript, and are read back.
 use Rattle.std.proofs.Common.{arith, refl, sym, subst, inl, inr, ◌≡◌, ◌+◌, ◌-◌, ◌^◌, ◌<◌, ◌≤◌, Bool, true, false, cond, ℕ, zero, suc, List, [], ◌∷◌, All}
 use Rattle.std.specs.Prelude.{nat_le}
-use Rattle.std.proofs.lemmas.List.Elements.{All-nil, All-cons, All-head, All-tail}
+use Rattle.std.proofs.lemmas.List.Elements.{All-nil, All-cons}
 use Rattle.std.proofs.lemmas.Bool.{cases_lt}
 use Rattle.std.proofs.lemmas.Bool.Decides.{nat_tests}
 use Rattle.mdb_words.specs.declared.event.Event.{Event}
 use Rattle.mdb_words.specs.declared.event.Event.TheVariants.{Word, Break}
 use Rattle.mdb_words.specs.declared.word.Line.{Line}
 use Rattle.mdb_words.specs.declared.word.Line.TheVariants.{Controller, Peripheral}
-use Rattle.mdb_import.specs.ReadBack.{AreReadBack, IsRowEvent}
-use Rattle.mdb_import.proofs.OneImport.{some_of}
-use Rattle.mdb_import.proofs.PlainRows.{read_back, small_break, small_word}
-use Rattle.mdb_sigrok.specs.Rows.{Merges, controller_alone, devices_alone, controller_first, device_first}
+use Rattle.mdb_exports.specs.ReadBack.{AreReadBack, IsRowEvent}
+use Rattle.mdb_exports.proofs.Merges.{merged_all}
+use Rattle.mdb_exports.proofs.Part.{some_of}
+use Rattle.mdb_exports.proofs.PlainRows.{read_back, small_break, small_word}
 use Rattle.mdb_edges.specs.Import.{is_taken, part_of}
 use Rattle.mdb_edges.specs.Levels.{AreRowsOfLine, Follows, bits_value, micros_of, middle_of, silent, word, broken}
 use Rattle.mdb_edges.specs.Table.{AreMoments, AreRowsOfTable, level_at, level_on}
@@ -102,18 +102,6 @@ line_small : (line : Line) (level : ℕ → Bool) (rows : List Event) → FallsS
     → AreRowsOfLine line level rows → All IsRowEvent rows
 line_small line level rows small (inl never) = subst (All IsRowEvent) (sym never.1) (All-nil IsRowEvent)
 line_small line level rows small (inr some) = follows_small some.2 small some.1.high
-
--- what holds of the rows of both lines holds of all
-pub merged_all : (P : Event → Type 0) {sent answered rows : List Event} → Merges sent answered rows
-    → All P sent → All P answered → All P rows
-merged_all P (controller_alone sent) one two = one
-merged_all P (devices_alone answered) one two = two
-merged_all P (controller_first row other sent answered rows order rest) one two =
-    All-cons P row rows (All-head P row sent one)
-    (merged_all P rest (All-tail P row sent one) two)
-merged_all P (device_first other row sent answered rows order rest) one two =
-    All-cons P row rows (All-head P row answered two)
-    (merged_all P rest one (All-tail P row answered two))
 
 pub part_read_back : (options : EdgesOptions) (records : List (List (List ℕ))) (rows : List Event)
     → AreRowsOfTable options records rows → AreReadBack (part_of options rows)

@@ -1,5 +1,5 @@
 -- What is told of a table that is refused.
-use Rattle.std.proofs.Common.{inl, List, ℕ, [], Option}
+use Rattle.std.proofs.Common.{List, ℕ, [], Option}
 use Rattle.mdb_words.specs.declared.event.Event.{Event}
 use Rattle.std.proofs.KnownBytes.{Keeps-refl}
 use Rattle.mdb_edges.specs.Faults.{IsFirstFault}
@@ -17,4 +17,4 @@ refused_of options all (Order number micros fault) held first never = (first, λ
 refused_of options all (Line number micros line fault) held first never = (first, λ others rows same table. never others rows (same, table), Keeps-refl held)
 refused_of options all Read held first never = Keeps-refl held
 refused_of options all Write held first never = absurd (never [] [])
-refused_of options all Memory held first never = inl (Keeps-refl held)
+refused_of options all Memory held first never = Keeps-refl held

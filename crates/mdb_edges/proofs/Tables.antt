@@ -4,7 +4,7 @@ use Rattle.std.proofs.Math.Seq.{take-append_seam}
 use Rattle.std.proofs.lemmas.List.{length-take, take-append-drop, take_all}
 use Rattle.mdb_records.specs.ToCome.{Advances, ToCome, current_fields}
 use Rattle.mdb_records.specs.declared.Records.{Records}
-use Rattle.mdb_sigrok.specs.Rows.{Merges}
+use Rattle.mdb_exports.specs.Order.{Merges}
 use Rattle.mdb_words.specs.declared.event.Event.{Event}
 use Rattle.mdb_words.specs.declared.word.Line.{Line}
 use Rattle.mdb_words.specs.declared.word.Line.TheVariants.{Controller, Peripheral}

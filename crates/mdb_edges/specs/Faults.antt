@@ -3,8 +3,8 @@ use Rattle.std.specs.Prelude.{◌≡◌, ◌≢◌, ◌⊎◌, ⊤, ◌+◌, ◌
 use Rattle.mdb_words.specs.declared.word.Line.{Line}
 use Rattle.mdb_words.specs.declared.word.Line.TheVariants.{Controller, Peripheral}
 use Rattle.mdb_words.specs.declared.event.Event.{Event}
-use Rattle.mdb_import.specs.Numbers.{IsNumber}
-use Rattle.mdb_import.specs.declared.options.Unit.{Unit}
+use Rattle.mdb_exports.specs.Numbers.{IsNumber}
+use Rattle.mdb_exports.specs.declared.units.Unit.{Unit}
 use Rattle.mdb_edges.specs.Levels.{AreRowsOfLine, Falls, IsBreak, IsFrame, Rises, micros_of, middle_of}
 use Rattle.mdb_edges.specs.Table.{AreMoments, IsField, IsHeader, IsInstant, IsMoment, end_of, level_at, level_digit}
 use Rattle.mdb_edges.specs.declared.columns.Columns.{Columns}

@@ -7,8 +7,10 @@ use Rattle.mdb_words.specs.declared.event.Event.{Event}
 use Rattle.mdb_records.specs.ToCome.{ToCome, fault_of}
 use Rattle.mdb_records.specs.declared.ReadFault.TheVariants as reading
 use Rattle.mdb_records.specs.declared.Records.{Records}
-use Rattle.mdb_import.specs.Exports.{export_records, is_controllers, is_from, is_marked, is_peripherals, is_until, told_count}
-use Rattle.mdb_sigrok.specs.Import.{rows_text}
+use Rattle.mdb_exports.specs.Records.{export_records}
+use Rattle.mdb_exports.specs.Told.{is_controllers, is_marked, is_peripherals, told_count}
+use Rattle.mdb_exports.specs.Part.{is_from, is_until}
+use Rattle.mdb_exports.specs.Rows.{rows_text}
 use Rattle.mdb_writing.specs.Written.{HasTaken}
 use Rattle.mdb_edges.specs.Faults.{IsFirstFault}
 use Rattle.mdb_edges.specs.Table.{AreRowsOfTable}
@@ -72,8 +74,8 @@ AreFaulty options records fault number before after =
     IsFirstFault options records fault × HaveNoRows options number records × Keeps before after
 
 -- What a fault tells of records: where it is one of the table, what is wrong with that. Where
--- reading failed, nothing was written; where memory or writing did, a front of the rows, or
--- nothing.
+-- reading failed or memory was refused, nothing was written; where writing failed, a front of the
+-- rows.
 abbrev pub AreRefused : EdgesOptions → List (List (List ℕ)) → EdgesFault → Option (List ℕ) →
     Option (List ℕ) → Type 0
 AreRefused options records (Form number fault) before after =
@@ -84,8 +86,7 @@ AreRefused options records (Line number micros line fault) before after =
     AreFaulty options records (Line number micros line fault) number before after
 AreRefused options records Read before after = Keeps before after
 AreRefused options records Write before after = ArePartial options records before after
-AreRefused options records Memory before after =
-    Keeps before after ⊎ ArePartial options records before after
+AreRefused options records Memory before after = Keeps before after
 
 -- the same of the records of a text
 abbrev pub IsImported : EdgesOptions → List ℕ → EdgesImported → Option (List ℕ) → Option (List ℕ)

@@ -4,11 +4,11 @@ use Rattle.csv.specs.Records.{field_at}
 use Rattle.mdb_words.specs.declared.event.Event.{Event}
 use Rattle.mdb_words.specs.declared.word.Line.{Line}
 use Rattle.mdb_words.specs.declared.word.Line.TheVariants.{Controller, Peripheral}
-use Rattle.mdb_import.specs.Fields.{bare}
-use Rattle.mdb_import.specs.Numbers.{IsNumber}
-use Rattle.mdb_import.specs.Times.{per_second}
-use Rattle.mdb_import.specs.declared.options.Unit.{Unit}
-use Rattle.mdb_sigrok.specs.Rows.{Merges}
+use Rattle.mdb_exports.specs.Fields.{bare}
+use Rattle.mdb_exports.specs.Numbers.{IsNumber}
+use Rattle.mdb_exports.specs.Times.{per_second}
+use Rattle.mdb_exports.specs.declared.units.Unit.{Unit}
+use Rattle.mdb_exports.specs.Order.{Merges}
 use Rattle.mdb_edges.specs.Levels.{AreRowsOfLine, micros_of}
 use Rattle.mdb_edges.specs.declared.columns.Columns.{Columns}
 use Rattle.mdb_edges.specs.declared.moment.Moment.{Moment}

@@ -5,7 +5,7 @@ ghost use Rattle.csv.specs.Records.{fields_of};
 ghost use Rattle.mdb_edges.specs.Table.{IsField};
 
 use csv::ByteRecord;
-use mdb_import::bare;
+use mdb_exports::bare;
 
 /// A field of a record, without the blanks and quotation marks around it.
 pub(crate) fn field_of(row: &ByteRecord, place: usize) -> &[u8]

@@ -12,7 +12,7 @@ use super::fault::FormFault;
 use super::fields::field_of;
 use super::options::EdgesOptions;
 use csv::ByteRecord;
-use mdb_import::read_number;
+use mdb_exports::read_number;
 
 /// What the column of a line is called.
 #[derive(Clone, Copy, Debug)]

@@ -9,9 +9,8 @@ use super::fault::EdgesFault;
 use super::options::EdgesOptions;
 use super::part::{EdgesImported, part_of};
 use super::table::rows_of_records;
-use mdb_import::records_of;
+use mdb_exports::{records_of, write_rows};
 use mdb_records::Records;
-use mdb_sigrok::write_rows;
 use mdb_words::Event;
 use mdb_writing::WriteFailed;
 use std::alloc::Global;
@@ -27,7 +26,8 @@ use std::io::{Read, Write};
 ///
 /// The first record of what is no table of words and breaks, with its number, and where that is
 /// known with its time in microseconds and the line: the records stand at that one then. Or that
-/// reading or writing failed, or that memory was refused.
+/// reading or writing failed, or that memory was refused. Only where writing failed did the writer
+/// take anything: a front of the rows.
 pub fn import_edge_records<R: Read + Drop, W: Write>(
     alloc: Global,
     options: &EdgesOptions,

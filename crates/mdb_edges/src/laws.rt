@@ -3,8 +3,8 @@
 ghost use Rattle.std.specs.Prelude.{◌≡◌, ℕ, List};
 ghost use Rattle.std.specs.List.{AllPairs};
 ghost use Rattle.mdb_words.specs.declared.event.Event.{Event};
-ghost use Rattle.mdb_import.specs.ReadBack.{AreReadBack};
-ghost use Rattle.mdb_sigrok.specs.Order.{Precedes};
+ghost use Rattle.mdb_exports.specs.ReadBack.{AreReadBack};
+ghost use Rattle.mdb_exports.specs.Order.{Precedes};
 ghost use Rattle.mdb_edges.specs.Import.{part_of};
 ghost use Rattle.mdb_edges.specs.Table.{AreRowsOfTable};
 ghost use Rattle.mdb_edges.specs.declared.options.EdgesOptions.{EdgesOptions};

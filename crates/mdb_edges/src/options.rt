@@ -1,6 +1,6 @@
 //! The options of the import of a table of edges.
 
-use mdb_import::Unit;
+use mdb_exports::Unit;
 
 /// The options of the import of a table of edges.
 #[derive(Debug, Drop)]

@@ -7,7 +7,7 @@ ghost use Rattle.mdb_edges.specs.declared.moment.Moment.{Moment};
 ghost use Rattle.mdb_edges.specs.Table.{AreParts, AreThere, IsInstant, IsMoment, level_digit};
 ghost use Rattle.mdb_edges.specs.Faults.{IsNoInstant};
 ghost use Rattle.mdb_edges.specs.inner.Stops.{Denies, IsOfRecord, IsOfTable};
-ghost use Rattle.mdb_import.specs.Times.{per_second};
+ghost use Rattle.mdb_exports.specs.Times.{per_second};
 
 use super::columns::Columns;
 use super::fault::{FormFault, LineFault, Stop, Wrong};
@@ -16,7 +16,7 @@ use super::instant::Instant;
 use super::moment::Moment;
 use super::options::EdgesOptions;
 use csv::ByteRecord;
-use mdb_import::{Number, Unit, power, read_number};
+use mdb_exports::{Number, Unit, power, read_number};
 use mdb_words::Line;
 
 /// 10^9.

@@ -9,7 +9,7 @@ use Rattle.mdb_words.specs.Row.{IsRefusal, IsRow, row_fields}
 use Rattle.mdb_bus.specs.declared.scope.Scope.{Scope}
 use Rattle.mdb_follow.specs.declared.follower.TheConstants.{ROWS_MAX}
 use Rattle.mdb_follow.specs.declared.goal.Goal.{Goal}
-use Rattle.mdb_marks.specs.declared.mark.Mark.{Mark}
+use Rattle.mdb_explained_runs.specs.declared.mark.Mark.{Mark}
 use Rattle.mdb_follow.specs.declared.offence.Offence.{Offence}
 use Rattle.mdb_follow.specs.declared.report.Report.{Report}
 use Rattle.mdb_follow.specs.Follower.{StandsFor, scope_of}
@@ -18,7 +18,7 @@ use Rattle.mdb_explain.specs.declared.keeping.Keeping.{Keeping}
 use Rattle.mdb_text.specs.declared.outcome.Outcome.{Outcome}
 use Rattle.mdb_text.specs.declared.outcome.Outcome.TheVariants.{Yes, No}
 use Rattle.mdb_verdict.specs.declared.fault.RunFault.{RunFault}
-use Rattle.mdb_verdict.specs.declared.fault.RunFault.TheVariants.{BadRow, TooLong, Read, Write, Memory, Mark as MarkFault}
+use Rattle.mdb_verdict.specs.declared.fault.RunFault.TheVariants.{BadRow, TooLong, Read, Write, Memory}
 use Rattle.mdb_explain.specs.Explain.{IsCutExplanation, IsExplainText, IsExplainedIn, explanation_text, record_line}
 use Rattle.mdb_verdict.specs.Headline.{IfNo, IfYes}
 use Rattle.mdb_text.specs.Text.{report_text}
@@ -52,7 +52,6 @@ followed_to scope limit all keeping TooLong ended = record { rows = ended.rows; 
 followed_to scope limit all keeping Read ended = record { rows = ended.rows; rest = ended.rest; read = ended.read; has = ended.has.followed }
 followed_to scope limit all keeping Write ended = absurd ended
 followed_to scope limit all keeping Memory ended = record { rows = ended.rows; rest = ended.rest; read = ended.read; has = ended.has.followed }
-followed_to scope limit all keeping (MarkFault row) ended = absurd ended
 
 -- a record isn't taken, or can't be read
 pub refused : (scope : Scope) → Reaches → (limit : ℕ) (all : List (List (List ℕ))) (keeping : Keeping) (fault : RunFault) → HasEnded IsRow IsRefusal (HasKept scope keeping) (StopsKeeping scope) limit all (Err fault)
@@ -70,7 +69,6 @@ answer_told contents before after IsText scope limit all are (Err TooLong) told 
 answer_told contents before after IsText scope limit all are (Err Read) told = tt
 answer_told contents before after IsText scope limit all are (Err Write) told = tt
 answer_told contents before after IsText scope limit all are (Err Memory) told = tt
-answer_told contents before after IsText scope limit all are (Err (MarkFault row)) told = absurd told
 
 -- its text was written
 pub written_told : {W : Type 0} (contents : W → Option (List ℕ)) (before after : W) (IsText : Outcome → List ℕ → Type 0) (scope : Scope) (goal : Goal) (all : List (List (List ℕ))) → ((outcome : Outcome) (text : List ℕ) → IsText outcome text → IsExplainText scope goal all outcome text)
@@ -265,7 +263,6 @@ nothing_told contents before after IsText (Err TooLong) told = absurd told
 nothing_told contents before after IsText (Err Read) told = absurd told
 nothing_told contents before after IsText (Err Write) told = λ not. absurd (not refl)
 nothing_told contents before after IsText (Err Memory) told = λ not. told
-nothing_told contents before after IsText (Err (MarkFault row)) told = absurd told
 
 -- a no is no yes
 pub no_yes_told : {W : Type 0} (contents : W → Option (List ℕ)) (before after : W) (scope : Scope) (offence : Offence) (answer : Result Outcome RunFault) → IsTold contents before after (IsNoText scope offence) answer → IsNoYes answer

@@ -9,7 +9,7 @@ use Rattle.mdb_words.specs.declared.event.Event.TheVariants.{Word, Break}
 use Rattle.mdb_words.specs.Digits.{hex_word}
 use Rattle.mdb_words.specs.Row.{IsRow, break_letter, letter_of, row_fields}
 use Rattle.mdb_follow.specs.declared.follower.TheConstants.{ROWS_MAX}
-use Rattle.mdb_marks.specs.declared.mark.Mark.{Mark}
+use Rattle.mdb_explained_runs.specs.declared.mark.Mark.{Mark}
 use Rattle.mdb_explain.specs.Explain.{explanation_text, mark_fields, record_line}
 use Rattle.mdb_explain.specs.Replay.{dash, mark_letter}
 use Rattle.mdb_verdict.specs.Verdict.{AreRows}

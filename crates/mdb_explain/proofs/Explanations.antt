@@ -7,8 +7,8 @@ use Rattle.mdb_words.specs.declared.event.Event.{Event}
 use Rattle.mdb_words.specs.Digits.{IsDecimal}
 use Rattle.mdb_words.specs.Row.{row_fields}
 use Rattle.mdb_follow.specs.declared.follower.TheConstants.{ROWS_MAX}
-use Rattle.mdb_marks.specs.declared.mark.Mark.{Mark}
-use Rattle.mdb_marks.specs.declared.mark.Mark.TheVariants.{Lost, Restart}
+use Rattle.mdb_explained_runs.specs.declared.mark.Mark.{Mark}
+use Rattle.mdb_explained_runs.specs.declared.mark.Mark.TheVariants.{Lost, Restart}
 use Rattle.mdb_explain.specs.Explain.{explanation_records, explanation_text, mark_fields}
 use Rattle.mdb_explain.specs.Replay.{AreMarkRows, IsMarkRow, dash, mark_letter}
 use Rattle.mdb_verdict.specs.Verdict.{AreRows}

@@ -5,18 +5,20 @@ use Rattle.std.specs.Prelude.{IfErr, IsErrAnd}
 use Rattle.mdb_words.specs.declared.event.Event.{Event}
 use Rattle.mdb_bus.specs.declared.scope.Scope.{Scope}
 use Rattle.mdb_follow.specs.declared.follower.TheConstants.{ROWS_MAX}
-use Rattle.mdb_marks.specs.declared.mark.Mark.{Mark}
+use Rattle.mdb_explained_runs.specs.declared.mark.Mark.{Mark}
 use Rattle.mdb_follow.specs.declared.offence.Offence.{Offence}
 use Rattle.mdb_explain.specs.declared.entry.Entry.{Entry}
 use Rattle.mdb_explain.specs.declared.entry.Entry.TheVariants as entries
 use Rattle.mdb_text.specs.declared.outcome.Outcome.{Outcome}
 use Rattle.mdb_text.specs.declared.outcome.Outcome.TheVariants.{Yes, No}
+use Rattle.mdb_explain.specs.declared.fault.MarkedFault.{MarkedFault}
 use Rattle.mdb_verdict.specs.declared.fault.RunFault.{RunFault}
+use Rattle.mdb_explain.specs.declared.fault.MarkedFault.TheVariants as marked
 use Rattle.mdb_verdict.specs.declared.fault.RunFault.TheVariants as run
 use Rattle.mdb_explain.specs.declared.replaying.Replaying.{Replaying}
-use Rattle.mdb_explain.specs.Replay.{AreMarkRows, CanBe, InputPart, IsReplayAnswer, LeadUpToPart, StopsAt, all_marks}
+use Rattle.mdb_explain.specs.Replay.{AreMarkRows, CanBe, HasMarkedCause, InputPart, IsReplayAnswer, LeadUpToPart, StopsAt, all_marks}
 use Rattle.mdb_records.specs.declared.ReadFault.{ReadFault}
-use Rattle.mdb_verdict.specs.Verdict.{AreRows, HasCause}
+use Rattle.mdb_verdict.specs.Verdict.{AreRows}
 use Rattle.mdb_verdict.specs.Batch.{AreAll}
 use Rattle.mdb_verdict.specs.Ending.{AreRead, HasEnded, IsStopped, IsTakenWhole}
 use Rattle.mdb_explain.specs.inner.Entries.{IsEntry, IsNoEntry}
@@ -72,11 +74,11 @@ leading scope all taken part rest read are can =
 -- The answers.
 
 -- the text ends
-pub whole : (scope : Scope) (limit : ℕ) (all : List (List (List ℕ))) (taker : Replaying) → IsTakenWhole IsEntry (HasReplayed scope taker) limit all → (answer : Result Outcome RunFault) → ((taken : List Entry) → HasReplayed scope taker taken → Finishes scope taken answer)
+pub whole : (scope : Scope) (limit : ℕ) (all : List (List (List ℕ))) (taker : Replaying) → IsTakenWhole IsEntry (HasReplayed scope taker) limit all → (answer : Result Outcome MarkedFault) → ((taken : List Entry) → HasReplayed scope taker taken → Finishes scope taken answer)
     → IsReplayAnswer scope ROWS_MAX all answer
 whole scope limit all taker ended answer finishes = told answer (finishes ended.rows ended.has)
   where
-    told : (answer : Result Outcome RunFault) → Finishes scope ended.rows answer → IsReplayAnswer scope ROWS_MAX all answer
+    told : (answer : Result Outcome MarkedFault) → Finishes scope ended.rows answer → IsReplayAnswer scope ROWS_MAX all answer
     told (Ok (Yes report)) is =
         let lead = leading scope all ended.rows is.part [] ended.read is.are is.can_be in
         let marks : all_marks is.part ≡ is.part.passed = ap (λ l. is.part.passed ++ l) is.none ∙ append-nil is.part.passed in
@@ -93,15 +95,11 @@ whole scope limit all taker ended answer finishes = told answer (finishes ended.
           is = is.is;
         }
     told (Ok (No offence)) is = absurd is
-    told (Err (run.Mark row)) is = inr (record { part = is.part; leads = leading scope all ended.rows is.part [] ended.read is.are is.can_be; mark = is.mark; more = is.more; first = is.first })
-    told (Err (run.BadRow row fault)) is = absurd is
-    told (Err run.TooLong) is = absurd is
-    told (Err run.Read) is = absurd is
-    told (Err run.Write) is = absurd is
-    told (Err run.Memory) is = absurd is
+    told (Err (marked.Mark row)) is = inr (record { part = is.part; leads = leading scope all ended.rows is.part [] ended.read is.are is.can_be; mark = is.mark; more = is.more; first = is.first })
+    told (Err (marked.Run fault)) is = absurd is
 
 -- an entry isn't taken
-stops : (scope : Scope) (limit : ℕ) (all : List (List (List ℕ))) (stop : Result Offence RunFault) → IsStopped IsEntry (λ earlier rows. HasStopped scope earlier rows stop) limit all → StopsAt scope ROWS_MAX all stop
+stops : (scope : Scope) (limit : ℕ) (all : List (List (List ℕ))) (stop : Result Offence MarkedFault) → IsStopped IsEntry (λ earlier rows. HasStopped scope earlier rows stop) limit all → StopsAt scope ROWS_MAX all stop
 stops scope limit all stop ended =
     let has : HasStopped scope ended.earlier ended.later stop = ended.stops in
     let parts : ended.earlier ++ ended.later ≡ (ended.earlier ++ has.front) ++ has.entry ∷ has.rest = ap (λ l. ended.earlier ++ l) has.parts ∙ sym (append_assoc ended.earlier has.front (has.entry ∷ has.rest)) in
@@ -118,41 +116,40 @@ stops scope limit all stop ended =
 pub offends : (scope : Scope) (limit : ℕ) (all : List (List (List ℕ))) (offence : Offence) → IsStopped IsEntry (λ earlier rows. HasStopped scope earlier rows (Ok offence)) limit all → IsReplayAnswer scope ROWS_MAX all (Ok (No offence))
 offends scope limit all offence ended = stops scope limit all (Ok offence) ended
 
-stopped_by : (scope : Scope) (limit : ℕ) (all : List (List (List ℕ))) (fault : RunFault) → IsStopped IsEntry (λ earlier rows. HasStopped scope earlier rows (Err fault)) limit all → IsReplayAnswer scope ROWS_MAX all (Err fault)
-stopped_by scope limit all (run.BadRow row fault) ended = stops scope limit all (Err (run.BadRow row fault)) ended
-stopped_by scope limit all run.TooLong ended = stops scope limit all (Err run.TooLong) ended
-stopped_by scope limit all (run.Mark row) ended = inl (stops scope limit all (Err (run.Mark row)) ended)
-stopped_by scope limit all run.Read ended = tt
-stopped_by scope limit all run.Write ended = tt
-stopped_by scope limit all run.Memory ended = tt
+stopped_by : (scope : Scope) (limit : ℕ) (all : List (List (List ℕ))) (fault : MarkedFault) → IsStopped IsEntry (λ earlier rows. HasStopped scope earlier rows (Err fault)) limit all → IsReplayAnswer scope ROWS_MAX all (Err fault)
+stopped_by scope limit all (marked.Run (run.BadRow row fault)) ended = stops scope limit all (Err (marked.Run (run.BadRow row fault))) ended
+stopped_by scope limit all (marked.Run run.TooLong) ended = stops scope limit all (Err (marked.Run run.TooLong)) ended
+stopped_by scope limit all (marked.Mark row) ended = inl (stops scope limit all (Err (marked.Mark row)) ended)
+stopped_by scope limit all (marked.Run run.Read) ended = tt
+stopped_by scope limit all (marked.Run run.Write) ended = tt
+stopped_by scope limit all (marked.Run run.Memory) ended = tt
 
-pub stopped : (scope : Scope) (limit : ℕ) (all : List (List (List ℕ))) (fault : RunFault) → IsStopped IsEntry (λ earlier rows. HasStopped scope earlier rows (Err fault)) limit all
-    → (answer : Result Outcome RunFault) → IsErrAnd answer (λ told. told ≡ fault) → IsReplayAnswer scope ROWS_MAX all answer
+pub stopped : (scope : Scope) (limit : ℕ) (all : List (List (List ℕ))) (fault : MarkedFault) → IsStopped IsEntry (λ earlier rows. HasStopped scope earlier rows (Err fault)) limit all
+    → (answer : Result Outcome MarkedFault) → IsErrAnd answer (λ told. told ≡ fault) → IsReplayAnswer scope ROWS_MAX all answer
 stopped scope limit all fault ended (Ok outcome) handed = absurd handed
 stopped scope limit all fault ended (Err told) handed = subst (λ f. IsReplayAnswer scope ROWS_MAX all (Err f)) (sym handed) (stopped_by scope limit all fault ended)
 
 -- a record can't be read: none is one too many that wasn't stopped at
-refused_by : (scope : Scope) (all : List (List (List ℕ))) (taker : Replaying) (Stops : List Entry → List Entry → Result Offence RunFault → Type 0) (fault : RunFault) → HasEnded IsEntry IsNoEntry (HasReplayed scope taker) Stops 200000001 all (Err fault)
-    → IsReplayAnswer scope ROWS_MAX all (Err fault)
+refused_by : (scope : Scope) (all : List (List (List ℕ))) (taker : Replaying) (Stops : List Entry → List Entry → Result Offence MarkedFault → Type 0) (fault : RunFault) → HasEnded IsEntry IsNoEntry (HasReplayed scope taker) Stops 200000001 all (Err fault)
+    → IsReplayAnswer scope ROWS_MAX all (Err (marked.Run fault))
 refused_by scope all taker Stops (run.BadRow row fault) ended = absurd ended.refused
 refused_by scope all taker Stops run.TooLong ended =
     absurd (omega (arith, entries_count ended.has.part, ap length ended.has.are, ended.full, ended.has.can_be.few_marks, ended.has.can_be.few_rows))
 refused_by scope all taker Stops run.Read ended = tt
 refused_by scope all taker Stops run.Write ended = tt
 refused_by scope all taker Stops run.Memory ended = tt
-refused_by scope all taker Stops (run.Mark row) ended = absurd ended
 
-pub refused : (scope : Scope) (all : List (List (List ℕ))) (taker : Replaying) (Stops : List Entry → List Entry → Result Offence RunFault → Type 0) (fault : RunFault) → HasEnded IsEntry IsNoEntry (HasReplayed scope taker) Stops 200000001 all (Err fault)
-    → (answer : Result Outcome RunFault) → IsErrAnd answer (λ told. told ≡ fault) → IsReplayAnswer scope ROWS_MAX all answer
+pub refused : (scope : Scope) (all : List (List (List ℕ))) (taker : Replaying) (Stops : List Entry → List Entry → Result Offence MarkedFault → Type 0) (fault : RunFault) → HasEnded IsEntry IsNoEntry (HasReplayed scope taker) Stops 200000001 all (Err fault)
+    → (answer : Result Outcome MarkedFault) → IsErrAnd answer (λ told. told ≡ marked.Run fault) → IsReplayAnswer scope ROWS_MAX all answer
 refused scope all taker Stops fault ended (Ok outcome) handed = absurd handed
 refused scope all taker Stops fault ended (Err told) handed = subst (λ f. IsReplayAnswer scope ROWS_MAX all (Err f)) (sym handed) (refused_by scope all taker Stops fault ended)
 
 -- A failed read is told as such alone.
 
-pub cause_of_stop : (stop : Result Offence RunFault) (fault : RunFault) (met : Option ReadFault) → stop ≢ Err run.Read → stop ≡ Err fault → (answer : Result Outcome RunFault) → IsErrAnd answer (λ told. told ≡ fault) → IfErr answer (HasCause met)
+pub cause_of_stop : (stop : Result Offence MarkedFault) (fault : MarkedFault) (met : Option ReadFault) → stop ≢ Err (marked.Run run.Read) → stop ≡ Err fault → (answer : Result Outcome MarkedFault) → IsErrAnd answer (λ told. told ≡ fault) → IfErr answer (HasMarkedCause met)
 cause_of_stop stop fault met no_read is (Ok outcome) handed = absurd handed
 cause_of_stop stop fault met no_read is (Err told) handed = λ read. absurd (no_read (is ∙ ap Err (sym handed ∙ read)))
 
-pub cause_unread : (answer : Result Outcome RunFault) (met : Option ReadFault) → IfErr answer (λ fault. fault ≢ run.Read) → IfErr answer (HasCause met)
+pub cause_unread : (answer : Result Outcome MarkedFault) (met : Option ReadFault) → IfErr answer (λ fault. fault ≢ marked.Run run.Read) → IfErr answer (HasMarkedCause met)
 cause_unread (Ok outcome) met unread = tt
 cause_unread (Err fault) met unread = λ read. absurd (unread read)

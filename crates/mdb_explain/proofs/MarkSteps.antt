@@ -11,16 +11,17 @@ use Rattle.mdb_words.specs.declared.row.RowFault.{RowFault}
 use Rattle.mdb_words.specs.declared.row.RowFault.TheVariants.{FieldCount, BadTime, BadLine, BadValue}
 use Rattle.mdb_bus.specs.declared.scope.Scope.{Scope}
 use Rattle.mdb_follow.specs.declared.follower.TheConstants.{ROWS_MAX}
-use Rattle.mdb_marks.specs.declared.mark.Mark.{Mark}
+use Rattle.mdb_explained_runs.specs.declared.mark.Mark.{Mark}
 use Rattle.mdb_follow.specs.declared.offence.Offence.{Offence}
-use Rattle.mdb_marks.specs.declared.replay.ReplayFault.{ReplayFault}
-use Rattle.mdb_marks.specs.declared.replay.ReplayFault.TheVariants as faults
-use Rattle.mdb_marks.specs.Marks.{with_mark}
-use Rattle.mdb_marks.specs.ReplayFaults.{HasMarkedRun, IsReplayFault}
-use Rattle.mdb_marks.specs.Replays.{StandsFor, rows_of, scope_of}
+use Rattle.mdb_explained_runs.specs.declared.replay.ReplayFault.{ReplayFault}
+use Rattle.mdb_explained_runs.specs.declared.replay.ReplayFault.TheVariants as faults
+use Rattle.mdb_explained_runs.specs.Marks.{with_mark}
+use Rattle.mdb_explained_runs.specs.ReplayFaults.{HasMarkedRun, IsReplayFault}
+use Rattle.mdb_explained_runs.specs.Replays.{StandsFor, rows_of, scope_of}
 use Rattle.mdb_explain.specs.declared.entry.Entry.{Entry}
 use Rattle.mdb_explain.specs.declared.entry.Entry.TheVariants as entries
-use Rattle.mdb_verdict.specs.declared.fault.RunFault.{RunFault}
+use Rattle.mdb_explain.specs.declared.fault.MarkedFault.{MarkedFault}
+use Rattle.mdb_explain.specs.declared.fault.MarkedFault.TheVariants as marked
 use Rattle.mdb_verdict.specs.declared.fault.RunFault.TheVariants as run
 use Rattle.mdb_explain.specs.declared.replaying.Replaying.{Replaying}
 use Rattle.mdb_explain.specs.Replay.{CanBe, InputPart, IsMarkRefusal, IsRefusedAfter, IsStopAt, RiseAbove, all_marks, dash, mark_at, records_in}
@@ -245,7 +246,7 @@ fed scope old new taken event mark has at few stands reached counted kept same_m
 
 -- Where it stops.
 
-stop_at : (scope : Scope) (taker : Replaying) (taken : List Entry) (entry : Entry) (stop : Result Offence RunFault) (has : HasReplayed scope taker taken) → ((fields : List (List ℕ)) → IsEntry fields entry → IsStopAt scope ROWS_MAX has.part fields stop) → stop ≢ Err run.Write → stop ≢ Err run.Read
+stop_at : (scope : Scope) (taker : Replaying) (taken : List Entry) (entry : Entry) (stop : Result Offence MarkedFault) (has : HasReplayed scope taker taken) → ((fields : List (List ℕ)) → IsEntry fields entry → IsStopAt scope ROWS_MAX has.part fields stop) → stop ≢ Err (marked.Run run.Write) → stop ≢ Err (marked.Run run.Read)
     → IsStoppedAt scope taken entry stop
 stop_at scope taker taken entry stop has is no_write no_read = record { part = has.part; are = has.are; can_be = has.can_be; is = is; no_write = no_write; no_read = no_read }
 
@@ -265,44 +266,44 @@ offends scope taker taken event mark offence has at few is =
 
 -- at a row where its mark may not stand
 misplaced : (scope : Scope) (taker : Replaying) (taken : List Entry) (event : Event) (mark : Option Mark) (row : ℕ) (has : HasReplayed scope taker taken) → mark ≡ mark_at (rows_of taker.replay + 1) has.part.later → rows_of taker.replay < ROWS_MAX
-    → IsReplayFault (scope_of taker.replay) has.part.rows has.part.passed event mark (faults.Mark row) → IsStoppedAt scope taken (entries.Row event) (Err (run.Mark row))
+    → IsReplayFault (scope_of taker.replay) has.part.rows has.part.passed event mark (faults.Mark row) → IsStoppedAt scope taken (entries.Row event) (Err (marked.Mark row))
 misplaced scope taker taken event mark row has at few is =
     let part : InputPart = has.part in
     let Fault : Scope → Option Mark → Type 0 = λ s m. IsReplayFault s part.rows part.passed event m (faults.Mark row) in
     let At : ℕ → Type 0 = λ n. mark ≡ mark_at (n + 1) part.later in
-    stop_at scope taker taken (entries.Row event) (Err (run.Mark row)) has (λ fields is_row. inr (record {
+    stop_at scope taker taken (entries.Row event) (Err (marked.Mark row)) has (λ fields is_row. inr (record {
       event = event;
       is_row = is_row;
       few = omega (arith, has.counted, few);
       is = subst (Fault scope) (subst At has.counted at) (subst (λ s. Fault s mark) has.in_scope is);
     })) (λ same. cc) (λ same. cc)
 
-pub faulted : (scope : Scope) (taker : Replaying) (taken : List Entry) (event : Event) (mark : Option Mark) (fault : ReplayFault) (stop : Result Offence RunFault) (has : HasReplayed scope taker taken) → mark ≡ mark_at (rows_of taker.replay + 1) has.part.later → rows_of taker.replay < ROWS_MAX
+pub faulted : (scope : Scope) (taker : Replaying) (taken : List Entry) (event : Event) (mark : Option Mark) (fault : ReplayFault) (stop : Result Offence MarkedFault) (has : HasReplayed scope taker taken) → mark ≡ mark_at (rows_of taker.replay + 1) has.part.later → rows_of taker.replay < ROWS_MAX
     → IsReplayFault (scope_of taker.replay) has.part.rows has.part.passed event mark fault → stop ≡ stop_by fault → IsStoppedAt scope taken (entries.Row event) stop
 faulted scope taker taken event mark (faults.Offence offence) stop has at few is stop_is = subst (IsStoppedAt scope taken (entries.Row event)) (sym stop_is) (offends scope taker taken event mark offence has at few is)
 faulted scope taker taken event mark (faults.Mark row) stop has at few is stop_is = subst (IsStoppedAt scope taken (entries.Row event)) (sym stop_is) (misplaced scope taker taken event mark row has at few is)
 
 -- at a record that is refused
-refused : (scope : Scope) (taker : Replaying) (taken : List Entry) (entry : Entry) (fault : RowFault) (told : RunFault) (has : HasReplayed scope taker taken) → ((fields : List (List ℕ)) → IsEntry fields entry → IsRefusedAfter ROWS_MAX has.part fields fault)
-    → told ≡ run.BadRow (length taker.marks.items + rows_of taker.replay + 1) fault → IsStoppedAt scope taken entry (Err told)
+refused : (scope : Scope) (taker : Replaying) (taken : List Entry) (entry : Entry) (fault : RowFault) (told : MarkedFault) (has : HasReplayed scope taker taken) → ((fields : List (List ℕ)) → IsEntry fields entry → IsRefusedAfter ROWS_MAX has.part fields fault)
+    → told ≡ marked.Run (run.BadRow (length taker.marks.items + rows_of taker.replay + 1) fault) → IsStoppedAt scope taken entry (Err told)
 refused scope taker taken entry fault told has is told_is =
-    let At : RunFault → Type 0 = λ f. IsStoppedAt scope taken entry (Err f) in
+    let At : MarkedFault → Type 0 = λ f. IsStoppedAt scope taken entry (Err f) in
     let number : length taker.marks.items + rows_of taker.replay + 1 ≡ records_in has.part + 1 = omega (arith, ap length has.marks, has.counted) in
-    subst At (sym told_is) (stop_at scope taker taken entry (Err (run.BadRow (length taker.marks.items + rows_of taker.replay + 1) fault)) has (λ fields own. (number, is fields own)) (λ same. cc) (λ same. cc))
+    subst At (sym told_is) (stop_at scope taker taken entry (Err (marked.Run (run.BadRow (length taker.marks.items + rows_of taker.replay + 1) fault))) has (λ fields own. (number, is fields own)) (λ same. cc) (λ same. cc))
 
 -- there are rows
 some_rows : (scope : Scope) (taker : Replaying) (taken : List Entry) (has : HasReplayed scope taker taken) → 0 < rows_of taker.replay → has.part.rows ≡ [] → ⊥
 some_rows scope taker taken has some none = omega (arith, has.counted, ap length none, some)
 
 -- a mark row after a row
-pub late_mark : (scope : Scope) (taker : Replaying) (taken : List Entry) (row : ℕ) (mark : Mark) (told : RunFault) (has : HasReplayed scope taker taken) → 0 < rows_of taker.replay
-    → told ≡ run.BadRow (length taker.marks.items + rows_of taker.replay + 1) BadLine → IsStoppedAt scope taken (entries.Mark row mark) (Err told)
+pub late_mark : (scope : Scope) (taker : Replaying) (taken : List Entry) (row : ℕ) (mark : Mark) (told : MarkedFault) (has : HasReplayed scope taker taken) → 0 < rows_of taker.replay
+    → told ≡ marked.Run (run.BadRow (length taker.marks.items + rows_of taker.replay + 1) BadLine) → IsStoppedAt scope taken (entries.Mark row mark) (Err told)
 late_mark scope taker taken row mark told has some told_is =
     refused scope taker taken (entries.Mark row mark) BadLine told has
     (λ fields own. inl (λ none. absurd (some_rows scope taker taken has some none), (record { number = own.number; mark = mark; value = dash; are = own.are }, row, own.row, some_rows scope taker taken has some))) told_is
 
-pub late_bad_mark : (scope : Scope) (taker : Replaying) (taken : List Entry) (fault : RowFault) (told : RunFault) (has : HasReplayed scope taker taken) → 0 < rows_of taker.replay → fault ≢ BadTime
-    → told ≡ run.BadRow (length taker.marks.items + rows_of taker.replay + 1) BadLine → IsStoppedAt scope taken (entries.BadMark fault) (Err told)
+pub late_bad_mark : (scope : Scope) (taker : Replaying) (taken : List Entry) (fault : RowFault) (told : MarkedFault) (has : HasReplayed scope taker taken) → 0 < rows_of taker.replay → fault ≢ BadTime
+    → told ≡ marked.Run (run.BadRow (length taker.marks.items + rows_of taker.replay + 1) BadLine) → IsStoppedAt scope taken (entries.BadMark fault) (Err told)
 late_bad_mark scope taker taken fault told has some other told_is =
     refused scope taker taken (entries.BadMark fault) BadLine told has (λ fields own. by fault fields other own) told_is
   where
@@ -312,8 +313,8 @@ late_bad_mark scope taker taken fault told has some other told_is =
     by BadLine fields other own = absurd own
     by BadValue fields other own = inl (λ none. absurd (some_rows scope taker taken has some none), (own.0, own.1, own.2, some_rows scope taker taken has some))
 
-pub bad_time : (scope : Scope) (taker : Replaying) (taken : List Entry) (fault : RowFault) (told : RunFault) (has : HasReplayed scope taker taken) → 0 < rows_of taker.replay → fault ≡ BadTime
-    → told ≡ run.BadRow (length taker.marks.items + rows_of taker.replay + 1) fault → IsStoppedAt scope taken (entries.BadMark fault) (Err told)
+pub bad_time : (scope : Scope) (taker : Replaying) (taken : List Entry) (fault : RowFault) (told : MarkedFault) (has : HasReplayed scope taker taken) → 0 < rows_of taker.replay → fault ≡ BadTime
+    → told ≡ marked.Run (run.BadRow (length taker.marks.items + rows_of taker.replay + 1) fault) → IsStoppedAt scope taken (entries.BadMark fault) (Err told)
 bad_time scope taker taken fault told has some is told_is =
     refused scope taker taken (entries.BadMark fault) fault told has (λ fields own. by fault fields is own) told_is
   where
@@ -324,8 +325,8 @@ bad_time scope taker taken fault told has some is told_is =
     by BadValue fields is own = absurd (cc)
 
 -- a mark row that is refused by itself, before the rows
-pub bad_mark : (scope : Scope) (taker : Replaying) (taken : List Entry) (fault : RowFault) (told : RunFault) (has : HasReplayed scope taker taken) → rows_of taker.replay ≡ 0 → length taker.marks.items < ROWS_MAX
-    → told ≡ run.BadRow (length taker.marks.items + rows_of taker.replay + 1) fault → IsStoppedAt scope taken (entries.BadMark fault) (Err told)
+pub bad_mark : (scope : Scope) (taker : Replaying) (taken : List Entry) (fault : RowFault) (told : MarkedFault) (has : HasReplayed scope taker taken) → rows_of taker.replay ≡ 0 → length taker.marks.items < ROWS_MAX
+    → told ≡ marked.Run (run.BadRow (length taker.marks.items + rows_of taker.replay + 1) fault) → IsStoppedAt scope taken (entries.BadMark fault) (Err told)
 bad_mark scope taker taken fault told has none few told_is =
     refused scope taker taken (entries.BadMark fault) fault told has (λ fields own. inl (λ before. omega (arith, ap length has.marks, few), by fault fields own)) told_is
   where
@@ -336,8 +337,8 @@ bad_mark scope taker taken fault told has none few told_is =
     by BadValue fields own = (own.0, own.1, own.2, empty has.part.rows (omega (arith, has.counted, none)), own.3)
 
 -- memory is refused
-pub no_room : (scope : Scope) (taker : Replaying) (taken : List Entry) (entry : Entry) (has : HasReplayed scope taker taken) → IsStoppedAt scope taken entry (Err run.Memory)
-no_room scope taker taken entry has = stop_at scope taker taken entry (Err run.Memory) has (λ fields own. tt) (λ same. cc) (λ same. cc)
+pub no_room : (scope : Scope) (taker : Replaying) (taken : List Entry) (entry : Entry) (has : HasReplayed scope taker taken) → IsStoppedAt scope taken entry (Err (marked.Run run.Memory))
+no_room scope taker taken entry has = stop_at scope taker taken entry (Err (marked.Run run.Memory)) has (λ fields own. tt) (λ same. cc) (λ same. cc)
 
 -- After entries that were taken.
 
@@ -345,14 +346,14 @@ no_room scope taker taken entry has = stop_at scope taker taken entry (Err run.M
 next_taken : (entries : List Entry) (i : ℕ) (entry : Entry) → i < length entries → entry ≡ get_or entries i entry → take i entries ++ entry ∷ [] ≡ take (i + 1) entries
 next_taken entries i entry below at = ap (λ e. take i entries ++ e ∷ []) at ∙ sym (rw add-one (take-suc entries i entry below))
 
-pub one_more : (scope : Scope) (taker : Replaying) (earlier entries : List Entry) (i : ℕ) (entry : Entry) (stop : Option (Result Offence RunFault)) → i < length entries → entry ≡ get_or entries i entry → is_some stop ≡ false → HasTakenNext scope taker (earlier ++ take i entries) entry stop
+pub one_more : (scope : Scope) (taker : Replaying) (earlier entries : List Entry) (i : ℕ) (entry : Entry) (stop : Option (Result Offence MarkedFault)) → i < length entries → entry ≡ get_or entries i entry → is_some stop ≡ false → HasTakenNext scope taker (earlier ++ take i entries) entry stop
     → HasReplayed scope taker (earlier ++ take (i + 1) entries)
 one_more scope taker earlier entries i entry None below at none has =
     subst (HasReplayed scope taker) (append_assoc earlier (take i entries) (entry ∷ []) ∙ ap (λ l. earlier ++ l) (next_taken entries i entry below at)) has
 one_more scope taker earlier entries i entry (Some stop) below at none has = absurd (cc)
 
 -- one is stopped at
-pub stopped_in : (scope : Scope) (taker : Replaying) (earlier entries : List Entry) (i : ℕ) (entry : Entry) (stop : Option (Result Offence RunFault)) → i < length entries → entry ≡ get_or entries i entry → is_some stop ≡ true → HasTakenNext scope taker (earlier ++ take i entries) entry stop
+pub stopped_in : (scope : Scope) (taker : Replaying) (earlier entries : List Entry) (i : ℕ) (entry : Entry) (stop : Option (Result Offence MarkedFault)) → i < length entries → entry ≡ get_or entries i entry → is_some stop ≡ true → HasTakenNext scope taker (earlier ++ take i entries) entry stop
     → HasTakenOrStopped (HasReplayed scope taker) (HasStopped scope) earlier entries stop
 stopped_in scope taker earlier entries i entry None below at some is = absurd (cc)
 stopped_in scope taker earlier entries i entry (Some stop) below at some is = record {

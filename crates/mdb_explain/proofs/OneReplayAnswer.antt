@@ -17,25 +17,26 @@ use Rattle.mdb_words.specs.Digits.{IsDecimal}
 use Rattle.mdb_words.specs.Row.{IsRow, break_letter, letter_of}
 use Rattle.mdb_bus.specs.declared.scope.Scope.{Scope}
 use Rattle.mdb_bus.specs.ActLists.{ArePieces, Piece, acts_of, events_of}
-use Rattle.mdb_marks.specs.declared.mark.Mark.{Mark}
-use Rattle.mdb_marks.specs.declared.mark.Mark.TheVariants.{Lost, Restart}
+use Rattle.mdb_explained_runs.specs.declared.mark.Mark.{Mark}
+use Rattle.mdb_explained_runs.specs.declared.mark.Mark.TheVariants.{Lost, Restart}
 use Rattle.mdb_follow.specs.declared.offence.Offence.{Offence}
-use Rattle.mdb_marks.specs.declared.replay.ReplayFault.{ReplayFault}
-use Rattle.mdb_marks.specs.declared.replay.ReplayFault.TheVariants as faults
+use Rattle.mdb_explained_runs.specs.declared.replay.ReplayFault.{ReplayFault}
+use Rattle.mdb_explained_runs.specs.declared.replay.ReplayFault.TheVariants as faults
 use Rattle.mdb_follow.specs.declared.report.Report.{Report}
 use Rattle.mdb_follow.specs.Choosing.{Choices, choices_of}
-use Rattle.mdb_marks.specs.Marks.{Rise, StandsWithin, marks_of, with_mark}
-use Rattle.mdb_marks.specs.ReplayFaults.{HasMarkedRun, IsReplayFault, SplitAt}
-use Rattle.mdb_marks.specs.Replays.{IsReplayReport}
+use Rattle.mdb_explained_runs.specs.Marks.{Rise, StandsWithin, marks_of, with_mark}
+use Rattle.mdb_explained_runs.specs.ReplayFaults.{HasMarkedRun, IsReplayFault, SplitAt}
+use Rattle.mdb_explained_runs.specs.Replays.{IsReplayReport}
 use Rattle.mdb_text.specs.declared.outcome.Outcome.{Outcome}
 use Rattle.mdb_text.specs.declared.outcome.Outcome.TheVariants.{Yes, No}
-use Rattle.mdb_verdict.specs.declared.fault.RunFault.{RunFault}
+use Rattle.mdb_explain.specs.declared.fault.MarkedFault.{MarkedFault}
+use Rattle.mdb_explain.specs.declared.fault.MarkedFault.TheVariants as marked
 use Rattle.mdb_verdict.specs.declared.fault.RunFault.TheVariants as run
 use Rattle.mdb_explain.specs.Replay.{AreMarkRows, CanBe, DoesNotRise, IsForMark, IsMarkPastEnd}
 use Rattle.mdb_explain.specs.Replay.{IsMarkRefusal, IsMarkRow, IsOneTooMany, IsRefusedAfter}
-use Rattle.mdb_explain.specs.Replay.{InputPart, IsReplayAnswer, IsReplayed, IsStopAt, LeadUpToPart}
+use Rattle.mdb_explain.specs.Replay.{InputPart, IsOwnReplay, IsReplayAnswer, IsReplayed, IsStopAt, LeadUpToPart}
 use Rattle.mdb_explain.specs.Replay.{RiseAbove, StopsAt, all_marks, dash, mark_at, mark_letter, records_in}
-use Rattle.mdb_verdict.specs.Verdict.{AreRows, IsOwnAnswer}
+use Rattle.mdb_verdict.specs.Verdict.{AreRows}
 use Rattle.mdb_explain.proofs.MarkSteps.{other_number, same_number}
 use Rattle.mdb_verdict.proofs.OneAnswer.{GoesOn, compared, one_refusal, row_not_refused, row_one}
 
@@ -528,12 +529,12 @@ more_row scope laws limit part longer fields can may next =
 -- Why the reading stops.
 
 -- what is answered for a fault of a row with its mark
-abbrev as_answer : ReplayFault → Result Outcome RunFault
+abbrev as_answer : ReplayFault → Result Outcome MarkedFault
 as_answer (faults.Offence offence) = Ok (No offence)
-as_answer (faults.Mark row) = Err (run.Mark row)
+as_answer (faults.Mark row) = Err (marked.Mark row)
 
 data Stop (scope : Scope) (limit : ℕ) (part : InputPart) (fields : List (List ℕ))
-    (answer : Result Outcome RunFault) : Type 0 where
+    (answer : Result Outcome MarkedFault) : Type 0 where
   -- a row that cannot be with its mark
   Faulted : (event : Event) (fault : ReplayFault) → IsRow fields event → length part.rows < limit
       → IsReplayFault scope part.rows part.passed event
@@ -541,37 +542,37 @@ data Stop (scope : Scope) (limit : ℕ) (part : InputPart) (fields : List (List 
       → Stop scope limit part fields answer
   -- a record that is refused
   Refused : (fault : RowFault) → IsRefusedAfter limit part fields fault
-      → answer ≡ Err (run.BadRow (records_in part + 1) fault) → Stop scope limit part fields answer
+      → answer ≡ Err (marked.Run (run.BadRow (records_in part + 1) fault)) → Stop scope limit part fields answer
   -- one that is one too many
-  TooMany : IsOneTooMany limit part fields → answer ≡ Err run.TooLong
+  TooMany : IsOneTooMany limit part fields → answer ≡ Err (marked.Run run.TooLong)
       → Stop scope limit part fields answer
   -- a mark row with which the marks don't rise
-  Falls : (row : ℕ) → DoesNotRise limit part fields row → answer ≡ Err (run.Mark row)
+  Falls : (row : ℕ) → DoesNotRise limit part fields row → answer ≡ Err (marked.Mark row)
       → Stop scope limit part fields answer
 
 -- the answer of a stop
-abbrev stop_answer : Result Offence RunFault → Result Outcome RunFault
+abbrev stop_answer : Result Offence MarkedFault → Result Outcome MarkedFault
 stop_answer (Ok offence) = Ok (No offence)
 stop_answer (Err fault) = Err fault
 
 stop_of : (scope : Scope) (limit : ℕ) (part : InputPart) (fields : List (List ℕ))
-    (stop : Result Offence RunFault) → IsStopAt scope limit part fields stop
-    → IsOwnAnswer (stop_answer stop) → Stop scope limit part fields (stop_answer stop)
+    (stop : Result Offence MarkedFault) → IsStopAt scope limit part fields stop
+    → IsOwnReplay (stop_answer stop) → Stop scope limit part fields (stop_answer stop)
 stop_of scope limit part fields (Ok offence) is own =
     Faulted is.event (faults.Offence offence) is.is_row is.few is.is refl
-stop_of scope limit part fields (Err (run.BadRow row fault)) is own =
-    Refused fault is.1 (ap (λ n. Err (run.BadRow n fault)) is.0)
-stop_of scope limit part fields (Err run.TooLong) is own = TooMany is refl
-stop_of scope limit part fields (Err (run.Mark row)) (inl falls) own = Falls row falls refl
-stop_of scope limit part fields (Err (run.Mark row)) (inr may) own =
+stop_of scope limit part fields (Err (marked.Run (run.BadRow row fault))) is own =
+    Refused fault is.1 (ap (λ n. Err (marked.Run (run.BadRow n fault))) is.0)
+stop_of scope limit part fields (Err (marked.Run run.TooLong)) is own = TooMany is refl
+stop_of scope limit part fields (Err (marked.Mark row)) (inl falls) own = Falls row falls refl
+stop_of scope limit part fields (Err (marked.Mark row)) (inr may) own =
     Faulted may.event (faults.Mark row) may.is_row may.few may.is refl
-stop_of scope limit part fields (Err run.Read) is own = absurd is
-stop_of scope limit part fields (Err run.Write) is own = absurd is
-stop_of scope limit part fields (Err run.Memory) is own = absurd own
+stop_of scope limit part fields (Err (marked.Run run.Read)) is own = absurd is
+stop_of scope limit part fields (Err (marked.Run run.Write)) is own = absurd is
+stop_of scope limit part fields (Err (marked.Run run.Memory)) is own = absurd own
 
 -- where the reading stops, no mark row goes on
 no_mark : (scope : Scope) (limit : ℕ) (part : InputPart) (fields : List (List ℕ))
-    (answer : Result Outcome RunFault) → Stop scope limit part fields answer
+    (answer : Result Outcome MarkedFault) → Stop scope limit part fields answer
     → MoreMark limit part fields → ⊥
 no_mark scope limit part fields answer (Faulted event fault row few is told) more =
     row_not_mark fields event row (for_mark fields more.0 more.1)
@@ -596,7 +597,7 @@ not_reached scope rows marks event mark (faults.Offence offence) is = is.not_rea
 not_reached scope rows marks event mark (faults.Mark row) is = is.not_reached
 
 no_row : (scope : Scope) (limit : ℕ) (part : InputPart) (fields : List (List ℕ))
-    (answer : Result Outcome RunFault) → Stop scope limit part fields answer
+    (answer : Result Outcome MarkedFault) → Stop scope limit part fields answer
     → MoreRow scope limit part fields → ⊥
 no_row scope limit part fields answer (Faulted event fault row few is told) more =
     let at : Option Mark = mark_at (length part.rows + 1) part.later in
@@ -671,7 +672,7 @@ row_or_falls limit part fields event row is falls =
     row_not_mark fields event is (for_mark fields it falls.is_row)
 
 one_stop : (scope : Scope) → ReplayLaws scope → (limit : ℕ) (part : InputPart)
-    (fields : List (List ℕ)) (a b : Result Outcome RunFault) → Stop scope limit part fields a
+    (fields : List (List ℕ)) (a b : Result Outcome MarkedFault) → Stop scope limit part fields a
     → Stop scope limit part fields b → a ≡ b
 one_stop scope laws limit part fields a b (Faulted event fault row few is told)
     (Faulted other next also low has heard) =
@@ -691,7 +692,7 @@ one_stop scope laws limit part fields a b (Refused fault is told)
     (Faulted event next row few has heard) =
     absurd (row_or_refused limit part fields event fault row is)
 one_stop scope laws limit part fields a b (Refused fault is told) (Refused next has heard) =
-    told ∙ (ap (λ f. Err (run.BadRow (records_in part + 1) f))
+    told ∙ (ap (λ f. Err (marked.Run (run.BadRow (records_in part + 1) f)))
     (one_refused limit part fields fault next is has) ∙ sym heard)
 one_stop scope laws limit part fields a b (Refused fault is told) (TooMany has heard) =
     absurd (refused_or_many limit part fields fault is has)
@@ -715,27 +716,27 @@ one_stop scope laws limit part fields a b (Falls number is told) (Falls other ha
     let one : ℕ × Mark = (number, is.mark) in
     let next : ℕ × Mark = (other, has.mark) in
     let same : one ≡ next = mark_one fields one next is.is_row has.is_row in
-    told ∙ (ap (λ (m : ℕ × Mark). Err (run.Mark m.0)) same ∙ sym heard)
+    told ∙ (ap (λ (m : ℕ × Mark). Err (marked.Mark m.0)) same ∙ sym heard)
 
 -- Where the records of an answer end.
 
 -- how an answer ends after a part: with the records, or at one
-abbrev IsFinish : Scope → InputPart → Result Outcome RunFault → Type 0
+abbrev IsFinish : Scope → InputPart → Result Outcome MarkedFault → Type 0
 IsFinish scope part (Ok (Yes report)) =
     (part.later ≡ []) × IsReplayReport scope part.rows part.passed report
 IsFinish scope part (Ok (No offence)) = ⊥
-IsFinish scope part (Err (run.Mark row)) =
+IsFinish scope part (Err (marked.Mark row)) =
     (mark : Mark) × (more : List (ℕ × Mark)) × (part.later ≡ (row, mark) ∷ more)
 IsFinish scope part (Err fault) = ⊥
 
-abbrev EndsBy : Scope → ℕ → InputPart → List (List (List ℕ)) → Result Outcome RunFault → Type 0
+abbrev EndsBy : Scope → ℕ → InputPart → List (List (List ℕ)) → Result Outcome MarkedFault → Type 0
 EndsBy scope limit part rest answer =
     ((rest ≡ []) × IsFinish scope part answer)
     ⊎ ((fields : List (List ℕ)) × (after : List (List (List ℕ))) × (rest ≡ fields ∷ after)
     × Stop scope limit part fields answer)
 
 record Ends (scope : Scope) (limit : ℕ) (records : List (List (List ℕ)))
-    (answer : Result Outcome RunFault) : Type 0 where
+    (answer : Result Outcome MarkedFault) : Type 0 where
   part : InputPart
   rest : List (List (List ℕ))
   leads : LeadUpToPart scope limit records part rest
@@ -743,7 +744,7 @@ record Ends (scope : Scope) (limit : ℕ) (records : List (List (List ℕ)))
 
 -- so no record goes on
 no_next : (scope : Scope) (limit : ℕ) (part : InputPart) (rest : List (List (List ℕ)))
-    (answer : Result Outcome RunFault) → EndsBy scope limit part rest answer
+    (answer : Result Outcome MarkedFault) → EndsBy scope limit part rest answer
     → (fields : List (List ℕ)) (after : List (List (List ℕ))) → rest ≡ fields ∷ after
     → MoreMark limit part fields ⊎ MoreRow scope limit part fields → ⊥
 no_next scope limit part rest answer (inl end) fields after is more =
@@ -759,7 +760,7 @@ no_next scope limit part rest answer (inr stop) fields after is more =
     ]
 
 no_longer : (scope : Scope) → ReplayLaws scope → (limit : ℕ) (records : List (List (List ℕ)))
-    (a b : Result Outcome RunFault) (one : Ends scope limit records a)
+    (a b : Result Outcome MarkedFault) (one : Ends scope limit records a)
     (other : Ends scope limit records b)
     → Goes (all_marks one.part) one.part.rows one.rest (all_marks other.part) other.part.rows → ⊥
 no_longer scope laws limit records a b one other on =
@@ -777,7 +778,7 @@ part_alike one other rows passed later i =
     record { rows = rows i; passed = passed i; later = later i }
 
 one_part : (scope : Scope) → ReplayLaws scope → (limit : ℕ) (records : List (List (List ℕ)))
-    (a b : Result Outcome RunFault) (one : Ends scope limit records a)
+    (a b : Result Outcome MarkedFault) (one : Ends scope limit records a)
     (other : Ends scope limit records b) → (one.part ≡ other.part) × (one.rest ≡ other.rest)
 one_part scope laws limit records a b one other =
     elim (compared_all one.leads.mark_rows one.leads.transcript one.rest other.leads.mark_rows
@@ -834,7 +835,7 @@ yes_ends scope laws limit records report is =
     }
 
 past_ends : (scope : Scope) (limit : ℕ) (records : List (List (List ℕ))) (row : ℕ)
-    → IsMarkPastEnd scope limit records row → Ends scope limit records (Err (run.Mark row))
+    → IsMarkPastEnd scope limit records row → Ends scope limit records (Err (marked.Mark row))
 past_ends scope limit records row is = record {
   part = is.part;
   rest = [];
@@ -843,8 +844,8 @@ past_ends scope limit records row is = record {
 }
 
 stop_ends : (scope : Scope) (limit : ℕ) (records : List (List (List ℕ)))
-    (stop : Result Offence RunFault) → StopsAt scope limit records stop
-    → IsOwnAnswer (stop_answer stop) → Ends scope limit records (stop_answer stop)
+    (stop : Result Offence MarkedFault) → StopsAt scope limit records stop
+    → IsOwnReplay (stop_answer stop) → Ends scope limit records (stop_answer stop)
 stop_ends scope limit records stop is own = record {
   part = is.part;
   rest = is.fields ∷ is.rest;
@@ -853,23 +854,23 @@ stop_ends scope limit records stop is own = record {
 }
 
 ends : (scope : Scope) → ReplayLaws scope → (limit : ℕ) (records : List (List (List ℕ)))
-    (answer : Result Outcome RunFault) → IsReplayAnswer scope limit records answer
-    → IsOwnAnswer answer → Ends scope limit records answer
+    (answer : Result Outcome MarkedFault) → IsReplayAnswer scope limit records answer
+    → IsOwnReplay answer → Ends scope limit records answer
 ends scope laws limit records (Ok (Yes report)) is own =
     yes_ends scope laws limit records report is
 ends scope laws limit records (Ok (No offence)) is own =
     stop_ends scope limit records (Ok offence) is own
-ends scope laws limit records (Err (run.BadRow row fault)) is own =
-    stop_ends scope limit records (Err (run.BadRow row fault)) is own
-ends scope laws limit records (Err run.TooLong) is own =
-    stop_ends scope limit records (Err run.TooLong) is own
-ends scope laws limit records (Err (run.Mark row)) (inl is) own =
-    stop_ends scope limit records (Err (run.Mark row)) is own
-ends scope laws limit records (Err (run.Mark row)) (inr is) own =
+ends scope laws limit records (Err (marked.Run (run.BadRow row fault))) is own =
+    stop_ends scope limit records (Err (marked.Run (run.BadRow row fault))) is own
+ends scope laws limit records (Err (marked.Run run.TooLong)) is own =
+    stop_ends scope limit records (Err (marked.Run run.TooLong)) is own
+ends scope laws limit records (Err (marked.Mark row)) (inl is) own =
+    stop_ends scope limit records (Err (marked.Mark row)) is own
+ends scope laws limit records (Err (marked.Mark row)) (inr is) own =
     past_ends scope limit records row is
-ends scope laws limit records (Err run.Read) is own = absurd own
-ends scope laws limit records (Err run.Write) is own = absurd own
-ends scope laws limit records (Err run.Memory) is own = absurd own
+ends scope laws limit records (Err (marked.Run run.Read)) is own = absurd own
+ends scope laws limit records (Err (marked.Run run.Write)) is own = absurd own
+ends scope laws limit records (Err (marked.Run run.Memory)) is own = absurd own
 
 -- a list that is empty has no first element
 none_there : (marks : List (ℕ × Mark)) (mark : ℕ × Mark) (more : List (ℕ × Mark)) → marks ≡ []
@@ -887,32 +888,24 @@ first_row row other mark next more rest same =
     ap (λ (m : ℕ × Mark). m.0) first
 
 -- where all records are taken, the answer is one
-one_finish : (scope : Scope) → ReplayLaws scope → (part : InputPart) (a b : Result Outcome RunFault)
+one_finish : (scope : Scope) → ReplayLaws scope → (part : InputPart) (a b : Result Outcome MarkedFault)
     → IsFinish scope part a → IsFinish scope part b → a ≡ b
 one_finish scope laws part (Ok (Yes a)) (Ok (Yes b)) p q =
     ap (λ report. Ok (Yes report)) (laws.one_report part.rows part.passed a b p.1 q.1)
-one_finish scope laws part (Ok (Yes a)) (Err (run.Mark row)) p q =
+one_finish scope laws part (Ok (Yes a)) (Err (marked.Mark row)) p q =
     absurd (none_there part.later (row, q.0) q.1 p.0 q.2)
-one_finish scope laws part (Err (run.Mark row)) (Ok (Yes b)) p q =
+one_finish scope laws part (Err (marked.Mark row)) (Ok (Yes b)) p q =
     absurd (none_there part.later (row, p.0) p.1 q.0 p.2)
-one_finish scope laws part (Err (run.Mark row)) (Err (run.Mark other)) p q =
-    ap (λ n. Err (run.Mark n)) (first_row row other p.0 q.0 p.1 q.1 (sym p.2 ∙ q.2))
+one_finish scope laws part (Err (marked.Mark row)) (Err (marked.Mark other)) p q =
+    ap (λ n. Err (marked.Mark n)) (first_row row other p.0 q.0 p.1 q.1 (sym p.2 ∙ q.2))
 one_finish scope laws part (Ok (No offence)) b p q = absurd p
-one_finish scope laws part (Err (run.BadRow row fault)) b p q = absurd p
-one_finish scope laws part (Err run.TooLong) b p q = absurd p
-one_finish scope laws part (Err run.Read) b p q = absurd p
-one_finish scope laws part (Err run.Write) b p q = absurd p
-one_finish scope laws part (Err run.Memory) b p q = absurd p
+one_finish scope laws part (Err (marked.Run fault)) b p q = absurd p
 one_finish scope laws part a (Ok (No offence)) p q = absurd q
-one_finish scope laws part a (Err (run.BadRow row fault)) p q = absurd q
-one_finish scope laws part a (Err run.TooLong) p q = absurd q
-one_finish scope laws part a (Err run.Read) p q = absurd q
-one_finish scope laws part a (Err run.Write) p q = absurd q
-one_finish scope laws part a (Err run.Memory) p q = absurd q
+one_finish scope laws part a (Err (marked.Run fault)) p q = absurd q
 
 -- after one part, the answer is one
 one_end : (scope : Scope) → ReplayLaws scope → (limit : ℕ) (part : InputPart)
-    (rest : List (List (List ℕ))) (a b : Result Outcome RunFault)
+    (rest : List (List (List ℕ))) (a b : Result Outcome MarkedFault)
     → EndsBy scope limit part rest a → EndsBy scope limit part rest b → a ≡ b
 one_end scope laws limit part rest a b (inl p) (inl q) = one_finish scope laws part a b p.1 q.1
 one_end scope laws limit part rest a b (inl p) (inr q) =
@@ -927,9 +920,9 @@ one_end scope laws limit part rest a b (inr p) (inr q) =
 
 -- the answer to the records of an input is one
 pub one_replay_answer : (scope : Scope) → ReplayLaws scope → (limit : ℕ)
-    (records : List (List (List ℕ))) (a b : Result Outcome RunFault)
+    (records : List (List (List ℕ))) (a b : Result Outcome MarkedFault)
     → IsReplayAnswer scope limit records a → IsReplayAnswer scope limit records b
-    → IsOwnAnswer a → IsOwnAnswer b → a ≡ b
+    → IsOwnReplay a → IsOwnReplay b → a ≡ b
 one_replay_answer scope laws limit records a b p q own also =
     let one = ends scope laws limit records a p own in
     let other = ends scope laws limit records b q also in

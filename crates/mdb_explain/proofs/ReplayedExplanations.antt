@@ -9,22 +9,22 @@ use Rattle.mdb_bus.specs.declared.scope.Scope.{Scope}
 use Rattle.mdb_follow.specs.Choosing.{Choices, choices_of}
 use Rattle.mdb_follow.specs.declared.follower.TheConstants.{ROWS_MAX}
 use Rattle.mdb_follow.specs.declared.goal.Goal.{Goal}
-use Rattle.mdb_marks.specs.declared.mark.Mark.{Mark}
+use Rattle.mdb_explained_runs.specs.declared.mark.Mark.{Mark}
 use Rattle.mdb_follow.specs.declared.report.Report.{Report}
 use Rattle.mdb_follow.specs.Ends.{end_of}
-use Rattle.mdb_marks.specs.Goals.{Explains}
-use Rattle.mdb_marks.specs.Marks.{MarkedRun, Rise, StandsWithin, marks_of}
-use Rattle.mdb_marks.specs.ReplayFaults.{HasMarkedRun}
-use Rattle.mdb_marks.specs.Replays.{IsReplayReport}
+use Rattle.mdb_explained_runs.specs.Goals.{Explains}
+use Rattle.mdb_explained_runs.specs.Marks.{MarkedRun, Rise, StandsWithin, marks_of}
+use Rattle.mdb_explained_runs.specs.ReplayFaults.{HasMarkedRun}
+use Rattle.mdb_explained_runs.specs.Replays.{IsReplayReport}
 use Rattle.mdb_follow.specs.Report.{IsReport}
 use Rattle.mdb_follow.specs.Runs.{AllSums}
 use Rattle.mdb_text.specs.declared.outcome.Outcome.{Outcome}
 use Rattle.mdb_text.specs.declared.outcome.Outcome.TheVariants.{Yes}
-use Rattle.mdb_verdict.specs.declared.fault.RunFault.{RunFault}
+use Rattle.mdb_explain.specs.declared.fault.MarkedFault.{MarkedFault}
 use Rattle.mdb_verdict.specs.declared.verdict.TheConstants.{BYTES_MAX}
 use Rattle.mdb_explain.specs.Explain.{ComesTo, IsExplanation, explanation_records, explanation_text, goal_range, mark_fields}
-use Rattle.mdb_explain.specs.Replay.{AreMarkRows, IsReplayAnswer, IsReplayed}
-use Rattle.mdb_verdict.specs.Verdict.{AreRows, IsAnswer, IsOwnAnswer}
+use Rattle.mdb_explain.specs.Replay.{AreMarkRows, IsOwnReplay, IsReplayAnswer, IsReplayed}
+use Rattle.mdb_verdict.specs.Verdict.{AreRows, IsAnswer}
 use Rattle.mdb_verdict.proofs.OneAnswer.{row_one}
 
 -- what the law of the marks of a run says
@@ -38,7 +38,7 @@ pub record ExplainLaws (scope : Scope) : Type 0 where
   pub reported : (rows : List Event) (marks : List (ℕ × Mark)) → HasMarkedRun scope rows marks → (report : Report) × IsReplayReport scope rows marks report
   pub comes : (rows : List Event) (goal : Goal) (marks : List (ℕ × Mark)) (checked replayed : Report) → Explains scope rows goal marks → IsReport scope rows checked → IsReplayReport scope rows marks replayed
       → ((goal_range goal replayed).least ≡ end_of goal.bound (goal_range goal checked)) × ((goal_range goal replayed).greatest ≡ end_of goal.bound (goal_range goal checked))
-  pub one_answer : (limit : ℕ) (records : List (List (List ℕ))) (a b : Result Outcome RunFault) → IsReplayAnswer scope limit records a → IsReplayAnswer scope limit records b → IsOwnAnswer a → IsOwnAnswer b → a ≡ b
+  pub one_answer : (limit : ℕ) (records : List (List (List ℕ))) (a b : Result Outcome MarkedFault) → IsReplayAnswer scope limit records a → IsReplayAnswer scope limit records b → IsOwnReplay a → IsOwnReplay b → a ≡ b
   pub read : (records : List (List (List ℕ))) (rows : List Event) (marks : List (ℕ × Mark)) → AreRows records rows → All (λ mark. mark.0 ≤ ROWS_MAX) marks
       → (read_records default_config (strip_bom (explanation_text marks rows)) ≡ explanation_records marks rows) × AreMarkRows (map mark_fields marks) marks × AreRows (map row_fields rows) rows
 
@@ -102,8 +102,8 @@ replays scope laws goal records text is few report reported =
     }
 
 -- so the answer is a yes that comes to the end of its goal
-pub replayed_to_goals : (scope : Scope) → ExplainLaws scope → (goal : Goal) (records : List (List (List ℕ))) (text : List ℕ) (checked : Report) (answer : Result Outcome RunFault) → IsAnswer scope ROWS_MAX records (Ok (Yes checked))
-    → IsExplanation scope goal records text → IsReplayAnswer scope ROWS_MAX (read_records default_config (strip_bom text)) answer → IsOwnAnswer answer → ComesTo goal checked answer
+pub replayed_to_goals : (scope : Scope) → ExplainLaws scope → (goal : Goal) (records : List (List (List ℕ))) (text : List ℕ) (checked : Report) (answer : Result Outcome MarkedFault) → IsAnswer scope ROWS_MAX records (Ok (Yes checked))
+    → IsExplanation scope goal records text → IsReplayAnswer scope ROWS_MAX (read_records default_config (strip_bom text)) answer → IsOwnReplay answer → ComesTo goal checked answer
 replayed_to_goals scope laws goal records text checked answer possible is replayed own =
     let same : possible.rows ≡ is.rows = same_rows records possible.rows is.rows possible.told is.told in
     let few : length is.rows ≤ ROWS_MAX = subst (λ (rs : List Event). length rs ≤ ROWS_MAX) same possible.few in

@@ -102,4 +102,3 @@ replayed_says_yes scope fronts limit records report (Err run.TooLong) replayed i
 replayed_says_yes scope fronts limit records report (Err run.Read) replayed is own = absurd own
 replayed_says_yes scope fronts limit records report (Err run.Write) replayed is own = absurd own
 replayed_says_yes scope fronts limit records report (Err run.Memory) replayed is own = absurd own
-replayed_says_yes scope fronts limit records report (Err (run.Mark row)) replayed is own = absurd is

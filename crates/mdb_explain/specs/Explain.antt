@@ -10,16 +10,16 @@ use Rattle.mdb_bus.specs.declared.scope.Scope.{Scope}
 use Rattle.mdb_follow.specs.declared.goal.Bound.{Bound}
 use Rattle.mdb_follow.specs.declared.goal.Bound.TheVariants.{Least, Greatest}
 use Rattle.mdb_follow.specs.declared.goal.Goal.{Goal}
-use Rattle.mdb_marks.specs.declared.mark.Mark.{Mark}
+use Rattle.mdb_explained_runs.specs.declared.mark.Mark.{Mark}
 use Rattle.mdb_follow.specs.declared.range.Range.{Range}
 use Rattle.mdb_follow.specs.declared.report.Report.{Report}
 use Rattle.mdb_follow.specs.AccountNames.{account_word}
 use Rattle.mdb_follow.specs.Ends.{end_of, side_range}
-use Rattle.mdb_marks.specs.Goals.{Explains}
+use Rattle.mdb_explained_runs.specs.Goals.{Explains}
 use Rattle.mdb_follow.specs.Report.{account_of}
 use Rattle.mdb_text.specs.declared.outcome.Outcome.{Outcome}
 use Rattle.mdb_text.specs.declared.outcome.Outcome.TheVariants.{Yes, No}
-use Rattle.mdb_verdict.specs.declared.fault.RunFault.{RunFault}
+use Rattle.mdb_explain.specs.declared.fault.MarkedFault.{MarkedFault}
 use Rattle.mdb_text.specs.Accounts.{side_word}
 use Rattle.mdb_explain.specs.Replay.{dash, mark_letter}
 use Rattle.mdb_text.specs.Text.{line, report_text}
@@ -87,7 +87,7 @@ goal_range goal report = side_range goal.side (account_of goal.account report)
 
 -- The answer of a replay is a yes that comes to the end of the goal which a report of `check` has:
 -- both ends of the range of its report are that.
-abbrev pub ComesTo : Goal → Report → Result Outcome RunFault → Type 0
+abbrev pub ComesTo : Goal → Report → Result Outcome MarkedFault → Type 0
 ComesTo goal checked (Ok (Yes replayed)) =
     ((goal_range goal replayed).least ≡ end_of goal.bound (goal_range goal checked))
     × ((goal_range goal replayed).greatest ≡ end_of goal.bound (goal_range goal checked))

@@ -7,18 +7,21 @@ use Rattle.mdb_words.specs.declared.row.RowFault.TheVariants.{FieldCount, BadTim
 use Rattle.mdb_words.specs.Digits.{IsDecimal}
 use Rattle.mdb_words.specs.Row.{IsRow, IsRefusal}
 use Rattle.mdb_bus.specs.declared.scope.Scope.{Scope}
-use Rattle.mdb_marks.specs.declared.mark.Mark.{Mark}
-use Rattle.mdb_marks.specs.declared.mark.Mark.TheVariants.{Lost, Restart}
+use Rattle.mdb_explained_runs.specs.declared.mark.Mark.{Mark}
+use Rattle.mdb_explained_runs.specs.declared.mark.Mark.TheVariants.{Lost, Restart}
 use Rattle.mdb_follow.specs.declared.offence.Offence.{Offence}
 use Rattle.mdb_follow.specs.declared.report.Report.{Report}
-use Rattle.mdb_marks.specs.ReplayFaults.{HasMarkedRun, IsMarkFault, IsReplayOffence}
-use Rattle.mdb_marks.specs.Replays.{IsReplayReport}
+use Rattle.mdb_explained_runs.specs.ReplayFaults.{HasMarkedRun, IsMarkFault, IsReplayOffence}
+use Rattle.mdb_explained_runs.specs.Replays.{IsReplayReport}
+use Rattle.mdb_records.specs.declared.ReadFault.{ReadFault}
+use Rattle.mdb_records.specs.declared.ReadFault.TheVariants as reading
 use Rattle.mdb_text.specs.declared.outcome.Outcome.{Outcome}
 use Rattle.mdb_text.specs.declared.outcome.Outcome.TheVariants.{Yes, No}
-use Rattle.mdb_verdict.specs.declared.fault.RunFault.{RunFault}
+use Rattle.mdb_explain.specs.declared.fault.MarkedFault.{MarkedFault}
+use Rattle.mdb_explain.specs.declared.fault.MarkedFault.TheVariants as marked
 use Rattle.mdb_verdict.specs.declared.fault.RunFault.TheVariants as run
 use Rattle.mdb_text.specs.Text.{report_text}
-use Rattle.mdb_verdict.specs.Verdict.{AreRows}
+use Rattle.mdb_verdict.specs.Verdict.{AreRows, IsOwnAnswer}
 use Rattle.mdb_writing.specs.Written.{HasTaken}
 
 -- the letter of a mark: `L` where something was lost, `R` for a restart
@@ -148,20 +151,20 @@ pub record IsNoMarkedRow (scope : Scope) (limit : ℕ) (part : InputPart) (field
       (mark_at (length part.rows + 1) part.later) offence
 
 -- why the reading stops at a record, after a part that can be
-abbrev pub IsStopAt : Scope → ℕ → InputPart → List (List ℕ) → Result Offence RunFault → Type 0
+abbrev pub IsStopAt : Scope → ℕ → InputPart → List (List ℕ) → Result Offence MarkedFault → Type 0
 IsStopAt scope limit part fields (Ok offence) = IsNoMarkedRow scope limit part fields offence
-IsStopAt scope limit part fields (Err (run.BadRow row fault)) =
+IsStopAt scope limit part fields (Err (marked.Run (run.BadRow row fault))) =
     (row ≡ records_in part + 1) × IsRefusedAfter limit part fields fault
-IsStopAt scope limit part fields (Err run.TooLong) = IsOneTooMany limit part fields
-IsStopAt scope limit part fields (Err (run.Mark row)) =
+IsStopAt scope limit part fields (Err (marked.Run run.TooLong)) = IsOneTooMany limit part fields
+IsStopAt scope limit part fields (Err (marked.Mark row)) =
     DoesNotRise limit part fields row ⊎ MayNotStand scope limit part fields row
-IsStopAt scope limit part fields (Err run.Read) = ⊥
-IsStopAt scope limit part fields (Err run.Write) = ⊥
-IsStopAt scope limit part fields (Err run.Memory) = ⊤
+IsStopAt scope limit part fields (Err (marked.Run run.Read)) = ⊥
+IsStopAt scope limit part fields (Err (marked.Run run.Write)) = ⊥
+IsStopAt scope limit part fields (Err (marked.Run run.Memory)) = ⊤
 
 -- The first record that isn't taken.
 pub record StopsAt (scope : Scope) (limit : ℕ) (records : List (List (List ℕ)))
-    (stop : Result Offence RunFault) : Type 0 where
+    (stop : Result Offence MarkedFault) : Type 0 where
   pub part : InputPart
   pub fields : List (List ℕ)
   pub rest : List (List (List ℕ))
@@ -194,18 +197,28 @@ pub record IsReplayed (scope : Scope) (limit : ℕ) (records : List (List (List 
 
 -- The answer to the records of an input. Of a refused read, write or memory the records say
 -- nothing.
-abbrev pub IsReplayAnswer : Scope → ℕ → List (List (List ℕ)) → Result Outcome RunFault → Type 0
+abbrev pub IsReplayAnswer : Scope → ℕ → List (List (List ℕ)) → Result Outcome MarkedFault → Type 0
 IsReplayAnswer scope limit records (Ok (Yes report)) = IsReplayed scope limit records report
 IsReplayAnswer scope limit records (Ok (No offence)) = StopsAt scope limit records (Ok offence)
-IsReplayAnswer scope limit records (Err (run.BadRow row fault)) =
-    StopsAt scope limit records (Err (run.BadRow row fault))
-IsReplayAnswer scope limit records (Err run.TooLong) =
-    StopsAt scope limit records (Err run.TooLong)
-IsReplayAnswer scope limit records (Err (run.Mark row)) =
-    StopsAt scope limit records (Err (run.Mark row)) ⊎ IsMarkPastEnd scope limit records row
-IsReplayAnswer scope limit records (Err run.Read) = ⊤
-IsReplayAnswer scope limit records (Err run.Write) = ⊤
-IsReplayAnswer scope limit records (Err run.Memory) = ⊤
+IsReplayAnswer scope limit records (Err (marked.Run (run.BadRow row fault))) =
+    StopsAt scope limit records (Err (marked.Run (run.BadRow row fault)))
+IsReplayAnswer scope limit records (Err (marked.Run run.TooLong)) =
+    StopsAt scope limit records (Err (marked.Run run.TooLong))
+IsReplayAnswer scope limit records (Err (marked.Mark row)) =
+    StopsAt scope limit records (Err (marked.Mark row)) ⊎ IsMarkPastEnd scope limit records row
+IsReplayAnswer scope limit records (Err (marked.Run run.Read)) = ⊤
+IsReplayAnswer scope limit records (Err (marked.Run run.Write)) = ⊤
+IsReplayAnswer scope limit records (Err (marked.Run run.Memory)) = ⊤
+
+-- an answer that the records themselves have: every one but a refused read, write or memory
+abbrev pub IsOwnReplay : Result Outcome MarkedFault → Type 0
+IsOwnReplay (Ok outcome) = ⊤
+IsOwnReplay (Err (marked.Run fault)) = IsOwnAnswer (Err fault)
+IsOwnReplay (Err (marked.Mark row)) = ⊤
+
+-- an input is answered that it can't be read only where the reading of its records met that
+abbrev pub HasMarkedCause : Option ReadFault → MarkedFault → Type 0
+HasMarkedCause met fault = fault ≡ marked.Run run.Read → met ≡ Some reading.Read
 
 -- The records have a replay, and a writer took a front of what is written of it.
 pub record IsCutReplayIn (text : Scope → Outcome → List ℕ) (scope : Scope) (limit : ℕ)

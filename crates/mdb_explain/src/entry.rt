@@ -4,11 +4,11 @@ ghost use Rattle.std.specs.Prelude.{◌≡◌, ◌≢◌, ◌↔◌, ◌∷◌, 
 ghost use Rattle.csv.specs.Records.{fields_of};
 ghost use Rattle.mdb_words.specs.Row.{IsRefusal};
 ghost use Rattle.mdb_explain.specs.Replay.{dash, mark_letter};
-ghost use Rattle.mdb_marks.specs.declared.mark.Mark.{Mark};
+ghost use Rattle.mdb_explained_runs.specs.declared.mark.Mark.{Mark};
 ghost use Rattle.mdb_explain.specs.inner.Entries.{IsEntry, IsNoEntry};
 
 use csv::ByteRecord;
-use mdb_marks::Mark;
+use mdb_explained_runs::Mark;
 use mdb_verdict::{FromRecord, field};
 use mdb_words::{Event, RowFault, Time};
 

@@ -10,20 +10,21 @@ ghost use Rattle.mdb_bus.specs.Scopes.{leaving_out};
 ghost use Rattle.mdb_msgs.specs.declared.device_set.DeviceSet.{DeviceSet};
 ghost use Rattle.mdb_bus.specs.declared.scope.Scope.{Scope};
 ghost use Rattle.mdb_follow.specs.declared.goal.Goal.{Goal};
-ghost use Rattle.mdb_marks.specs.declared.mark.Mark.{Mark};
+ghost use Rattle.mdb_explained_runs.specs.declared.mark.Mark.{Mark};
 ghost use Rattle.mdb_follow.specs.declared.report.Report.{Report};
 ghost use Rattle.mdb_follow.specs.declared.follower.TheConstants.{ROWS_MAX};
 ghost use Rattle.mdb_verdict.specs.declared.verdict.TheConstants.{BYTES_MAX};
 ghost use Rattle.mdb_text.specs.declared.outcome.Outcome.{Outcome};
 ghost use Rattle.mdb_text.specs.declared.outcome.Outcome.TheVariants.{Yes};
 ghost use Rattle.mdb_verdict.specs.declared.fault.RunFault.{RunFault};
+ghost use Rattle.mdb_explain.specs.declared.fault.MarkedFault.{MarkedFault};
 ghost use Rattle.mdb_explain.specs.Explain.{ComesTo, IsExplanation, explanation_records, explanation_text, mark_fields};
 ghost use Rattle.mdb_verdict.specs.Headline.{HaveRun};
-ghost use Rattle.mdb_explain.specs.Replay.{AreMarkRows, IsReplayAnswer, IsReplayed};
+ghost use Rattle.mdb_explain.specs.Replay.{AreMarkRows, IsOwnReplay, IsReplayAnswer, IsReplayed};
 ghost use Rattle.mdb_verdict.specs.Verdict.{AreRows, IsAnswer, IsOwnAnswer};
 
+use mdb_explained_runs::laws;
 use mdb_follow::laws as follow_laws;
-use mdb_marks::laws;
 
 /// The records of an input of `replay` have at most one answer of their own: a yes with its report, a
 /// no with its row, rule and blame, the first record that is refused and why, too many, or the mark
@@ -32,9 +33,9 @@ use mdb_marks::laws;
 /// So where one of these is the answer, no other one would be right.
 pub fn inputs_of_replay_have_one_answer()
     ensures { (scope : Scope) (limit : ℕ) (records : List (List (List ℕ)))
-        (a b : Result Outcome RunFault)
+        (a b : Result Outcome MarkedFault)
         → IsReplayAnswer scope limit records a → IsReplayAnswer scope limit records b
-        → IsOwnAnswer a → IsOwnAnswer b → a ≡ b }
+        → IsOwnReplay a → IsOwnReplay b → a ≡ b }
 {
     laws::fronts_of_marked_runs_have_the_marks_there();
     laws::marks_rise();
@@ -75,12 +76,12 @@ pub fn explanations_read_as_their_marks_and_rows()
 /// And it has no more bytes than an input may have.
 pub fn explanations_replay_to_their_goals()
     ensures comes { (without : DeviceSet) (goal : Goal) (records : List (List (List ℕ)))
-        (text : List ℕ) (checked : Report) (answer : Result Outcome RunFault)
+        (text : List ℕ) (checked : Report) (answer : Result Outcome MarkedFault)
         → IsAnswer (leaving_out without) ROWS_MAX records (Ok (Yes checked))
         → IsExplanation (leaving_out without) goal records text
         → IsReplayAnswer (leaving_out without) ROWS_MAX
         (read_records default_config (strip_bom text)) answer
-        → IsOwnAnswer answer → ComesTo goal checked answer }
+        → IsOwnReplay answer → ComesTo goal checked answer }
     ensures within { (without : DeviceSet) (goal : Goal) (records : List (List (List ℕ)))
         (text : List ℕ) (checked : Report)
         → IsAnswer (leaving_out without) ROWS_MAX records (Ok (Yes checked))

@@ -5,12 +5,13 @@ ghost use Rattle.std.specs.Io.KnownBytes.{Appends};
 ghost use Rattle.csv.specs.Reading.{default_config, records, strip_bom};
 ghost use Rattle.mdb_records.specs.ToCome.{IsOverLimit, ToCome, fault_of};
 ghost use Rattle.mdb_bus.specs.Scopes.{leaving_out, power_on};
-ghost use Rattle.mdb_explain.specs.Replay.{IsCutReplay, IsCutReplayIn, IsReplayAnswer};
+ghost use Rattle.mdb_explain.specs.Replay.{HasMarkedCause, IsCutReplay, IsCutReplayIn, IsReplayAnswer};
 ghost use Rattle.mdb_text.specs.Text.{report_text};
-ghost use Rattle.mdb_verdict.specs.Verdict.{HasCause, IsNoYes};
+ghost use Rattle.mdb_verdict.specs.Verdict.{IsNoYes};
 ghost use Rattle.mdb_verdict.specs.declared.verdict.TheConstants.{BYTES_MAX};
 ghost use Rattle.mdb_follow.specs.declared.follower.TheConstants.{ROWS_MAX};
 
+use super::fault::MarkedFault;
 use super::replaying::{ENTRIES_MAX, Replaying};
 use mdb_bus::Scope;
 use mdb_msgs::DeviceSet;
@@ -35,7 +36,7 @@ use std::io::{Read, Write};
 ///
 /// # Errors
 ///
-/// The first of these:
+/// The first of these, each but `Mark` a [`RunFault`]:
 ///
 /// - `BadRow`: the first record that is neither, with its number among all records. A mark row
 ///   after a row has the fault `BadLine`.
@@ -49,15 +50,16 @@ pub fn replay<R: Read + Drop, W: Write>(
     alloc: Global,
     reader: R,
     writer: &mut W,
-) -> Result<Outcome, RunFault>
+) -> Result<Outcome, MarkedFault>
     ensures answer { IfSome (R.remaining reader) (λ text.
         IsReplayAnswer power_on ROWS_MAX (records default_config (strip_bom text)) result) }
     ensures whole { IfSome (R.remaining reader) (λ text. BYTES_MAX < length text → IsNoYes result) }
     ensures written { IfOk result (λ outcome. Appends (W.contents writer.old)
         (W.contents writer.new) (report_text power_on outcome)) }
-    ensures nothing_written { IfErr result (λ fault. fault ≢ RunFault.Write
+    ensures nothing_written { IfErr result (λ fault. fault ≢ MarkedFault.Run RunFault.Write
         → writer.new ≡ writer.old) }
-    ensures cut { IfSome (R.remaining reader) (λ text. result ≡ Err RunFault.Write
+    ensures cut { IfSome (R.remaining reader) (λ text.
+        result ≡ Err (MarkedFault.Run RunFault.Write)
         → IsCutReplay power_on ROWS_MAX (records default_config (strip_bom text))
         (W.contents writer.old) (W.contents writer.new)) }
 {
@@ -74,15 +76,16 @@ pub fn replay_scoped<R: Read + Drop, W: Write>(
     without: DeviceSet,
     reader: R,
     writer: &mut W,
-) -> Result<Outcome, RunFault>
+) -> Result<Outcome, MarkedFault>
     ensures answer { IfSome (R.remaining reader) (λ text. IsReplayAnswer (leaving_out without)
         ROWS_MAX (records default_config (strip_bom text)) result) }
     ensures whole { IfSome (R.remaining reader) (λ text. BYTES_MAX < length text → IsNoYes result) }
     ensures written { IfOk result (λ outcome. Appends (W.contents writer.old)
         (W.contents writer.new) (report_text (leaving_out without) outcome)) }
-    ensures nothing_written { IfErr result (λ fault. fault ≢ RunFault.Write
+    ensures nothing_written { IfErr result (λ fault. fault ≢ MarkedFault.Run RunFault.Write
         → writer.new ≡ writer.old) }
-    ensures cut { IfSome (R.remaining reader) (λ text. result ≡ Err RunFault.Write
+    ensures cut { IfSome (R.remaining reader) (λ text.
+        result ≡ Err (MarkedFault.Run RunFault.Write)
         → IsCutReplay (leaving_out without) ROWS_MAX (records default_config (strip_bom text))
         (W.contents writer.old) (W.contents writer.new)) }
 {
@@ -102,23 +105,24 @@ pub fn replay_records<F: AnswerForm, R: Read + Drop, W: Write>(
     without: DeviceSet,
     records: &mut Records<R>,
     writer: &mut W,
-) -> Result<Outcome, RunFault>
+) -> Result<Outcome, MarkedFault>
     ensures answer { (all : List (List (List ℕ))) → ToCome R.remaining records.old all
         → IsReplayAnswer (leaving_out without) ROWS_MAX all result }
     ensures whole { IsOverLimit R.remaining records.old → IsNoYes result }
-    ensures heard { IfErr result (HasCause (fault_of records.new)) }
+    ensures heard { IfErr result (HasMarkedCause (fault_of records.new)) }
     ensures met { fault_of records.old ≡ None → IsSome (fault_of records.new) → IsNoYes result }
     ensures written { IfOk result (λ outcome. Appends (W.contents writer.old)
         (W.contents writer.new) (F.text form.now (leaving_out without) outcome)) }
-    ensures nothing_written { IfErr result (λ fault. fault ≢ RunFault.Write
+    ensures nothing_written { IfErr result (λ fault. fault ≢ MarkedFault.Run RunFault.Write
         → writer.new ≡ writer.old) }
     ensures cut { (all : List (List (List ℕ))) → ToCome R.remaining records.old all
-        → result ≡ Err RunFault.Write → IsCutReplayIn (F.text form.now) (leaving_out without)
-        ROWS_MAX all (W.contents writer.old) (W.contents writer.new) }
+        → result ≡ Err (MarkedFault.Run RunFault.Write)
+        → IsCutReplayIn (F.text form.now) (leaving_out without) ROWS_MAX all
+        (W.contents writer.old) (W.contents writer.new) }
 {
     let outcome = replay_outcome(alloc, without, records)?;
     let Some(text) = form.text_of(alloc, &Scope::leaving_out(without), &outcome) else {
-        return Err(RunFault::Memory);
+        return Err(MarkedFault::Run(RunFault::Memory));
     };
     write_text(writer, text.as_slice())?;
     Ok(outcome)
@@ -136,13 +140,13 @@ pub fn replay_outcome<R: Read + Drop>(
     alloc: Global,
     without: DeviceSet,
     records: &mut Records<R>,
-) -> Result<Outcome, RunFault>
+) -> Result<Outcome, MarkedFault>
     ensures answer { (all : List (List (List ℕ))) → ToCome R.remaining records.old all
         → IsReplayAnswer (leaving_out without) ROWS_MAX all result }
     ensures whole { IsOverLimit R.remaining records.old → IsNoYes result }
-    ensures heard { IfErr result (HasCause (fault_of records.new)) }
+    ensures heard { IfErr result (HasMarkedCause (fault_of records.new)) }
     ensures met { fault_of records.old ≡ None → IsSome (fault_of records.new) → IsNoYes result }
-    ensures not_write { IfErr result (λ fault. fault ≢ RunFault.Write) }
+    ensures not_write { IfErr result (λ fault. fault ≢ MarkedFault.Run RunFault.Write) }
 {
     let mut taker = Replaying::new(alloc, without);
     match read_rows(records, &mut Batch::new(), &mut taker, &mut (), ENTRIES_MAX)? {

@@ -2,12 +2,13 @@
 
 ghost use Rattle.std.specs.Prelude.{◌≡◌, ◌≤◌, ◌<◌, ◌+◌, ◌++◌, ◌∷◌, List, [], ℕ, length, Err, IfErr, OnSome, ◌≢◌};
 ghost use Rattle.mdb_bus.specs.Scopes as scopes;
-ghost use Rattle.mdb_marks.specs.Replays.{rows_of, scope_of};
+ghost use Rattle.mdb_explained_runs.specs.Replays.{rows_of, scope_of};
 ghost use Rattle.mdb_explain.specs.inner.Entries.{stop_by};
 
 use super::entry::Entry;
+use super::fault::MarkedFault;
+use mdb_explained_runs::{Mark, Replay, ReplayFault, laws};
 use mdb_follow::{Offence, ROWS_MAX};
-use mdb_marks::{Mark, Replay, ReplayFault, laws};
 use mdb_msgs::DeviceSet;
 use mdb_text::Outcome;
 use mdb_verdict::{RunFault, TakeRows};
@@ -32,11 +33,11 @@ pub(crate) struct Replaying {
 }
 
 /// Why it stops at an entry: at a row that cannot be, with the marks, or for a fault.
-type Stop = Result<Offence, RunFault>;
+type Stop = Result<Offence, MarkedFault>;
 
 impl Replaying {
     ghost use Rattle.mdb_bus.specs.declared.scope.Scope.{Scope};
-    ghost use Rattle.mdb_marks.specs.declared.mark.Mark.{Mark};
+    ghost use Rattle.mdb_explained_runs.specs.declared.mark.Mark.{Mark};
     ghost use Rattle.mdb_explain.specs.Replay.{mark_at};
     ghost use Rattle.mdb_verdict.specs.Ending.{HasTakenOrStopped};
     ghost use Rattle.mdb_explain.specs.inner.Replaying.{Finishes, HasReplayed, HasStopped};
@@ -95,13 +96,13 @@ impl Replaying {
             return Some(Err(self.bad_record(RowFault::BadLine)));
         }
         if self.marks.len() as u64 >= ROWS_MAX {
-            return Some(Err(RunFault::TooLong));
+            return Some(Err(MarkedFault::Run(RunFault::TooLong)));
         }
         if row <= self.last {
-            return Some(Err(RunFault::Mark { row }));
+            return Some(Err(MarkedFault::Mark { row }));
         }
         if self.marks.push((row, mark)).is_err() {
-            return Some(Err(RunFault::Memory));
+            return Some(Err(MarkedFault::Run(RunFault::Memory)));
         }
         self.last = row;
         None
@@ -114,7 +115,7 @@ impl Replaying {
         ensures scope { scope_of self.new.replay ≡ scope_of self.old.replay }
     {
         if self.replay.rows() >= ROWS_MAX {
-            return Some(Err(RunFault::TooLong));
+            return Some(Err(MarkedFault::Run(RunFault::TooLong)));
         }
         let mark = self.next_mark();
         match self.replay.feed(event, mark) {
@@ -144,7 +145,7 @@ impl Replaying {
     }
 
     /// Why a mark row is refused that is refused by itself.
-    fn refuse_mark(&self, fault: RowFault) -> RunFault
+    fn refuse_mark(&self, fault: RowFault) -> MarkedFault
         ensures { (scope : Scope) (earlier : List Entry) → HasReplayed scope self.now earlier
             → IsStoppedAt scope earlier (Entry.BadMark fault) (Err result) }
     {
@@ -155,31 +156,31 @@ impl Replaying {
             return self.bad_record(RowFault::BadLine);
         }
         if self.marks.len() as u64 >= ROWS_MAX {
-            return RunFault::TooLong;
+            return MarkedFault::Run(RunFault::TooLong);
         }
         self.bad_record(fault)
     }
 
     /// Why a record is refused that is no row.
-    fn refuse_row(&self, fault: RowFault) -> RunFault
+    fn refuse_row(&self, fault: RowFault) -> MarkedFault
         ensures { (scope : Scope) (earlier : List Entry) → HasReplayed scope self.now earlier
             → IsStoppedAt scope earlier (Entry.BadRow fault) (Err result) }
     {
         if self.replay.rows() >= ROWS_MAX {
-            return RunFault::TooLong;
+            return MarkedFault::Run(RunFault::TooLong);
         }
         self.bad_record(fault)
     }
 
     /// The fault of the next record.
-    fn bad_record(&self, fault: RowFault) -> RunFault
-        ensures { result ≡ RunFault.BadRow (length self.now.marks.items + rows_of self.now.replay
-            + 1) fault }
+    fn bad_record(&self, fault: RowFault) -> MarkedFault
+        ensures { result ≡ MarkedFault.Run (RunFault.BadRow (length self.now.marks.items
+            + rows_of self.now.replay + 1) fault) }
     {
-        RunFault::BadRow {
+        MarkedFault::Run(RunFault::BadRow {
             row: self.marks.len() as u64 + self.replay.rows() + 1,
             fault,
-        }
+        })
     }
 
     /// What the rows tell, after the last entry.
@@ -187,19 +188,19 @@ impl Replaying {
     /// # Errors
     ///
     /// `Mark` where a mark stands past the last row.
-    pub(crate) fn finish(&self) -> Result<Outcome, RunFault>
+    pub(crate) fn finish(&self) -> Result<Outcome, MarkedFault>
         ensures finishes { (scope : Scope) (taken : List Entry)
             → HasReplayed scope self.now taken → Finishes scope taken result }
-        ensures not_write { IfErr result (λ fault. fault ≢ RunFault.Write) }
-        ensures not_read { IfErr result (λ fault. fault ≢ RunFault.Read) }
+        ensures not_write { IfErr result (λ fault. fault ≢ MarkedFault.Run RunFault.Write) }
+        ensures not_read { IfErr result (λ fault. fault ≢ MarkedFault.Run RunFault.Read) }
     {
         if let Some((row, _)) = self.marks.get(self.passed) {
-            return Err(RunFault::Mark { row: *row });
+            return Err(MarkedFault::Mark { row: *row });
         }
         match self.replay.report() {
             Ok(report) => Ok(Outcome::Yes(report)),
             Err(ReplayFault::Offence(offence)) => Ok(Outcome::No(offence)),
-            Err(ReplayFault::Mark(row)) => Err(RunFault::Mark { row }),
+            Err(ReplayFault::Mark(row)) => Err(MarkedFault::Mark { row }),
         }
     }
 }
@@ -210,7 +211,7 @@ fn stop_of(fault: ReplayFault) -> Stop
 {
     match fault {
         ReplayFault::Offence(offence) => Ok(offence),
-        ReplayFault::Mark(row) => Err(RunFault::Mark { row }),
+        ReplayFault::Mark(row) => Err(MarkedFault::Mark { row }),
     }
 }
 

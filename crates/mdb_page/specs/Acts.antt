@@ -82,7 +82,7 @@ pub record IsOfPiece (pieces : List Piece) (count : ℕ) (entry : PageAct) : Typ
   pub shows : ShowsAct entry (act_in piece)
 
 -- The place of the piece with so many before it, in an array with so much room: the first pieces
--- stay, and behind them the others come round in a ring. An array that is short may not have it.
+-- stay, and after them the others come round in a ring. An array that is short may not have it.
 unfoldable pub place_in : ℕ → ℕ → ℕ → ℕ
 place_in first room number =
     if nat_lt number first then number else first + (number - first) % (room - first)

@@ -15,12 +15,12 @@ pub data IsUnmarked (text : List ℕ) : List ℕ → Type 0 where
   marked : {rest : List ℕ} → HasMark text → rest ≡ drop 3 text → IsUnmarked text rest
   unmarked : (HasMark text → ⊥) → IsUnmarked text text
 
--- the bytes before the first byte `mark`, which is there, and those behind it
+-- the bytes before the first byte `mark`, which is there, and those after it
 pub record IsCut (mark : ℕ) (all front rest : List ℕ) : Type 0 where
   pub whole : all ≡ front ++ mark ∷ rest
   pub first : All (λ byte. byte ≢ mark) front
 
--- The first line of a text, and what is behind it. It ends before LF, or with the text.
+-- The first line of a text, and what comes after it. It ends before LF, or with the text.
 pub data IsFirstLine (text : List ℕ) : List ℕ → List ℕ → Type 0 where
   ended : {line rest : List ℕ} → IsCut 10 text line rest → IsFirstLine text line rest
   last : All (λ byte. byte ≢ 10) text → IsFirstLine text text []
@@ -30,7 +30,7 @@ pub data IsBare (line : List ℕ) : List ℕ → Type 0 where
   returned : {bare : List ℕ} → line ≡ bare ++ 13 ∷ [] → IsBare line bare
   unreturned : ((bare : List ℕ) → line ≡ bare ++ 13 ∷ [] → ⊥) → IsBare line line
 
--- a line, without its end, in front of a text, and what is behind it
+-- a line, without its end, in front of a text, and what comes after it
 pub record IsLine (text bare rest : List ℕ) : Type 0 where
   pub line : List ℕ
   pub first : IsFirstLine text line rest

@@ -51,7 +51,7 @@ fn cut(all: &[u8], mark: u8) -> Option<(&[u8], &[u8])>
     None
 }
 
-/// The first line of a text, with the CR before its LF, and what stands behind it.
+/// The first line of a text, with the CR before its LF, and what stands after it.
 #[inline(always)]
 pub(crate) fn first_line(text: &[u8]) -> (&[u8], &[u8])
     requires { text.now ≢ [] }

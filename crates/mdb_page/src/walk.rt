@@ -9,7 +9,7 @@ ghost use Rattle.mdb_follow.specs.declared.follower.TheConstants.{ROWS_MAX};
 ghost use Rattle.mdb_page.specs.Acts.{IsListing};
 ghost use Rattle.mdb_page.specs.Options.{IsTakenSo};
 ghost use Rattle.mdb_page.specs.declared.acts.PageAct.{PageAct};
-ghost use Rattle.mdb_page.specs.inner.Listing.{HasBegun, HasListed, HasTaken, HasWalked, Lengthens};
+ghost use Rattle.mdb_page.specs.inner.Listing.{HasBegun, HasListed, HasTakenRows, HasWalked, Lengthens};
 
 use crate::acts::{ActListing, PageAct};
 use crate::answer::{BAD_OPTIONS, NO, PageTold, TOO_LONG, YES, line_answer};
@@ -22,9 +22,10 @@ use mdb_follow::ROWS_MAX;
 use mdb_words::Time;
 
 /// Lists the acts of a recording, and what they report after the first `skip` news, as far as there
-/// is room. Where there are more acts than room, the first `first` stay, and behind them stand the
-/// last ones in a ring: the one numbered n from 0, at `first` and the rest of n less `first` by the
-/// room behind them. The words of a block that is cut are listed too, as an act of their own.
+/// is room. Where there are more acts than room, the first `first` stay. After them the last ones
+/// stand in a ring of all other places. An act numbered n, from 0, has the place `first` plus the
+/// remainder of n less `first` by the size of the ring. The words of a block that is cut are listed
+/// too, as an act of their own.
 ///
 /// It returns what `mdb_page_check` does: 1 means that a row breaks a rule of the link. It doesn't
 /// know the rules of the devices. The words of a block that is still open before such a row aren't
@@ -145,9 +146,9 @@ impl Lists {
         requires names { ended ≡ true → NamesAReply act.now }
         ensures last { rows.new.last ≡ rows.old.last + 1 }
         ensures taken { (first : ℕ) (before : List PageAct) (pieces longer : List Piece)
-            → HasTaken first before pieces self.old.acts acts.old rows.old
+            → HasTakenRows first before pieces self.old.acts acts.old rows.old
             → Lengthens pieces at (ended_act ended act.now) longer
-            → HasTaken first before longer self.new.acts acts.new rows.new }
+            → HasTakenRows first before longer self.new.acts acts.new rows.new }
     {
         if ended {
             self.end(acts, news, rows, at, act);
@@ -170,9 +171,9 @@ impl Lists {
         requires names { NamesAReply act.now }
         ensures last { rows.new.last ≡ rows.old.last + 1 }
         ensures taken { (first : ℕ) (before : List PageAct) (pieces longer : List Piece)
-            → HasTaken first before pieces self.old.acts acts.old rows.old
+            → HasTakenRows first before pieces self.old.acts acts.old rows.old
             → Lengthens pieces at (Some act.now) longer
-            → HasTaken first before longer self.new.acts acts.new rows.new }
+            → HasTakenRows first before longer self.new.acts acts.new rows.new }
     {
         self.cut_before(acts, rows, act);
         rows.add(at);
@@ -187,7 +188,7 @@ impl Lists {
         requires { rows.old.last < ROWS_MAX }
         ensures last { rows.new.last ≡ rows.old.last }
         ensures begun { (first : ℕ) (before : List PageAct) (pieces longer : List Piece) (at : ℕ)
-            → HasTaken first before pieces self.old.acts acts.old rows.old
+            → HasTakenRows first before pieces self.old.acts acts.old rows.old
             → (turn : Lengthens pieces at (Some act.now) longer)
             → HasBegun first before turn.grown.earlier turn.grown.begun self.new.acts acts.new
             rows.new }
@@ -201,7 +202,7 @@ impl Lists {
     /// Takes the rows that no act has, if there are some.
     fn cut(&mut self, acts: &mut [PageAct], rows: &Rows)
         ensures { (first : ℕ) (before : List PageAct) (pieces : List Piece)
-            → HasTaken first before pieces self.old.acts acts.old rows.now
+            → HasTakenRows first before pieces self.old.acts acts.old rows.now
             → rows.now.last ≤ ROWS_MAX
             → HasListed first before pieces self.new.acts acts.new }
     {

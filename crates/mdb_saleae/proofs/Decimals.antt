@@ -8,7 +8,7 @@ use Rattle.std.specs.Str.Parse.{AllDigits}
 use Rattle.std.proofs.lemmas.List.{take_all}
 use Rattle.std.proofs.lemmas.Str.{digit_value_digit}
 use Rattle.std.proofs.lemmas.Str.Parse.{digit_from_value}
-use Rattle.mdb_import.specs.Fields.{has_byte}
+use Rattle.mdb_exports.specs.Fields.{has_byte}
 use Rattle.mdb_saleae.specs.Seconds.{left_over, shortened}
 
 pub digit_at : (text : List ℕ) (i : ℕ) → AllDigits 10 text → i < length text

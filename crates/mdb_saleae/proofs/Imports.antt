@@ -10,12 +10,12 @@ use Rattle.mdb_records.specs.declared.ReadFault.TheVariants as reading
 use Rattle.mdb_records.specs.declared.Records.{Records}
 use Rattle.mdb_words.specs.Event.{start_of}
 use Rattle.mdb_words.specs.declared.event.Event.{Event}
-use Rattle.mdb_import.specs.Exports.{HasFailed}
-use Rattle.mdb_import.specs.Rows.{IsAfter}
-use Rattle.mdb_import.specs.declared.fault.Imported.{Imported}
+use Rattle.mdb_exports.specs.Records.{HasFailed}
+use Rattle.mdb_exports.specs.Order.{IsAfter}
+use Rattle.mdb_exports.specs.declared.told.Imported.{Imported}
 use Rattle.mdb_writing.specs.Output.{Breaks, Output, Puts, begun}
-use Rattle.mdb_saleae.specs.Exports.{IsExportedInPart, IsRefusedRow, IsTold, part_text}
-use Rattle.mdb_saleae.specs.Exports.{read_fault_of}
+use Rattle.mdb_saleae.specs.Imports.{ImportedInPart, IsRefusedRow, IsTold, part_text}
+use Rattle.mdb_saleae.specs.Imports.{read_fault_of}
 use Rattle.mdb_saleae.specs.Refusals.{IsFault}
 use Rattle.mdb_saleae.specs.Rows.{AreRows, IsTableRow, last_start}
 use Rattle.mdb_saleae.specs.inner.Steps.{Begins, HasFailedBehind, HasImported, IsNext, IsNoted}
@@ -219,7 +219,7 @@ not_taken remaining old options columns first next before middle after count all
       record {
         answer = Err Read;
         text = part_text options taken.0;
-        export = record {
+        import = record {
           done = so_far.done ++ row ∷ [];
           events = taken.0;
           rest = rest;
@@ -255,7 +255,7 @@ in_part : {R : Type 0} (remaining : R → Option (List ℕ)) (now : Records R) (
     (columns : Columns) (importing : Importing) (before after : Output) (count : ℕ)
     (all : List (List (List ℕ)))
     (so_far : SoFar remaining now options columns importing before after count all)
-    → IsExportedInPart options columns all (part_text options so_far.events)
+    → ImportedInPart options columns all (part_text options so_far.events)
 in_part remaining now options columns importing before after count all so_far = record {
   done = so_far.done;
   events = so_far.events;

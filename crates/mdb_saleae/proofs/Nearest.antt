@@ -1,6 +1,6 @@
 -- Nearest microseconds of a number with more decimals.
 use Rattle.std.proofs.Common.{arith, ap, ◌≡◌, ◌+◌, ◌-◌, ◌*◌, ◌<◌, ◌≤◌, ℕ}
-use Rattle.mdb_import.specs.Numbers.{IsNearest}
+use Rattle.mdb_exports.specs.Numbers.{IsNearest}
 
 times_most : (a b k : ℕ) → a ≤ b → a * k ≤ b * k
 times_most a b k most = let parts : b * k ≡ a * k + (b - a) * k =

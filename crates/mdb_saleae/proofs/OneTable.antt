@@ -10,15 +10,15 @@ use Rattle.mdb_words.specs.declared.event.Event.{Event}
 use Rattle.mdb_words.specs.declared.event.Event.TheVariants.{Word, Break}
 use Rattle.mdb_words.specs.declared.word.Line.{Line}
 use Rattle.mdb_words.specs.declared.word.Line.TheVariants.{Controller, Peripheral}
-use Rattle.mdb_import.specs.ReadBack.{AreReadBack, IsRowEvent}
-use Rattle.mdb_import.specs.Values.{IsPrefixed}
-use Rattle.mdb_import.specs.declared.options.Unit.TheVariants.{Seconds}
-use Rattle.mdb_import.proofs.OneImport.{some_of}
-use Rattle.mdb_import.proofs.PlainRows.{read_back, small_break, small_word}
-use Rattle.mdb_import.proofs.Readings.{time_same}
+use Rattle.mdb_exports.specs.ReadBack.{AreReadBack, IsRowEvent}
+use Rattle.mdb_exports.specs.Hex.{IsPrefixed}
+use Rattle.mdb_exports.specs.declared.units.Unit.TheVariants.{Seconds}
+use Rattle.mdb_exports.proofs.Part.{some_of}
+use Rattle.mdb_exports.proofs.PlainRows.{read_back, small_break, small_word}
+use Rattle.mdb_exports.proofs.Readings.{time_same}
 use Rattle.mdb_saleae.specs.Cells.{cell}
 use Rattle.mdb_saleae.specs.Columns.{IsColumns, IsOnly}
-use Rattle.mdb_saleae.specs.Exports.{is_taken}
+use Rattle.mdb_saleae.specs.Imports.{is_taken}
 use Rattle.mdb_saleae.specs.Frames.{TellsFrame}
 use Rattle.mdb_saleae.specs.Rows.{AreEvents, AreRows, IsEventAt, IsLine, IsTableRow}
 use Rattle.mdb_saleae.specs.Seconds.{IsSeconds, shortened}

@@ -4,14 +4,14 @@ use Rattle.std.proofs.Common.{Option, Result, Ok, Err}
 use Rattle.std.proofs.KnownBytes.{Appends-nil}
 use Rattle.std.specs.Prelude.{IfErr, IfOk, IsErrAnd}
 use Rattle.std.specs.Io.KnownBytes.{Appends}
-use Rattle.mdb_import.specs.Exports.{export_records}
+use Rattle.mdb_exports.specs.Records.{export_records}
 use Rattle.mdb_writing.specs.Written.{HasTaken}
 use Rattle.mdb_writing.proofs.Outputs as outputs
 use Rattle.mdb_writing.specs.Output.{Output, begun}
-use Rattle.mdb_import.specs.declared.fault.Imported.{Imported}
+use Rattle.mdb_exports.specs.declared.told.Imported.{Imported}
 use Rattle.mdb_saleae.specs.Columns.{IsColumns}
-use Rattle.mdb_saleae.specs.Exports.{Exports, IsCutShort, IsExport, IsExported, IsHeaderAnswer}
-use Rattle.mdb_saleae.specs.Exports.{IsRowsExport}
+use Rattle.mdb_saleae.specs.Imports.{Imports, IsCutShort, IsImport, IsImported, IsHeaderAnswer}
+use Rattle.mdb_saleae.specs.Imports.{IsRowsImport}
 use Rattle.mdb_saleae.specs.Rows.{AreEvents}
 use Rattle.mdb_saleae.specs.inner.Steps.{PutsRows}
 use Rattle.mdb_saleae.specs.declared.columns.Columns.{Columns}
@@ -23,7 +23,7 @@ use Rattle.mdb_saleae.specs.declared.options.SaleaeOptions.{SaleaeOptions}
 table : (options : SaleaeOptions) (header : List (List ℕ)) (rows all : List (List (List ℕ)))
     (columns : Columns) (answer : Result Imported SaleaeFault) (text : List ℕ) → all ≡ header ∷ rows
     → IsColumns header columns
-    → IsRowsExport options columns rows answer text → IsExport options all answer text
+    → IsRowsImport options columns rows answer text → IsImport options all answer text
 table options header rows all columns answer text split are export =
     inl (record {
       header = header;
@@ -31,7 +31,7 @@ table options header rows all columns answer text split are export =
       columns = columns;
       split = split;
       are = are;
-      export = export;
+      import = export;
     })
 
 -- The page is written out at last.
@@ -40,7 +40,7 @@ pub written_out : (options : SaleaeOptions) (header : List (List ℕ))
     (now : Output) (answer : Result Imported SaleaeFault) → all ≡ header ∷ rows
     → IsColumns header columns
     → PutsRows options columns rows (begun before) now answer → (answer ≡ Err Write → ⊥)
-    → Appends now.held later now.waiting → Exports options all before later answer
+    → Appends now.held later now.waiting → Imports options all before later answer
 written_out options header rows all columns before later now answer split are (inl showing) not
     written =
     inl (
@@ -62,7 +62,7 @@ page_broken options header rows all columns before later now answer split are (i
     taken = record {
       answer = answer;
       text = showing.0;
-      export = table options header rows all columns answer showing.0 split are showing.1;
+      import = table options header rows all columns answer showing.0 split are showing.1;
       taken = outputs.broken_out before later now showing.0 showing.2 taken;
     }
 page_broken options header rows all columns before later now answer split are (inr broken) not
@@ -73,10 +73,10 @@ pub rows_broken : (options : SaleaeOptions) (header : List (List ℕ))
     (rows all : List (List (List ℕ))) (columns : Columns) (before : Option (List ℕ)) (now : Output)
     (answer : Result Imported SaleaeFault) → all ≡ header ∷ rows → IsColumns header columns
     → PutsRows options columns rows (begun before) now answer → answer ≡ Err Write
-    → Exports options all before now.held answer
+    → Imports options all before now.held answer
 rows_broken options header rows all columns before now answer split are (inl showing) is =
     let P : Result Imported SaleaeFault → Type 0 =
-    λ a. IsRowsExport options columns rows a showing.0 in
+    λ a. IsRowsImport options columns rows a showing.0 in
     absurd (subst P is showing.1)
 rows_broken options header rows all columns before now answer split are (inr broken) is =
     inr (
@@ -84,8 +84,8 @@ rows_broken options header rows all columns before now answer split are (inr bro
       record {
         answer = broken.1.answer;
         text = broken.1.text;
-        export = table options header rows all columns broken.1.answer broken.1.text split are
-            broken.1.export;
+        import = table options header rows all columns broken.1.answer broken.1.text split are
+            broken.1.import;
         taken = broken.1.broken;
       },
     )
@@ -94,7 +94,7 @@ rows_broken options header rows all columns before now answer split are (inr bro
 pub cut_short : (options : SaleaeOptions) (all : List (List (List ℕ)))
     (before later : Option (List ℕ)) (answer : Result Imported SaleaeFault)
     → IsErrAnd answer (λ told. told ≡ Write) → IsCutShort options all before later
-    → Exports options all before later answer
+    → Imports options all before later answer
 cut_short options all before later (Ok showing) is cut = absurd is
 cut_short options all before later (Err told) is cut = inr (ap Err is, cut)
 
@@ -108,22 +108,22 @@ page_unread P (Err told) is =
 -- there are no columns
 pub no_table : (options : SaleaeOptions) (all : List (List (List ℕ))) (before : Option (List ℕ))
     (told : SaleaeFault) → IsHeaderAnswer all (Err told)
-    → Exports options all before before (Err told)
+    → Imports options all before before (Err told)
 no_table options all before told is = inl ([], inr (is, refl), Appends-nil before)
 
 -- a table whose rows are all written
-pub exported_ok : (options : SaleaeOptions) (text : List ℕ) (before after : Option (List ℕ))
+pub imported_ok : (options : SaleaeOptions) (text : List ℕ) (before after : Option (List ℕ))
     (answer : Result Imported SaleaeFault)
-    → Exports options (export_records text) before after answer
-    → IfOk answer (λ imported. IsExported options text before after)
-exported_ok options text before after (Ok imported) (inl (written, inl is, appends)) =
+    → Imports options (export_records text) before after answer
+    → IfOk answer (λ imported. IsImported options text before after)
+imported_ok options text before after (Ok imported) (inl (written, inl is, appends)) =
     let P : List ℕ → Type 0 = λ t. Appends before after t in
-    let Q : List (List (List ℕ)) → Type 0 = λ l. AreEvents options l is.export.0 in (
-      is.export.0,
-      subst Q (sym is.split) (is.columns, is.are, is.export.1),
-      subst P is.export.3
+    let Q : List (List (List ℕ)) → Type 0 = λ l. AreEvents options l is.import.0 in (
+      is.import.0,
+      subst Q (sym is.split) (is.columns, is.are, is.import.1),
+      subst P is.import.3
           appends,
     )
-exported_ok options text before after (Ok imported) (inl (written, inr is, appends)) = absurd is.0
-exported_ok options text before after (Ok imported) (inr cut) = absurd (let never = cut.0 in cc)
-exported_ok options text before after (Err told) written = tt
+imported_ok options text before after (Ok imported) (inl (written, inr is, appends)) = absurd is.0
+imported_ok options text before after (Ok imported) (inr cut) = absurd (let never = cut.0 in cc)
+imported_ok options text before after (Err told) written = tt

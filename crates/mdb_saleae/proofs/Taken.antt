@@ -1,19 +1,16 @@
 -- Rows and what is told of them, event by event.
-use Rattle.std.proofs.Common.{arith, cond, refl, ap, sym, subst, ◌∙◌, ◌≡◌, ◌+◌, ℕ, Bool, true}
-use Rattle.std.proofs.Common.{false, ◌||◌, List, [], ◌∷◌, ◌++◌, append_assoc, Option, Some}
-use Rattle.std.specs.Prelude.{count_by, filter}
-use Rattle.std.specs.List.{list_any}
+use Rattle.std.proofs.Common.{cond, refl, ap, sym, subst, ◌∙◌, ◌≡◌, ◌+◌, ℕ, Bool, true, false, ◌||◌}
+use Rattle.std.proofs.Common.{List, [], ◌∷◌, ◌++◌, append_assoc, Option, Some}
+use Rattle.std.specs.Prelude.{filter}
 use Rattle.std.proofs.lemmas.List.{append-nil}
-use Rattle.std.proofs.lemmas.List.Folds.{list_any-append}
-use Rattle.std.proofs.lemmas.List.Sums.{sum_by-append}
 use Rattle.mdb_words.specs.Event.{start_of}
 use Rattle.mdb_words.specs.declared.event.Event.{Event}
-use Rattle.mdb_import.specs.Exports.{is_controllers, is_marked, is_peripherals, row_line, rows_text}
-use Rattle.mdb_import.specs.Exports.{told_count}
-use Rattle.mdb_import.specs.Rows.{IsAfter}
-use Rattle.mdb_import.specs.inner.Steps.{counted_more}
-use Rattle.mdb_import.specs.declared.fault.Imported.{Imported}
-use Rattle.mdb_saleae.specs.Exports.{IsTold, is_before, is_behind, is_taken, part_text}
+use Rattle.mdb_exports.specs.Told.{is_controllers, is_marked, is_peripherals}
+use Rattle.mdb_exports.specs.Rows.{row_line, rows_text}
+use Rattle.mdb_exports.specs.Order.{IsAfter}
+use Rattle.mdb_exports.specs.declared.told.Imported.{Imported}
+use Rattle.mdb_exports.proofs.Tallies.{any_more, count_more}
+use Rattle.mdb_saleae.specs.Imports.{IsTold, is_before, is_behind, is_taken, part_text}
 use Rattle.mdb_saleae.specs.Rows.{AreRows, IsTableRow, last_start}
 use Rattle.mdb_saleae.specs.inner.Steps.{IsNoted, part_line}
 use Rattle.mdb_saleae.specs.declared.columns.Columns.{Columns}
@@ -65,33 +62,6 @@ text_more options (e ∷ events) event = more (is_taken options e) (text_more op
     more false rest = rest
 
 -- what is told with an event more
-any_more : (p : Event → Bool) (events : List Event) (event : Event)
-    → list_any p (events ++ event ∷ []) ≡ (list_any p events || p event)
-any_more p events event = list_any-append p events (event ∷ []) ∙ ap (λ b. list_any p events || b)
-    (or_false (p event))
-  where
-    or_false : (b : Bool) → (b || false) ≡ b
-    or_false true = refl
-    or_false false = refl
-
-abbrev weight : Bool → ℕ
-weight b = cond b 1 0
-
-count_more : (p : Event → Bool) (events : List Event) (event : Event) (before after : ℕ)
-    → before ≡ told_count p events → after ≡ counted_more before (p event)
-    → after ≡ told_count p (events ++ event ∷ [])
-count_more p events event before after told noted = one (p event) refl noted
-  where
-    sum : count_by p (events ++ event ∷ []) ≡ count_by p events + weight (p event)
-    sum = omega (arith, sum_by-append (λ e. weight (p e)) events (event ∷ []))
-
-    one : (b : Bool) → p event ≡ b → after ≡ counted_more before b
-        → after ≡ told_count p (events ++ event ∷ [])
-    one true is noted = let is_one : weight (p event) ≡ weight true = ap weight is in
-        omega (arith, told, noted, sum, is_one)
-    one false is noted = let is_none : weight (p event) ≡ weight false = ap weight is in
-        omega (arith, told, noted, sum, is_none)
-
 pub told_more : (options : SaleaeOptions) (events : List Event) (event : Event)
     (before after : Imported) → IsTold options events before → IsNoted options before after event
     → IsTold options (events ++ event ∷ []) after

@@ -4,10 +4,10 @@ use Rattle.std.proofs.Common.{Some, None, Result, Ok, Err, IfOk, IfErr}
 use Rattle.std.specs.Prelude.{if◌then◌else◌}
 use Rattle.mdb_words.specs.Event.{start_of}
 use Rattle.mdb_words.specs.declared.event.Event.{Event}
-use Rattle.mdb_import.specs.Refusals as import
-use Rattle.mdb_import.specs.declared.options.Unit.TheVariants.{Seconds}
-use Rattle.mdb_import.specs.declared.fault.RecordFault.{RecordFault}
-use Rattle.mdb_import.specs.declared.fault.RecordFault.TheVariants as found
+use Rattle.mdb_exports.specs.Refusals as import
+use Rattle.mdb_exports.specs.declared.units.Unit.TheVariants.{Seconds}
+use Rattle.mdb_exports.specs.declared.fault.RecordFault.{RecordFault}
+use Rattle.mdb_exports.specs.declared.fault.RecordFault.TheVariants as found
 use Rattle.mdb_saleae.specs.Cells.{cell}
 use Rattle.mdb_saleae.specs.Refusals.{IsOrderFault}
 use Rattle.mdb_saleae.specs.Seconds.{IsSecondsFault, shortened}

@@ -1,6 +1,6 @@
 -- The fields of a record.
 use Rattle.std.specs.Prelude.{ℕ, List, [], Option, Some, None, get_or}
-use Rattle.mdb_import.specs.Fields.{bare}
+use Rattle.mdb_exports.specs.Fields.{bare}
 
 -- the field at a place without the padding around it, and nothing where there is none
 abbrev pub cell : List (List ℕ) → ℕ → List ℕ

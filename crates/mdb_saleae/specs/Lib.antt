@@ -1,6 +1,6 @@
 pub mod Cells
 pub mod Columns
-pub mod Exports
+pub mod Imports
 pub mod Frames
 pub mod Refusals
 pub mod Rows

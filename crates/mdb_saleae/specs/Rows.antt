@@ -6,7 +6,8 @@ use Rattle.mdb_words.specs.declared.event.Event.{Event}
 use Rattle.mdb_words.specs.declared.event.Event.TheVariants.{Word, Break}
 use Rattle.mdb_words.specs.declared.word.Line.{Line}
 use Rattle.mdb_words.specs.declared.word.Line.TheVariants.{Controller, Peripheral}
-use Rattle.mdb_import.specs.Rows.{IsAfter, IsNamed}
+use Rattle.mdb_exports.specs.Order.{IsAfter}
+use Rattle.mdb_exports.specs.Names.{IsNamed}
 use Rattle.mdb_saleae.specs.Cells.{cell, cell_or}
 use Rattle.mdb_saleae.specs.Columns.{IsColumns}
 use Rattle.mdb_saleae.specs.Frames.{IsFramed}

@@ -2,11 +2,11 @@
 use Rattle.std.specs.Prelude.{◌≡◌, ◌==◌, ◌⊎◌, ℕ, List, [], ◌∷◌, Some, false, true, take, drop}
 use Rattle.std.specs.Prelude.{if◌then◌else◌}
 use Rattle.std.specs.Str.Parse.{AllDigits}
-use Rattle.mdb_import.specs.Fields.{has_byte}
-use Rattle.mdb_import.specs.Refusals.{IsTimeFault}
-use Rattle.mdb_import.specs.Times.{IsTime, IsTimeForm}
-use Rattle.mdb_import.specs.declared.options.Unit.TheVariants.{Seconds}
-use Rattle.mdb_import.specs.declared.fault.RecordFault.TheVariants as import_fault
+use Rattle.mdb_exports.specs.Fields.{has_byte}
+use Rattle.mdb_exports.specs.Refusals.{IsTimeFault}
+use Rattle.mdb_exports.specs.Times.{IsTime, IsTimeForm}
+use Rattle.mdb_exports.specs.declared.units.Unit.TheVariants.{Seconds}
+use Rattle.mdb_exports.specs.declared.fault.RecordFault.TheVariants as import_fault
 use Rattle.mdb_saleae.specs.declared.fault.RowFault.{RowFault}
 use Rattle.mdb_saleae.specs.declared.fault.RowFault.TheVariants as fault
 

@@ -1,7 +1,7 @@
 -- The words of a table.
 use Rattle.std.specs.Prelude.{◌≡◌, ◌⊎◌, ◌<◌, ◌≤◌, ◌+◌, ℕ, List, [], Bool, true, false, Option, Some}
 use Rattle.std.specs.Prelude.{None, codes, if◌then◌else◌}
-use Rattle.mdb_import.specs.Values.{IsHex, IsPrefixed}
+use Rattle.mdb_exports.specs.Hex.{IsHex, IsPrefixed}
 use Rattle.mdb_saleae.specs.Cells.{cell}
 use Rattle.mdb_saleae.specs.declared.columns.Columns.{Columns}
 use Rattle.mdb_saleae.specs.declared.fault.RowFault.{RowFault}

@@ -5,7 +5,7 @@ ghost use Rattle.csv.specs.Records.{fields_of};
 ghost use Rattle.mdb_saleae.specs.Cells.{cell as cell_in, cell_or as cell_or_in};
 
 use csv::ByteRecord;
-use mdb_import::bare;
+use mdb_exports::bare;
 
 /// The field at a place without the blanks and quotation marks around it; nothing where the record
 /// has no such field.

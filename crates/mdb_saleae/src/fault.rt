@@ -1,7 +1,7 @@
 //! Why a table isn't imported.
 
 use super::columns::Column;
-use mdb_import::RecordFault;
+use mdb_exports::RecordFault;
 use mdb_records::ReadFault;
 use mdb_writing::WriteFailed;
 use thiserror::Error;
@@ -139,7 +139,7 @@ pub enum SaleaeFault {
 
 impl From<ReadFault> for SaleaeFault {
     ghost use Rattle.std.specs.Prelude.{◌≡◌};
-    ghost use Rattle.mdb_saleae.specs.Exports.{read_fault_of};
+    ghost use Rattle.mdb_saleae.specs.Imports.{read_fault_of};
 
     ghost from_gives = { λ fault told. told ≡ read_fault_of fault };
 

@@ -5,10 +5,10 @@ ghost use Rattle.std.specs.Prelude.{OnErr, OnOk, None, Some, length};
 ghost use Rattle.csv.specs.Records.{fields_of};
 ghost use Rattle.mdb_records.specs.ToCome.{ToCome, fault_of};
 ghost use Rattle.mdb_words.specs.Event.{start_of};
-ghost use Rattle.mdb_import.specs.Exports.{HasFailed, export_records};
+ghost use Rattle.mdb_exports.specs.Records.{HasFailed, export_records};
 ghost use Rattle.mdb_writing.specs.Output.{Breaks, Puts, begun, output};
-ghost use Rattle.mdb_import.specs.inner.Steps.{IsKept, IsSaid};
-ghost use Rattle.mdb_saleae.specs.Exports.{Exports, IsExported, IsTold};
+ghost use Rattle.mdb_exports.specs.inner.Told.{IsKept, IsSaid};
+ghost use Rattle.mdb_saleae.specs.Imports.{Imports, IsImported, IsTold};
 ghost use Rattle.mdb_saleae.specs.inner.Steps.{Begins, HasFailedBehind, HasImported, IsNext};
 ghost use Rattle.mdb_saleae.specs.inner.Steps.{IsNoted, PutsRows};
 ghost use Rattle.mdb_saleae.specs.inner.Steps.{TakesOne, fault_at, part_line};
@@ -18,7 +18,7 @@ use super::fault::{RowFault, SaleaeFault};
 use super::options::SaleaeOptions;
 use super::rows::{Refusal, event_in};
 use csv::ByteRecord;
-use mdb_import::{Imported, expect_after, line_of, records_of};
+use mdb_exports::{Imported, expect_after, line_of, records_of};
 use mdb_records::{ReadFault, Records};
 use mdb_words::{Event, Line};
 use mdb_writing::{Page, WriteFailed};
@@ -40,8 +40,8 @@ pub fn import_table<R: Read + Drop, W: Write>(
     records: &mut Records<R>,
     writer: &mut W,
 ) -> Result<Imported, SaleaeFault>
-    ensures exports { (all : List (List (List ℕ))) → ToCome R.remaining records.old all
-        → Exports options.now all (W.contents writer.old) (W.contents writer.new) result }
+    ensures imports { (all : List (List (List ℕ))) → ToCome R.remaining records.old all
+        → Imports options.now all (W.contents writer.old) (W.contents writer.new) result }
     // A failed read is told only where there was one.
     ensures failed { IfErr result (λ fault. fault ≡ SaleaeFault.Read
         → HasFailed R.remaining records.old records.new) }
@@ -69,9 +69,9 @@ pub fn import_saleae<R: Read + Drop, W: Write>(
     reader: R,
     writer: &mut W,
 ) -> Result<Imported, SaleaeFault>
-    ensures exported { IfSome (R.remaining reader) (λ text. IfOk result (λ imported.
-        IsExported options.now text (W.contents writer.old) (W.contents writer.new))) }
-    ensures exports { IfSome (R.remaining reader) (λ text. Exports options.now
+    ensures imported { IfSome (R.remaining reader) (λ text. IfOk result (λ imported.
+        IsImported options.now text (W.contents writer.old) (W.contents writer.new))) }
+    ensures imports { IfSome (R.remaining reader) (λ text. Imports options.now
         (export_records text) (W.contents writer.old) (W.contents writer.new) result) }
 {
     let mut records = records_of(alloc, reader);

@@ -2,9 +2,9 @@
 
 ghost use Rattle.std.specs.Prelude.{◌≡◌, ◌+◌, ◌*◌, ◌^◌, ◌<◌, IfSome, List, filter, ℕ};
 ghost use Rattle.mdb_words.specs.declared.event.Event.{Event};
-ghost use Rattle.mdb_import.specs.Numbers.{IsNearest};
-ghost use Rattle.mdb_import.specs.ReadBack.{AreReadBack};
-ghost use Rattle.mdb_saleae.specs.Exports.{is_taken};
+ghost use Rattle.mdb_exports.specs.Numbers.{IsNearest};
+ghost use Rattle.mdb_exports.specs.ReadBack.{AreReadBack};
+ghost use Rattle.mdb_saleae.specs.Imports.{is_taken};
 ghost use Rattle.mdb_saleae.specs.Rows.{AreEvents};
 ghost use Rattle.mdb_saleae.specs.declared.options.SaleaeOptions.{SaleaeOptions};
 

@@ -17,7 +17,7 @@ use super::options::SaleaeOptions;
 use super::seconds::read_seconds;
 use super::values::read_value;
 use csv::ByteRecord;
-use mdb_import::is_named;
+use mdb_exports::is_named;
 use mdb_words::{Event, Line, Time, Word};
 
 /// A record that is no row.

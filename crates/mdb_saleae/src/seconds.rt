@@ -6,7 +6,7 @@ ghost use Rattle.mdb_saleae.specs.Seconds.{IsNegative, IsSeconds, IsSecondsFault
 ghost use Rattle.mdb_saleae.specs.Seconds.{shortened as shortened_of};
 
 use super::fault::RowFault;
-use mdb_import::{Unit, parted, read_time};
+use mdb_exports::{Unit, parted, read_time};
 use mdb_words::Time;
 
 /// So many decimals of a time are read. No later one moves the nearest microsecond.

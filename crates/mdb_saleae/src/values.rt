@@ -10,7 +10,7 @@ use super::cells::{cell, is_text};
 use super::columns::Columns;
 use super::fault::RowFault;
 use csv::ByteRecord;
-use mdb_import::{behind_prefix, read_hex};
+use mdb_exports::{behind_prefix, read_hex};
 use mdb_words::Word;
 
 /// The word that a record tells.

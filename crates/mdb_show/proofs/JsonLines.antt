@@ -3,7 +3,7 @@ use Rattle.std.proofs.Common.{arith, refl, ap, ap₂, sym, subst, ◌∙◌, ◌
 use Rattle.std.proofs.lemmas.Bool.{ltb-true, ltb-false}
 use Rattle.std.specs.Prelude.{OnOk, codes}
 use Rattle.std.specs.Fmt.{decimal, digit_glyph}
-use Rattle.json.specs.Print.{escape, escape_byte, quoted}
+use Rattle.json.specs.Print.{escape, escape_byte}
 use Rattle.json.proofs.OnLiterals.{json_on_literals}
 use Rattle.json.proofs.Printed.Strings.{escape_byte_plain}
 use Rattle.serde_json.specs.Data.{Members, number, string, member, no_members, unsigned}

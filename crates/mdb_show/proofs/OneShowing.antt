@@ -10,7 +10,7 @@ use Rattle.mdb_bus.specs.ActLists.{Piece, ArePieces, HasActList, IsActList, even
 use Rattle.mdb_bus.specs.LinkFaults.{IsLinkFault, RowBreaks, situation_of}
 use Rattle.mdb_follow.specs.declared.follower.TheConstants.{ROWS_MAX}
 use Rattle.mdb_verdict.specs.declared.fault.RunFault.{RunFault}
-use Rattle.mdb_verdict.specs.declared.fault.RunFault.TheVariants.{BadRow, TooLong, Read, Write, Memory, Mark}
+use Rattle.mdb_verdict.specs.declared.fault.RunFault.TheVariants.{BadRow, TooLong, Read, Write, Memory}
 use Rattle.mdb_show.specs.Show.{AreShown, IsOwnShowing, IsShowingIn}
 use Rattle.mdb_show.specs.Lines.{LineForm, closed_pieces, lines_of}
 use Rattle.mdb_verdict.proofs.OneAnswer.{GoesOn, compared, one_refusal, row_not_refused, row_one}
@@ -64,7 +64,6 @@ Ends form scope pieces rest (Err TooLong) text =
 Ends form scope pieces rest (Err Read) text = ⊥
 Ends form scope pieces rest (Err Write) text = ⊥
 Ends form scope pieces rest (Err Memory) text = ⊥
-Ends form scope pieces rest (Err (Mark row)) text = ⊥
 
 record Ending (form : LineForm) (scope : Scope) (records : List (List (List ℕ))) (answer : Result (Option LinkFault) RunFault) (text : List ℕ) : Type 0 where
   pieces : List Piece
@@ -118,7 +117,6 @@ ending form scope laws records (Err TooLong) text is own = record {
 ending form scope laws records (Err Read) text is own = absurd own
 ending form scope laws records (Err Write) text is own = absurd own
 ending form scope laws records (Err Memory) text is own = absurd own
-ending form scope laws records (Err (Mark row)) text is own = absurd is
 
 none_left : (rest : List (List (List ℕ))) (fields : List (List ℕ)) (more : List (List (List ℕ))) → rest ≡ [] → rest ≡ fields ∷ more → ⊥
 none_left rest fields more none some = let clash : [] ≡ fields ∷ more = sym none ∙ some in cc clash
@@ -175,11 +173,9 @@ one_end form scope laws pieces rest (Err TooLong) (Err TooLong) s t p q = (refl,
 one_end form scope laws pieces rest (Err Read) b s t p q = absurd p
 one_end form scope laws pieces rest (Err Write) b s t p q = absurd p
 one_end form scope laws pieces rest (Err Memory) b s t p q = absurd p
-one_end form scope laws pieces rest (Err (Mark row)) b s t p q = absurd p
 one_end form scope laws pieces rest a (Err Read) s t p q = absurd q
 one_end form scope laws pieces rest a (Err Write) s t p q = absurd q
 one_end form scope laws pieces rest a (Err Memory) s t p q = absurd q
-one_end form scope laws pieces rest a (Err (Mark row)) s t p q = absurd q
 
 -- the showing of a text is one
 pub one_showing : (form : LineForm) (scope : Scope) → BusLaws scope → (records : List (List (List ℕ))) (a b : Result (Option LinkFault) RunFault) (s t : List ℕ) → IsShowingIn form scope records a s → IsShowingIn form scope records b t
@@ -228,4 +224,3 @@ in_other_form form other scope records (Err TooLong) text is =
 in_other_form form other scope records (Err Read) text is = (lines_of other (closed_pieces is.pieces), record { pieces = is.pieces; rest = is.rest; shown = is.shown; lines = refl })
 in_other_form form other scope records (Err Write) text is = absurd is
 in_other_form form other scope records (Err Memory) text is = (lines_of other (closed_pieces is.pieces), record { pieces = is.pieces; rest = is.rest; shown = is.shown; lines = refl })
-in_other_form form other scope records (Err (Mark row)) text is = absurd is

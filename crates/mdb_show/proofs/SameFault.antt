@@ -14,7 +14,7 @@ use Rattle.mdb_follow.specs.Runs.{IsReached}
 use Rattle.mdb_text.specs.declared.outcome.Outcome.{Outcome}
 use Rattle.mdb_text.specs.declared.outcome.Outcome.TheVariants.{Yes, No}
 use Rattle.mdb_verdict.specs.declared.fault.RunFault.{RunFault}
-use Rattle.mdb_verdict.specs.declared.fault.RunFault.TheVariants.{BadRow, TooLong, Read, Write, Memory, Mark}
+use Rattle.mdb_verdict.specs.declared.fault.RunFault.TheVariants.{BadRow, TooLong, Read, Write, Memory}
 use Rattle.mdb_show.specs.Show.{IsShownToFaultIn}
 use Rattle.mdb_show.specs.ShownFault.{IsMachineRule, IsNoUpTo}
 use Rattle.mdb_verdict.specs.Verdict.{IsAnswer, IsBadRow, IsImpossible, IsOwnAnswer, IsTooLong}
@@ -145,4 +145,3 @@ same_fault form scope laws records fault text (Err TooLong) shown is own =
 same_fault form scope laws records fault text (Err Read) shown is own = absurd own
 same_fault form scope laws records fault text (Err Write) shown is own = absurd own
 same_fault form scope laws records fault text (Err Memory) shown is own = absurd own
-same_fault form scope laws records fault text (Err (Mark row)) shown is own = absurd is

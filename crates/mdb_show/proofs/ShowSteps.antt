@@ -12,7 +12,7 @@ use Rattle.mdb_bus.specs.ActLists.{Piece, Whole, ArePieces, events_of, piece_eve
 use Rattle.mdb_bus.specs.Bus.{GoesOn, StandsFor, scope_of}
 use Rattle.mdb_bus.specs.LinkFaults.{IsLinkFault}
 use Rattle.mdb_verdict.specs.declared.fault.RunFault.{RunFault}
-use Rattle.mdb_verdict.specs.declared.fault.RunFault.TheVariants.{BadRow, TooLong, Read, Write, Memory, Mark}
+use Rattle.mdb_verdict.specs.declared.fault.RunFault.TheVariants.{BadRow, TooLong, Read, Write, Memory}
 use Rattle.mdb_show.specs.declared.showing.Lines.{Lines}
 use Rattle.mdb_writing.specs.Output.{Output, Puts}
 use Rattle.mdb_show.specs.inner.ShowSteps.{HasAdded, HasPieces, HasShown, IsAdded, IsAddedToFault, IsNotTaken, LeadInto, ended_text}
@@ -204,7 +204,6 @@ line_untaken form scope lines left before now later earlier events i text has ad
 line_untaken form scope lines left before now later earlier events i text has added Read not_taken = absurd not_taken
 line_untaken form scope lines left before now later earlier events i text has added Write not_taken =
     (lines_of form (closed_pieces has.pieces) ++ text, added, break_both before now later (lines_of form (closed_pieces has.pieces)) text has.written not_taken)
-line_untaken form scope lines left before now later earlier events i text has added (Mark row) not_taken = absurd not_taken
 line_untaken form scope lines left before now later earlier events i text has added Memory not_taken =
     let P : Output → Type 0 = λ bytes. Puts before bytes (lines_of form (closed_pieces has.pieces)) in
     (lines_of form (closed_pieces has.pieces), record { pieces = has.pieces; lead = lead_into form scope lines before now earlier events i has; lines = refl }, subst P (sym not_taken) has.written)

@@ -1,10 +1,9 @@
 -- The lines of `show`, as a row adds to them.
-use Rattle.std.proofs.Common.{arith, refl, ap, sym, subst, ◌∙◌, inl, inr, ◌≡◌, ◌+◌, ◌/◌, ◌%◌, ◌^◌, ◌<◌, ◌≤◌, ◌⊎◌, ℕ, Bool, true, false, List, [], ◌∷◌, ◌++◌, Option, Some, None, length, length-append, append_assoc, nat_lt, Result, Ok, Err, if◌then◌else◌}
-use Rattle.std.proofs.lemmas.Fmt.{decimal_digit, decimal_step}
+use Rattle.std.proofs.Common.{arith, refl, ap, sym, subst, ◌∙◌, inl, inr, ◌≡◌, ◌+◌, ◌/◌, ◌%◌, ◌<◌, ◌⊎◌, ℕ, Bool, true, false, List, [], ◌∷◌, ◌++◌, Option, Some, None, length, length-append, append_assoc, nat_lt, Result, Ok, Err, if◌then◌else◌}
 use Rattle.std.proofs.lemmas.List.{append-nil, take_more}
 use Rattle.std.proofs.lemmas.Bool.{ltb-true, ltb-false}
-use Rattle.std.specs.Prelude.{OnOk, codes, get_or, is_ok, take}
-use Rattle.std.specs.Fmt.{decimal, digit_glyph}
+use Rattle.std.specs.Prelude.{OnOk, get_or, is_ok, take}
+use Rattle.std.specs.Fmt.{digit_glyph}
 use Rattle.mdb_words.specs.declared.event.Event.{Event}
 use Rattle.mdb_bus.specs.declared.act.Act.{Act}
 use Rattle.mdb_bus.specs.declared.act.Act.TheVariants as acts
@@ -29,12 +28,7 @@ bytes_more now front bytes i below high low new so_far first second added =
     pushed ∙ (append_assoc front (bytes_text (take i bytes)) _
     ∙ ap (λ l. front ++ l) (sym (bytes_push (take i bytes) byte) ∙ ap bytes_text (sym (take_more bytes i 0 below))))
 
--- what was appended, where memory was had for it
-pub had_room : {T E : Type 0} (answer : Result T E) (new old more text : List ℕ) → new ≡ (if is_ok answer then old ++ more else old) → text ≡ more → OnOk answer (new ≡ old ++ text)
-had_room (Ok done) new old more text is same = is ∙ ap (λ l. old ++ l) (sym same)
-had_room (Err e) new old more text is same = tt
-
--- the same after others
+-- what was appended after others, where memory was had for it
 pub had_more : {T E : Type 0} (answer : Result T E) (new between old first more text : List ℕ) → new ≡ (if is_ok answer then between ++ more else between) → between ≡ old ++ first
     → text ≡ first ++ more → OnOk answer (new ≡ old ++ text)
 had_more (Ok done) new between old first more text is before same =

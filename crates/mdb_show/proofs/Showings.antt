@@ -9,7 +9,7 @@ use Rattle.mdb_bus.specs.ActLists.{ArePieces, events_of}
 use Rattle.mdb_bus.specs.Bus.{StandsFor, scope_of}
 use Rattle.mdb_follow.specs.declared.follower.TheConstants.{ROWS_MAX}
 use Rattle.mdb_verdict.specs.declared.fault.RunFault.{RunFault}
-use Rattle.mdb_verdict.specs.declared.fault.RunFault.TheVariants.{BadRow, TooLong, Read, Write, Memory, Mark}
+use Rattle.mdb_verdict.specs.declared.fault.RunFault.TheVariants.{BadRow, TooLong, Read, Write, Memory}
 use Rattle.mdb_show.specs.declared.showing.Lines.{Lines}
 use Rattle.mdb_records.specs.declared.ReadFault.{ReadFault}
 use Rattle.mdb_records.specs.declared.ReadFault.TheVariants as reading
@@ -107,7 +107,6 @@ untaken form scope all lines before now later ended Write not_taken =
         broken = break_both before now later text (cut_text form lines.shown lines.rows) ended.has.written not_taken;
       },
     )
-untaken form scope all lines before now later ended (Mark row) not_taken = absurd not_taken
 untaken form scope all lines before now later ended Memory not_taken =
     let P : Output → Type 0 = λ bytes. PutsShowing form scope all before bytes (Err Memory) in
     let shown : AreShown scope all ended.has.pieces [] = shown_of form scope all ended.rows [] lines before now ended.has ended.read in
@@ -157,7 +156,6 @@ refused_by form scope all lines before now TooLong ended =
 refused_by form scope all lines before now Read ended =
     let shown : AreShown scope all ended.has.pieces ended.rest = shown_of form scope all ended.rows ended.rest lines before now ended.has ended.read in
     inl (lines_of form (closed_pieces ended.has.pieces), record { pieces = ended.has.pieces; rest = ended.rest; shown = shown; lines = refl }, ended.has.written)
-refused_by form scope all lines before now (Mark row) ended = absurd ended
 refused_by form scope all lines before now Memory ended =
     let shown : AreShown scope all ended.has.pieces ended.rest = shown_of form scope all ended.rows ended.rest lines before now ended.has ended.read in
     inl (lines_of form (closed_pieces ended.has.pieces), record { pieces = ended.has.pieces; rest = ended.rest; shown = shown; lines = refl }, ended.has.written)
@@ -233,7 +231,6 @@ untaken_by form scope all lines before after Read ended = absurd ended.stops
 untaken_by form scope all lines before after Write ended =
     let would : (answer : Result (Option LinkFault) RunFault) × IsShowingIn form scope all answer ended.stops.0 = showing_of form scope all ended.earlier ended.later ended.rest ended.read ended.few ended.stops.0 ended.stops.1 in
     inr (refl, record { answer = would.0; text = ended.stops.0; showing = would.1; broken = ended.stops.2 })
-untaken_by form scope all lines before after (Mark row) ended = absurd ended.stops
 untaken_by form scope all lines before after Memory ended =
     inl (ended.stops.0, part_showing form scope all ended.earlier ended.later ended.rest ended.read ended.stops.0 ended.stops.1, ended.stops.2)
 
@@ -278,7 +275,6 @@ IsOfOutput TooLong = ⊥
 IsOfOutput Read = ⊥
 IsOfOutput Write = Unit {0}
 IsOfOutput Memory = Unit {0}
-IsOfOutput (Mark row) = ⊥
 
 added_of_output : (form : LineForm) (scope : Scope) (lines : Lines) (before after : Output) (earlier rows : List Event) (fault : RunFault) → HasAdded form scope lines before after earlier rows (Err fault) → IsOfOutput fault
 added_of_output form scope lines before after earlier rows (BadRow row fault) added = absurd added
@@ -286,7 +282,6 @@ added_of_output form scope lines before after earlier rows TooLong added = absur
 added_of_output form scope lines before after earlier rows Read added = absurd added
 added_of_output form scope lines before after earlier rows Write added = tt
 added_of_output form scope lines before after earlier rows Memory added = tt
-added_of_output form scope lines before after earlier rows (Mark row) added = absurd added
 
 pub stop_of_output : (form : LineForm) (scope : Scope) (lines : Lines) (before after : Output) (stop : Result LinkFault RunFault) (fault : RunFault) → IsStop (HasStopped form scope lines before after) stop → stop ≡ Err fault → IsOfOutput fault
 stop_of_output form scope lines before after stop fault stopped is =
@@ -302,7 +297,6 @@ output_shown failed TooLong of = absurd of
 output_shown failed Read of = absurd of
 output_shown failed Write of = tt
 output_shown failed Memory of = tt
-output_shown failed (Mark row) of = absurd of
 
 pub met_output : (met : Option ReadFault) (fault : RunFault) → IsOfOutput fault → (answer : Result (Option LinkFault) RunFault) → IsErrAnd answer (λ other. other ≡ fault) → IfSome met (λ failed. IsShownAs failed answer)
 met_output met fault of (Ok shown) handed = absurd handed
@@ -315,7 +309,6 @@ not_taken_of_output TooLong before after text not = absurd not
 not_taken_of_output Read before after text not = absurd not
 not_taken_of_output Write before after text not = tt
 not_taken_of_output Memory before after text not = tt
-not_taken_of_output (Mark row) before after text not = absurd not
 
 -- a row that cannot be is told before any
 pub met_at_fault : (met : Option ReadFault) (fault : LinkFault) → IfSome met (λ failed. IsShownAs failed (Ok (Some fault)))

@@ -3,7 +3,7 @@
 use Rattle.std.specs.Prelude.{◌+◌, ℕ, List, [], ◌∷◌, ◌++◌, length}
 use Rattle.mdb_bus.specs.declared.act.Act.{Act}
 use Rattle.mdb_bus.specs.declared.fault.LinkFault.{LinkFault}
-use Rattle.mdb_bus.specs.ActLists.{Piece, Whole, AskTail, ReplyTail, RepeatTail, events_of, piece_events}
+use Rattle.mdb_bus.specs.ActLists.{Piece, Whole, AskTail, ReplyTail, RepeatTail, events_of}
 
 -- A form of the lines. Rows are numbered from 1 on: the first and the last of an act, the same of a
 -- tail that was cut, or the row that cannot be.

@@ -9,7 +9,7 @@ use Rattle.mdb_bus.specs.ActLists.{Piece, ArePieces, events_of}
 use Rattle.mdb_bus.specs.LinkFaults.{IsLinkFault}
 use Rattle.mdb_follow.specs.declared.follower.TheConstants.{ROWS_MAX}
 use Rattle.mdb_verdict.specs.declared.fault.RunFault.{RunFault}
-use Rattle.mdb_verdict.specs.declared.fault.RunFault.TheVariants.{BadRow, TooLong, Read, Write, Memory, Mark}
+use Rattle.mdb_verdict.specs.declared.fault.RunFault.TheVariants.{BadRow, TooLong, Read, Write, Memory}
 use Rattle.mdb_show.specs.Lines.{LineForm, closed_pieces, lines_of}
 use Rattle.mdb_show.specs.ShowJson.{json_lines}
 use Rattle.mdb_show.specs.ShowText.{text_lines}
@@ -94,7 +94,6 @@ IsShowingIn form scope records (Err TooLong) text = IsShownTooLongIn form scope 
 IsShowingIn form scope records (Err Read) text = IsShownInPartIn form scope records text
 IsShowingIn form scope records (Err Memory) text = IsShownInPartIn form scope records text
 IsShowingIn form scope records (Err Write) text = ⊥
-IsShowingIn form scope records (Err (Mark row)) text = ⊥
 
 -- The writer took a front of a text that is written of the records, with whatever answer.
 pub record IsCutShortIn (form : LineForm) (scope : Scope)
@@ -120,7 +119,6 @@ IsOwnShowing (Err TooLong) = ⊤
 IsOwnShowing (Err Read) = ⊥
 IsOwnShowing (Err Write) = ⊥
 IsOwnShowing (Err Memory) = ⊥
-IsOwnShowing (Err (Mark row)) = ⊤
 
 -- the same of the lines as text
 

@@ -7,6 +7,7 @@ ghost use Rattle.mdb_blocks.specs.Block.{block_of};
 ghost use Rattle.mdb_msgs.specs.Replies.{reply_bytes};
 ghost use Rattle.mdb_show.specs.ShowText.{act_text, bytes_text, deed_text, fault_line, rows_line, rows_text};
 
+use itoa::Buffer;
 use mdb_bus::{Act, LinkFault};
 use mdb_msgs::{Command, Reply, write_command, write_reply};
 use mdb_text::hex_digit;
@@ -136,18 +137,10 @@ pub(crate) fn push_bytes(text: &mut Vec<u8>, bytes: &[u8]) -> Result<(), AllocEr
     Ok(())
 }
 
-/// Appends a number in decimal, without leading zeros: two digits at a time.
+/// Appends a number in decimal, without leading zeros.
 pub(crate) fn push_decimal(text: &mut Vec<u8>, number: u64) -> Result<(), AllocError>
     ensures { OnOk result (text.new.items ≡ text.old.items ++ decimal number) }
 {
-    let ones = b'0' + (number % 10) as u8;
-    if number < 10 {
-        return text.extend_from_slice(&[ones]);
-    }
-    let tens = b'0' + (number / 10 % 10) as u8;
-    if number < 100 {
-        return text.extend_from_slice(&[tens, ones]);
-    }
-    push_decimal(text, number / 100)?;
-    text.extend_from_slice(&[tens, ones])
+    let mut buffer = Buffer::new();
+    text.extend_from_slice(buffer.format(number).as_bytes())
 }

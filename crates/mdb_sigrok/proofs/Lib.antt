@@ -6,7 +6,6 @@ pub mod Pairs
 pub mod Whats
 pub mod Moves
 pub mod Fronts
-pub mod Merges
 pub mod Traces
 pub mod Sources
 pub mod Pages

@@ -1,10 +1,9 @@
 -- The text of the rows of a part.
-use Rattle.std.proofs.Common.{Bool, true, false, cond, ◌&&◌, [], refl, ap, ap₂, ◌∙◌, ◌≡◌, List, ◌++◌, ◌∷◌, None}
-use Rattle.mdb_words.specs.Event.{start_of}
+use Rattle.std.proofs.Common.{Bool, true, false, cond, [], refl, ap, ◌≡◌, List, ◌++◌, ◌∷◌}
 use Rattle.mdb_words.specs.declared.event.Event.{Event}
-use Rattle.mdb_sigrok.specs.Import.{row_line, rows_text}
+use Rattle.mdb_exports.specs.Rows.{row_line, rows_text}
 use Rattle.mdb_sigrok.specs.inner.Tallies.{part_text}
-use Rattle.mdb_sigrok.specs.Part.{is_from, is_taken, is_until, part_of}
+use Rattle.mdb_sigrok.specs.Part.{is_taken, part_of}
 use Rattle.mdb_sigrok.specs.declared.options.SigrokOptions.{SigrokOptions}
 
 -- what is written of rows are the rows of the part
@@ -15,10 +14,3 @@ part_text_is options (row ∷ rows) = one (is_taken options row) (part_text_is o
     one : (b : Bool) → part_text options rows ≡ rows_text (part_of options rows) → cond b (row_line row) [] ++ part_text options rows ≡ rows_text (cond b (row ∷ part_of options rows) (part_of options rows))
     one true rest = ap (λ l. row_line row ++ l) rest
     one false rest = rest
-
--- where all is in the part, these are all rows
-pub whole_text : (options : SigrokOptions) (rows : List Event) → options.from ≡ None → options.until ≡ None → part_text options rows ≡ rows_text rows
-whole_text options [] from until = refl
-whole_text options (row ∷ rows) from until =
-    let taken : is_taken options row ≡ true = ap₂ (λ f u. is_from f (start_of row) && is_until u (start_of row)) from until in
-    ap (λ b. cond b (row_line row) [] ++ part_text options rows) taken ∙ ap (λ l. row_line row ++ l) (whole_text options rows from until)

@@ -4,7 +4,7 @@ use Rattle.std.specs.Io.KnownBytes.{Keeps}
 use Rattle.mdb_words.specs.declared.event.Event.{Event}
 use Rattle.mdb_words.specs.declared.word.Line.TheVariants.{Controller, Peripheral}
 use Rattle.mdb_sigrok.specs.declared.fault.SigrokFault.{SigrokFault}
-use Rattle.mdb_sigrok.specs.declared.fault.SigrokFault.TheVariants.{Memory, Read, Write}
+use Rattle.mdb_sigrok.specs.declared.fault.SigrokFault.TheVariants.{Read, Write}
 use Rattle.std.specs.Io.KnownBytes.{Appends}
 use Rattle.mdb_writing.specs.Written.{HasTaken}
 use Rattle.mdb_sigrok.specs.Import.{IsImported, IsRefused}
@@ -12,7 +12,7 @@ use Rattle.mdb_sigrok.specs.Part.{IsTold}
 use Rattle.mdb_sigrok.specs.inner.Tallies.{part_text}
 use Rattle.mdb_sigrok.specs.declared.tally.SigrokRows.{SigrokRows}
 use Rattle.mdb_sigrok.specs.declared.options.SigrokOptions.{SigrokOptions}
-use Rattle.mdb_sigrok.specs.Rows.{Merges}
+use Rattle.mdb_exports.specs.Order.{Merges}
 use Rattle.mdb_sigrok.specs.declared.pair.Pair.{Pair}
 use Rattle.mdb_sigrok.specs.Text.{lines_of}
 use Rattle.mdb_sigrok.specs.Trace.{AreRowsOfTrace, Refutes}
@@ -123,9 +123,9 @@ pub imported_by : (options : SigrokOptions) (known : Option (List ℕ)) (rows : 
 imported_by options None rows told before after are tally written = tt
 imported_by options (Some text) rows told before after are tally written = imported_of options text rows told before after are tally written
 
-pub partial_by : (options : SigrokOptions) (known : Option (List ℕ)) (rows : List Event) (fault : SigrokFault) (before after : Option (List ℕ)) → IfSome known (λ text. AreRowsOfTrace options.swap text rows) → HasTaken before after (part_text options rows) → (fault ≡ Write) ⊎ (fault ≡ Memory) → IfSome known (λ text. IsRefused options text fault before after)
-partial_by options None rows fault before after are taken why = tt
-partial_by options (Some text) rows fault before after are taken why = partial_of options text rows fault before after are taken why
+pub partial_by : (options : SigrokOptions) (known : Option (List ℕ)) (rows : List Event) (fault : SigrokFault) (before after : Option (List ℕ)) → IfSome known (λ text. AreRowsOfTrace options.swap text rows) → HasTaken before after (part_text options rows) → fault ≡ Write → IfSome known (λ text. IsRefused options text fault before after)
+partial_by options None rows fault before after are taken write = tt
+partial_by options (Some text) rows fault before after are taken write = partial_of options text rows fault before after are taken write
 
 pub refused_by : (options : SigrokOptions) (known : Option (List ℕ)) (fault : SigrokFault) (held : Option (List ℕ)) → IfSome known (λ text. (fault ≡ Read) ⊎ ((rows : List Event) → Refutes fault (AreRowsOfTrace options.swap text rows))) → IfSome known (λ text. IsRefused options text fault held held)
 refused_by options None fault held never = tt

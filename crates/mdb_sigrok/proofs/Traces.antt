@@ -1,5 +1,5 @@
 -- The rows of a trace are those of both its lines.
-use Rattle.std.proofs.Common.{◌≡◌, ◌⊎◌, Bool, List, ℕ, [], ◌∷◌, codes, sym, subst, ◌∙◌, Option, inl, inr}
+use Rattle.std.proofs.Common.{◌≡◌, Bool, List, ℕ, [], ◌∷◌, codes, sym, subst, ◌∙◌, Option}
 use Rattle.std.specs.Io.KnownBytes.{Appends}
 use Rattle.mdb_writing.specs.Written.{HasTaken}
 use Rattle.mdb_sigrok.specs.Import.{IsImported, IsPartial, IsRefused}
@@ -12,11 +12,11 @@ use Rattle.mdb_sigrok.proofs.Pages.{part_text_is}
 use Rattle.mdb_words.specs.declared.event.Event.{Event}
 use Rattle.mdb_sigrok.specs.declared.fault.SigrokFault.{SigrokFault}
 use Rattle.mdb_sigrok.specs.declared.fault.SigrokFault.TheVariants.{Form, Order, Read, Write, Memory}
-use Rattle.mdb_sigrok.specs.Rows.{Merges}
+use Rattle.mdb_exports.specs.Order.{Merges}
 use Rattle.mdb_sigrok.specs.Text.{lines_of}
 use Rattle.mdb_sigrok.specs.Trace.{AreRowsOfTrace, Refutes, TellPairs}
 use Rattle.mdb_sigrok.specs.inner.Pairs.{Tells}
-use Rattle.mdb_sigrok.proofs.Merges.{one_merge}
+use Rattle.mdb_exports.proofs.Merges.{one_merge}
 use Rattle.mdb_sigrok.proofs.Pairs.{tails_same}
 
 tells_of : (swap : Bool) (text first rest : List ℕ) (rows : List Event) → lines_of text ≡ first ∷ lines_of rest → (told : AreRowsOfTrace swap text rows) → Tells swap (lines_of rest) told.controller told.devices
@@ -44,16 +44,13 @@ refused_of options text (Form number wrong) held never = (never, Keeps-refl held
 refused_of options text (Order number micros line wrong) held never = (never, Keeps-refl held)
 refused_of options text Read held never = absurd (never [])
 refused_of options text Write held never = absurd (never [])
-refused_of options text Memory held never = inl (Keeps-refl held)
+refused_of options text Memory held never = Keeps-refl held
 
 -- the rows of the part are written, or a front of them
 pub imported_of : (options : SigrokOptions) (text : List ℕ) (rows : List Event) (told : SigrokRows) (before after : Option (List ℕ)) → AreRowsOfTrace options.swap text rows → IsTold options rows told → Appends before after (part_text options rows) → IsImported options text told before after
 imported_of options text rows told before after are tally written = record { rows = rows; are = are; tally = tally; written = subst (Appends before after) (part_text_is options rows) written }
 
-pub partial_of : (options : SigrokOptions) (text : List ℕ) (rows : List Event) (fault : SigrokFault) (before after : Option (List ℕ)) → AreRowsOfTrace options.swap text rows → HasTaken before after (part_text options rows) → (fault ≡ Write) ⊎ (fault ≡ Memory) → IsRefused options text fault before after
-partial_of options text rows fault before after are taken why =
+pub partial_of : (options : SigrokOptions) (text : List ℕ) (rows : List Event) (fault : SigrokFault) (before after : Option (List ℕ)) → AreRowsOfTrace options.swap text rows → HasTaken before after (part_text options rows) → fault ≡ Write → IsRefused options text fault before after
+partial_of options text rows fault before after are taken write =
     let partial : IsPartial options text before after = record { rows = rows; are = are; written = subst (HasTaken before after) (part_text_is options rows) taken } in
-    elim why [
-      | inl write ↦ subst (λ f. IsRefused options text f before after) (sym write) partial
-      | inr memory ↦ subst (λ f. IsRefused options text f before after) (sym memory) (inr partial)
-    ]
+    subst (λ f. IsRefused options text f before after) (sym write) partial

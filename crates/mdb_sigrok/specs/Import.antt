@@ -1,24 +1,15 @@
 -- A trace from a reader, and its rows to a writer.
-use Rattle.std.specs.Prelude.{◌⊎◌, ◌++◌, ℕ, List, [], ◌∷◌, Option, Result, Ok, Err}
+use Rattle.std.specs.Prelude.{ℕ, List, Option, Result, Ok, Err}
 use Rattle.std.specs.Io.KnownBytes.{Appends, Keeps}
-use Rattle.std.specs.List.{flat_map}
-use Rattle.mdb_words.specs.Row.{joined_by_commas, row_fields}
 use Rattle.mdb_writing.specs.Written.{HasTaken}
 use Rattle.mdb_words.specs.declared.event.Event.{Event}
+use Rattle.mdb_exports.specs.Rows.{rows_text}
 use Rattle.mdb_sigrok.specs.declared.fault.SigrokFault.{SigrokFault}
 use Rattle.mdb_sigrok.specs.declared.fault.SigrokFault.TheVariants.{Form, Order, Read, Write, Memory}
 use Rattle.mdb_sigrok.specs.declared.options.SigrokOptions.{SigrokOptions}
 use Rattle.mdb_sigrok.specs.declared.tally.SigrokRows.{SigrokRows}
 use Rattle.mdb_sigrok.specs.Part.{IsTold, part_of}
 use Rattle.mdb_sigrok.specs.Trace.{AreRowsOfTrace}
-
--- the text of a row, and a line feed (10)
-abbrev pub row_line : Event → List ℕ
-row_line row = joined_by_commas (row_fields row) ++ 10 ∷ []
-
--- the rows as they are written
-abbrev pub rows_text : List Event → List ℕ
-rows_text rows = flat_map row_line rows
 
 -- the rows of the part that was asked for were written, and of all rows this is told
 pub record IsImported (options : SigrokOptions) (text : List ℕ) (told : SigrokRows)
@@ -40,8 +31,8 @@ abbrev pub HasNoRows : SigrokOptions → List ℕ → Type 0
 HasNoRows options text = (rows : List Event) → AreRowsOfTrace options.swap text rows → ⊥
 
 -- What a fault tells: where it is one of the trace, that this has no rows, and nothing was written.
--- Where reading failed, nothing was written; where memory or writing did, a front of the rows, or
--- nothing.
+-- Where reading failed or memory was refused, nothing was written; where writing failed, a front of
+-- the rows.
 abbrev pub IsRefused : SigrokOptions → List ℕ → SigrokFault → Option (List ℕ) → Option (List ℕ)
     → Type 0
 IsRefused options text (Form number fault) before after =
@@ -50,8 +41,7 @@ IsRefused options text (Order number micros line fault) before after =
     HasNoRows options text × Keeps before after
 IsRefused options text Read before after = Keeps before after
 IsRefused options text Write before after = IsPartial options text before after
-IsRefused options text Memory before after =
-    Keeps before after ⊎ IsPartial options text before after
+IsRefused options text Memory before after = Keeps before after
 
 -- the answer to a trace, and what the writer holds after it
 abbrev pub AnswersTo : SigrokOptions → List ℕ → Option (List ℕ) → Option (List ℕ)

@@ -1,5 +1,4 @@
 pub mod Import
-pub mod Order
 pub mod Part
 pub mod Record
 pub mod Refusals

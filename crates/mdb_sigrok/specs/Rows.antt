@@ -2,7 +2,6 @@
 use Rattle.std.specs.Prelude.{◌≡◌, ◌+◌, ◌-◌, ◌^◌, ◌<◌, ◌≤◌, ℕ, List, [], ◌∷◌}
 use Rattle.mdb_words.specs.declared.event.Event.{Event}
 use Rattle.mdb_words.specs.declared.event.Event.TheVariants.{Word, Break}
-use Rattle.mdb_words.specs.Event.{start_of}
 use Rattle.mdb_words.specs.declared.word.Line.{Line}
 use Rattle.mdb_words.specs.declared.word.Line.TheVariants.{Controller}
 use Rattle.mdb_sigrok.specs.declared.pair.Pair.{Pair}
@@ -45,15 +44,3 @@ pub data LineRows : Line → ℕ → List Pair → List Event → Type 0 where
       IsStart earliest start → zero_pair.what ≡ Data 0 → frame.what ≡ FrameError →
       IsBreak earliest line end → LineRows line (micros_of end.from + 1) pairs rows →
       LineRows line earliest (start ∷ zero_pair ∷ frame ∷ end ∷ pairs) (break_of end ∷ rows)
-
--- The rows of both lines in one: of the first of each the one that starts earlier comes first, at
--- one time that of the controller.
-pub data Merges : List Event → List Event → List Event → Type 0 where
-  controller_alone : (controller : List Event) → Merges controller [] controller
-  devices_alone : (devices : List Event) → Merges [] devices devices
-  controller_first : (row other : Event) (controller devices rows : List Event) →
-      start_of row ≤ start_of other → Merges controller (other ∷ devices) rows →
-      Merges (row ∷ controller) (other ∷ devices) (row ∷ rows)
-  device_first : (other row : Event) (controller devices rows : List Event) →
-      start_of row < start_of other → Merges (other ∷ controller) devices rows →
-      Merges (other ∷ controller) (row ∷ devices) (row ∷ rows)

@@ -8,7 +8,8 @@ use Rattle.mdb_sigrok.specs.declared.fault.SigrokFault.{SigrokFault}
 use Rattle.mdb_sigrok.specs.declared.fault.SigrokFault.TheVariants.{Form, Order, Read, Write, Memory}
 use Rattle.mdb_sigrok.specs.Text.{lines_of}
 use Rattle.mdb_sigrok.specs.Record.{IsPair}
-use Rattle.mdb_sigrok.specs.Rows.{LineRows, Merges}
+use Rattle.mdb_exports.specs.Order.{Merges}
+use Rattle.mdb_sigrok.specs.Rows.{LineRows}
 
 -- The lines after the first one tell these pairs of records, one or more. Each record but the last
 -- has a comma behind it, and below that stands `]}` as the last line.

@@ -21,7 +21,8 @@ use std::io::{Read, Write};
 /// # Errors
 ///
 /// The first record of what is no trace, with its number, and in a record that was read its time in
-/// microseconds; or that reading or writing failed, or that memory was refused.
+/// microseconds; or that reading or writing failed, or that memory was refused. Only where writing
+/// failed did the writer take anything: a front of the rows.
 pub fn import_sigrok<R: Read + Drop, W: Write>(
     alloc: Global,
     options: &SigrokOptions,

@@ -3,7 +3,7 @@
 ghost use Rattle.std.specs.Prelude.{Bool, ℕ, List};
 ghost use Rattle.std.specs.List.{AllPairs};
 ghost use Rattle.mdb_words.specs.declared.event.Event.{Event};
-ghost use Rattle.mdb_sigrok.specs.Order.{Precedes};
+ghost use Rattle.mdb_exports.specs.Order.{Precedes};
 ghost use Rattle.mdb_sigrok.specs.Trace.{AreRowsOfTrace};
 
 /// The rows of a trace stand in the order of their times, at one time that of the controller first.

@@ -13,7 +13,7 @@ ghost use Rattle.mdb_sigrok.specs.inner.Steps.{IsOpen, open_pairs, told_by};
 use super::fault::{OrderFault, SigrokFault};
 use super::line::{Open, Place, first_place, go_on, last_row};
 use super::pair::Pair;
-use super::trace::{end_of_trace, fault_line, next_pair, order};
+use super::pair_reading::{end_of_trace, fault_line, next_pair, order};
 use mdb_words::{Event, Line};
 use std::alloc::Global;
 
@@ -63,14 +63,14 @@ impl Reading {
         match go_on(&mut self.place, pair) {
             Ok(row) => {
                 self.number = number;
-                self.tell(row)
+                self.keep(row)
             }
             Err(fault) => Err(self.fault_at(number, pair, fault)),
         }
     }
 
     /// Has one more row, or none.
-    fn tell(&mut self, row: Option<Event>) -> Result<(), SigrokFault>
+    fn keep(&mut self, row: Option<Event>) -> Result<(), SigrokFault>
         ensures place { self.new.place ≡ self.old.place }
         ensures rows { OnOk result (self.new.rows.items ≡ self.old.rows.items ++ told_by row) }
         ensures err { IfErr result (λ fault. fault ≡ SigrokFault.Memory) }
@@ -94,7 +94,7 @@ impl Reading {
             (open_pairs self.old.place.held) rows)) }
     {
         match last_row(&self.place) {
-            Ok(row) => self.tell(row),
+            Ok(row) => self.keep(row),
             Err(fault) => Err(self.fault_at_end(fault)),
         }
     }

@@ -10,10 +10,10 @@ ghost use Rattle.mdb_sigrok.specs.inner.Stands.{stand_of};
 
 use super::cut::{is_text, next_line};
 use super::fault::{FormFault, SigrokFault};
-use super::merging::merged;
+use super::pair_reading::form;
 use super::reading::Both;
 use super::source::{pass_pair, read_one, read_two};
-use super::trace::form;
+use mdb_exports::merged;
 use mdb_words::Event;
 use std::alloc::Global;
 use std::io::{BufRead, BufReader, Read};

@@ -9,7 +9,7 @@ ghost use Rattle.mdb_sigrok.specs.inner.Pairs.{IsNext};
 
 use super::fault::SigrokFault;
 use super::pair::Pair;
-use super::trace::next_pair;
+use super::pair_reading::next_pair;
 use std::io::{BufRead, ErrorKind};
 
 /// What was seen next in what a reader shows, and how many bytes of that its two lines are.

@@ -4,7 +4,8 @@
 //! test.
 
 use super::streams::{Pieces, words_of};
-use mdb_check::{LinkFault, Outcome, RunFault, check, run, show};
+use mdb_check::{LinkFault, Outcome, RunFault, check, show};
+use mdbcheck_run::run;
 use std::alloc::Global;
 use std::fmt::Debug;
 use std::process::Abort;

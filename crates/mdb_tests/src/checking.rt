@@ -28,7 +28,7 @@ pub(crate) const WRONG_SUM_REPORT: &[u8] = b"verdict no\nrow 7\nrule Sum\nblame 
 pub(crate) type Counted = Result<Option<u64>, RunFault>;
 
 /// An answer without the rest of its report or offence.
-pub(crate) fn counted(answer: Result<Outcome, RunFault>) -> Counted {
+pub(crate) fn counted<F: Drop>(answer: Result<Outcome, F>) -> Result<Option<u64>, F> {
     match answer {
         Ok(Outcome::Yes(report)) => Ok(Some(report.rows)),
         Ok(Outcome::No(_)) => Ok(None),
@@ -187,7 +187,7 @@ fn answers_yes_and_no_by_a_report_in_one_write(rt: HostRuntime) {
 }
 
 /// The texts of faults.
-static FAULTS: [(RunFault, &str); 6] = [
+static FAULTS: [(RunFault, &str); 5] = [
     (
         RunFault::BadRow {
             row: 7,
@@ -202,7 +202,6 @@ static FAULTS: [(RunFault, &str); 6] = [
     ),
     (RunFault::Write, "the output can't be written"),
     (RunFault::Memory, "out of memory"),
-    (RunFault::Mark { row: 7 }, "no such mark may stand at row 7"),
 ];
 
 #[test]

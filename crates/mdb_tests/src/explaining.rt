@@ -3,7 +3,7 @@
 use super::asserts::{same, same_at};
 use super::checking::counted;
 use super::streams::polls;
-use mdb_check::{AccountName, AccountSide, Bound, Goal, explain, replay};
+use mdb_check::{AccountName, AccountSide, Bound, Goal, MarkedFault, RunFault, explain, replay};
 use std::alloc::Global;
 use std::process::Abort;
 
@@ -34,5 +34,25 @@ fn a_long_recording_is_explained(rt: HostRuntime) {
     let text = polls(rt.alloc(), EXPLAINED_POLLS).expect(&rt, "memory");
     for bound in [Bound::Least, Bound::Greatest] {
         is_explained_by_its_rows(&rt, rt.alloc(), text.as_slice(), bound);
+    }
+}
+
+/// The texts of faults of a replay.
+static MARKED_FAULTS: [(MarkedFault, &str); 2] = [
+    (
+        MarkedFault::Run(RunFault::TooLong),
+        "more rows than are allowed",
+    ),
+    (
+        MarkedFault::Mark { row: 7 },
+        "no such mark may stand at row 7",
+    ),
+];
+
+#[test]
+fn texts_of_marked_faults(rt: HostRuntime) {
+    for (fault, text) in &MARKED_FAULTS {
+        let told = format!(in rt.alloc(); "{fault}").expect(&rt, "memory");
+        same(&rt, told.as_str(), *text);
     }
 }

@@ -5,7 +5,7 @@ use super::asserts::{run_gives, same_at};
 use super::checking::{REPORT, WRONG_SUM_REPORT};
 use super::showing::{ACTS, WRONG_SUM_ACTS};
 use super::streams::{Pieces, ROWS, Sheet, WRONG_SUM, words_of};
-use mdb_check::run;
+use mdbcheck_run::run;
 use std::alloc::Global;
 use std::io::ErrorKind;
 use std::process::Abort;
@@ -61,12 +61,21 @@ silences changer 0 bill 0 cashless 0 cashless-2 0\n\
 unvalued changer 0 bill 0 cashless 0 cashless-2 0\n\
 setup changer cashless\nwithout bill\n";
 
-/// What is told of a command line that asks for help.
-const USAGE: &[u8] = b"usage: mdbcheck check [--joined] [--setup 'DEVICE BYTES'].. \
-[--without DEVICE].. [--json] | show [--without DEVICE].. [--json] | explain ACCOUNT SIDE BOUND \
-[--without DEVICE].. | replay [--without DEVICE].. [--json] < TRANSCRIPT; DEVICE is changer, \
-bill, cashless or cashless-2; ACCOUNT is coins-in, bills-in, paid-out, approved, sold, approved-2 \
-or sold-2; SIDE is device, controller or difference; BOUND is least or greatest\n";
+/// What is told of a command line that asks for help, on all commands and on each.
+const HELP: &[u8] = b"mdbcheck: commands: check (the verdict), show (the acts), \
+explain (a bound), replay (an explanation); all: mdbcheck manual\n";
+
+const CHECK_HELP: &[u8] = b"mdbcheck: usage: mdbcheck check [--joined] \
+[--setup 'DEVICE BYTES'].. [--without DEVICE].. [--json] < TRANSCRIPT; all: mdbcheck manual check\n";
+
+const SHOW_HELP: &[u8] = b"mdbcheck: usage: mdbcheck show [--without DEVICE].. [--json] \
+< TRANSCRIPT; all: mdbcheck manual show\n";
+
+const EXPLAIN_HELP: &[u8] = b"mdbcheck: usage: mdbcheck explain ACCOUNT SIDE BOUND \
+[--without DEVICE].. < TRANSCRIPT; all: mdbcheck manual explain\n";
+
+const REPLAY_HELP: &[u8] = b"mdbcheck: usage: mdbcheck replay [--without DEVICE].. [--json] \
+< EXPLANATION; all: mdbcheck manual replay\n";
 
 /// What is told of one that asks for the version.
 const VERSION: &[u8] = b"mdbcheck 0.1.0\n";
@@ -218,27 +227,31 @@ static RUNS: [Run; 34] = [
         ),
     ),
     // Command lines that ask for no verdict, each with its line on standard error.
-    ("mdbcheck --help", ROWS, (2, b"", USAGE)),
-    ("mdbcheck help", ROWS, (2, b"", USAGE)),
+    ("mdbcheck --help", ROWS, (2, b"", HELP)),
+    ("mdbcheck help", ROWS, (2, b"", HELP)),
     ("mdbcheck --version", ROWS, (2, b"", VERSION)),
-    ("mdbcheck check --help", ROWS, (2, b"", USAGE)),
-    ("mdbcheck show --help", ROWS, (2, b"", USAGE)),
-    ("mdbcheck explain --help", ROWS, (2, b"", USAGE)),
-    ("mdbcheck explain coins-in -h", ROWS, (2, b"", USAGE)),
-    ("mdbcheck replay --help", ROWS, (2, b"", USAGE)),
-    ("mdbcheck check --joined --help", ROWS, (2, b"", USAGE)),
+    ("mdbcheck check --help", ROWS, (2, b"", CHECK_HELP)),
+    ("mdbcheck show --help", ROWS, (2, b"", SHOW_HELP)),
+    ("mdbcheck explain --help", ROWS, (2, b"", EXPLAIN_HELP)),
+    ("mdbcheck explain coins-in -h", ROWS, (2, b"", EXPLAIN_HELP)),
+    ("mdbcheck replay --help", ROWS, (2, b"", REPLAY_HELP)),
+    ("mdbcheck check --joined --help", ROWS, (2, b"", CHECK_HELP)),
     (
         "mdbcheck check --setup changer~02~00~01~05~02~00~07~01~02~05~19 --help",
         ROWS,
-        (2, b"", USAGE),
+        (2, b"", CHECK_HELP),
     ),
     // Requests for help among options.
     (
         "mdbcheck check --without bill --help",
         ROWS,
-        (2, b"", USAGE),
+        (2, b"", CHECK_HELP),
     ),
-    ("mdbcheck show --without hopper -h", ROWS, (2, b"", USAGE)),
+    (
+        "mdbcheck show --without hopper -h",
+        ROWS,
+        (2, b"", SHOW_HELP),
+    ),
 ];
 
 #[test]
@@ -249,269 +262,406 @@ fn runs_have_their_status_and_their_texts(rt: HostRuntime) {
     }
 }
 
-/// Why setup data of a recording that doesn't begin in mid-session are refused.
-const NOT_JOINED: &str = "--setup goes with --joined alone";
+/// The usage lines of the commands.
+const CHECK_USAGE: &str = "check [--joined] [--setup 'DEVICE BYTES'].. [--without DEVICE].. \
+[--json] < TRANSCRIPT";
 
-/// Why those are that aren't written as they have to be.
-const NO_FORM: &str = "a value of --setup isn't a device's word and bytes as `show` writes them";
+const SHOW_USAGE: &str = "show [--without DEVICE].. [--json] < TRANSCRIPT";
 
-/// Why those with a wrong sum are.
-const WRONG_SETUP_SUM: &str = "the last byte of a value of --setup isn't the sum of the others";
+const EXPLAIN_USAGE: &str = "explain ACCOUNT SIDE BOUND [--without DEVICE].. < TRANSCRIPT";
 
-/// Why those are that are no answer to SETUP.
-const NO_ANSWER: &str = "the bytes of a value of --setup are no answer of its device to SETUP";
+const REPLAY_USAGE: &str = "replay [--without DEVICE].. [--json] < EXPLANATION";
 
-/// Why two answers of one device are.
-const TWICE: &str = "--setup names a device twice";
+/// Which commands there are.
+const COMMANDS: &str = "commands: check (the verdict), show (the acts), \
+explain (a bound), replay (an explanation); all: mdbcheck manual";
 
-/// Why those of a device that is left out are.
-const LEFT_OUT: &str = "--setup names a device that is left out";
-
-/// Why one is refused that asks for nothing.
-const NO_COMMAND: &str = "a subcommand is required but one was not provided";
-
-/// Why one is that asks for what isn't known.
-const UNKNOWN: &str = "unrecognized subcommand";
-
-/// Why one with a word or a flag too many is.
-const UNEXPECTED: &str = "unexpected argument found";
-
-/// Why one is with an option of recordings in mid-session, of a task that takes none.
-const CHECK_ALONE: &str = "--joined and --setup go with check alone: show, explain and replay take \
-recordings from power-on";
-
-/// Why one is with a value of an option that has none.
-const NO_VALUE: &str = "unexpected value for an argument found";
-
-/// Why one is that lacks a word of a goal.
-const MISSING: &str = "one or more required arguments were not provided";
-
-/// Why one is with an option that has no value, or none of its own, or with words of no goal.
-const INVALID: &str = "one of the values isn't valid for an argument";
-
-/// Command lines that are refused, and why. `~` stands for a blank within a word.
-static REFUSED: [(&str, &str); 111] = [
-    ("", NO_COMMAND),
-    ("mdbcheck", NO_COMMAND),
-    ("mdbcheck frobnicate", UNKNOWN),
-    ("mdbcheck check extra", UNEXPECTED),
-    ("mdbcheck check --all", UNEXPECTED),
-    ("mdbcheck show extra", UNEXPECTED),
-    ("mdbcheck check --without", INVALID),
-    ("mdbcheck check --without --", INVALID),
-    ("mdbcheck check --without=", INVALID),
-    ("mdbcheck check --without hopper", INVALID),
-    ("mdbcheck show --without=hopper", INVALID),
-    ("mdbcheck show --without Changer", INVALID),
-    ("mdbcheck check --without=changer,bill", INVALID),
-    ("mdbcheck check --without show", INVALID),
-    ("mdbcheck check --without -", INVALID),
-    ("mdbcheck check --without --without bill", INVALID),
-    ("mdbcheck check --without --help", INVALID),
-    ("mdbcheck check --without bill --without hopper", INVALID),
-    ("mdbcheck check --without -x", UNEXPECTED),
-    ("mdbcheck check -without bill", UNEXPECTED),
-    ("mdbcheck check --with bill", UNEXPECTED),
-    ("mdbcheck --without bill check", UNEXPECTED),
-    ("mdbcheck check bill", UNEXPECTED),
-    ("mdbcheck check --without bill cashless", UNEXPECTED),
-    ("mdbcheck check --without hopper show", UNEXPECTED),
-    ("mdbcheck check -- --without bill", UNEXPECTED),
-    ("mdbcheck check -- --", UNEXPECTED),
-    ("mdbcheck check --joined --setup", INVALID),
+/// Command lines that are refused, and why. `~` stands for a blank within a word. A table of all of
+/// them would be too long for the proof of its test.
+static REFUSED: [(&str, &str); 42] = [
+    ("", "no command"),
+    ("mdbcheck", "no command"),
+    ("mdbcheck frobnicate", "unknown command \"frobnicate\""),
     (
-        "mdbcheck check --joined --setup changer~02~00~01~05~02~00~07~01~02~05~19 --without hopper",
-        INVALID,
+        "mdbcheck check extra",
+        "standard input is read: write < extra",
     ),
-    ("mdbcheck show --joined", CHECK_ALONE),
-    ("mdbcheck Explain coins-in device least", UNKNOWN),
-    ("mdbcheck explain", MISSING),
-    ("mdbcheck explain --", MISSING),
-    ("mdbcheck explain coins-in", MISSING),
-    ("mdbcheck explain coins-in device", MISSING),
-    ("mdbcheck explain coins-in -- device", MISSING),
-    ("mdbcheck explain --without bill", MISSING),
-    ("mdbcheck explain coins-in --without device least", MISSING),
+    ("mdbcheck check --all", "unknown option \"--all\""),
+    (
+        "mdbcheck show extra",
+        "standard input is read: write < extra",
+    ),
+    ("mdbcheck check --without", "--without has no value"),
+    ("mdbcheck check --without --", "--without has no value"),
+    (
+        "mdbcheck check --without=",
+        "--without \"\" isn't changer, bill, cashless or cashless-2",
+    ),
+    (
+        "mdbcheck check --without hopper",
+        "--without \"hopper\" isn't changer, bill, cashless or cashless-2",
+    ),
+    (
+        "mdbcheck show --without=hopper",
+        "--without \"hopper\" isn't changer, bill, cashless or cashless-2",
+    ),
+    (
+        "mdbcheck show --without Changer",
+        "--without \"Changer\" isn't changer, bill, cashless or cashless-2",
+    ),
+    (
+        "mdbcheck check --without=changer,bill",
+        "--without \"changer,bill\" isn't changer, bill, cashless or cashless-2",
+    ),
+    (
+        "mdbcheck check --without show",
+        "--without \"show\" isn't changer, bill, cashless or cashless-2",
+    ),
+    (
+        "mdbcheck check --without -",
+        "--without \"-\" isn't changer, bill, cashless or cashless-2",
+    ),
+    (
+        "mdbcheck check --without --without bill",
+        "--without has no value",
+    ),
+    ("mdbcheck check --without --help", "--without has no value"),
+    (
+        "mdbcheck check --without bill --without hopper",
+        "--without \"hopper\" isn't changer, bill, cashless or cashless-2",
+    ),
+    ("mdbcheck check --without -x", "unknown option \"-x\""),
+    (
+        "mdbcheck check -without bill",
+        "unknown option \"-without\" (--without?)",
+    ),
+    (
+        "mdbcheck check --with bill",
+        "unknown option \"--with\" (--without?)",
+    ),
+    (
+        "mdbcheck --without bill check",
+        "unknown option \"--without\" (check --without?)",
+    ),
+    (
+        "mdbcheck check bill",
+        "standard input is read: write < bill",
+    ),
+    (
+        "mdbcheck check --without bill cashless",
+        "standard input is read: write < cashless",
+    ),
+    (
+        "mdbcheck check --without hopper show",
+        "one word too many: \"show\"",
+    ),
+    (
+        "mdbcheck check -- --without bill",
+        "one word too many: \"--without\"",
+    ),
+    ("mdbcheck check -- --", "one word too many: \"--\""),
+    (
+        "mdbcheck show --joined",
+        "show has no --joined: check has it",
+    ),
+    (
+        "mdbcheck --without bill explain coins-in device least",
+        "unknown option \"--without\" (explain --without?)",
+    ),
+    (
+        "mdbcheck show --joint",
+        "unknown option \"--joint\" (--json?)",
+    ),
+    (
+        "mdbcheck --joined check",
+        "unknown option \"--joined\" (check --joined?)",
+    ),
+    (
+        "mdbcheck --joined show",
+        "unknown option \"--joined\" (show --json?)",
+    ),
+    (
+        "mdbcheck check -joined",
+        "unknown option \"-joined\" (--joined?)",
+    ),
+    (
+        "mdbcheck check --joined yes",
+        "standard input is read: write < yes",
+    ),
+    (
+        "mdbcheck --json check",
+        "unknown option \"--json\" (check --json?)",
+    ),
+    ("mdbcheck check -json", "unknown option \"-json\" (--json?)"),
+    ("mdbcheck check --JSON", "unknown option \"--JSON\""),
+    (
+        "mdbcheck check --json yes",
+        "standard input is read: write < yes",
+    ),
+    (
+        "mdbcheck check --json=yes",
+        "--json takes no value: \"yes\"",
+    ),
+    ("mdbcheck show --json=", "--json takes no value: \"\""),
+    ("mdbcheck check -- --json", "one word too many: \"--json\""),
+    ("mdbcheck show --json --without", "--without has no value"),
+];
+
+/// The same of `explain` and `replay`.
+static REFUSED_GOALS: [(&str, &str); 30] = [
+    (
+        "mdbcheck Explain coins-in device least",
+        "unknown command \"Explain\" (explain?)",
+    ),
+    ("mdbcheck explain", "explain lacks ACCOUNT, SIDE, BOUND"),
+    ("mdbcheck explain --", "explain lacks ACCOUNT, SIDE, BOUND"),
+    ("mdbcheck explain coins-in", "explain lacks SIDE, BOUND"),
+    ("mdbcheck explain coins-in device", "explain lacks BOUND"),
+    ("mdbcheck explain coins-in -- device", "explain lacks BOUND"),
+    (
+        "mdbcheck explain --without bill",
+        "explain lacks ACCOUNT, SIDE, BOUND",
+    ),
+    (
+        "mdbcheck explain coins-in --without device least",
+        "explain lacks BOUND",
+    ),
     (
         "mdbcheck explain coins-in device least greatest",
-        UNEXPECTED,
+        "one word too many: \"greatest\"",
     ),
     (
         "mdbcheck explain coins-in device least -- --without bill",
-        UNEXPECTED,
+        "one word too many: \"--without\"",
     ),
-    ("mdbcheck explain -- coins-in device least --", UNEXPECTED),
+    (
+        "mdbcheck explain -- coins-in device least --",
+        "one word too many: \"--\"",
+    ),
     (
         "mdbcheck explain coins-in device least --joined",
-        CHECK_ALONE,
+        "explain has no --joined: check has it",
     ),
-    ("mdbcheck explain coins-in -x device least", UNEXPECTED),
     (
-        "mdbcheck --without bill explain coins-in device least",
-        UNEXPECTED,
+        "mdbcheck explain coins-in -x device least",
+        "unknown option \"-x\"",
     ),
-    ("mdbcheck explain coins device least", INVALID),
-    ("mdbcheck explain coins-in machine least", INVALID),
-    ("mdbcheck explain coins-in device most", INVALID),
-    ("mdbcheck explain Coins-in device least", INVALID),
-    ("mdbcheck explain device coins-in least", INVALID),
-    ("mdbcheck explain -- --without bill least", INVALID),
-    ("mdbcheck explain coins-in device least --without", INVALID),
+    (
+        "mdbcheck explain coins device least",
+        "ACCOUNT \"coins\" isn't coins-in, bills-in, paid-out, approved, sold, approved-2, sold-2",
+    ),
+    (
+        "mdbcheck explain coins-in machine least",
+        "SIDE \"machine\" isn't device, controller or difference",
+    ),
+    (
+        "mdbcheck explain coins-in device most",
+        "BOUND \"most\" isn't least or greatest",
+    ),
+    (
+        "mdbcheck explain Coins-in device least",
+        "ACCOUNT \"Coins-in\" isn't coins-in, bills-in, paid-out, approved, sold, approved-2, sold-2",
+    ),
+    (
+        "mdbcheck explain device coins-in least",
+        "ACCOUNT \"device\" isn't coins-in, bills-in, paid-out, approved, sold, approved-2, sold-2",
+    ),
+    (
+        "mdbcheck explain -- --without bill least",
+        "ACCOUNT \"--without\" isn't coins-in, bills-in, paid-out, approved, sold, approved-2, sold-2",
+    ),
+    (
+        "mdbcheck explain coins-in device least --without",
+        "--without has no value",
+    ),
     (
         "mdbcheck explain --without hopper coins-in device least",
-        INVALID,
+        "--without \"hopper\" isn't changer, bill, cashless or cashless-2",
     ),
     (
         "mdbcheck explain coins-in --without=hopper device least",
-        INVALID,
+        "--without \"hopper\" isn't changer, bill, cashless or cashless-2",
     ),
     (
         "mdbcheck explain coins-in --without bill device --without hopper least",
-        INVALID,
+        "--without \"hopper\" isn't changer, bill, cashless or cashless-2",
     ),
-    ("mdbcheck Replay", UNKNOWN),
-    ("mdbcheck replay extra", UNEXPECTED),
-    ("mdbcheck replay --joined", CHECK_ALONE),
+    ("mdbcheck Replay", "unknown command \"Replay\" (replay?)"),
+    (
+        "mdbcheck replay extra",
+        "standard input is read: write < extra",
+    ),
+    (
+        "mdbcheck replay --joined",
+        "replay has no --joined: check has it",
+    ),
+    ("mdbcheck replay --without", "--without has no value"),
+    (
+        "mdbcheck replay --without hopper",
+        "--without \"hopper\" isn't changer, bill, cashless or cashless-2",
+    ),
+    (
+        "mdbcheck explain coins-in device least --json",
+        "explain has no --json: check has it",
+    ),
+    ("mdbcheck replay --without --json", "--without has no value"),
+];
+
+/// The same with `--setup`.
+static REFUSED_SETUPS: [(&str, &str); 19] = [
+    ("mdbcheck check --joined --setup", "--setup has no value"),
+    (
+        "mdbcheck check --joined --setup changer~02~00~01~05~02~00~07~01~02~05~19 --without hopper",
+        "--without \"hopper\" isn't changer, bill, cashless or cashless-2",
+    ),
     (
         "mdbcheck replay --setup changer~02~00~01~05~02~00~07~01~02~05~19",
-        CHECK_ALONE,
+        "replay has no --setup: check has it",
     ),
-    ("mdbcheck replay --without", INVALID),
-    ("mdbcheck replay --without hopper", INVALID),
     (
         "mdbcheck show --setup changer~02~00~01~05~02~00~07~01~02~05~19",
-        CHECK_ALONE,
+        "show has no --setup: check has it",
     ),
-    ("mdbcheck show --without bill --setup=changer", CHECK_ALONE),
-    ("mdbcheck show --joint", UNEXPECTED),
-    ("mdbcheck --joined check", UNEXPECTED),
-    ("mdbcheck --joined show", UNEXPECTED),
-    ("mdbcheck check -joined", UNEXPECTED),
-    ("mdbcheck check --joined yes", UNEXPECTED),
-    ("mdbcheck --json check", UNEXPECTED),
-    ("mdbcheck check -json", UNEXPECTED),
-    ("mdbcheck check --JSON", UNEXPECTED),
-    ("mdbcheck check --json yes", UNEXPECTED),
-    ("mdbcheck check --json=yes", NO_VALUE),
-    ("mdbcheck show --json=", NO_VALUE),
-    ("mdbcheck check -- --json", UNEXPECTED),
-    ("mdbcheck explain coins-in device least --json", UNEXPECTED),
-    ("mdbcheck show --json --without", INVALID),
-    ("mdbcheck replay --without --json", INVALID),
-    ("mdbcheck check --joined -- --setup", UNEXPECTED),
+    (
+        "mdbcheck show --without bill --setup=changer",
+        "show has no --setup: check has it",
+    ),
+    (
+        "mdbcheck check --joined -- --setup",
+        "one word too many: \"--setup\"",
+    ),
     (
         "mdbcheck check --setup=changer~02~00~01~05~02~00~07~01~02~05~19",
-        NOT_JOINED,
+        "--setup needs --joined",
     ),
-    ("mdbcheck check --setup hopper", NOT_JOINED),
-    ("mdbcheck check --joined --setup=", NO_FORM),
-    ("mdbcheck check --joined --setup changer", NO_FORM),
-    ("mdbcheck check --joined --setup changer~", NO_FORM),
+    ("mdbcheck check --setup hopper", "--setup needs --joined"),
+    (
+        "mdbcheck check --joined --setup=",
+        "--setup \"\" isn't DEVICE BYTES as show writes them",
+    ),
+    (
+        "mdbcheck check --joined --setup changer",
+        "--setup \"changer\" isn't DEVICE BYTES as show writes them",
+    ),
+    (
+        "mdbcheck check --joined --setup changer~",
+        "--setup \"changer \" isn't DEVICE BYTES as show writes them",
+    ),
     (
         "mdbcheck check --joined --setup hopper~02~00~01~05~02~00~07~01~02~05~19",
-        NO_FORM,
+        "--setup \"hopper 02 00 01 05 02 00..\" isn't DEVICE BYTES as show writes them",
     ),
     (
         "mdbcheck check --joined --setup Changer~02~00~01~05~02~00~07~01~02~05~19",
-        NO_FORM,
+        "--setup \"Changer 02 00 01 05 02 0..\" isn't DEVICE BYTES as show writes them",
     ),
     (
         "mdbcheck check --joined --setup ~02~00~01~05~02~00~07~01~02~05~19",
-        NO_FORM,
+        "--setup \" 02 00 01 05 02 00 07 01..\" isn't DEVICE BYTES as show writes them",
     ),
     (
         "mdbcheck check --joined --setup changer~02~00~01~05~02~00~07~01~02~05~19~",
-        NO_FORM,
+        "--setup \"changer 02 00 01 05 02 0..\" isn't DEVICE BYTES as show writes them",
     ),
     (
         "mdbcheck check --joined --setup changer~02~00~01~~05~02~00~07~01~02~~05~19",
-        NO_FORM,
+        "--setup \"changer 02 00 01  05 02 ..\" isn't DEVICE BYTES as show writes them",
     ),
     (
         "mdbcheck check --joined --setup changer~02~00~01~5~02~00~07~01~02~5~19",
-        NO_FORM,
+        "--setup \"changer 02 00 01 5 02 00..\" isn't DEVICE BYTES as show writes them",
     ),
     (
         "mdbcheck check --joined --setup changer~02~00~01~0G~02~00~07~01~02~0G~19",
-        NO_FORM,
+        "--setup \"changer 02 00 01 0G 02 0..\" isn't DEVICE BYTES as show writes them",
     ),
     (
         "mdbcheck check --joined --setup bill~01~00~01~00~64~02~00~C8~00~00~ff~00~01~05~35",
-        NO_FORM,
+        "--setup \"bill 01 00 01 00 64 02 0..\" isn't DEVICE BYTES as show writes them",
     ),
+];
+
+/// More of them.
+static MORE_REFUSED_SETUPS: [(&str, &str); 20] = [
     (
         "mdbcheck check --joined --setup changer,02~00~01~05~02~00~07~01~02~05~19",
-        NO_FORM,
+        "--setup \"changer,02 00 01 05 02 0..\" isn't DEVICE BYTES as show writes them",
     ),
     (
         "mdbcheck check --joined --setup changer~02~00~01~05~02~00~07~01~02~05~18",
-        WRONG_SETUP_SUM,
+        "--setup \"changer 02 00 01 05 02 0..\" doesn't end with the sum of its bytes",
     ),
     (
         "mdbcheck check --joined --setup bill~01~00~01~00~64~02~00~C8~00~00~FF~00~01~05~34",
-        WRONG_SETUP_SUM,
+        "--setup \"bill 01 00 01 00 64 02 0..\" doesn't end with the sum of its bytes",
     ),
     (
         "mdbcheck check --joined --setup cashless~01~01~00~01~01~02~05~00~0C",
-        WRONG_SETUP_SUM,
+        "--setup \"cashless 01 01 00 01 01 ..\" doesn't end with the sum of its bytes",
     ),
     (
         "mdbcheck check --joined --setup cashless-2~01~01~00~01~01~02~05~00~0A",
-        WRONG_SETUP_SUM,
+        "--setup \"cashless-2 01 01 00 01 0..\" doesn't end with the sum of its bytes",
     ),
-    ("mdbcheck check --joined --setup changer~02", NO_ANSWER),
+    (
+        "mdbcheck check --joined --setup changer~02",
+        "--setup \"changer 02\" is no answer of its device to SETUP",
+    ),
     (
         "mdbcheck check --joined --setup changer~02~00~01~05~02~00~0A",
-        NO_ANSWER,
+        "--setup \"changer 02 00 01 05 02 0..\" is no answer of its device to SETUP",
     ),
     (
         "mdbcheck check --joined --setup changer~02~00~01~05~02~00~07~01~01~01~01~01~01~01~01~01~01~01~01~01~01~01~01~01~22",
-        NO_ANSWER,
+        "--setup \"changer 02 00 01 05 02 0..\" is no answer of its device to SETUP",
     ),
     (
         "mdbcheck check --joined --setup changer~01~01~01~01~01~01~01~01~01~01~01~01~01~01~01~01~01~01~01~01~01~01~01~01~01~01~01~01~01~01~01~01~01~01~01~01~01~01~01~01~28",
-        NO_ANSWER,
+        "--setup \"changer 01 01 01 01 01 0..\" is no answer of its device to SETUP",
     ),
     (
         "mdbcheck check --joined --setup bill~01~00~01~00~64~02~00~C8~00~00~30",
-        NO_ANSWER,
+        "--setup \"bill 01 00 01 00 64 02 0..\" is no answer of its device to SETUP",
     ),
     (
         "mdbcheck check --joined --setup bill~01~00~01~00~64~02~00~C8~00~00~01~00~01~05~37",
-        NO_ANSWER,
+        "--setup \"bill 01 00 01 00 64 02 0..\" is no answer of its device to SETUP",
     ),
     (
         "mdbcheck check --joined --setup cashless~01~01~00~01~01~02~05~0B",
-        NO_ANSWER,
+        "--setup \"cashless 01 01 00 01 01 ..\" is no answer of its device to SETUP",
     ),
-    ("mdbcheck check --joined --setup cashless~00~00", NO_ANSWER),
+    (
+        "mdbcheck check --joined --setup cashless~00~00",
+        "--setup \"cashless 00 00\" is no answer of its device to SETUP",
+    ),
     (
         "mdbcheck check --joined --setup cashless-2~06~06",
-        NO_ANSWER,
+        "--setup \"cashless-2 06 06\" is no answer of its device to SETUP",
     ),
     (
         "mdbcheck check --joined --setup cashless~01~01~00~01~01~02~05~00~07~12",
-        NO_ANSWER,
+        "--setup \"cashless 01 01 00 01 01 ..\" is no answer of its device to SETUP",
     ),
     (
         "mdbcheck check --joined --setup cashless~02~00~01~05~02~00~07~01~02~05~19",
-        NO_ANSWER,
+        "--setup \"cashless 02 00 01 05 02 ..\" is no answer of its device to SETUP",
     ),
     (
         "mdbcheck check --joined --setup changer~02~00~01~05~02~00~07~01~02~05~19 --setup changer~02~00~01~05~02~00~07~01~02~05~19",
-        TWICE,
+        "--setup \"changer 02 00 01 05 02 0..\" names its device again",
     ),
     (
         "mdbcheck check --joined --setup=cashless~01~01~00~01~01~02~05~00~0B --setup cashless~01~01~00~01~01~00~05~00~09",
-        TWICE,
+        "--setup \"cashless 01 01 00 01 01 ..\" names its device again",
     ),
     (
         "mdbcheck check --joined --setup changer~02~00~01~05~02~00~07~01~02~05~19 --without changer",
-        LEFT_OUT,
+        "--setup \"changer 02 00 01 05 02 0..\" names a device that is left out",
     ),
     (
         "mdbcheck check --without cashless-2 --setup cashless-2~01~01~00~01~01~02~05~00~0B --joined",
-        LEFT_OUT,
+        "--setup \"cashless-2 01 01 00 01 0..\" names a device that is left out",
     ),
 ];
 
@@ -520,13 +670,36 @@ fn push(rt: &impl Abort, line: &mut Vec<u8>, more: &[u8]) {
     line.extend_from_slice(more).expect(rt, "memory");
 }
 
+/// The usage line of the command that the words name, or none.
+fn usage_of(words: &str) -> Option<&'static str> {
+    let (_, words) = words.split_once(' ')?;
+    let name = match words.split_once(' ') {
+        Some((name, _)) => name,
+        None => words,
+    };
+    match name {
+        "check" => Some(CHECK_USAGE),
+        "show" => Some(SHOW_USAGE),
+        "explain" => Some(EXPLAIN_USAGE),
+        "replay" => Some(REPLAY_USAGE),
+        _ => None,
+    }
+}
+
 /// Ends the test where a command line isn't refused for this reason.
 fn refused_for(rt: &impl Abort, alloc: Global, words: &str, reason: &str) {
     let mut line = Vec::new(alloc);
     push(rt, &mut line, b"mdbcheck: ");
     push(rt, &mut line, reason.as_bytes());
     push(rt, &mut line, b"; ");
-    push(rt, &mut line, USAGE);
+    match usage_of(words) {
+        Some(usage) => {
+            push(rt, &mut line, b"usage: mdbcheck ");
+            push(rt, &mut line, usage.as_bytes());
+        }
+        None => push(rt, &mut line, COMMANDS.as_bytes()),
+    }
+    push(rt, &mut line, b"\n");
     let mut reader = Pieces::new(ROWS, usize::MAX);
     run_gives(rt, alloc, words, &mut reader, (2, b"", line.as_slice()));
 }
@@ -534,6 +707,27 @@ fn refused_for(rt: &impl Abort, alloc: Global, words: &str, reason: &str) {
 #[test]
 fn command_lines_are_refused_for_a_reason(rt: HostRuntime) {
     for (words, reason) in &REFUSED {
+        refused_for(&rt, rt.alloc(), *words, *reason);
+    }
+}
+
+#[test]
+fn goals_are_refused_for_a_reason(rt: HostRuntime) {
+    for (words, reason) in &REFUSED_GOALS {
+        refused_for(&rt, rt.alloc(), *words, *reason);
+    }
+}
+
+#[test]
+fn setups_are_refused_for_a_reason(rt: HostRuntime) {
+    for (words, reason) in &REFUSED_SETUPS {
+        refused_for(&rt, rt.alloc(), *words, *reason);
+    }
+}
+
+#[test]
+fn more_setups_are_refused_for_a_reason(rt: HostRuntime) {
+    for (words, reason) in &MORE_REFUSED_SETUPS {
         refused_for(&rt, rt.alloc(), *words, *reason);
     }
 }

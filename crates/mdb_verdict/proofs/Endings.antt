@@ -9,7 +9,7 @@ use Rattle.mdb_records.specs.ToCome.{ToCome}
 use Rattle.mdb_verdict.specs.declared.batch.Next.{Next}
 use Rattle.mdb_verdict.specs.declared.batch.Next.TheVariants as next
 use Rattle.mdb_verdict.specs.declared.fault.RunFault.{RunFault}
-use Rattle.mdb_verdict.specs.declared.fault.RunFault.TheVariants.{BadRow, TooLong, Read, Write, Memory, Mark}
+use Rattle.mdb_verdict.specs.declared.fault.RunFault.TheVariants.{BadRow, TooLong, Read, Write, Memory}
 use Rattle.mdb_verdict.specs.Batch.{FitsIn, HasRead, IsMet}
 use Rattle.mdb_verdict.specs.Ending.{EndsAfter, HasEnded, HasFirst, HasTakenOrStopped, IsHeard, IsStop, IsStopped, IsTakenWhole, IsToldEnd, goes_on_by}
 use Rattle.mdb_verdict.specs.Verdict.{run_fault_of}
@@ -197,7 +197,6 @@ refused_at_by Is Refuses remaining Has Stops limit all records rows has read ful
 refused_at_by Is Refuses remaining Has Stops limit all records rows has read full Read ends = record { rows = rows; rest = read.rest; read = record { done = read.done; split = read.split; told = read.told }; has = has }
 refused_at_by Is Refuses remaining Has Stops limit all records rows has read full Memory ends = record { rows = rows; rest = read.rest; read = record { done = read.done; split = read.split; told = read.told }; has = has }
 refused_at_by Is Refuses remaining Has Stops limit all records rows has read full Write ends = absurd ends
-refused_at_by Is Refuses remaining Has Stops limit all records rows has read full (Mark row) ends = absurd ends
 
 pub refused_at : {R Row Stop : Type 0} (Is : List (List ℕ) → Row → Type 0) (Refuses : List (List ℕ) → RowFault → Type 0) (remaining : R → Option (List ℕ)) (Has : List Row → Type 0) (Stops : List Row → List Row → Stop → Type 0) (limit : ℕ) (all : List (List (List ℕ))) (start records : Records R)
     → (progress : Progress Is Refuses remaining Has start records next.More) → ToCome remaining start all → length progress.rows ≡ limit → (told : Result Unit RunFault) (fault : RunFault)

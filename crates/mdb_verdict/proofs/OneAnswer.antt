@@ -13,7 +13,7 @@ use Rattle.mdb_follow.specs.Runs.{IsReached}
 use Rattle.mdb_text.specs.declared.outcome.Outcome.{Outcome}
 use Rattle.mdb_text.specs.declared.outcome.Outcome.TheVariants.{Yes, No}
 use Rattle.mdb_verdict.specs.declared.fault.RunFault.{RunFault}
-use Rattle.mdb_verdict.specs.declared.fault.RunFault.TheVariants.{BadRow, TooLong, Read, Write, Memory, Mark}
+use Rattle.mdb_verdict.specs.declared.fault.RunFault.TheVariants.{BadRow, TooLong, Read, Write, Memory}
 use Rattle.mdb_verdict.specs.Verdict.{AreRows, IsAnswer, IsOwnAnswer, IsBadRow, IsImpossible, IsPossible, IsTooLong}
 use Rattle.mdb_bus.specs.declared.scope.Scope.{Scope}
 
@@ -244,8 +244,6 @@ one_answer scope laws limit records (Err TooLong) (Err TooLong) p q s t = refl
 one_answer scope laws limit records (Err Read) b p q s t = absurd s
 one_answer scope laws limit records (Err Write) b p q s t = absurd s
 one_answer scope laws limit records (Err Memory) b p q s t = absurd s
-one_answer scope laws limit records (Err (Mark row)) b p q s t = absurd p
 one_answer scope laws limit records a (Err Read) p q s t = absurd t
 one_answer scope laws limit records a (Err Write) p q s t = absurd t
 one_answer scope laws limit records a (Err Memory) p q s t = absurd t
-one_answer scope laws limit records a (Err (Mark row)) p q s t = absurd q

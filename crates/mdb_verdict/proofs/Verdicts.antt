@@ -14,7 +14,7 @@ use Rattle.mdb_follow.specs.Sales.{SalesFollowApprovals}
 use Rattle.mdb_text.specs.declared.outcome.Outcome.{Outcome}
 use Rattle.mdb_text.specs.declared.outcome.Outcome.TheVariants.{Yes, No}
 use Rattle.mdb_verdict.specs.declared.fault.RunFault.{RunFault}
-use Rattle.mdb_verdict.specs.declared.fault.RunFault.TheVariants.{BadRow, TooLong, Read, Write, Memory, Mark}
+use Rattle.mdb_verdict.specs.declared.fault.RunFault.TheVariants.{BadRow, TooLong, Read, Write, Memory}
 use Rattle.mdb_verdict.specs.Ending.{AreRead, HasEnded, HasFollowed, HasTakenOrStopped, IsStopped, IsTakenWhole}
 use Rattle.mdb_verdict.specs.Verdict.{AreRows, IsAnswer, IsImpossible, IsYes}
 use Rattle.mdb_verdict.proofs.Rows.{IsReadUpTo, are_rows, read_up_to}
@@ -92,7 +92,6 @@ refused_by scope reaches limit all follower Stops TooLong ended = record {
 refused_by scope reaches limit all follower Stops Read ended = tt
 refused_by scope reaches limit all follower Stops Write ended = tt
 refused_by scope reaches limit all follower Stops Memory ended = tt
-refused_by scope reaches limit all follower Stops (Mark row) ended = absurd ended
 
 pub refused : (scope : Scope) {Stop : Type 0} → Reaches → (limit : ℕ) (all : List (List (List ℕ))) (follower : Follower) (Stops : List Event → List Event → Stop → Type 0) (fault : RunFault)
     → HasEnded IsRow IsRefusal (HasFollowed scope follower) Stops limit all (Err fault) → (answer : Result Outcome RunFault) → IsErrAnd answer (λ other. other ≡ fault) → IsAnswer scope limit all answer

@@ -12,7 +12,7 @@ use Rattle.mdb_follow.specs.Follower.{StandsFor, rows_of, scope_of}
 use Rattle.mdb_verdict.specs.declared.batch.Next.{Next}
 use Rattle.mdb_verdict.specs.declared.batch.Next.TheVariants as next
 use Rattle.mdb_verdict.specs.declared.fault.RunFault.{RunFault}
-use Rattle.mdb_verdict.specs.declared.fault.RunFault.TheVariants.{BadRow, TooLong, Read, Write, Memory, Mark}
+use Rattle.mdb_verdict.specs.declared.fault.RunFault.TheVariants.{BadRow, TooLong, Read, Write, Memory}
 use Rattle.mdb_verdict.specs.Batch.{AreAll}
 use Rattle.mdb_verdict.specs.Verdict.{run_fault_of}
 use Rattle.mdb_bus.specs.declared.scope.Scope.{Scope}
@@ -106,7 +106,6 @@ HasEnded Is Refuses Has Stops limit records (Err TooLong) = IsTakenToLimit Is Ha
 HasEnded Is Refuses Has Stops limit records (Err Read) = IsTakenInPart Is Has records
 HasEnded Is Refuses Has Stops limit records (Err Memory) = IsTakenInPart Is Has records
 HasEnded Is Refuses Has Stops limit records (Err Write) = ⊥
-HasEnded Is Refuses Has Stops limit records (Err (Mark row)) = ⊥
 
 -- a fault of reading is one that the reading of records has met, and no writer fails
 abbrev pub IsHeard : Option ReadFault → RunFault → Type 0
@@ -115,7 +114,6 @@ IsHeard met TooLong = ⊤
 IsHeard met Read = met ≡ Some reading.Read
 IsHeard met Memory = met ≡ Some reading.Memory
 IsHeard met Write = ⊥
-IsHeard met (Mark row) = ⊥
 
 -- a fault of reading that was met is the answer, or a row before it was stopped at
 abbrev pub IsToldEnd : {Stop : Type 0} → ReadFault → Result (Option Stop) RunFault → Type 0
@@ -144,4 +142,3 @@ EndsAfter rest (Err TooLong) = HasFirst rest
 EndsAfter rest (Err Read) = ⊤
 EndsAfter rest (Err Memory) = ⊤
 EndsAfter rest (Err Write) = ⊥
-EndsAfter rest (Err (Mark row)) = ⊥

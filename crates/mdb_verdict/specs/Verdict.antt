@@ -14,7 +14,7 @@ use Rattle.mdb_records.specs.declared.ReadFault.TheVariants as reading
 use Rattle.mdb_text.specs.declared.outcome.Outcome.{Outcome}
 use Rattle.mdb_text.specs.declared.outcome.Outcome.TheVariants.{Yes, No}
 use Rattle.mdb_verdict.specs.declared.fault.RunFault.{RunFault}
-use Rattle.mdb_verdict.specs.declared.fault.RunFault.TheVariants.{BadRow, TooLong, Read, Write, Memory, Mark}
+use Rattle.mdb_verdict.specs.declared.fault.RunFault.TheVariants.{BadRow, TooLong, Read, Write, Memory}
 use Rattle.mdb_bus.specs.declared.scope.Scope.{Scope}
 
 -- each record is a row, and these are their events
@@ -82,7 +82,6 @@ IsAnswer scope limit records (Err TooLong) = IsTooLong scope limit records
 IsAnswer scope limit records (Err Read) = ⊤
 IsAnswer scope limit records (Err Write) = ⊤
 IsAnswer scope limit records (Err Memory) = ⊤
-IsAnswer scope limit records (Err (Mark row)) = ⊥
 
 -- an answer that the records themselves have: every one but a refused read, write or memory
 abbrev pub IsOwnAnswer : Result Outcome RunFault → Type 0
@@ -92,7 +91,6 @@ IsOwnAnswer (Err TooLong) = ⊤
 IsOwnAnswer (Err Read) = ⊥
 IsOwnAnswer (Err Write) = ⊥
 IsOwnAnswer (Err Memory) = ⊥
-IsOwnAnswer (Err (Mark row)) = ⊤
 
 -- a yes with the report on these rows; this serves a private function
 abbrev pub IsYes : Scope → List Event → Outcome → Type 0
@@ -100,7 +98,7 @@ IsYes scope rows (Yes report) = IsReport scope rows report
 IsYes scope rows (No offence) = ⊥
 
 -- an answer that isn't yes
-abbrev pub IsNoYes : Result Outcome RunFault → Type 0
+abbrev pub IsNoYes : {Fault : Type 0} → Result Outcome Fault → Type 0
 IsNoYes (Ok (Yes report)) = ⊥
 IsNoYes (Ok (No offence)) = ⊤
 IsNoYes (Err fault) = ⊤

@@ -30,13 +30,6 @@ pub enum RunFault {
     /// Memory was refused.
     #[error("out of memory")]
     Memory,
-    /// A mark stands where none may: its row is 0, doesn't come after the row of the mark before
-    /// it, ends no act on which the mark may stand, or isn't there.
-    #[error("no such mark may stand at row {row}")]
-    Mark {
-        /// The row that the mark names, counted from 1.
-        row: u64,
-    },
 }
 
 impl From<ReadFault> for RunFault {

@@ -1,14 +1,15 @@
 //! Short texts, gathered and written together.
 
-ghost use Rattle.std.specs.Prelude.{◌≡◌, ◌+◌, ◌≤◌, [], ◌++◌, OnErr, OnOk, length};
+ghost use Rattle.std.specs.Prelude.{◌≡◌, ◌⊎◌, ◌+◌, ◌<◌, ◌≤◌, [], ◌++◌, OnErr, OnOk, length};
 ghost use Rattle.std.specs.Fmt.{decimal};
 ghost use Rattle.std.specs.Io.KnownBytes.{Appends};
+ghost use Rattle.mdb_writing.specs.declared.page.TheConstants.{PAGE};
 ghost use Rattle.mdb_writing.specs.Output.{Breaks, Puts, output};
 ghost use Rattle.mdb_writing.specs.Written.{HasTaken};
 
 use super::failed::WriteFailed;
 use super::text::write_text;
-use arrayvec::ArrayVec;
+use itoa::Buffer;
 use std::io::Write;
 use std::marker::Model;
 
@@ -17,18 +18,22 @@ pub const PAGE: usize = 8_192;
 
 /// Short texts that wait to be written together, in room that never grows.
 ///
-/// A clause sees the bytes that wait.
+/// A clause sees the bytes that wait. Where the writer fails, the same bytes still wait, also those
+/// that it took: written again, these would stand there twice. So the text ends there.
 #[derive(Drop)]
 pub struct Page {
-    bytes: ArrayVec<u8, PAGE>,
+    bytes: [u8; PAGE],
+    /// So many of the bytes wait.
+    used: usize,
+    ghost within: { used ≤ PAGE },
 }
 
 impl Model for Page {
-    ghost use Rattle.std.specs.Prelude.{List, ℕ};
+    ghost use Rattle.std.specs.Prelude.{List, ℕ, take};
 
     ghost Value = { List ℕ };
 
-    ghost view = { λ page. page.bytes.items };
+    ghost view = { λ page. take page.used page.bytes };
 }
 
 impl Page {
@@ -37,7 +42,8 @@ impl Page {
         ensures { result ≡ [] }
     {
         Page {
-            bytes: ArrayVec::new(),
+            bytes: [0; PAGE],
+            used: 0,
         }
     }
 
@@ -46,12 +52,15 @@ impl Page {
     ///
     /// # Errors
     ///
-    /// The writer failed. It took a front of what waited and of the text.
+    /// The writer failed. It took a front of what waited and of the text. The page is as before. But
+    /// it is empty where what waited was written, and a text longer than a page wasn't.
     pub fn add<W: Write>(&mut self, writer: &mut W, text: &[u8]) -> Result<(), WriteFailed>
         ensures added { OnOk result (Puts (output (W.contents writer.old) self.old)
             (output (W.contents writer.new) self.new) text.now) }
         ensures broken { OnErr result (Breaks (output (W.contents writer.old) self.old)
             (output (W.contents writer.new) self.new) text.now) }
+        ensures kept { OnErr result ((self.new ≡ self.old)
+            ⊎ ((PAGE < length text.now) × (self.new ≡ []))) }
     {
         if text.len() > PAGE {
             self.write_out(writer)?;
@@ -66,7 +75,7 @@ impl Page {
     ///
     /// # Errors
     ///
-    /// The writer failed. It took a front of what waited.
+    /// The writer failed. It took a front of what waited, and the page is as before.
     #[inline(always)]
     pub fn make_room<W: Write>(&mut self, writer: &mut W, most: usize) -> Result<(), WriteFailed>
         requires { most ≤ PAGE }
@@ -75,8 +84,9 @@ impl Page {
             (output (W.contents writer.new) self.new) []) }
         ensures broken { OnErr result (Breaks (output (W.contents writer.old) self.old)
             (output (W.contents writer.new) self.new) []) }
+        ensures kept { OnErr result (self.new ≡ self.old) }
     {
-        if self.bytes.remaining_capacity() < most {
+        if PAGE - self.used < most {
             self.write_out(writer)?;
         }
         Ok(())
@@ -88,9 +98,9 @@ impl Page {
         requires { length self.old + length bytes.now ≤ PAGE }
         ensures { self.new ≡ self.old ++ bytes.now }
     {
-        let Ok(()) = self.bytes.try_extend_from_slice(bytes) else {
-            unreachable!()
-        };
+        let end = self.used + bytes.len();
+        self.bytes[self.used..end].copy_from_slice(bytes);
+        self.used = end;
     }
 
     /// Adds a number in decimal, without leading zeros. There must be room for 20 digits.
@@ -100,42 +110,25 @@ impl Page {
         ensures bytes { self.new ≡ self.old ++ decimal number }
         ensures few { length self.new ≤ length self.old + 20 }
     {
-        self.push_decimal(number);
-    }
-
-    /// Adds a number in decimal, for which there is room: two digits at a time.
-    fn push_decimal(&mut self, number: u64)
-        requires { length self.old + length (decimal number) ≤ PAGE }
-        ensures { self.new ≡ self.old ++ decimal number }
-    {
-        let ones = b'0' + (number % 10) as u8;
-        if number < 10 {
-            self.push(&[ones]);
-            return;
-        }
-        let tens = b'0' + (number / 10 % 10) as u8;
-        if number < 100 {
-            self.push(&[tens, ones]);
-            return;
-        }
-        self.push_decimal(number / 100);
-        self.push(&[tens, ones]);
+        let mut buffer = Buffer::new();
+        self.push(buffer.format(number).as_bytes());
     }
 
     /// Writes all that waits, and leaves the page empty.
     ///
     /// # Errors
     ///
-    /// The writer failed. It took a front of what waited.
+    /// The writer failed. It took a front of what waited, and the page is as before.
     #[inline(never)]
     pub fn write_out<W: Write>(&mut self, writer: &mut W) -> Result<(), WriteFailed>
         ensures written { OnOk result
             (Appends (W.contents writer.old) (W.contents writer.new) self.old) }
         ensures empty { OnOk result (self.new ≡ []) }
         ensures front { HasTaken (W.contents writer.old) (W.contents writer.new) self.old }
+        ensures kept { OnErr result (self.new ≡ self.old) }
     {
-        write_text(writer, self.bytes.as_slice())?;
-        self.bytes.clear();
+        write_text(writer, &self.bytes[..self.used])?;
+        self.used = 0;
         Ok(())
     }
 }

@@ -18,11 +18,17 @@ fn words(rt: &HostRuntime) -> io::Result<Vec<String>> {
     Ok(env::args(rt)?.collect(rt.alloc())?)
 }
 
-/// Hands the words and the standard streams to `mdb_check::run`, and answers its status. Where
+/// Hands the words and the standard streams to `mdbcheck_run::run`, and answers its status. Where
 /// there is no memory for what is asked at once, a line says so, as of any other want of memory.
 fn run(rt: &HostRuntime, words: Vec<String>) -> u8 {
     match BufReader::with_capacity(rt.alloc(), READ_SIZE, rt.stdin()) {
-        Ok(input) => mdb_check::run(rt.alloc(), words, input, &mut rt.stdout(), &mut rt.stderr()),
+        Ok(input) => mdbcheck_run::run(
+            rt.alloc(),
+            words,
+            input,
+            &mut rt.stdout(),
+            &mut rt.stderr(),
+        ),
         Err(error) => {
             let _ = eprintln!(rt; "mdbcheck: {error}");
             NOT_BEGUN

@@ -18,13 +18,13 @@ fn words(rt: &HostRuntime) -> io::Result<Vec<String>> {
     Ok(env::args(rt)?.collect(rt.alloc())?)
 }
 
-/// Hands the words and the standard streams to `mdb_importer::run`, and answers its status. Where
+/// Hands the words and the standard streams to `mdbimport_run::run`, and answers its status. Where
 /// there is no memory for what is asked at once, a line says so, as of any other want of memory.
 fn run(rt: &HostRuntime, words: Vec<String>) -> u8 {
     match BufReader::with_capacity(rt.alloc(), READ_SIZE, rt.stdin()) {
         Ok(input) => {
             let (mut out, mut err) = (rt.stdout(), rt.stderr());
-            mdb_importer::run(rt.alloc(), words, input, &mut out, &mut err).status()
+            mdbimport_run::run(rt.alloc(), words, input, &mut out, &mut err).status()
         }
         Err(error) => {
             let _ = eprintln!(rt; "mdbimport: {error}");

@@ -1,5 +1,5 @@
 -- How the commands of a table are built. This file serves private functions.
-use Rattle.std.specs.Prelude.{◌++◌, ℕ, List, []}
+use Rattle.std.specs.Prelude.{◌++◌, ℕ, true, false, List, []}
 use Rattle.clap.specs.Words.{App, Rule, Shape}
 use Rattle.command_words.specs.Apps.{flag_rule, option_rule, word_rule}
 use Rattle.command_words.specs.declared.build.Kind.{Kind}
@@ -16,4 +16,5 @@ with_rules app more = record app { top = record app.top { rules = app.top.rules 
 abbrev pub rule_as : Kind → List ℕ → Rule
 rule_as kind.Option name = option_rule name
 rule_as kind.Flag name = flag_rule name
-rule_as kind.Word name = word_rule name
+rule_as kind.Word name = word_rule true name
+rule_as kind.Further name = word_rule false name

@@ -5,12 +5,12 @@ use Rattle.mdb_words.specs.declared.row.RowFault.TheVariants.{FieldCount, BadTim
 use Rattle.mdb_words.specs.Digits.{IsDecimal}
 use Rattle.mdb_words.specs.Row.{IsRow, IsRefusal}
 use Rattle.mdb_follow.specs.declared.offence.Offence.{Offence}
-use Rattle.mdb_marks.specs.declared.replay.ReplayFault.{ReplayFault}
-use Rattle.mdb_marks.specs.declared.replay.ReplayFault.TheVariants as faults
+use Rattle.mdb_explained_runs.specs.declared.replay.ReplayFault.{ReplayFault}
+use Rattle.mdb_explained_runs.specs.declared.replay.ReplayFault.TheVariants as faults
 use Rattle.mdb_explain.specs.declared.entry.Entry.{Entry}
 use Rattle.mdb_explain.specs.declared.entry.Entry.TheVariants as entries
-use Rattle.mdb_verdict.specs.declared.fault.RunFault.{RunFault}
-use Rattle.mdb_verdict.specs.declared.fault.RunFault.TheVariants as run
+use Rattle.mdb_explain.specs.declared.fault.MarkedFault.{MarkedFault}
+use Rattle.mdb_explain.specs.declared.fault.MarkedFault.TheVariants as marked
 use Rattle.mdb_explain.specs.Replay.{IsForMark, IsMarkRow, dash}
 
 -- a mark row whose own fields are refused
@@ -34,6 +34,6 @@ abbrev pub IsNoEntry : List (List ℕ) → RowFault → Type 0
 IsNoEntry fields fault = ⊥
 
 -- why the replay stops at a row, by the fault of the replay
-abbrev pub stop_by : ReplayFault → Result Offence RunFault
+abbrev pub stop_by : ReplayFault → Result Offence MarkedFault
 stop_by (faults.Offence offence) = Ok offence
-stop_by (faults.Mark row) = Err (run.Mark row)
+stop_by (faults.Mark row) = Err (marked.Mark row)

@@ -7,16 +7,16 @@ use Rattle.mdb_words.specs.declared.event.Event.{Event}
 use Rattle.mdb_words.specs.Row.{row_fields}
 use Rattle.mdb_bus.specs.declared.scope.Scope.{Scope}
 use Rattle.mdb_follow.specs.declared.goal.Goal.{Goal}
-use Rattle.mdb_marks.specs.declared.mark.Mark.{Mark}
+use Rattle.mdb_explained_runs.specs.declared.mark.Mark.{Mark}
 use Rattle.mdb_follow.specs.declared.offence.Offence.{Offence}
 use Rattle.mdb_follow.specs.declared.report.Report.{Report}
-use Rattle.mdb_marks.specs.Goals.{Explains}
+use Rattle.mdb_explained_runs.specs.Goals.{Explains}
 use Rattle.mdb_follow.specs.Offences.{HasOffence}
 use Rattle.mdb_explain.specs.declared.keeping.Keeping.{Keeping}
 use Rattle.mdb_text.specs.declared.outcome.Outcome.{Outcome}
 use Rattle.mdb_text.specs.declared.outcome.Outcome.TheVariants.{Yes, No}
 use Rattle.mdb_verdict.specs.declared.fault.RunFault.{RunFault}
-use Rattle.mdb_verdict.specs.declared.fault.RunFault.TheVariants.{BadRow, TooLong, Read, Write, Memory, Mark as MarkFault}
+use Rattle.mdb_verdict.specs.declared.fault.RunFault.TheVariants.{BadRow, TooLong, Read, Write, Memory}
 use Rattle.mdb_explain.specs.Explain.{explanation_text, mark_fields, record_line}
 use Rattle.mdb_text.specs.Text.{report_text}
 use Rattle.mdb_writing.specs.Written.{HasTaken}
@@ -35,7 +35,6 @@ StopsKeeping scope earlier later (Err TooLong) = ⊥
 StopsKeeping scope earlier later (Err Read) = ⊥
 StopsKeeping scope earlier later (Err Write) = ⊥
 StopsKeeping scope earlier later (Err Memory) = ⊤
-StopsKeeping scope earlier later (Err (MarkFault row)) = ⊥
 
 -- the lines of a mark and of a row, and those of all
 abbrev pub mark_line : ℕ × Mark → List ℕ
@@ -61,7 +60,6 @@ IsTold contents before after IsText (Err Read) = ⊥
 IsTold contents before after IsText (Err Write) = (outcome : Outcome) × (text : List ℕ)
     × IsText outcome text × HasTaken (contents before) (contents after) text
 IsTold contents before after IsText (Err Memory) = after ≡ before
-IsTold contents before after IsText (Err (MarkFault row)) = ⊥
 
 -- the text of a no
 abbrev pub IsNoText : Scope → Offence → Outcome → List ℕ → Type 0

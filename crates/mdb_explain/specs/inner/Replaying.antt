@@ -2,16 +2,17 @@
 use Rattle.std.specs.Prelude.{◌≡◌, ◌≢◌, ◌↔◌, ◌+◌, ◌<◌, ℕ, List, [], ◌∷◌, ◌++◌, length, map, Option, Some, None, Result, Ok, Err}
 use Rattle.mdb_bus.specs.declared.scope.Scope.{Scope}
 use Rattle.mdb_follow.specs.declared.follower.TheConstants.{ROWS_MAX}
-use Rattle.mdb_marks.specs.declared.mark.Mark.{Mark}
+use Rattle.mdb_explained_runs.specs.declared.mark.Mark.{Mark}
 use Rattle.mdb_follow.specs.declared.offence.Offence.{Offence}
-use Rattle.mdb_marks.specs.Replays.{IsReplayReport, StandsFor, rows_of, scope_of}
+use Rattle.mdb_explained_runs.specs.Replays.{IsReplayReport, StandsFor, rows_of, scope_of}
 use Rattle.mdb_follow.specs.declared.report.Report.{Report}
 use Rattle.mdb_text.specs.declared.outcome.Outcome.{Outcome}
 use Rattle.mdb_text.specs.declared.outcome.Outcome.TheVariants.{Yes, No}
+use Rattle.mdb_explain.specs.declared.fault.MarkedFault.TheVariants as marked
 use Rattle.mdb_verdict.specs.declared.fault.RunFault.TheVariants as run
 use Rattle.mdb_explain.specs.declared.entry.Entry.{Entry}
 use Rattle.mdb_explain.specs.declared.entry.Entry.TheVariants as entries
-use Rattle.mdb_verdict.specs.declared.fault.RunFault.{RunFault}
+use Rattle.mdb_explain.specs.declared.fault.MarkedFault.{MarkedFault}
 use Rattle.mdb_explain.specs.declared.replaying.Replaying.{Replaying}
 use Rattle.mdb_explain.specs.Replay.{CanBe, InputPart, IsStopAt, RiseAbove, all_marks}
 use Rattle.mdb_explain.specs.inner.Entries.{IsEntry}
@@ -40,24 +41,24 @@ pub record HasReplayed (scope : Scope) (taker : Replaying) (taken : List Entry) 
 
 -- An entry is stopped at, after entries of a part that can be.
 pub record IsStoppedAt (scope : Scope) (taken : List Entry) (entry : Entry)
-    (stop : Result Offence RunFault) : Type 0 where
+    (stop : Result Offence MarkedFault) : Type 0 where
   pub part : InputPart
   pub are : taken ≡ entries_of part
   pub can_be : CanBe scope ROWS_MAX part
   pub is : (fields : List (List ℕ)) → IsEntry fields entry
       → IsStopAt scope ROWS_MAX part fields stop
-  pub no_write : stop ≢ Err run.Write
-  pub no_read : stop ≢ Err run.Read
+  pub no_write : stop ≢ Err (marked.Run run.Write)
+  pub no_read : stop ≢ Err (marked.Run run.Read)
 
 -- the next entry is taken, or stopped at
-abbrev pub HasTakenNext : Scope → Replaying → List Entry → Entry → Option (Result Offence RunFault)
+abbrev pub HasTakenNext : Scope → Replaying → List Entry → Entry → Option (Result Offence MarkedFault)
     → Type 0
 HasTakenNext scope taker taken entry None = HasReplayed scope taker (taken ++ entry ∷ [])
 HasTakenNext scope taker taken entry (Some stop) = IsStoppedAt scope taken entry stop
 
 -- One of some entries is stopped at, after earlier ones.
 pub record HasStopped (scope : Scope) (earlier later : List Entry)
-    (stop : Result Offence RunFault) : Type 0 where
+    (stop : Result Offence MarkedFault) : Type 0 where
   pub front : List Entry
   pub entry : Entry
   pub rest : List Entry
@@ -81,12 +82,8 @@ pub record FinishesBefore (scope : Scope) (taken : List Entry) (row : ℕ) : Typ
   pub more : List (ℕ × Mark)
   pub first : part.later ≡ (row, mark) ∷ more
 
-abbrev pub Finishes : Scope → List Entry → Result Outcome RunFault → Type 0
+abbrev pub Finishes : Scope → List Entry → Result Outcome MarkedFault → Type 0
 Finishes scope taken (Ok (Yes report)) = FinishesWith scope taken report
 Finishes scope taken (Ok (No offence)) = ⊥
-Finishes scope taken (Err (run.Mark row)) = FinishesBefore scope taken row
-Finishes scope taken (Err (run.BadRow row fault)) = ⊥
-Finishes scope taken (Err run.TooLong) = ⊥
-Finishes scope taken (Err run.Read) = ⊥
-Finishes scope taken (Err run.Write) = ⊥
-Finishes scope taken (Err run.Memory) = ⊥
+Finishes scope taken (Err (marked.Mark row)) = FinishesBefore scope taken row
+Finishes scope taken (Err (marked.Run fault)) = ⊥

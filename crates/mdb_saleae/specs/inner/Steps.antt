@@ -6,14 +6,14 @@ use Rattle.mdb_words.specs.declared.event.Event.{Event}
 use Rattle.mdb_records.specs.ToCome.{ToCome, fault_of}
 use Rattle.mdb_records.specs.declared.ReadFault.TheVariants as reading
 use Rattle.mdb_records.specs.declared.Records.{Records}
-use Rattle.mdb_import.specs.Exports.{row_line}
-use Rattle.mdb_import.specs.Rows.{IsAfter}
+use Rattle.mdb_exports.specs.Rows.{row_line}
+use Rattle.mdb_exports.specs.Order.{IsAfter}
 use Rattle.mdb_writing.specs.Output.{Breaks, Output, Puts}
-use Rattle.mdb_import.specs.inner.Steps.{IsKept, IsSaid, counted_more}
-use Rattle.mdb_import.specs.declared.fault.Imported.{Imported}
+use Rattle.mdb_exports.specs.inner.Told.{IsKept, IsSaid, counted_more}
+use Rattle.mdb_exports.specs.declared.told.Imported.{Imported}
 use Rattle.mdb_saleae.specs.Columns.{IsColumns}
-use Rattle.mdb_saleae.specs.Exports.{IsHeaderAnswer, IsRefusedRow, IsRowsExport, IsTold, is_before}
-use Rattle.mdb_saleae.specs.Exports.{is_behind, is_taken, part_text}
+use Rattle.mdb_saleae.specs.Imports.{IsHeaderAnswer, IsRefusedRow, IsRowsImport, IsTold, is_before}
+use Rattle.mdb_saleae.specs.Imports.{is_behind, is_taken, part_text}
 use Rattle.mdb_saleae.specs.Refusals.{IsFault}
 use Rattle.mdb_saleae.specs.Rows.{AreRows, IsTableRow, last_start}
 use Rattle.mdb_saleae.specs.declared.columns.Columns.{Columns}
@@ -97,12 +97,12 @@ pub record IsBroken (options : SaleaeOptions) (columns : Columns) (rows : List (
     (before after : Output) : Type 0 where
   pub answer : Result Imported SaleaeFault
   pub text : List ℕ
-  pub export : IsRowsExport options columns rows answer text
+  pub import : IsRowsImport options columns rows answer text
   pub broken : Breaks before after text
 
 -- the answer to the records behind a header, where some of the text may still be on its way
 abbrev pub PutsRows : SaleaeOptions → Columns → List (List (List ℕ)) → Output → Output
     → Result Imported SaleaeFault → Type 0
 PutsRows options columns rows before after answer =
-    ((text : List ℕ) × IsRowsExport options columns rows answer text × Puts before after text)
+    ((text : List ℕ) × IsRowsImport options columns rows answer text × Puts before after text)
     ⊎ ((answer ≡ Err Write) × IsBroken options columns rows before after)

@@ -1,7 +1,6 @@
 -- How the lines of `show` come about, row by row, in whatever form. This file serves private
 -- functions and proofs: no public clause cites it.
-use Rattle.std.specs.Prelude.{◌≡◌, ◌⊎◌, ◌+◌, ◌≤◌, ℕ, List, [], ◌∷◌, ◌++◌, length, ⊤, codes, Option, Some, None, Result, Ok, Err, if◌then◌else◌, nat_lt}
-use Rattle.std.specs.Io.KnownBytes.{Appends}
+use Rattle.std.specs.Prelude.{◌≡◌, ◌⊎◌, ◌+◌, ◌≤◌, ℕ, List, [], ◌∷◌, ◌++◌, length, ⊤, Option, Some, None, Result, Ok, Err, if◌then◌else◌, nat_lt}
 use Rattle.mdb_words.specs.declared.event.Event.{Event}
 use Rattle.mdb_bus.specs.declared.act.Act.{Act}
 use Rattle.mdb_bus.specs.declared.act.Act.TheVariants as acts
@@ -13,7 +12,7 @@ use Rattle.mdb_bus.specs.LinkFaults.{IsLinkFault}
 use Rattle.mdb_records.specs.declared.ReadFault.{ReadFault}
 use Rattle.mdb_records.specs.declared.ReadFault.TheVariants as reading
 use Rattle.mdb_verdict.specs.declared.fault.RunFault.{RunFault}
-use Rattle.mdb_verdict.specs.declared.fault.RunFault.TheVariants.{BadRow, TooLong, Read, Write, Memory, Mark}
+use Rattle.mdb_verdict.specs.declared.fault.RunFault.TheVariants.{BadRow, TooLong, Read, Write, Memory}
 use Rattle.mdb_show.specs.declared.showing.Lines.{Lines}
 use Rattle.mdb_show.specs.Show.{IsShowingIn}
 use Rattle.mdb_writing.specs.Output.{Breaks, Output, Puts}
@@ -38,7 +37,6 @@ IsNotTaken TooLong before after text = ⊥
 IsNotTaken Read before after text = ⊥
 IsNotTaken Write before after text = Breaks before after text
 IsNotTaken Memory before after text = after ≡ before
-IsNotTaken (Mark row) before after text = ⊥
 
 -- A bus stands for some pieces.
 abbrev pub HasPieces : Bus → Type 0
@@ -105,7 +103,6 @@ HasAdded form scope lines before after earlier rows (Err Write) =
     (text : List ℕ) × IsAdded form scope earlier rows text × Breaks before after text
 HasAdded form scope lines before after earlier rows (Err Memory) =
     (text : List ℕ) × IsAddedInPart form scope earlier rows text × Puts before after text
-HasAdded form scope lines before after earlier rows (Err (Mark row)) = ⊥
 
 -- the same where one of the rows was stopped at
 abbrev pub HasStopped : LineForm → Scope → Lines → Output → Output → List Event → List Event
@@ -139,4 +136,3 @@ IsShownAs met (Err TooLong) = ⊥
 IsShownAs met (Err Read) = met ≡ reading.Read
 IsShownAs met (Err Write) = ⊤
 IsShownAs met (Err Memory) = ⊤
-IsShownAs met (Err (Mark row)) = ⊥

@@ -1,17 +1,14 @@
 -- What is told with a row more, and what is written of it. This file serves private functions and
 -- proofs: no public clause cites it.
-use Rattle.std.specs.Prelude.{◌≡◌, ◌+◌, ◌-◌, ◌^◌, ◌||◌, ℕ, Bool, true, false, List, [], min, if◌then◌else◌}
+use Rattle.std.specs.Prelude.{◌≡◌, ◌||◌, ℕ, List, [], if◌then◌else◌}
 use Rattle.std.specs.List.{flat_map}
 use Rattle.mdb_words.specs.declared.event.Event.{Event}
-use Rattle.mdb_sigrok.specs.Import.{row_line}
-use Rattle.mdb_sigrok.specs.Part.{is_before, is_behind, is_controllers, is_devices, is_marked, is_taken}
+use Rattle.mdb_exports.specs.Rows.{row_line}
+use Rattle.mdb_exports.specs.Told.{is_controllers, is_peripherals, is_marked}
+use Rattle.mdb_exports.specs.inner.Told.{counted_more}
+use Rattle.mdb_sigrok.specs.Part.{is_before, is_behind, is_taken}
 use Rattle.mdb_sigrok.specs.declared.options.SigrokOptions.{SigrokOptions}
 use Rattle.mdb_sigrok.specs.declared.tally.SigrokRows.{SigrokRows}
-
--- a count with one more, if it counts
-abbrev pub counted_more : ℕ → Bool → ℕ
-counted_more count true = min (count + 1) (2 ^ 64 - 1)
-counted_more count false = count
 
 -- what is told with a row more
 pub record IsNoted (options : SigrokOptions) (old new : SigrokRows) (row : Event) : Type 0 where
@@ -20,7 +17,7 @@ pub record IsNoted (options : SigrokOptions) (old new : SigrokRows) (row : Event
   pub after : new.after ≡ counted_more old.after (is_behind options row)
   pub marked : new.marked ≡ (old.marked || is_marked row)
   pub controller : new.controller ≡ (old.controller || is_controllers row)
-  pub peripheral : new.peripheral ≡ (old.peripheral || is_devices row)
+  pub peripheral : new.peripheral ≡ (old.peripheral || is_peripherals row)
 
 -- what is written of a row: its text, if it is in the part that was asked for
 abbrev pub part_line : SigrokOptions → Event → List ℕ

@@ -1,5 +1,5 @@
 use Rattle.std.proofs.Common.{sym}
-use Rattle.mdb_import.proofs.Records.{field_some}
+use Rattle.mdb_exports.proofs.Records.{field_some}
 use Rattle.mdb_edges.proofs.fields.field_of.Goals as goal
 
 pub unreachable-requires : goal.unreachable-requires

@@ -1,5 +1,5 @@
 use Rattle.std.proofs.lemmas.Option.{IfSome_then}
-use Rattle.mdb_import.specs.Exports.{export_records}
+use Rattle.mdb_exports.specs.Records.{export_records}
 use Rattle.mdb_edges.proofs.import.import_edges.Goals as goal
 
 pub returns-in-Ok-clause-written : goal.returns-in-Ok-clause-written

@@ -1,5 +1,5 @@
 use Rattle.std.proofs.Common.{arith, sym, subst, ◌*◌, ◌^◌, ◌<◌, ◌∙◌}
-use Rattle.mdb_import.specs.Times.{per_second}
+use Rattle.mdb_exports.specs.Times.{per_second}
 use Rattle.mdb_edges.specs.Table.{AreParts}
 use Rattle.mdb_edges.proofs.Parts.{parts_exact, parts_small}
 use Rattle.mdb_edges.proofs.record.parts_of.Goals as goal

@@ -1,5 +1,5 @@
 use Rattle.std.proofs.Common.{inl, inr, arith, ℕ, List, length, ap, subst, sym}
-use Rattle.mdb_sigrok.specs.Rows.{Merges}
+use Rattle.mdb_exports.specs.Order.{Merges}
 use Rattle.mdb_edges.specs.Faults.{IsFirstFault}
 use Rattle.mdb_edges.proofs.Tables.{no_head_table, no_table, table_of}
 use Rattle.mdb_edges.proofs.table.rows_of_records.Goals as goal

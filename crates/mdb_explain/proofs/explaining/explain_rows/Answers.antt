@@ -1,6 +1,6 @@
 use Rattle.std.proofs.Common.{refl, subst, sym}
 use Rattle.mdb_bus.specs.Scopes.{leaving_out}
-use Rattle.mdb_marks.specs.Goals.{Explains}
+use Rattle.mdb_explained_runs.specs.Goals.{Explains}
 use Rattle.mdb_explain.specs.Explain.{explanation_text}
 use Rattle.mdb_explain.proofs.ExplainedTexts as explanations
 use Rattle.mdb_explain.proofs.explaining.explain_rows.Goals as goal

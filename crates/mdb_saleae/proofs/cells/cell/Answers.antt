@@ -1,6 +1,6 @@
 use Rattle.std.proofs.Common.{ap, sym, ◌∙◌}
 use Rattle.csv.specs.Records.{fields_of}
-use Rattle.mdb_import.specs.Fields.{bare}
+use Rattle.mdb_exports.specs.Fields.{bare}
 use Rattle.mdb_saleae.proofs.FieldsAt.{field_is, field_none}
 use Rattle.mdb_saleae.proofs.cells.cell.Goals as goal
 

@@ -5,16 +5,16 @@ use Rattle.mdb_saleae.proofs.Outputs.{cut_short, no_table, page_broken, page_unr
 use Rattle.mdb_saleae.proofs.Outputs.{written_out}
 use Rattle.mdb_saleae.proofs.importing.import_table.Goals as goal
 
-pub returns-in-Err-clause-exports : goal.returns-in-Err-clause-exports
-returns-in-Err-clause-exports g c all to_come =
+pub returns-in-Err-clause-imports : goal.returns-in-Err-clause-imports
+returns-in-Err-clause-imports g c all to_come =
     no_table c.args.options.now all (g.W.Write.contents c.args.writer.now) c.in-Err.fault
     (c.in-Err.ensures.begins all to_come)
 
 pub take_all-answer-requires-clause-told : goal.take_all-answer-requires-clause-told
 take_all-answer-requires-clause-told g c = c.new-importing.ensures.told c.args.options.now
 
-pub returns-in_err-write_out-clause-exports : goal.returns-in_err-write_out-clause-exports
-returns-in_err-write_out-clause-exports g c all to_come =
+pub returns-in_err-write_out-clause-imports : goal.returns-in_err-write_out-clause-imports
+returns-in_err-write_out-clause-imports g c all to_come =
     let now = output (g.W.Write.contents c.take_all-answer.new.writer)
     c.take_all-answer.new.self.page in
     let begins = c.in-Ok.ensures.begins all to_come in
@@ -26,8 +26,8 @@ returns-in_err-write_out-clause-exports g c all to_come =
     (c.take_all-answer.ensures.puts begins.1 begins.4) (search rules)
     c.write_out.ensures.front)
 
-pub returns-in_ok-write_out-clause-exports : goal.returns-in_ok-write_out-clause-exports
-returns-in_ok-write_out-clause-exports g c all to_come =
+pub returns-in_ok-write_out-clause-imports : goal.returns-in_ok-write_out-clause-imports
+returns-in_ok-write_out-clause-imports g c all to_come =
     let now = output (g.W.Write.contents c.take_all-answer.new.writer)
     c.take_all-answer.new.self.page in
     let begins = c.in-Ok.ensures.begins all to_come in
@@ -36,8 +36,8 @@ returns-in_ok-write_out-clause-exports g c all to_come =
     c.take_all-answer.result begins.2 begins.3 (c.take_all-answer.ensures.puts begins.1 begins.4)
     (search rules) c.in_ok-write_out.ensures.written
 
-pub returns-else-ne-clause-exports : goal.returns-else-ne-clause-exports
-returns-else-ne-clause-exports g c all to_come =
+pub returns-else-ne-clause-imports : goal.returns-else-ne-clause-imports
+returns-else-ne-clause-imports g c all to_come =
     let begins = c.in-Ok.ensures.begins all to_come in
     rows_broken c.args.options.now begins.0 begins.1 all c.in-Ok.columns
     (g.W.Write.contents c.args.writer.now)

@@ -1,7 +1,7 @@
 use Rattle.std.proofs.Common.{sym, subst}
-use Rattle.mdb_import.specs.Refusals.{IsTimeFault}
-use Rattle.mdb_import.specs.Times.{IsTime}
-use Rattle.mdb_import.specs.declared.options.Unit.TheVariants.{Seconds}
+use Rattle.mdb_exports.specs.Refusals.{IsTimeFault}
+use Rattle.mdb_exports.specs.Times.{IsTime}
+use Rattle.mdb_exports.specs.declared.units.Unit.TheVariants.{Seconds}
 use Rattle.std.proofs.Common.{Some}
 use Rattle.mdb_saleae.specs.Seconds.{IsSecondsFault}
 use Rattle.mdb_saleae.proofs.Words.{time_why}

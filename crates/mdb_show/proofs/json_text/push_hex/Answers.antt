@@ -1,4 +1,4 @@
-use Rattle.std.proofs.Common.{rules, ap, ◌∙◌, ◌++◌, append_assoc}
+use Rattle.std.proofs.Common.{rules, ◌++◌}
 use Rattle.std.specs.Prelude.{codes}
 use Rattle.mdb_show.specs.ShowJson.{hex_text}
 use Rattle.mdb_show.proofs.JsonLines.{hex_member, then_put}

@@ -1,4 +1,4 @@
-use Rattle.std.proofs.Common.{List, inl, subst}
+use Rattle.std.proofs.Common.{List, subst}
 use Rattle.mdb_words.specs.declared.event.Event.{Event}
 use Rattle.mdb_writing.specs.Written.{HasTaken}
 use Rattle.mdb_sigrok.specs.Part.{IsTold}
@@ -15,7 +15,7 @@ returns-in-Ok g c =
     let held = g.W.Write.contents in
     let options = c.args.options.now in
     partial_by options (g.R.Read.remaining c.args.reader) c.in-Ok.rows.items c.from.result (held c.args.writer.now) (held c.write_part.new.writer) c.in-Ok.ensures.rows
-    (subst (λ (l : List Event). HasTaken (held c.args.writer.now) (held c.write_part.new.writer) (part_text options l)) c.as_slice.ensures.value c.write_part.ensures.front) (inl c.from.ensures)
+    (subst (λ (l : List Event). HasTaken (held c.args.writer.now) (held c.write_part.new.writer) (part_text options l)) c.as_slice.ensures.value c.write_part.ensures.front) c.from.ensures
 
 pub returns-in-Ok-write_part : goal.returns-in-Ok-write_part
 returns-in-Ok-write_part g c =

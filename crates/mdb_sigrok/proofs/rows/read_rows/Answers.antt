@@ -1,5 +1,5 @@
 use Rattle.std.proofs.Common.{inr, subst, sym}
-use Rattle.mdb_sigrok.specs.Rows.{Merges}
+use Rattle.mdb_exports.specs.Order.{Merges}
 use Rattle.mdb_sigrok.specs.Text.{lines_of}
 use Rattle.mdb_sigrok.specs.inner.Fronts.{AreFirst, Leaves}
 use Rattle.mdb_sigrok.proofs.Sources.{of_any, only_rows_by, refused_rows_by}

@@ -1,6 +1,6 @@
 use Rattle.std.proofs.Common.{refl, subst, []}
 use Rattle.mdb_bus.specs.Scopes.{leaving_out}
-use Rattle.mdb_marks.specs.ReplayFaults.{HasMarkedRun}
+use Rattle.mdb_explained_runs.specs.ReplayFaults.{HasMarkedRun}
 use Rattle.mdb_explain.proofs.MarkSteps as steps
 use Rattle.mdb_explain.proofs.replaying.Replaying.new.Goals as goal
 

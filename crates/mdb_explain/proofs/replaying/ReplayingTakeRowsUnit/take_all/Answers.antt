@@ -1,5 +1,5 @@
 use Rattle.std.proofs.Common.{subst, sym}
-use Rattle.mdb_marks.specs.Replays.{scope_of}
+use Rattle.mdb_explained_runs.specs.Replays.{scope_of}
 use Rattle.mdb_verdict.specs.Ending.{HasTakenOrStopped}
 use Rattle.mdb_explain.specs.inner.Replaying.{HasReplayed, HasStopped}
 use Rattle.mdb_explain.proofs.replaying.ReplayingTakeRowsUnit.take_all.Goals as goal

@@ -1,7 +1,0 @@
-use Rattle.std.proofs.Common.{refl}
-use Rattle.std.specs.Fmt.{digits}
-use Rattle.mdb_check.proofs.complaint.text_of_excess.Goals as goal
-
-pub returns : goal.returns
-unfolding digits
-returns c = refl

@@ -1,5 +1,0 @@
-use Rattle.mdb_ends.proofs.EndRuns.{end_reached}
-use Rattle.mdb_ends.proofs.laws.ends_of_reached_rows_are_reached.Goals as goal
-
-pub returns : goal.returns
-returns c = end_reached c.end_laws.ensures

@@ -1,5 +1,0 @@
-use Rattle.mdb_ends.proofs.Cutting.{ends_have_act_lists}
-use Rattle.mdb_ends.proofs.laws.ends_of_transcripts_have_act_lists.Goals as goal
-
-pub returns : goal.returns
-returns c = ends_have_act_lists

@@ -1,5 +1,0 @@
-use Rattle.mdb_ends.proofs.EndRuns.{gained_there}
-use Rattle.mdb_ends.proofs.laws.runs_of_ends_gain_what_whole_runs_gain_there.Goals as goal
-
-pub returns : goal.returns
-returns c = gained_there c.end_laws.ensures

@@ -1,0 +1,127 @@
+-- The best marks of each device, for a goal: with them no run goes further towards the end of the
+-- range, and none that comes there has fewer marks of a device.
+use Rattle.std.proofs.Common.{arith, inl, inr, refl, sym, subst, ap, ◌∙◌, ◌≡◌, ◌≤◌, ℕ, ℤ, ◌≤ℤ◌}
+use Rattle.std.proofs.Common.{List, length}
+use Rattle.std.proofs.lemmas.Int.{ints}
+use Rattle.mdb_msgs.specs.declared.command.Device.{Device}
+use Rattle.mdb_msgs.specs.declared.command.Device.TheVariants as devices
+use Rattle.mdb_msgs.specs.declared.command.ReaderUnit.TheVariants as units
+use Rattle.mdb_bus.specs.declared.scope.Beginning.TheVariants.{PowerOn}
+use Rattle.mdb_bus.specs.ActLists.{Piece, acts_of}
+use Rattle.mdb_follow.specs.declared.account_name.AccountName.{AccountName}
+use Rattle.mdb_follow.specs.declared.account_name.AccountName.TheVariants as accounts
+use Rattle.mdb_explained_runs.specs.declared.explain.best.Weight.{Weight}
+use Rattle.mdb_explained_runs.specs.declared.explain.best.Weight.TheVariants as weights
+use Rattle.mdb_follow.specs.declared.goal.AccountSide.{AccountSide}
+use Rattle.mdb_follow.specs.declared.goal.Bound.{Bound}
+use Rattle.mdb_follow.specs.declared.goal.Bound.TheVariants.{Least, Greatest}
+use Rattle.mdb_follow.specs.declared.goal.Goal.{Goal}
+use Rattle.mdb_explained_runs.specs.declared.mark.Mark.{Mark}
+use Rattle.mdb_follow.specs.AccountNames.{account_device, sums_of}
+use Rattle.mdb_follow.specs.Choosing.{Choices, Follows}
+use Rattle.mdb_follow.specs.Ends.{IsAsFar, goal_value, side_value}
+use Rattle.mdb_follow.specs.Machines.{StateOf, machine_of}
+use Rattle.mdb_explained_runs.specs.Marks.{own_marks}
+use Rattle.mdb_follow.specs.Runs.{AllSums}
+use Rattle.mdb_explained_runs.specs.inner.AllPaths.{AreBestMarks, weight_at, weight_for}
+use Rattle.mdb_explained_runs.specs.inner.Weights.{towards, weigh}
+use Rattle.mdb_follow.proofs.ByDevice.{same_or_not}
+
+-- what the sums of the goal's device count is the goal's value, towards its end
+account-weighed : (side : AccountSide) (bound : Bound) (account : AccountName) (sums : AllSums)
+    → weigh (weight_at side bound account (account_device account)) (sums (account_device account))
+    ≡ towards bound (side_value side (sums_of account sums))
+account-weighed side bound accounts.CoinsIn sums = refl
+account-weighed side bound accounts.BillsIn sums = refl
+account-weighed side bound accounts.PaidOut sums = refl
+account-weighed side bound (accounts.Approved units.First) sums = refl
+account-weighed side bound (accounts.Approved units.Second) sums = refl
+account-weighed side bound (accounts.Sold units.First) sums = refl
+account-weighed side bound (accounts.Sold units.Second) sums = refl
+
+pub goal-weighed : (goal : Goal) (sums : AllSums)
+    → weigh (weight_for goal (account_device goal.account)) (sums (account_device goal.account))
+    ≡ towards goal.bound (goal_value goal sums)
+goal-weighed goal sums = account-weighed goal.side goal.bound goal.account sums
+
+-- those of another device count nothing
+account-apart : (side : AccountSide) (bound : Bound) (account : AccountName) (device : Device)
+    → (account_device account ≡ device → ⊥) → weight_at side bound account device ≡ weights.Nothing
+account-apart side bound accounts.CoinsIn devices.Changer apart = absurd (apart refl)
+account-apart side bound accounts.CoinsIn devices.Bill apart = refl
+account-apart side bound accounts.CoinsIn (devices.Reader unit) apart = refl
+account-apart side bound accounts.BillsIn devices.Changer apart = refl
+account-apart side bound accounts.BillsIn devices.Bill apart = absurd (apart refl)
+account-apart side bound accounts.BillsIn (devices.Reader unit) apart = refl
+account-apart side bound accounts.PaidOut devices.Changer apart = absurd (apart refl)
+account-apart side bound accounts.PaidOut devices.Bill apart = refl
+account-apart side bound accounts.PaidOut (devices.Reader unit) apart = refl
+account-apart side bound (accounts.Approved units.First) devices.Changer apart = refl
+account-apart side bound (accounts.Approved units.Second) devices.Changer apart = refl
+account-apart side bound (accounts.Approved units.First) devices.Bill apart = refl
+account-apart side bound (accounts.Approved units.Second) devices.Bill apart = refl
+account-apart side bound (accounts.Approved units.First) (devices.Reader units.First) apart =
+    absurd (apart refl)
+account-apart side bound (accounts.Approved units.First) (devices.Reader units.Second) apart = refl
+account-apart side bound (accounts.Approved units.Second) (devices.Reader units.First) apart = refl
+account-apart side bound (accounts.Approved units.Second) (devices.Reader units.Second) apart =
+    absurd (apart refl)
+account-apart side bound (accounts.Sold units.First) devices.Changer apart = refl
+account-apart side bound (accounts.Sold units.Second) devices.Changer apart = refl
+account-apart side bound (accounts.Sold units.First) devices.Bill apart = refl
+account-apart side bound (accounts.Sold units.Second) devices.Bill apart = refl
+account-apart side bound (accounts.Sold units.First) (devices.Reader units.First) apart =
+    absurd (apart refl)
+account-apart side bound (accounts.Sold units.First) (devices.Reader units.Second) apart = refl
+account-apart side bound (accounts.Sold units.Second) (devices.Reader units.First) apart = refl
+account-apart side bound (accounts.Sold units.Second) (devices.Reader units.Second) apart =
+    absurd (apart refl)
+
+-- where two runs come to the same value of the goal, the sums of each device count the same in both
+pub same-weighed : (goal : Goal) (device : Device) (one other : AllSums)
+    → goal_value goal one ≡ goal_value goal other
+    → weigh (weight_for goal device) (one device) ≡ weigh (weight_for goal device) (other device)
+same-weighed goal device one other same =
+    elim (same_or_not (account_device goal.account) device) [
+      | inl its ↦
+          subst (λ d. weigh (weight_for goal d) (one d) ≡ weigh (weight_for goal d) (other d)) its
+          (goal-weighed goal one ∙ ap (towards goal.bound) same ∙ sym (goal-weighed goal other))
+      | inr apart ↦
+          subst (λ (w : Weight). weigh w (one device) ≡ weigh w (other device))
+          (sym (account-apart goal.side goal.bound goal.account device apart)) refl
+    ]
+
+-- what counts less is at least as far
+as-far : (bound : Bound) (one other : ℤ) → towards bound one ≤ℤ towards bound other
+    → IsAsFar bound one other
+as-far Least one other less = less
+as-far Greatest one other less = omega (arith, ints)
+
+-- no way of the goal's device goes further than one with the best marks
+pub farthest-of : (goal : Goal) (pieces : List Piece) (marks : List (ℕ × Mark))
+    (best : AreBestMarks goal pieces (account_device goal.account) marks) (sums other : AllSums)
+    → sums (account_device goal.account) ≡ best.sums
+    → (state : StateOf (account_device goal.account)) (choices : Choices (acts_of pieces))
+    → Follows (machine_of PowerOn (account_device goal.account)) (acts_of pieces) choices state
+    (other (account_device goal.account))
+    → IsAsFar goal.bound (goal_value goal sums) (goal_value goal other)
+farthest-of goal pieces marks best sums other its state choices way =
+    let device = account_device goal.account in
+    let weight = weight_for goal device in
+    let good = best.least state (other device) choices way in
+    as-far goal.bound (goal_value goal sums) (goal_value goal other)
+    (subst (λ v. v ≤ℤ towards goal.bound (goal_value goal other))
+    (ap (weigh weight) (sym its) ∙ goal-weighed goal sums)
+    (subst (λ v. weigh weight best.sums ≤ℤ v) (goal-weighed goal other) good.no_greater))
+
+-- and no way of a device, in a run that comes as far, has fewer marks than the best
+pub fewest-of : (goal : Goal) (pieces : List Piece) (device : Device) (marks : List (ℕ × Mark))
+    (best : AreBestMarks goal pieces device marks) (sums other : AllSums)
+    → sums device ≡ best.sums → goal_value goal other ≡ goal_value goal sums
+    → (state : StateOf device) (choices : Choices (acts_of pieces))
+    → Follows (machine_of PowerOn device) (acts_of pieces) choices state (other device)
+    → length marks ≤ length (own_marks device pieces choices)
+fewest-of goal pieces device marks best sums other its same state choices way =
+    let weight = weight_for goal device in
+    (best.least state (other device) choices way).no_more
+    (ap (weigh weight) (sym its) ∙ same-weighed goal device sums other (sym same))

@@ -1,0 +1,237 @@
+-- The best marks of each device towards a goal, as one list: they explain it.
+use Rattle.std.proofs.Common.{arith, refl, sym, ap, subst, ◌∙◌, ◌≡◌, ℕ, ◌+◌, ◌≤◌}
+use Rattle.std.proofs.Common.{List, length, Contains}
+use Rattle.mdb_words.specs.declared.event.Event.{Event}
+use Rattle.mdb_msgs.specs.declared.command.Device.{Device}
+use Rattle.mdb_msgs.specs.declared.command.Device.TheVariants as devices
+use Rattle.mdb_msgs.specs.declared.command.ReaderUnit.TheVariants.{First, Second}
+use Rattle.mdb_msgs.specs.declared.device_set.DeviceSet.{DeviceSet}
+use Rattle.mdb_bus.specs.ActLists.{ArePieces, IsActList, Piece, acts_of}
+use Rattle.mdb_bus.specs.Bus as link
+use Rattle.mdb_bus.specs.Loss.{Loss, LossFits}
+use Rattle.mdb_bus.specs.Scopes.{leaving_out}
+use Rattle.mdb_bus.specs.declared.scope.Beginning.{Beginning}
+use Rattle.mdb_bus.specs.declared.scope.Beginning.TheVariants.{PowerOn}
+use Rattle.mdb_bus.specs.declared.scope.Scope.{Scope}
+use Rattle.mdb_explained_runs.specs.declared.explain.seeker.Seeker.{Seeker}
+use Rattle.mdb_follow.specs.declared.goal.Goal.{Goal}
+use Rattle.mdb_explained_runs.specs.declared.mark.Mark.{Mark}
+use Rattle.mdb_follow.specs.AccountNames.{account_device}
+use Rattle.mdb_follow.specs.Choosing.{AllFollow, Choices, choices_of}
+use Rattle.mdb_explained_runs.specs.Goals.{Explains}
+use Rattle.mdb_follow.specs.Machines.{machine_of}
+use Rattle.mdb_explained_runs.specs.Marks.{MarkedRun, Rise, marks_of, own_marks}
+use Rattle.mdb_follow.specs.Runs.{AllSums, IsReached, IsWay, States}
+use Rattle.mdb_explained_runs.specs.inner.AllPaths.{AreBestMarks, HasWay}
+use Rattle.mdb_explained_runs.specs.inner.Merges.{IsMergeOf, IsOfBoth}
+use Rattle.mdb_explained_runs.specs.inner.Seekers.{IsSeeker}
+use Rattle.mdb_explained_runs.proofs.BestMarks.{farthest-of, fewest-of}
+use Rattle.mdb_follow.proofs.Choosing.{follows_as, merged, merged_agrees}
+use Rattle.mdb_follow.proofs.Following.{OneActList}
+use Rattle.mdb_follow.proofs.Joining.{split_with_choices}
+use Rattle.mdb_follow.proofs.Machines.{is_machine_of}
+use Rattle.mdb_explained_runs.proofs.MarkedRuns.{marks_rise, rising_one}
+use Rattle.mdb_explained_runs.proofs.Merging.{all_merged}
+use Rattle.mdb_explained_runs.proofs.OwnMarks.{PartsAreTold, all_together, in_own, own_apart, own_in}
+use Rattle.mdb_explained_runs.proofs.OwnMarks.{own_of_merged, own_rise}
+
+-- what the laws say: ways with the same choices join, rows have one act list, and it is told
+-- whether a device has a part in an act
+pub record ExplainLaws : Type 0 where
+  pub joins : (scope : Scope) (pieces : List Piece) (chosen : Choices (acts_of pieces))
+      (states : States) (sums : AllSums) → ArePieces scope pieces
+      → AllFollow scope.begins (acts_of pieces) chosen states sums
+      → (loss : Loss) × LossFits loss pieces
+      × (way : IsWay scope.begins loss pieces states sums)
+      × (choices_of scope.begins loss pieces states sums way ≡ chosen)
+  pub one_list : (scope : Scope) → OneActList scope
+  pub told : PartsAreTold
+
+-- ways of each device with the same choices, and their marks
+record WaysWith (begins : Beginning) (pieces : List Piece) (marks : List (ℕ × Mark))
+    (sums : AllSums) : Type 0 where
+  chosen : Choices (acts_of pieces)
+  states : States
+  ways : AllFollow begins (acts_of pieces) chosen states sums
+  are : marks_of pieces chosen ≡ marks
+
+-- a run has such ways through the acts of its rows
+ways_with : ExplainLaws → (scope : Scope) (events : List Event) (pieces : List Piece)
+    → IsActList scope pieces events → (marks : List (ℕ × Mark)) (sums : AllSums)
+    → MarkedRun scope events marks sums → WaysWith scope.begins pieces marks sums
+ways_with laws scope events pieces list marks sums marked =
+    let run = marked.run in
+    subst (λ ps. WaysWith scope.begins ps marks sums)
+    (laws.one_list scope events run.pieces pieces run.act_list list) (record {
+      chosen = choices_of scope.begins run.loss run.pieces run.states sums run.way;
+      states = run.states;
+      ways = split_with_choices scope.begins run.loss run.pieces run.states sums run.way;
+      are = marked.are;
+    })
+
+-- the marks of each device as one list are those of what all choose together
+merge_is : PartsAreTold → (scope : Scope) (pieces : List Piece) → ArePieces scope pieces
+    → (own : Device → Choices (acts_of pieces)) (marks : Device → List (ℕ × Mark))
+    → ((device : Device) → own_marks device pieces (own device) ≡ marks device)
+    → (merge : List (ℕ × Mark)) → IsMergeOf marks merge
+    → marks_of pieces (merged (acts_of pieces) own) ≡ merge
+merge_is told scope pieces are own marks same merge is =
+    let chosen : Choices (acts_of pieces) = merged (acts_of pieces) own in
+    let each : (device : Device) → own_marks device pieces chosen ≡ marks device =
+    λ device. own_of_merged told device pieces own ∙ same device in
+    rising_one (marks_of pieces chosen) merge (marks_rise scope pieces chosen are) is.rise
+    (λ mark. (
+      (λ has. let found = in_own told pieces chosen mark has in
+          is.own found.0 mark (subst (λ its. Contains its mark) (each found.0) found.1)),
+      (λ has. let found = is.some mark has in
+          own_in found.0 pieces chosen mark
+          (subst (λ its. Contains its mark) (sym (each found.0)) found.1)),
+    ))
+
+-- so they are as many as those of each device together
+merge_count : PartsAreTold → (scope : Scope) (pieces : List Piece) → ArePieces scope pieces
+    → (own : Device → Choices (acts_of pieces)) (marks : Device → List (ℕ × Mark))
+    → ((device : Device) → own_marks device pieces (own device) ≡ marks device)
+    → (merge : List (ℕ × Mark)) → IsMergeOf marks merge
+    → length merge ≡ length (marks devices.Changer) + length (marks devices.Bill)
+    + length (marks (devices.Reader First)) + length (marks (devices.Reader Second))
+merge_count told scope pieces are own marks same merge is =
+    let chosen : Choices (acts_of pieces) = merged (acts_of pieces) own in
+    let each : (device : Device) → length (own_marks device pieces chosen) ≡ length (marks device) =
+    λ device. ap length (own_of_merged told device pieces own ∙ same device) in
+    omega (
+      arith,
+      ap length (merge_is told scope pieces are own marks same merge is),
+      all_together pieces chosen,
+      each devices.Changer,
+      each devices.Bill,
+      each (devices.Reader First),
+      each (devices.Reader Second),
+    )
+
+-- the marks of a best way of each device, as one list, explain the goal
+pub explained : ExplainLaws → (without : DeviceSet) (events : List Event) (pieces : List Piece)
+    → IsActList (leaving_out without) pieces events → (goal : Goal)
+    (marks : Device → List (ℕ × Mark))
+    → ((device : Device) → AreBestMarks goal pieces device (marks device))
+    → (merge : List (ℕ × Mark)) → IsMergeOf marks merge
+    → Explains (leaving_out without) events goal merge
+explained laws without events pieces list goal marks best merge is =
+    let scope : Scope = leaving_out without in
+    let own : Device → Choices (acts_of pieces) = λ device. (best device).choices in
+    let states : States = λ device. (best device).state in
+    let sums : AllSums = λ device. (best device).sums in
+    let same : (device : Device) → own_marks device pieces (own device) ≡ marks device =
+    λ device. sym (best device).are in
+    let chosen : Choices (acts_of pieces) = merged (acts_of pieces) own in
+    let found = laws.joins scope pieces chosen states sums list.in_order
+    (λ device. follows_as device (machine_of PowerOn device) (is_machine_of PowerOn device)
+    (acts_of pieces) (own device) chosen (merged_agrees (acts_of pieces) own device)
+    (states device) (sums device) (best device).way) in
+    record {
+      sums = sums;
+      marked = record {
+        run = record {
+          pieces = pieces;
+          act_list = list;
+          loss = found.0;
+          fits = found.1;
+          states = states;
+          way = found.2;
+        };
+        are = ap (marks_of pieces) found.3
+            ∙ merge_is laws.told scope pieces list.in_order own marks same merge is;
+      };
+      farthest = λ other run.
+          let its = choices_of PowerOn run.loss run.pieces run.states other run.way in
+          let ways = ways_with laws scope events pieces list (marks_of run.pieces its) other
+          (record { run = run; are = refl }) in
+          let device : Device = account_device goal.account in
+          farthest-of goal pieces (marks device) (best device) sums other refl
+          (ways.states device) ways.chosen (ways.ways device);
+      fewest = λ others other marked as_good.
+          let ways = ways_with laws scope events pieces list others other marked in
+          let no_more : (device : Device)
+          → length (marks device) ≤ length (own_marks device pieces ways.chosen) =
+          λ device. fewest-of goal pieces device (marks device) (best device) sums other refl
+          as_good (ways.states device) ways.chosen (ways.ways device) in
+          omega (
+            arith,
+            merge_count laws.told scope pieces list.in_order own marks same merge is,
+            ap length ways.are,
+            all_together pieces ways.chosen,
+            no_more devices.Changer,
+            no_more devices.Bill,
+            no_more (devices.Reader First),
+            no_more (devices.Reader Second),
+          );
+    }
+
+-- a list of marks for each device
+abbrev of_each : (changer bill first second : List (ℕ × Mark)) → Device → List (ℕ × Mark)
+of_each changer bill first second devices.Changer = changer
+of_each changer bill first second devices.Bill = bill
+of_each changer bill first second (devices.Reader First) = first
+of_each changer bill first second (devices.Reader Second) = second
+
+each_best : (goal : Goal) (pieces : List Piece) (changer bill first second : List (ℕ × Mark))
+    → AreBestMarks goal pieces devices.Changer changer
+    → AreBestMarks goal pieces devices.Bill bill
+    → AreBestMarks goal pieces (devices.Reader First) first
+    → AreBestMarks goal pieces (devices.Reader Second) second
+    → (device : Device) → AreBestMarks goal pieces device (of_each changer bill first second device)
+each_best goal pieces changer bill first second a b c d devices.Changer = a
+each_best goal pieces changer bill first second a b c d devices.Bill = b
+each_best goal pieces changer bill first second a b c d (devices.Reader First) = c
+each_best goal pieces changer bill first second a b c d (devices.Reader Second) = d
+
+-- the lists of the devices become one by three steps, and it explains the goal
+pub explained_by : ExplainLaws → (without : DeviceSet) (events : List Event) (pieces : List Piece)
+    → IsActList (leaving_out without) pieces events → (goal : Goal)
+    (changer bill first second cash cashless all : List (ℕ × Mark))
+    → AreBestMarks goal pieces devices.Changer changer
+    → AreBestMarks goal pieces devices.Bill bill
+    → AreBestMarks goal pieces (devices.Reader First) first
+    → AreBestMarks goal pieces (devices.Reader Second) second
+    → IsOfBoth changer bill cash → IsOfBoth first second cashless → IsOfBoth cash cashless all
+    → Explains (leaving_out without) events goal all
+explained_by laws without events pieces list goal changer bill first second cash cashless all
+    a b c d one two both =
+    let scope : Scope = leaving_out without in
+    let marks : Device → List (ℕ × Mark) = of_each changer bill first second in
+    let best : (device : Device) → AreBestMarks goal pieces device (marks device) =
+    each_best goal pieces changer bill first second a b c d in
+    let own : Device → Choices (acts_of pieces) = λ device. (best device).choices in
+    let chosen : Choices (acts_of pieces) = merged (acts_of pieces) own in
+    let each : (device : Device) → own_marks device pieces chosen ≡ marks device =
+    λ device. own_of_merged laws.told device pieces own ∙ sym (best device).are in
+    explained laws without events pieces list goal marks best all
+    (all_merged marks cash cashless all
+    (λ device. subst Rise (each device) (own_rise scope device pieces chosen list.in_order))
+    (λ x y differ mark next has its same. differ
+    (own_apart laws.told scope pieces chosen list.in_order x y mark next
+    (subst (λ ms. Contains ms mark) (sym (each x)) has)
+    (subst (λ ms. Contains ms next) (sym (each y)) its) same))
+    one two both)
+
+-- the pieces of a seeker are the act list of its rows
+pub list-of-seeker : (goal : Goal) (events : List Event) (seeker : Seeker) (scope : Scope)
+    → link.scope_of seeker.bus ≡ scope → (on : IsSeeker goal events seeker)
+    → IsActList scope on.pieces events
+list-of-seeker goal events seeker scope same on = record {
+  in_order = subst (λ s. ArePieces s on.pieces) same on.on_bus.in_order;
+  whole = on.whole;
+}
+
+-- in reached rows each device has a way through the acts of their act list
+pub has-way : (without : DeviceSet) → OneActList (leaving_out without) → (events : List Event)
+    (pieces : List Piece) → IsActList (leaving_out without) pieces events
+    → IsReached (leaving_out without) events → (device : Device) → HasWay pieces device
+has-way without one events pieces list reached device =
+    let run = reached.1 in
+    subst (λ ps. HasWay ps device) (one events run.pieces pieces run.act_list list) (
+      run.states device,
+      reached.0 device,
+      choices_of PowerOn run.loss run.pieces run.states reached.0 run.way,
+      split_with_choices PowerOn run.loss run.pieces run.states reached.0 run.way device,
+    )

@@ -1,0 +1,204 @@
+-- What a replay reports: it is one, and where the marks explain a goal, it comes to its end.
+use Rattle.std.proofs.Common.{arith, refl, sym, ap, subst, ◌∙◌, ◌≡◌, ℕ, ℤ, ◌≤ℤ◌, ◌-ℤ◌, pos, List, length}
+use Rattle.std.proofs.lemmas.Int.{ints}
+use Rattle.mdb_words.specs.declared.event.Event.{Event}
+use Rattle.mdb_msgs.specs.declared.command.Device.{Device}
+use Rattle.mdb_msgs.specs.declared.command.Device.TheVariants as devices
+use Rattle.mdb_bus.specs.declared.scope.Beginning.TheVariants.{PowerOn}
+use Rattle.mdb_bus.specs.declared.scope.Scope.{Scope}
+use Rattle.mdb_bus.specs.ActLists.{acts_of}
+use Rattle.mdb_follow.specs.declared.account.Account.{Account}
+use Rattle.mdb_follow.specs.declared.account_name.AccountName.{AccountName}
+use Rattle.mdb_follow.specs.declared.account_name.AccountName.TheVariants.{CoinsIn, BillsIn}
+use Rattle.mdb_follow.specs.declared.account_name.AccountName.TheVariants.{PaidOut, Approved, Sold}
+use Rattle.mdb_follow.specs.declared.goal.AccountSide.{AccountSide}
+use Rattle.mdb_follow.specs.declared.goal.AccountSide.TheVariants as sides
+use Rattle.mdb_follow.specs.declared.goal.Bound.{Bound}
+use Rattle.mdb_follow.specs.declared.goal.Bound.TheVariants.{Least, Greatest}
+use Rattle.mdb_follow.specs.declared.goal.Goal.{Goal}
+use Rattle.mdb_explained_runs.specs.declared.mark.Mark.{Mark}
+use Rattle.mdb_follow.specs.declared.range.Range.{Range}
+use Rattle.mdb_follow.specs.declared.report.Report.{Report}
+use Rattle.mdb_follow.specs.AccountNames.{sums_of}
+use Rattle.mdb_follow.specs.Choosing.{AllFollow, Choices, choices_of}
+use Rattle.mdb_follow.specs.Ends.{IsAsFar, end_of, goal_value, side_range, side_value}
+use Rattle.mdb_explained_runs.specs.Goals.{Explains}
+use Rattle.mdb_follow.specs.Machines.{machine_of}
+use Rattle.mdb_explained_runs.specs.Marks.{MarkedRun}
+use Rattle.mdb_follow.specs.Ranges.{IsAccount, IsRange}
+use Rattle.mdb_explained_runs.specs.ReplayFaults.{HasMarkedRun}
+use Rattle.mdb_explained_runs.specs.Replays.{IsReplayReport}
+use Rattle.mdb_follow.specs.Report.{IsReport, account_of, report_of}
+use Rattle.mdb_follow.specs.Runs.{AllSums, Run}
+use Rattle.mdb_follow.specs.Sums.{AccountSums}
+use Rattle.mdb_follow.proofs.Following.{OneActList}
+use Rattle.mdb_follow.proofs.OneAnswer.{named, named-account, one-end, one-list, with_accounts}
+use Rattle.mdb_explained_runs.proofs.OneStep.{machine_is_one, one_way}
+use Rattle.mdb_explained_runs.proofs.Replaying.{MarksTell, SplitWithChoices, followed}
+
+-- rows with given marks have one report
+pub one_replay_report : (scope : Scope) → OneActList scope → (rows : List Event)
+    (marks : List (ℕ × Mark)) (a b : Report) → IsReplayReport scope rows marks a
+    → IsReplayReport scope rows marks b → a ≡ b
+one_replay_report scope one rows marks a b p q =
+    p.telling
+    ∙ (ap (λ pieces. report_of scope.begins (length rows) pieces p.accounts)
+    (one rows p.pieces q.pieces p.act_list q.act_list)
+    ∙ (ap (with_accounts (report_of scope.begins (length rows) q.pieces p.accounts))
+    (one-list (MarkedRun scope rows marks) p.accounts q.accounts p.of_run q.of_run)
+    ∙ sym q.telling))
+
+-- the range of an account on each side is that of its values there
+side_is_range : {S : Type 0} (Kind : S → Type 0) (account : S → AccountSums) (ranges : Account)
+    (side : AccountSide) → IsAccount Kind account ranges
+    → IsRange Kind (λ sums. side_value side (account sums)) (side_range side ranges)
+side_is_range Kind account ranges sides.Device is = is.device
+side_is_range Kind account ranges sides.Controller is = is.controller
+side_is_range Kind account ranges sides.Difference is = is.difference
+
+-- what a replay reports of an account
+pub named_in_replay : (scope : Scope) (rows : List Event) (marks : List (ℕ × Mark)) (report : Report)
+    → IsReplayReport scope rows marks report → (account : AccountName)
+    → IsAccount (MarkedRun scope rows marks) (sums_of account) (account_of account report)
+named_in_replay scope rows marks report is account =
+    subst (IsAccount (MarkedRun scope rows marks) (sums_of account))
+    (sym (ap (account_of account) is.telling
+    ∙ named scope.begins (length rows) is.pieces is.accounts account)) (is.of_run account)
+
+-- what an account has come to is one where the sums of the devices are
+same_sums : (account : AccountName) (one other : AllSums)
+    → ((device : Device) → one device ≡ other device) → sums_of account one ≡ sums_of account other
+same_sums CoinsIn one other same = ap (λ sums. sums.first) (same devices.Changer)
+same_sums BillsIn one other same = ap (λ sums. sums.first) (same devices.Bill)
+same_sums PaidOut one other same = ap (λ sums. sums.second) (same devices.Changer)
+same_sums (Approved unit) one other same = ap (λ sums. sums.first) (same (devices.Reader unit))
+same_sums (Sold unit) one other same = ap (λ sums. sums.second) (same (devices.Reader unit))
+
+-- so each run with the marks has the value of a goal that one of them has
+one_value : (scope : Scope) (rows : List Event) (marks : List (ℕ × Mark)) (report : Report)
+    → IsReplayReport scope rows marks report → (goal : Goal) (one other : AllSums)
+    → MarkedRun scope rows marks one → MarkedRun scope rows marks other
+    → goal_value goal one ≡ goal_value goal other
+one_value scope rows marks report is goal one other run also =
+    ap (side_value goal.side) (same_sums goal.account one other
+    (λ device. is.only one run device ∙ sym (is.only other also device)))
+
+-- the end of a range that a run comes to, than which none goes further
+end_reached : {S : Type 0} (Kind : S → Type 0) (value : S → ℤ) (range : Range) (bound : Bound)
+    (sums : S) → IsRange Kind value range → Kind sums
+    → ((other : S) → Kind other → IsAsFar bound (value sums) (value other))
+    → value sums ≡ end_of bound range
+end_reached Kind value range Least sums is run farthest =
+    one-end (value sums) range.least
+    (subst (λ z. value sums ≤ℤ z) is.least.2 (farthest is.least.0 is.least.1)) (is.low sums run)
+end_reached Kind value range Greatest sums is run farthest =
+    one-end (value sums) range.greatest (is.high sums run)
+    (subst (λ z. z ≤ℤ value sums) is.greatest.2 (farthest is.greatest.0 is.greatest.1))
+
+-- where marks explain a goal, a replay with them comes to its end
+pub comes_to_the_end : (scope : Scope) (rows : List Event) (goal : Goal)
+    (marks : List (ℕ × Mark)) (checked replayed : Report) → Explains scope rows goal marks
+    → IsReport scope rows checked → IsReplayReport scope rows marks replayed
+    → ((side_range goal.side (account_of goal.account replayed)).least
+    ≡ end_of goal.bound (side_range goal.side (account_of goal.account checked)))
+    × ((side_range goal.side (account_of goal.account replayed)).greatest
+    ≡ end_of goal.bound (side_range goal.side (account_of goal.account checked)))
+comes_to_the_end scope rows goal marks checked replayed explains of_runs of_run =
+    let range : IsRange (Run scope rows) (goal_value goal)
+    (side_range goal.side (account_of goal.account checked)) =
+    side_is_range (Run scope rows) (sums_of goal.account) (account_of goal.account checked)
+    goal.side (named-account scope rows checked of_runs goal.account) in
+    let its : IsRange (MarkedRun scope rows marks) (goal_value goal)
+    (side_range goal.side (account_of goal.account replayed)) =
+    side_is_range (MarkedRun scope rows marks) (sums_of goal.account)
+    (account_of goal.account replayed) goal.side
+    (named_in_replay scope rows marks replayed of_run goal.account) in
+    let end = end_reached (Run scope rows) (goal_value goal)
+    (side_range goal.side (account_of goal.account checked)) goal.bound explains.sums range
+    explains.marked.run explains.farthest in
+    let same = one_value scope rows marks replayed of_run goal in (
+      sym its.least.2 ∙ (same its.least.0 explains.sums its.least.1 explains.marked ∙ end),
+      sym its.greatest.2
+          ∙ (same its.greatest.0 explains.sums its.greatest.1 explains.marked ∙ end),
+    )
+
+-- from power-on, runs with the same marks come to the same sums
+only_sums : SplitWithChoices → MarksTell → (scope : Scope) → OneActList scope
+    → scope.begins ≡ PowerOn → (rows : List Event) (marks : List (ℕ × Mark)) (sums other : AllSums)
+    → MarkedRun scope rows marks sums → MarkedRun scope rows marks other → (device : Device)
+    → other device ≡ sums device
+only_sums splits tell scope one begins rows marks sums other marked also device =
+    let run = marked.run in
+    let chosen : Choices (acts_of run.pieces) =
+    choices_of scope.begins run.loss run.pieces run.states sums run.way in
+    let its : AllFollow scope.begins (acts_of run.pieces) chosen run.states sums =
+    splits scope.begins run.loss run.pieces run.states sums run.way in
+    let others : AllFollow scope.begins (acts_of run.pieces) chosen also.run.states other =
+    followed splits tell scope one rows marks run.pieces chosen run.act_list marked.are other also
+    in
+    (one_way (machine_of PowerOn device) (machine_is_one device) (acts_of run.pieces) chosen
+    (also.run.states device) (run.states device) (other device) (sums device)
+    ((subst (λ b. AllFollow b (acts_of run.pieces) chosen also.run.states other) begins others)
+    device)
+    ((subst (λ b. AllFollow b (acts_of run.pieces) chosen run.states sums) begins its) device)).1
+
+-- a range of one value
+point : {S : Type 0} (Kind : S → Type 0) (value : S → ℤ) (sums : S) → Kind sums
+    → ((other : S) → Kind other → value other ≡ value sums)
+    → IsRange Kind value (record { least = value sums; greatest = value sums })
+point Kind value sums is same = record {
+  least = (sums, is, refl);
+  greatest = (sums, is, refl);
+  low = λ other also. let at = same other also in omega (arith, ints, at);
+  high = λ other also. let at = same other also in omega (arith, ints, at);
+}
+
+-- the account of sums alone
+abbrev account_at : AccountSums → Account
+account_at sums = record {
+  device = record { least = pos sums.device; greatest = pos sums.device };
+  controller = record { least = pos sums.controller; greatest = pos sums.controller };
+  difference = record {
+    least = pos sums.device -ℤ pos sums.controller;
+    greatest = pos sums.device -ℤ pos sums.controller;
+  };
+}
+
+-- the report on rows that have a run from power-on with given marks
+pub report_of_run : SplitWithChoices → MarksTell → (scope : Scope) → OneActList scope
+    → (rows : List Event) (marks : List (ℕ × Mark)) → scope.begins ≡ PowerOn
+    → HasMarkedRun scope rows marks
+    → (report : Report) × IsReplayReport scope rows marks report
+report_of_run splits tell scope one rows marks begins reached =
+    let sums : AllSums = reached.0 in
+    let only : (other : AllSums) → MarkedRun scope rows marks other → (device : Device)
+    → other device ≡ sums device =
+    λ other also. only_sums splits tell scope one begins rows marks sums other reached.1 also in
+    let accounts : AccountName → Account = λ account. account_at (sums_of account sums) in
+    let same : (account : AccountName) (other : AllSums) → MarkedRun scope rows marks other
+    → sums_of account other ≡ sums_of account sums =
+    λ account other also. same_sums account other sums (only other also) in (
+      report_of scope.begins (length rows) reached.1.run.pieces accounts,
+      record {
+        sums = sums;
+        reached = reached.1;
+        only = only;
+        pieces = reached.1.run.pieces;
+        act_list = reached.1.run.act_list;
+        accounts = accounts;
+        of_run = λ account. record {
+          device = point (MarkedRun scope rows marks)
+              (λ s. pos (sums_of account s).device) sums reached.1
+              (λ other also. ap (λ s. pos s.device) (same account other also));
+          controller = point (MarkedRun scope rows marks)
+              (λ s. pos (sums_of account s).controller) sums reached.1
+              (λ other also. ap (λ s. pos s.controller) (same account other also));
+          difference = point (MarkedRun scope rows marks)
+              (λ s. pos (sums_of account s).device -ℤ pos (sums_of account s).controller) sums
+              reached.1
+              (λ other also. ap (λ s. pos s.device -ℤ pos s.controller)
+              (same account other also));
+        };
+        telling = refl;
+      },
+    )

@@ -1,0 +1,559 @@
+-- What a replay that stands for events and marks goes on to, and what it answers.
+use Rattle.std.proofs.Common.{refl, sym, ap, subst, ◌∙◌, ◌≡◌, inl, inr, ℕ, ◌+◌, List, [], ◌∷◌, ◌++◌}
+use Rattle.std.proofs.Common.{Bool, true, false, IsTrue, ◌↔◌}
+use Rattle.std.proofs.Common.{append-nil, length, length-append, Option, Some, None}
+use Rattle.mdb_words.specs.declared.event.Event.{Event}
+use Rattle.mdb_words.specs.Event.{start_of}
+use Rattle.mdb_msgs.specs.declared.command.Device.{Device}
+use Rattle.mdb_msgs.specs.declared.command.Device.TheVariants as devices
+use Rattle.mdb_msgs.specs.declared.command.ReaderUnit.TheVariants.{First, Second}
+use Rattle.mdb_bus.specs.declared.act.Act.{Act}
+use Rattle.mdb_bus.specs.declared.act.Act.TheVariants as acts
+use Rattle.mdb_bus.specs.declared.bus.Bus.{Bus}
+use Rattle.mdb_bus.specs.declared.fault.Blame.{Blame}
+use Rattle.mdb_bus.specs.declared.fault.LinkFault.{LinkFault}
+use Rattle.mdb_bus.specs.declared.scope.Beginning.{Beginning}
+use Rattle.mdb_bus.specs.declared.scope.Beginning.TheVariants.{PowerOn}
+use Rattle.mdb_bus.specs.declared.scope.Scope.{Scope}
+use Rattle.mdb_bus.specs.ActLists.{ArePieces, AskTail, HasActList, IsActList, IsTail, Piece}
+use Rattle.mdb_bus.specs.ActLists.{RepeatTail, ReplyTail, Whole, act_in, acts_of, events_of}
+use Rattle.mdb_bus.specs.Bus as link
+use Rattle.mdb_bus.specs.Bus.{GoesOn, Grown, ended_act}
+use Rattle.mdb_bus.specs.LinkFaults.{IsLinkFault}
+use Rattle.mdb_bus.specs.Loss.{Loss, LossFits}
+use Rattle.mdb_cash.specs.declared.choice.Choice.{Choice}
+use Rattle.mdb_cash.specs.Choices.{CanStand}
+use Rattle.mdb_follow.specs.declared.cell.Cell.{Cell}
+use Rattle.mdb_explained_runs.specs.declared.mark.Mark.{Mark}
+use Rattle.mdb_explained_runs.specs.declared.mark.Mark.TheVariants as mark_kinds
+use Rattle.mdb_follow.specs.declared.offence.Offence.{Offence}
+use Rattle.mdb_explained_runs.specs.declared.replay.Replay.{Replay}
+use Rattle.mdb_explained_runs.specs.declared.replay.ReplayFault.{ReplayFault}
+use Rattle.mdb_follow.specs.declared.report.Report.{Report}
+use Rattle.mdb_explained_runs.specs.declared.tracks.Tracks.{Tracks}
+use Rattle.mdb_follow.specs.Choosing.{AllFollow, Choices, choices_of}
+use Rattle.mdb_explained_runs.specs.Marks.{MarkedRun, choice_by, marks_at, marks_of, with_mark}
+use Rattle.mdb_follow.specs.Machines.{machine_of}
+use Rattle.mdb_explained_runs.specs.ReplayFaults.{IsMarkFault, IsReplayFault, IsReplayOffence}
+use Rattle.mdb_explained_runs.specs.ReplayFaults.{MayStandAt, MayStandOnNewest}
+use Rattle.mdb_explained_runs.specs.Replays.{IsReplayReport, StandsFor, scope_of}
+use Rattle.mdb_follow.specs.Report.{report_of}
+use Rattle.mdb_follow.specs.Runs.{AllSums, IsWay, States}
+use Rattle.mdb_follow.specs.Senders.{sender_of}
+use Rattle.mdb_follow.specs.Silences.{asks_of}
+use Rattle.mdb_follow.specs.SilencesKept.{StandsForAsks, silence_in}
+use Rattle.mdb_explained_runs.specs.Tracks.{AreTracks, HasNoStepFrom, chosen_more, track_in}
+use Rattle.mdb_explained_runs.specs.inner.ReplaySteps.{HasReplayed, HasStopped}
+use Rattle.mdb_follow.specs.SilenceSteps.{SilencesFollow}
+use Rattle.mdb_explained_runs.specs.inner.TrackSteps.{TrackStops, TracksLead}
+use Rattle.mdb_follow.proofs.Asks.{asks-go-on, asks-stay}
+use Rattle.mdb_explained_runs.proofs.LastMark.{last-stands}
+use Rattle.mdb_follow.proofs.Following.{OneActList, accounts-of-cells, accounts_in, cell-of-runs}
+use Rattle.mdb_follow.proofs.Following.{list-on, whole-piece}
+
+-- what is needed of the laws of runs and marks
+abbrev pub JoinWithChoices : Type 0
+JoinWithChoices = (scope : Scope) (pieces : List Piece) (chosen : Choices (acts_of pieces))
+    (states : States) (sums : AllSums) → ArePieces scope pieces
+    → AllFollow scope.begins (acts_of pieces) chosen states sums
+    → (loss : Loss) × LossFits loss pieces
+    × (way : IsWay scope.begins loss pieces states sums)
+    × (choices_of scope.begins loss pieces states sums way ≡ chosen)
+
+abbrev pub SplitWithChoices : Type 0
+SplitWithChoices = (begins : Beginning) (loss : Loss) (pieces : List Piece) (states : States)
+    (sums : AllSums) (way : IsWay begins loss pieces states sums)
+    → AllFollow begins (acts_of pieces) (choices_of begins loss pieces states sums way) states sums
+
+abbrev pub MarksTell : Type 0
+MarksTell = (scope : Scope) (pieces : List Piece) (one other : Choices (acts_of pieces))
+    → ArePieces scope pieces → marks_of pieces one ≡ marks_of pieces other → one ≡ other
+
+-- What is known of pieces: which choices have the marks, and that tracks stand for their acts with
+-- them.
+record Known (tracks : Tracks) (marks : List (ℕ × Mark)) (pieces : List Piece) : Type 0 where
+  chosen : Choices (acts_of pieces)
+  marked : marks_of pieces chosen ≡ marks
+  stand : AreTracks tracks (acts_of pieces) chosen
+
+-- a tail adds nothing
+without-tail : (tracks : Tracks) (marks : List (ℕ × Mark)) (tail : Piece) (pieces : List Piece)
+    → IsTail tail → Known tracks marks (tail ∷ pieces) → Known tracks marks pieces
+without-tail tracks marks (Whole act events) pieces is known = absurd is
+without-tail tracks marks (AskTail bytes events) pieces is known =
+    record { chosen = known.chosen; marked = known.marked; stand = known.stand }
+without-tail tracks marks (ReplyTail command bytes events) pieces is known =
+    record { chosen = known.chosen; marked = known.marked; stand = known.stand }
+without-tail tracks marks (RepeatTail command reply words events) pieces is known =
+    record { chosen = known.chosen; marked = known.marked; stand = known.stand }
+
+with-tail : (tracks : Tracks) (marks : List (ℕ × Mark)) (tail : Piece) (pieces : List Piece)
+    → act_in tail ≡ None → Known tracks marks pieces → Known tracks marks (tail ∷ pieces)
+with-tail tracks marks (Whole act events) pieces none known = absurd (cc none)
+with-tail tracks marks (AskTail bytes events) pieces none known =
+    record { chosen = known.chosen; marked = known.marked; stand = known.stand }
+with-tail tracks marks (ReplyTail command bytes events) pieces none known =
+    record { chosen = known.chosen; marked = known.marked; stand = known.stand }
+with-tail tracks marks (RepeatTail command reply words events) pieces none known =
+    record { chosen = known.chosen; marked = known.marked; stand = known.stand }
+
+-- what is known of the pieces before the newest of those that went on
+earlier-known : (tracks : Tracks) (marks : List (ℕ × Mark)) (pieces : List Piece) (row : Event)
+    (act : Option Act) (longer : List Piece) (grown : Grown pieces row act longer)
+    → Known tracks marks pieces → Known tracks marks grown.earlier
+earlier-known tracks marks pieces row act longer grown known =
+    elim grown.from [
+      | inl alone ↦ subst (Known tracks marks) alone.1 known
+      | inr on ↦ without-tail tracks marks on.0 grown.earlier on.1
+          (subst (Known tracks marks) on.3 known)
+    ]
+
+-- a row that ends no act leaves it
+still-known : (tracks : Tracks) (marks : List (ℕ × Mark)) (pieces : List Piece) (row : Event)
+    (longer : List Piece) → Grown pieces row None longer → Known tracks marks pieces
+    → Known tracks marks longer
+still-known tracks marks pieces row longer grown known =
+    subst (Known tracks marks) (sym grown.are)
+    (with-tail tracks marks grown.newest grown.earlier grown.ends
+    (earlier-known tracks marks pieces row None longer grown known))
+
+-- the mark of a choice
+at-mark : (row : ℕ) (mark : Option Mark) (marks : List (ℕ × Mark))
+    → marks ++ marks_at row (choice_by mark) ≡ with_mark row mark marks
+at-mark row None marks = append-nil marks
+at-mark row (Some mark_kinds.Lost) marks = refl
+at-mark row (Some mark_kinds.Restart) marks = refl
+
+-- the newest of pieces that went on by an act
+newest-whole : (pieces : List Piece) (row : Event) (act : Act) (longer : List Piece)
+    (grown : Grown pieces row (Some act) longer)
+    → longer ≡ Whole act (grown.begun ++ row ∷ []) ∷ grown.earlier
+newest-whole pieces row act longer grown =
+    grown.are ∙ ap (λ p. p ∷ grown.earlier) (whole-piece grown.newest act
+    (grown.begun ++ row ∷ []) grown.ends grown.events)
+
+-- an act more, with its mark
+more-marked : (marks : List (ℕ × Mark)) (earlier : List Piece) (events : List Event) (act : Act)
+    (mark : Option Mark) (number : ℕ) (chosen : Choices (acts_of earlier))
+    (can : CanStand act (choice_by mark)) → length (events_of earlier ++ events) ≡ number
+    → marks_of earlier chosen ≡ marks
+    → marks_of (Whole act events ∷ earlier)
+    (chosen_more act (acts_of earlier) (choice_by mark) can chosen) ≡ with_mark number mark marks
+more-marked marks earlier events act mark number chosen can count have =
+    ap (λ ms. ms ++ marks_at (length (events_of earlier ++ events)) (choice_by mark)) have
+    ∙ ap (λ n. marks ++ marks_at n (choice_by mark)) count ∙ at-mark number mark marks
+
+more-known : (old new : Tracks) (marks : List (ℕ × Mark)) (pieces : List Piece) (row : Event)
+    (act : Act) (mark : Option Mark) (longer : List Piece) (number : ℕ)
+    (grown : Grown pieces row (Some act) longer)
+    → length (events_of longer) ≡ number → CanStand act (choice_by mark)
+    → TracksLead old act (choice_by mark) new → Known old marks pieces
+    → Known new (with_mark number mark marks) longer
+more-known old new marks pieces row act mark longer number grown rows can led known =
+    let earlier = earlier-known old marks pieces row (Some act) longer grown known in
+    let are = newest-whole pieces row act longer grown in
+    subst (Known new (with_mark number mark marks)) (sym are) (record {
+      chosen = chosen_more act (acts_of grown.earlier) (choice_by mark) can earlier.chosen;
+      marked = more-marked marks grown.earlier (grown.begun ++ row ∷ []) act mark number
+          earlier.chosen can (ap (λ (ps : List Piece). length (events_of ps)) (sym are) ∙ rows)
+          earlier.marked;
+      stand = λ device. (led device).stands (acts_of grown.earlier) earlier.chosen can
+          (earlier.stand device);
+    })
+
+-- what a replay knows
+known-of : (replay : Replay) (events : List Event) (marks : List (ℕ × Mark))
+    (on : StandsFor replay events marks) → Known replay.tracks marks on.pieces
+known-of replay events marks on =
+    record { chosen = on.chosen; marked = on.marked; stand = on.tracks }
+
+-- how many rows there are with one more
+rows-more : (pieces longer : List Piece) (events : List Event) (row : Event)
+    → events_of longer ≡ events_of pieces ++ row ∷ [] → events_of pieces ≡ events
+    → length (events_of longer) ≡ length events + 1
+rows-more pieces longer events row rows whole =
+    ap length (rows ∙ ap (λ es. es ++ row ∷ []) whole) ∙ length-append events (row ∷ [])
+
+-- the choice of a mark that may stand on an act can stand on it
+can-stand : (mark : Option Mark) (act : Act) → MayStandAt mark (Some act)
+    → CanStand act (choice_by mark)
+can-stand None act may = tt
+can-stand (Some mark_kinds.Lost) (acts.Ack command) may = tt
+can-stand (Some mark_kinds.Lost) (acts.VmcAck command reply) may = tt
+can-stand (Some mark_kinds.Restart) (acts.Reply command reply) may = tt
+can-stand (Some mark_kinds.Lost) (acts.Ask command) may = absurd may
+can-stand (Some mark_kinds.Lost) (acts.Nak command) may = absurd may
+can-stand (Some mark_kinds.Lost) (acts.Reply command reply) may = absurd may
+can-stand (Some mark_kinds.Lost) (acts.VmcNak command reply) may = absurd may
+can-stand (Some mark_kinds.Lost) (acts.VmcRet command reply) may = absurd may
+can-stand (Some mark_kinds.Lost) (acts.Repeat command reply) may = absurd may
+can-stand (Some mark_kinds.Lost) acts.Foreign may = absurd may
+can-stand (Some mark_kinds.Lost) (acts.Break length) may = absurd may
+can-stand (Some mark_kinds.Restart) (acts.Ask command) may = absurd may
+can-stand (Some mark_kinds.Restart) (acts.Ack command) may = absurd may
+can-stand (Some mark_kinds.Restart) (acts.Nak command) may = absurd may
+can-stand (Some mark_kinds.Restart) (acts.VmcAck command reply) may = absurd may
+can-stand (Some mark_kinds.Restart) (acts.VmcNak command reply) may = absurd may
+can-stand (Some mark_kinds.Restart) (acts.VmcRet command reply) may = absurd may
+can-stand (Some mark_kinds.Restart) (acts.Repeat command reply) may = absurd may
+can-stand (Some mark_kinds.Restart) acts.Foreign may = absurd may
+can-stand (Some mark_kinds.Restart) (acts.Break length) may = absurd may
+
+-- no act ended
+pub stands-still : (old new : Replay) (events : List Event) (marks : List (ℕ × Mark))
+    (row : Event) (on : StandsFor old events marks) → GoesOn new.bus on.pieces row None
+    → scope_of new ≡ scope_of old → new.tracks ≡ old.tracks → new.silences ≡ old.silences
+    → new.rows ≡ old.rows + 1 → new.fault ≡ old.fault → StandsFor new (events ++ row ∷ []) marks
+stands-still old new events marks row on goes same_scope same_tracks same_silences more same =
+    let known = still-known new.tracks marks on.pieces row goes.longer goes.grown
+    (subst (λ tracks. Known tracks marks on.pieces) (sym same_tracks)
+    (known-of old events marks on)) in
+    record {
+      begins = ap (λ (s : Scope). s.begins) same_scope ∙ on.begins;
+      pieces = goes.longer;
+      on_bus = goes.stands;
+      whole = goes.rows ∙ ap (λ rows. rows ++ row ∷ []) on.whole;
+      rows = more ∙ ap (λ n. n + 1) on.rows ∙ sym (length-append events (row ∷ []));
+      going = same ∙ on.going;
+      chosen = known.chosen;
+      marked = known.marked;
+      tracks = known.stand;
+      silences = λ device. subst (StandsForAsks (silence_in new.silences device))
+          (sym (asks-stay PowerOn device on.pieces row goes.longer goes.grown))
+          (subst (λ silences. StandsForAsks (silence_in silences device)
+          (asks_of PowerOn device on.pieces)) (sym same_silences) (on.silences device));
+    }
+
+-- an act was followed
+pub stands-on : (old mid new : Replay) (events : List Event) (marks : List (ℕ × Mark))
+    (row : Event) (act : Act) (mark : Option Mark) (on : StandsFor old events marks)
+    → GoesOn mid.bus on.pieces row (Some act) → scope_of mid ≡ scope_of old
+    → mid.tracks ≡ old.tracks → mid.silences ≡ old.silences → mid.rows ≡ old.rows
+    → mid.fault ≡ old.fault → MayStandAt mark (Some act) → (at : ℕ) → at ≡ start_of row
+    → (choice : Choice) → choice ≡ choice_by mark → HasReplayed mid act choice at new
+    → StandsFor new (events ++ row ∷ []) (with_mark (old.rows + 1) mark marks)
+stands-on old mid new events marks row act mark on goes old_scope same_tracks same_silences
+    same_rows same may at start choice same_choice had =
+    let can = can-stand mark act may in
+    let has = subst (λ choice. HasReplayed mid act choice at new) same_choice had in
+    let led : TracksLead old.tracks act (choice_by mark) new.tracks =
+    subst (λ tracks. TracksLead tracks act (choice_by mark) new.tracks) same_tracks has.tracks in
+    let number = rows-more on.pieces goes.longer events row goes.rows on.whole in
+    let known = more-known old.tracks new.tracks marks on.pieces row act mark goes.longer
+    (old.rows + 1) goes.grown (number ∙ ap (λ n. n + 1) (sym on.rows)) can led
+    (known-of old events marks on) in
+    let stand = λ (device : Device). (led device).stands (acts_of on.pieces) on.chosen can
+    (on.tracks device) in
+    let first = new.tracks.first_reader.facts in
+    let second = new.tracks.second_reader.facts in
+    let follows : SilencesFollow mid.silences act (start_of row) first second new.silences =
+    subst (λ at. SilencesFollow mid.silences act at first second new.silences) start has.silences
+    in
+    record {
+      begins = ap (λ (s : Scope). s.begins) (ap link.scope_of has.on_bus ∙ old_scope)
+          ∙ on.begins;
+      pieces = goes.longer;
+      on_bus = subst (λ b. link.StandsFor b goes.longer) (sym has.on_bus) goes.stands;
+      whole = goes.rows ∙ ap (λ rows. rows ++ row ∷ []) on.whole;
+      rows = has.rows ∙ ap (λ n. n + 1) (same_rows ∙ on.rows)
+          ∙ sym (length-append events (row ∷ []));
+      going = has.going ∙ same ∙ on.going;
+      chosen = known.chosen;
+      marked = known.marked;
+      tracks = known.stand;
+      silences = λ device. subst (StandsForAsks (silence_in new.silences device))
+          (asks-go-on PowerOn device on.pieces row act goes.longer first second goes.grown
+          (stand (devices.Reader First)).facts (stand (devices.Reader Second)).facts)
+          ((follows device).stands (asks_of PowerOn device on.pieces)
+          (subst (λ silences. StandsForAsks (silence_in silences device)
+          (asks_of PowerOn device on.pieces)) (sym same_silences) (on.silences device)));
+    }
+
+-- where no act ended, a mark that may stand is none
+no-mark : (row : ℕ) (mark : Option Mark) (marks : List (ℕ × Mark)) → MayStandAt mark None
+    → with_mark row mark marks ≡ marks
+no-mark row None marks may = refl
+no-mark row (Some mark) marks may = absurd may
+
+-- the act list of what a replay stands for
+list-of : (replay : Replay) (events : List Event) (marks : List (ℕ × Mark))
+    (on : StandsFor replay events marks) → IsActList (scope_of replay) on.pieces events
+list-of replay events marks on = record { in_order = on.on_bus.in_order; whole = on.whole }
+
+-- there is a run with the marks of a replay, and its sums are those of the tracks
+pub run-of : JoinWithChoices → (replay : Replay) (events : List Event) (marks : List (ℕ × Mark))
+    (on : StandsFor replay events marks)
+    → MarkedRun (scope_of replay) events marks (λ device. (on.tracks device).sums)
+run-of joins replay events marks on =
+    let scope : Scope = scope_of replay in
+    let states : States = λ device. (track_in replay.tracks device).state in
+    let sums : AllSums = λ device. (on.tracks device).sums in
+    let ways : AllFollow PowerOn (acts_of on.pieces) on.chosen states sums =
+    λ device. (on.tracks device).way in
+    let found = joins scope on.pieces on.chosen states sums on.on_bus.in_order
+    (subst (λ b. AllFollow b (acts_of on.pieces) on.chosen states sums) (sym on.begins) ways) in
+    record {
+      run = record {
+        pieces = on.pieces;
+        act_list = list-of replay events marks on;
+        loss = found.0;
+        fits = found.1;
+        states = states;
+        way = found.2;
+      };
+      are = ap (marks_of on.pieces) found.3 ∙ on.marked;
+    }
+
+-- A way through pieces that has these marks.
+record MarkedWay (scope : Scope) (marks : List (ℕ × Mark)) (states : States) (sums : AllSums)
+    (pieces : List Piece) : Type 0 where
+  loss : Loss
+  way : IsWay scope.begins loss pieces states sums
+  are : marks_of pieces (choices_of scope.begins loss pieces states sums way) ≡ marks
+
+-- each run with the marks of choices has ways with these choices
+pub followed : SplitWithChoices → MarksTell → (scope : Scope) → OneActList scope
+    → (rows : List Event) (marks : List (ℕ × Mark)) (pieces : List Piece)
+    (chosen : Choices (acts_of pieces)) → IsActList scope pieces rows
+    → marks_of pieces chosen ≡ marks → (sums : AllSums)
+    (marked : MarkedRun scope rows marks sums)
+    → AllFollow scope.begins (acts_of pieces) chosen marked.run.states sums
+followed splits tell scope one rows marks pieces chosen list have sums marked =
+    let run = marked.run in
+    let it : MarkedWay scope marks run.states sums pieces =
+    subst (MarkedWay scope marks run.states sums)
+    (one rows run.pieces pieces run.act_list list)
+    (record { loss = run.loss; way = run.way; are = marked.are }) in
+    subst (λ (c : Choices (acts_of pieces)).
+    AllFollow scope.begins (acts_of pieces) c run.states sums)
+    (tell scope pieces (choices_of scope.begins it.loss pieces run.states sums it.way) chosen
+    list.in_order (it.are ∙ sym have))
+    (splits scope.begins it.loss pieces run.states sums it.way)
+
+-- so it is where the tracks are, with their sums
+pub only-run : SplitWithChoices → MarksTell → ((scope : Scope) → OneActList scope)
+    → (replay : Replay) (events : List Event) (marks : List (ℕ × Mark))
+    (on : StandsFor replay events marks) (sums : AllSums)
+    (marked : MarkedRun (scope_of replay) events marks sums) (device : Device)
+    → (marked.run.states device ≡ (track_in replay.tracks device).state)
+    × (sums device ≡ (on.tracks device).sums)
+only-run splits tell one replay events marks on sums marked device =
+    let scope : Scope = scope_of replay in
+    let ways = followed splits tell scope (one scope) events marks on.pieces on.chosen
+    (list-of replay events marks on) on.marked sums marked in
+    let from : AllFollow PowerOn (acts_of on.pieces) on.chosen marked.run.states sums =
+    subst (λ b. AllFollow b (acts_of on.pieces) on.chosen marked.run.states sums) on.begins ways in
+    (on.tracks device).only (marked.run.states device) (sums device) (from device)
+
+-- a row breaks a rule of the link
+pub link-offence : JoinWithChoices → (old : Replay) (events : List Event)
+    (marks : List (ℕ × Mark)) (row : Event) (mark : Option Mark)
+    (on : StandsFor old events marks) (fault : LinkFault) (offence : Offence)
+    → IsLinkFault (scope_of old) on.pieces row fault.rule fault.blame
+    → (HasActList (scope_of old) (events_of on.pieces ++ row ∷ []) → ⊥)
+    → offence ≡ record { row = old.rows + 1; rule = fault.rule; blame = fault.blame }
+    → IsReplayOffence (scope_of old) events marks row mark offence
+link-offence joins old events marks row mark on fault offence is impossible told =
+    subst (IsReplayOffence (scope_of old) events marks row mark) (sym told) (record {
+      reached = (_, run-of joins old events marks on);
+      not_reached = λ reached. impossible (
+        reached.1.run.pieces,
+        record {
+          in_order = reached.1.run.act_list.in_order;
+          whole = reached.1.run.act_list.whole ∙ ap (λ rows. rows ++ row ∷ []) (sym on.whole);
+        },
+      );
+      number = ap (λ n. n + 1) on.rows;
+      why = inl (record {
+        pieces = on.pieces;
+        act_list = list-of old events marks on;
+        fault = is;
+      });
+    })
+
+-- a machine has no step by an act under the choice of the mark
+pub machine-offence : JoinWithChoices → SplitWithChoices → MarksTell
+    → ((scope : Scope) → OneActList scope) → (old mid new : Replay) (events : List Event)
+    (marks : List (ℕ × Mark)) (row : Event) (act : Act) (mark : Option Mark)
+    (fault : ReplayFault) (on : StandsFor old events marks)
+    → GoesOn mid.bus on.pieces row (Some act) → scope_of mid ≡ scope_of old
+    → mid.tracks ≡ old.tracks → mid.rows ≡ old.rows → MayStandAt mark (Some act)
+    → (chosen : Choice) → chosen ≡ choice_by mark → HasStopped mid act chosen new fault
+    → IsReplayFault (scope_of old) events marks row mark fault
+machine-offence joins splits tell one old mid new events marks row act mark fault on goes same_scope
+    same_tracks same_rows may chosen same_choice had =
+    let can = can-stand mark act may in
+    let scope : Scope = scope_of old in
+    let choice = choice_by mark in
+    let has = subst (λ c. HasStopped mid act c new fault) same_choice had in
+    let grown = goes.grown in
+    let earlier = earlier-known old.tracks marks on.pieces row (Some act) goes.longer grown
+    (known-of old events marks on) in
+    let are = newest-whole on.pieces row act goes.longer grown in
+    let pieces : List Piece = Whole act (grown.begun ++ row ∷ []) ∷ grown.earlier in
+    let list : IsActList scope pieces (events ++ row ∷ []) =
+    subst (λ ps. IsActList scope ps (events ++ row ∷ [])) are
+    (subst (λ s. IsActList s goes.longer (events ++ row ∷ [])) same_scope
+    (list-on mid.bus events row on.pieces (Some act) on.whole goes)) in
+    let device : Device = has.none.0 in
+    let stops : TrackStops device old.tracks act choice has.rule =
+    subst (λ tracks. TrackStops device tracks act choice has.rule) same_tracks has.none.1 in
+    let none : HasNoStepFrom (machine_of PowerOn device) (acts_of grown.earlier) act choice
+    (track_in old.tracks device).state =
+    stops.none (acts_of grown.earlier) earlier.chosen (earlier.stand device) in
+    let count : length (events_of pieces) ≡ length events + 1 =
+    ap length list.whole ∙ length-append events (row ∷ []) in
+    let have = more-marked marks grown.earlier (grown.begun ++ row ∷ []) act mark
+    (length events + 1) earlier.chosen can count earlier.marked in
+    let blamed : Blame = sender_of act in
+    let offence : Offence = record { row = mid.rows + 1; rule = has.rule; blame = blamed } in
+    let is : IsReplayOffence scope events marks row mark offence = record {
+      reached = (_, run-of joins old events marks on);
+      not_reached = λ reached.
+          let ways = followed splits tell scope (one scope) (events ++ row ∷ [])
+          (with_mark (length events + 1) mark marks) pieces
+          (chosen_more act (acts_of grown.earlier) choice can earlier.chosen) list have
+          reached.0 reached.1 in
+          let way = (subst (λ b. AllFollow b (acts_of pieces)
+          (chosen_more act (acts_of grown.earlier) choice can earlier.chosen)
+          reached.1.run.states reached.0) on.begins ways) device in
+          let was = (earlier.stand device).only way.before way.sums_before way.way in
+          none (reached.1.run.states device) way.gains
+          (subst (λ s. (machine_of PowerOn device).Step (acts_of grown.earlier) act choice s
+          (reached.1.run.states device) way.gains) was.0 way.step);
+      number = ap (λ n. n + 1) (same_rows ∙ on.rows);
+      why = inr (record {
+        act = act;
+        begun = grown.begun;
+        earlier = grown.earlier;
+        act_list = list;
+        may = may;
+        no_step = record {
+          device = device;
+          rule = stops.rule;
+          none = λ sums marked.
+              subst (λ b. HasNoStepFrom (machine_of b device) (acts_of grown.earlier) act choice
+              (marked.run.states device)) (sym on.begins)
+              (subst (λ s. HasNoStepFrom (machine_of PowerOn device) (acts_of grown.earlier) act
+              choice s)
+              (sym (only-run splits tell one old events marks on sums marked device).0) none);
+        };
+        blame = refl;
+      });
+    } in
+    subst (IsReplayFault scope events marks row mark) (sym has.is) is
+
+-- the newest act of pieces is the one that a row ended
+newest-stands : (mark : Mark) (act : Option Act) (newest : Piece) (earlier : List Piece)
+    → act_in newest ≡ act → MayStandOnNewest mark (newest ∷ earlier) → MayStandAt (Some mark) act
+newest-stands mark act (Whole one events) earlier ends may =
+    subst (MayStandAt (Some mark)) ends may
+newest-stands mark act (AskTail bytes events) earlier ends may = absurd may
+newest-stands mark act (ReplyTail command bytes events) earlier ends may = absurd may
+newest-stands mark act (RepeatTail command reply words events) earlier ends may = absurd may
+
+-- in a run the last mark may stand where it does, if that is the last row
+unmarked : SplitWithChoices → (scope : Scope) → OneActList scope → (rows : List Event)
+    (marks : List (ℕ × Mark)) (pieces : List Piece) (number : ℕ) (mark : Mark)
+    → IsActList scope pieces rows → number ≡ length (events_of pieces) → (sums : AllSums)
+    → MarkedRun scope rows (marks ++ (number, mark) ∷ []) sums → MayStandOnNewest mark pieces
+unmarked splits scope one rows marks pieces number mark list at sums marked =
+    let run = marked.run in
+    let it : MarkedWay scope (marks ++ (number, mark) ∷ []) run.states sums pieces =
+    subst (MarkedWay scope (marks ++ (number, mark) ∷ []) run.states sums)
+    (one rows run.pieces pieces run.act_list list)
+    (record { loss = run.loss; way = run.way; are = marked.are }) in
+    last-stands scope.begins scope pieces
+    (choices_of scope.begins it.loss pieces run.states sums it.way) run.states sums marks number
+    mark list.in_order (splits scope.begins it.loss pieces run.states sums it.way) it.are at
+
+-- a mark may not stand there
+pub mark-fault : JoinWithChoices → SplitWithChoices → ((scope : Scope) → OneActList scope)
+    → (old : Replay) (bus : Bus) (events : List Event)
+    (marks : List (ℕ × Mark)) (row : Event) (act : Option Act) (mark : Option Mark)
+    (on : StandsFor old events marks) → GoesOn bus on.pieces row act
+    → link.scope_of bus ≡ scope_of old → (MayStandAt mark act → ⊥)
+    → IsMarkFault (scope_of old) events marks row mark (old.rows + 1)
+mark-fault joins splits one old bus events marks row act None on goes same not = absurd (not tt)
+mark-fault joins splits one old bus events marks row act (Some mark) on goes same not =
+    let scope : Scope = scope_of old in
+    let list : IsActList scope goes.longer (events ++ row ∷ []) =
+    subst (λ s. IsActList s goes.longer (events ++ row ∷ [])) same
+    (list-on bus events row on.pieces act on.whole goes) in
+    let cannot : MayStandOnNewest mark goes.longer → ⊥ = λ may.
+    not (newest-stands mark act goes.grown.newest goes.grown.earlier goes.grown.ends
+    (subst (MayStandOnNewest mark) goes.grown.are may)) in
+    record {
+      reached = (_, run-of joins old events marks on);
+      not_reached = λ reached. cannot (unmarked splits scope (one scope) (events ++ row ∷ []) marks
+          goes.longer (length events + 1) mark list
+          (sym (ap length list.whole ∙ length-append events (row ∷ []))) reached.0 reached.1);
+      at = ap (λ n. n + 1) on.rows;
+      standing = mark;
+      is = refl;
+      pieces = goes.longer;
+      act_list = list;
+      cannot = cannot;
+    }
+
+-- what the answer of a test tells
+pub not-may : (b : Bool) (P : Type 0) → (IsTrue b ↔ P) → b ≡ false → P → ⊥
+not-may b P told is holds = let never : false ≡ true = sym is ∙ told.1 holds in absurd cc
+
+-- what a replay reports
+pub reported : JoinWithChoices → SplitWithChoices → MarksTell
+    → ((scope : Scope) → OneActList scope) → (replay : Replay) (events : List Event)
+    (marks : List (ℕ × Mark)) (report : Report) (on : StandsFor replay events marks)
+    → report ≡ report_of PowerOn replay.rows on.pieces
+    (accounts_in (λ device. (track_in replay.tracks device).cell))
+    → IsReplayReport (scope_of replay) events marks report
+reported joins splits tell one replay events marks report on telling =
+    let scope : Scope = scope_of replay in
+    let cells : Device → Cell = λ device. (track_in replay.tracks device).cell in
+    let sums : AllSums = λ device. (on.tracks device).sums in
+    let run : MarkedRun scope events marks sums = run-of joins replay events marks on in
+    record {
+      sums = sums;
+      reached = run;
+      only = λ other marked device.
+          (only-run splits tell one replay events marks on other marked device).1;
+      pieces = on.pieces;
+      act_list = list-of replay events marks on;
+      accounts = accounts_in cells;
+      of_run = accounts-of-cells (MarkedRun scope events marks) cells (λ device.
+          cell-of-runs (MarkedRun scope events marks) (λ other. other ≡ sums device)
+          (λ all. all device) (record {
+            lift = λ other is. (sums, sym is, run);
+            lower = λ other marked.
+                (only-run splits tell one replay events marks on other marked device).1;
+          }) (cells device) (on.tracks device).cell);
+      telling = telling
+          ∙ ap (λ rows. report_of PowerOn rows on.pieces (accounts_in cells)) on.rows
+          ∙ ap (λ begins. report_of begins (length events) on.pieces (accounts_in cells))
+          (sym on.begins);
+    }
+
+-- an act ended, or none did
+pub by-act : (bus : Bus) (pieces : List Piece) (row : Event) (ended : Bool) (act : Act)
+    → ended ≡ true → GoesOn bus pieces row (ended_act ended act)
+    → GoesOn bus pieces row (Some act)
+by-act bus pieces row ended act is =
+    subst (λ b. GoesOn bus pieces row (ended_act b act)) is
+
+pub by-none : (bus : Bus) (pieces : List Piece) (row : Event) (ended : Bool) (act : Act)
+    → ended ≡ false → GoesOn bus pieces row (ended_act ended act) → GoesOn bus pieces row None
+by-none bus pieces row ended act is =
+    subst (λ b. GoesOn bus pieces row (ended_act b act)) is
+
+-- its mark may stand there
+pub may-then : (b : Bool) (mark : Option Mark) (ended : Bool) (act : Act)
+    → (IsTrue b ↔ MayStandAt mark (ended_act ended act)) → b ≡ true → ended ≡ true
+    → MayStandAt mark (Some act)
+may-then b mark ended act told is whole =
+    subst (λ e. MayStandAt mark (ended_act e act)) whole (told.0 is)
+
+pub none-then : (b : Bool) (mark : Option Mark) (ended : Bool) (act : Act) (row : ℕ)
+    (marks : List (ℕ × Mark)) → (IsTrue b ↔ MayStandAt mark (ended_act ended act)) → b ≡ true
+    → ended ≡ false → with_mark row mark marks ≡ marks
+none-then b mark ended act row marks told is whole =
+    no-mark row mark marks (subst (λ e. MayStandAt mark (ended_act e act)) whole (told.0 is))

@@ -1,0 +1,121 @@
+-- What sums and gains count for a goal.
+use Rattle.std.proofs.Common.{arith, refl, ◌≡◌, ◌+◌, ◌<◌, ◌^◌, ℤ, pos, negsuc, neg_ℤ, ◌+ℤ◌, ◌≤ℤ◌}
+use Rattle.std.proofs.Common.{SFits, of_z, to_z, w64}
+use Rattle.std.proofs.lemmas.Int.{ints, to_z-of_z}
+use Rattle.mdb_cash.specs.declared.gains.Gains.{Gains}
+use Rattle.mdb_cash.specs.Gains.{IsSmall, no_gains}
+use Rattle.mdb_explained_runs.specs.declared.explain.best.Weight.{Weight}
+use Rattle.mdb_explained_runs.specs.declared.explain.best.Weight.TheVariants as weights
+use Rattle.mdb_follow.specs.declared.goal.AccountSide.{AccountSide}
+use Rattle.mdb_follow.specs.declared.goal.AccountSide.TheVariants as sides
+use Rattle.mdb_follow.specs.declared.goal.Bound.{Bound}
+use Rattle.mdb_follow.specs.declared.goal.Bound.TheVariants.{Least, Greatest}
+use Rattle.mdb_follow.specs.Ends.{side_value}
+use Rattle.mdb_follow.specs.Sums.{AccountSums, Sums, added, no_sums}
+use Rattle.mdb_explained_runs.specs.inner.Weights.{gained, towards, weigh, weight_of}
+
+-- a number so near to 0 is one of 64 bits
+near-fits : (z : ℤ) → neg_ℤ (pos (2 ^ 62 + 2 ^ 32)) ≤ℤ z → z ≤ℤ pos (2 ^ 62 + 2 ^ 32)
+    → SFits w64 z
+near-fits (pos n) low high = record { sfits = omega (arith, ints) }
+near-fits (negsuc n) low high = record { sfits = omega (arith, ints) }
+
+-- a sum of numbers of 64 bits that are so small
+pub small-sum : (value by : ℤ) → neg_ℤ (pos (2 ^ 62)) ≤ℤ value → value ≤ℤ pos (2 ^ 62)
+    → neg_ℤ (pos (2 ^ 32)) ≤ℤ by → by ≤ℤ pos (2 ^ 32)
+    → to_z w64 (of_z w64 (to_z w64 (of_z w64 value) +ℤ to_z w64 (of_z w64 by))) ≡ value +ℤ by
+small-sum value by low high more_low more_high =
+    let one = near-fits value (omega (arith, ints)) (omega (arith, ints)) in
+    let other = near-fits by (omega (arith, ints)) (omega (arith, ints)) in
+    let both = near-fits (value +ℤ by) (omega (arith, ints)) (omega (arith, ints)) in
+    rw (to_z-of_z w64 value one, to_z-of_z w64 by other) (to_z-of_z w64 (value +ℤ by) both)
+
+-- sums and gains of one account, added up
+account_sum : AccountSums → AccountSums → AccountSums
+account_sum one other = record {
+  device = one.device + other.device;
+  controller = one.controller + other.controller;
+}
+
+account-adds : (side : AccountSide) (bound : Bound) (one other : AccountSums)
+    → towards bound (side_value side (account_sum one other))
+    ≡ towards bound (side_value side one) +ℤ towards bound (side_value side other)
+unfolding account_sum
+account-adds sides.Device Least one other = omega (arith, ints)
+account-adds sides.Device Greatest one other = omega (arith, ints)
+account-adds sides.Controller Least one other = omega (arith, ints)
+account-adds sides.Controller Greatest one other = omega (arith, ints)
+account-adds sides.Difference Least one other = omega (arith, ints)
+account-adds sides.Difference Greatest one other = omega (arith, ints)
+
+-- what sums with gains count is what the sums count and what the gains do
+pub weigh-adds : (weight : Weight) (sums : Sums) (gains : Gains)
+    → weigh weight (added sums gains) ≡ weigh weight sums +ℤ weight_of weight gains
+unfolding account_sum
+weigh-adds weights.Nothing sums gains = refl
+weigh-adds (weights.First side bound) sums gains =
+    account-adds side bound sums.first (gained 0 gains)
+weigh-adds (weights.Second side bound) sums gains =
+    account-adds side bound sums.second (gained 1 gains)
+
+-- no sums count nothing
+pub weigh-none : (weight : Weight) → weigh weight no_sums ≡ pos 0
+weigh-none weights.Nothing = refl
+weigh-none (weights.First sides.Device Least) = refl
+weigh-none (weights.First sides.Device Greatest) = refl
+weigh-none (weights.First sides.Controller Least) = refl
+weigh-none (weights.First sides.Controller Greatest) = refl
+weigh-none (weights.First sides.Difference Least) = refl
+weigh-none (weights.First sides.Difference Greatest) = refl
+weigh-none (weights.Second sides.Device Least) = refl
+weigh-none (weights.Second sides.Device Greatest) = refl
+weigh-none (weights.Second sides.Controller Least) = refl
+weigh-none (weights.Second sides.Controller Greatest) = refl
+weigh-none (weights.Second sides.Difference Least) = refl
+weigh-none (weights.Second sides.Difference Greatest) = refl
+
+-- and no gains count nothing
+pub weight-none : (weight : Weight) → weight_of weight no_gains ≡ pos 0
+weight-none weights.Nothing = refl
+weight-none (weights.First sides.Device Least) = refl
+weight-none (weights.First sides.Device Greatest) = refl
+weight-none (weights.First sides.Controller Least) = refl
+weight-none (weights.First sides.Controller Greatest) = refl
+weight-none (weights.First sides.Difference Least) = refl
+weight-none (weights.First sides.Difference Greatest) = refl
+weight-none (weights.Second sides.Device Least) = refl
+weight-none (weights.Second sides.Device Greatest) = refl
+weight-none (weights.Second sides.Controller Least) = refl
+weight-none (weights.Second sides.Controller Greatest) = refl
+weight-none (weights.Second sides.Difference Least) = refl
+weight-none (weights.Second sides.Difference Greatest) = refl
+
+-- what small gains count is near to 0
+
+account-near : (side : AccountSide) (bound : Bound) (one : AccountSums) → one.device < 2 ^ 32
+    → one.controller < 2 ^ 32
+    → (neg_ℤ (pos (2 ^ 32)) ≤ℤ towards bound (side_value side one))
+    × (towards bound (side_value side one) ≤ℤ pos (2 ^ 32))
+account-near sides.Device Least one d c = (omega (arith, ints), omega (arith, ints))
+account-near sides.Device Greatest one d c = (omega (arith, ints), omega (arith, ints))
+account-near sides.Controller Least one d c = (omega (arith, ints), omega (arith, ints))
+account-near sides.Controller Greatest one d c = (omega (arith, ints), omega (arith, ints))
+account-near sides.Difference Least one d c = (omega (arith, ints), omega (arith, ints))
+account-near sides.Difference Greatest one d c = (omega (arith, ints), omega (arith, ints))
+
+weight-near : (weight : Weight) (gains : Gains) → IsSmall gains
+    → (neg_ℤ (pos (2 ^ 32)) ≤ℤ weight_of weight gains)
+    × (weight_of weight gains ≤ℤ pos (2 ^ 32))
+weight-near weights.Nothing gains small = (omega (arith, ints), omega (arith, ints))
+weight-near (weights.First side bound) gains small =
+    account-near side bound (gained 0 gains) small.device_first small.controller_first
+weight-near (weights.Second side bound) gains small =
+    account-near side bound (gained 1 gains) small.device_second small.controller_second
+
+pub weight-low : (weight : Weight) (gains : Gains) → IsSmall gains
+    → neg_ℤ (pos (2 ^ 32)) ≤ℤ weight_of weight gains
+weight-low weight gains small = (weight-near weight gains small).0
+
+pub weight-high : (weight : Weight) (gains : Gains) → IsSmall gains
+    → weight_of weight gains ≤ℤ pos (2 ^ 32)
+weight-high weight gains small = (weight-near weight gains small).1

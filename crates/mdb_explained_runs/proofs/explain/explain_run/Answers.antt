@@ -1,0 +1,9 @@
+use Rattle.std.proofs.Common.{subst, ◌∙◌, []}
+use Rattle.mdb_follow.specs.Runs.{IsReached}
+use Rattle.mdb_explained_runs.proofs.explain.explain_run.Goals as goal
+
+pub explain_reached-requires-clause-reached : goal.explain_reached-requires-clause-reached
+explain_reached-requires-clause-reached c =
+    subst (λ s. IsReached s c.args.events.now)
+    (c.scoped-follower.ensures.scope ∙ c.leaving_out.ensures)
+    (c.in_default.ensures.is_reached [] c.scoped-follower.ensures.stands)

@@ -1,0 +1,35 @@
+use Rattle.std.proofs.Common.{inl, ap, refl, sym, ◌∙◌, ◌+ℤ◌}
+use Rattle.std.proofs.lemmas.Option.{none-some, same_Some}
+use Rattle.mdb_bus.specs.declared.scope.Beginning.TheVariants.{PowerOn}
+use Rattle.mdb_explained_runs.proofs.Steps.{takes-nothing, takes-one}
+use Rattle.mdb_explained_runs.proofs.Weights.{small-sum}
+use Rattle.mdb_explained_runs.proofs.explain.paths.take_step.Goals as goal
+
+pub returns-in_default-clause-takes : goal.returns-in_default-clause-takes
+returns-in_default-clause-takes g c acts stands =
+    let p = g.P.Pair in
+    takes-nothing p.CODES c.args.choice p.code_of ((p.machine PowerOn).Step acts c.args.act.now)
+    c.args.weight.now c.args.row c.args.chains.now.links.items c.args.entry.now
+    c.args.room.now.entries.items
+    (λ next gains step. none-some (next, gains)
+    (sym c.in_default.is ∙ (c.step.ensures.steps PowerOn acts stands next gains).1
+    (inl c.requires.can, step)))
+
+pub returns-clause-takes : goal.returns-clause-takes
+returns-clause-takes g c acts stands =
+    let p = g.P.Pair in
+    let steps = c.in-Some.ensures.steps PowerOn acts stands in
+    takes-one p.CODES c.args.choice p.code_of ((p.machine PowerOn).Step acts c.args.act.now)
+    c.args.weight.now c.args.row c.args.chains.now.links.items c.take_in.new.chains.links.items
+    c.args.entry.now c.args.room.now.entries.items c.take_in.new.room.entries.items
+    c.in-Some.next c.in-Some.gains _
+    (small-sum c.args.entry.now.1.value c.of.result c.requires.within.low c.requires.within.high
+    c.of.ensures.low c.of.ensures.high
+    ∙ ap (λ by. c.args.entry.now.1.value +ℤ by) c.of.ensures.is)
+    c.in-Some.ensures.below.1 c.in-Some.ensures.below.0
+    ((steps c.in-Some.next c.in-Some.gains).0 refl).1
+    (λ to got step.
+    (let same = same_Some (c.in-Some.next, c.in-Some.gains) (to, got)
+    ((steps to got).1 (inl c.requires.can, step)) in
+    (ap (λ move. move.0) same, ap (λ move. move.1) same)))
+    c.in_ok-take_in.ensures.takes c.in_ok-take_in.ensures.has

@@ -1,0 +1,10 @@
+use Rattle.std.proofs.Common.{◌≡◌, take}
+use Rattle.mdb_bus.specs.Bus.{scope_of}
+use Rattle.mdb_explained_runs.specs.inner.Seekers.{IsSeeker}
+use Rattle.mdb_explained_runs.proofs.explain.seeker.seek.Given as goal
+
+abbrev pub invariant-loop-event : goal.invariant-loop-event
+invariant-loop-event l = record {
+  on : IsSeeker l.goal (take l.event-index l.events) l.seeker;
+  scope : scope_of l.seeker.bus ≡ l.scope;
+}

@@ -1,0 +1,12 @@
+use Rattle.mdb_explained_runs.proofs.Tracked.{tracks-within-next, tracks-within-rows}
+use Rattle.mdb_explained_runs.proofs.replay.Replay.follow.Goals as goal
+
+pub lead-requires : goal.lead-requires
+lead-requires c =
+    tracks-within-rows c.args.self.now.rows c.args.self.now.tracks c.args.self.now.few
+    (c.args.self.now.within c.requires.going)
+
+pub invariant_of-self-clause-within : goal.invariant_of-self-clause-within
+invariant_of-self-clause-within c going =
+    tracks-within-next c.args.self.now.rows c.args.self.now.tracks c.args.self.now.act
+    c.args.choice c.lead.new.self (c.args.self.now.within going) c.in-Ok.ensures.led

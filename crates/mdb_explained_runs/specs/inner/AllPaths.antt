@@ -1,0 +1,104 @@
+-- The best ways of each device, for a goal. This serves private functions.
+use Rattle.std.specs.Prelude.{◌≡◌, ℕ, List, ◌∷◌, length}
+use Rattle.mdb_msgs.specs.declared.command.Device.{Device}
+use Rattle.mdb_msgs.specs.declared.command.Device.TheVariants as devices
+use Rattle.mdb_msgs.specs.declared.command.ReaderUnit.TheVariants as units
+use Rattle.mdb_bus.specs.declared.act.Act.{Act}
+use Rattle.mdb_bus.specs.declared.scope.Beginning.TheVariants.{PowerOn}
+use Rattle.mdb_bus.specs.ActLists.{Piece, acts_of}
+use Rattle.mdb_follow.specs.declared.account_name.AccountName.{AccountName}
+use Rattle.mdb_follow.specs.declared.account_name.AccountName.TheVariants as accounts
+use Rattle.mdb_explained_runs.specs.declared.explain.all_paths.AllPaths.{AllPaths}
+use Rattle.mdb_explained_runs.specs.declared.explain.best.Weight.{Weight}
+use Rattle.mdb_explained_runs.specs.declared.explain.best.Weight.TheVariants as weights
+use Rattle.mdb_explained_runs.specs.declared.explain.paths.Paths.{Paths}
+use Rattle.mdb_follow.specs.declared.goal.AccountSide.{AccountSide}
+use Rattle.mdb_follow.specs.declared.goal.Bound.{Bound}
+use Rattle.mdb_follow.specs.declared.goal.Goal.{Goal}
+use Rattle.mdb_follow.specs.Choosing.{Choices, Follows}
+use Rattle.mdb_explained_runs.specs.declared.mark.Mark.{Mark}
+use Rattle.mdb_explained_runs.specs.Marks.{own_marks}
+use Rattle.mdb_follow.specs.Machines.{StateOf, machine_of}
+use Rattle.mdb_follow.specs.Sides.{FactsOf, code_of, codes_of, stands_for}
+use Rattle.mdb_follow.specs.Sums.{Sums}
+use Rattle.mdb_explained_runs.specs.inner.Paths.{AreEntriesWithin, ArePaths, IsAsGood}
+use Rattle.mdb_explained_runs.specs.inner.Weights.{weigh}
+
+-- what the gains of a device count for an end of a range of an account: nothing, where the account
+-- is another device's
+abbrev pub weight_at : AccountSide → Bound → AccountName → Device → Weight
+weight_at side bound accounts.CoinsIn devices.Changer = weights.First side bound
+weight_at side bound accounts.PaidOut devices.Changer = weights.Second side bound
+weight_at side bound accounts.BillsIn devices.Bill = weights.First side bound
+weight_at side bound (accounts.Approved units.First) (devices.Reader units.First) =
+    weights.First side bound
+weight_at side bound (accounts.Sold units.First) (devices.Reader units.First) =
+    weights.Second side bound
+weight_at side bound (accounts.Approved units.Second) (devices.Reader units.Second) =
+    weights.First side bound
+weight_at side bound (accounts.Sold units.Second) (devices.Reader units.Second) =
+    weights.Second side bound
+weight_at side bound account device = weights.Nothing
+
+-- and for a goal
+abbrev pub weight_for : Goal → Device → Weight
+weight_for goal device = weight_at goal.side goal.bound goal.account device
+
+-- the paths of a device
+abbrev pub paths_in : AllPaths → (device : Device) → Paths (FactsOf device) (codes_of device)
+paths_in all devices.Changer = all.changer
+paths_in all devices.Bill = all.bill
+paths_in all (devices.Reader units.First) = all.first_reader
+paths_in all (devices.Reader units.Second) = all.second_reader
+
+-- They are those through the acts of pieces.
+abbrev pub ArePathsOf : Goal → List Piece → AllPaths → Device → Type 0
+ArePathsOf goal pieces all device =
+    ArePaths (stands_for PowerOn device) (code_of device) device (machine_of PowerOn device)
+    (weight_for goal device) all.chains.links.items pieces (paths_in all device)
+
+-- and those of each device are
+abbrev pub AreAllPaths : Goal → List Piece → AllPaths → Type 0
+AreAllPaths goal pieces all = (device : Device) → ArePathsOf goal pieces all device
+
+-- the values and the marks of a device's entries are at most so far from 0
+abbrev pub AreWithinOf : ℕ → AllPaths → Device → Type 0
+AreWithinOf limit all device =
+    AreEntriesWithin (codes_of device) limit all.chains.links.items
+    (paths_in all device).entries.items
+
+-- and those of all entries are
+abbrev pub AreAllWithin : ℕ → AllPaths → Type 0
+AreAllWithin limit all = (device : Device) → AreWithinOf limit all device
+
+-- what is kept of the facts is what is known after acts
+abbrev pub AreAllFacts : List Act → AllPaths → Type 0
+AreAllFacts acts all =
+    (device : Device) → stands_for PowerOn device (paths_in all device).facts acts
+
+-- A device has no way over an act after pieces.
+abbrev pub HasNoWay : List Piece → Act → Device → Type 0
+HasNoWay pieces act device =
+    (choices : Choices (act ∷ acts_of pieces)) (state : StateOf device) (sums : Sums)
+    → Follows (machine_of PowerOn device) (act ∷ acts_of pieces) choices state sums → ⊥
+
+-- a device has a way through the acts of pieces
+abbrev pub HasWay : List Piece → Device → Type 0
+HasWay pieces device =
+    (state : StateOf device) × (sums : Sums) × (choices : Choices (acts_of pieces))
+    × Follows (machine_of PowerOn device) (acts_of pieces) choices state sums
+
+-- Marks are those of a best way of a device through the acts of pieces: each of its ways counts at
+-- least as much for the goal, and where it counts the same it has at least as many marks.
+pub record AreBestMarks (goal : Goal) (pieces : List Piece) (device : Device)
+    (marks : List (ℕ × Mark)) : Type 0 where
+  pub state : StateOf device
+  pub sums : Sums
+  pub choices : Choices (acts_of pieces)
+  pub way : Follows (machine_of PowerOn device) (acts_of pieces) choices state sums
+  pub are : marks ≡ own_marks device pieces choices
+  pub least : (other_state : StateOf device) (other_sums : Sums)
+      (other : Choices (acts_of pieces))
+      → Follows (machine_of PowerOn device) (acts_of pieces) other other_state other_sums
+      → IsAsGood (weigh (weight_for goal device) sums) (length marks)
+      (weigh (weight_for goal device) other_sums) (length (own_marks device pieces other))

@@ -1,0 +1,164 @@
+//! The best ways of each device and the controller, for a goal.
+
+ghost use Rattle.std.specs.Prelude.{◌≡◌, ◌+◌, ◌^◌, ℕ, List, [], ◌∷◌, ◌++◌, Contains, IfOk, length};
+ghost use Rattle.std.specs.Bool.{OnFalse, OnTrue};
+ghost use Rattle.mdb_words.specs.declared.event.Event.{Event};
+ghost use Rattle.mdb_msgs.specs.declared.command.Device.{Device};
+ghost use Rattle.mdb_bus.specs.declared.act.Act.{Act};
+ghost use Rattle.mdb_bus.specs.ActLists.{Piece, Whole, events_of};
+ghost use Rattle.mdb_follow.specs.declared.goal.Goal.{Goal};
+ghost use Rattle.mdb_explained_runs.specs.inner.AllPaths.{AreAllFacts, AreAllPaths, AreAllWithin};
+ghost use Rattle.mdb_explained_runs.specs.declared.explain.best.Best.{Best};
+ghost use Rattle.mdb_explained_runs.specs.inner.AllPaths.{AreBestMarks, HasNoWay, HasWay, paths_in};
+ghost use Rattle.mdb_explained_runs.specs.inner.AllPaths.{weight_for};
+ghost use Rattle.mdb_explained_runs.specs.inner.Paths.{IsBestOf};
+ghost use Rattle.mdb_explained_runs.specs.inner.Chains.{KeepChains};
+
+use super::best::{Best, Weight};
+use super::chains::Chains;
+use super::paths::{self, Paths};
+use crate::Mark;
+use mdb_bus::Act;
+use mdb_cash::{Bill, BillKnown, Changer, ChangerKnown};
+use mdb_cashless::{Reader, ReaderKnown};
+use mdb_follow::{AccountName, Goal};
+use mdb_msgs::{Device, ReaderUnit};
+use std::alloc::{AllocError, Global};
+
+/// The reader at 10H.
+type FirstReader = Reader<0>;
+
+/// The reader at 60H.
+type SecondReader = Reader<1>;
+
+/// The best ways of each device and the controller, in a recording that begins at power-on, with
+/// the chains of their marks. The size of each is the number of states.
+#[derive(Drop)]
+pub(crate) struct AllPaths {
+    chains: Chains,
+    changer: Paths<ChangerKnown, 4>,
+    bill: Paths<BillKnown, 66>,
+    first_reader: Paths<ReaderKnown, 176>,
+    second_reader: Paths<ReaderKnown, 176>,
+}
+
+/// What the gains of a device count for a goal: nothing, where the goal is of another device.
+fn weight_of(goal: &Goal, device: Device) -> Weight
+    ensures { result ≡ weight_for goal.now device }
+{
+    match (goal.account, device) {
+        (AccountName::CoinsIn, Device::Changer)
+        | (AccountName::BillsIn, Device::Bill)
+        | (AccountName::Approved(ReaderUnit::First), Device::Reader(ReaderUnit::First))
+        | (AccountName::Approved(ReaderUnit::Second), Device::Reader(ReaderUnit::Second)) => {
+            Weight::First(goal.side, goal.bound)
+        }
+        (AccountName::PaidOut, Device::Changer)
+        | (AccountName::Sold(ReaderUnit::First), Device::Reader(ReaderUnit::First))
+        | (AccountName::Sold(ReaderUnit::Second), Device::Reader(ReaderUnit::Second)) => {
+            Weight::Second(goal.side, goal.bound)
+        }
+        _ => Weight::Nothing,
+    }
+}
+
+impl AllPaths {
+    /// The paths through no act.
+    ///
+    /// # Errors
+    ///
+    /// Memory was refused.
+    pub(crate) fn start(alloc: Global) -> Result<AllPaths, AllocError>
+        ensures stands { IfOk result (λ all. (goal : Goal) → AreAllPaths goal [] all) }
+        ensures within { IfOk result (AreAllWithin 0) }
+    {
+        let changer = paths::start::<Changer, _>(alloc)?;
+        let bill = paths::start::<Bill, _>(alloc)?;
+        let first_reader = paths::start::<FirstReader, _>(alloc)?;
+        let second_reader = paths::start::<SecondReader, _>(alloc)?;
+        Ok(AllPaths {
+            chains: Chains::new(alloc),
+            changer,
+            bill,
+            first_reader,
+            second_reader,
+        })
+    }
+
+    /// Leads the paths of each device over an act that ends at a row. Where no way of some device
+    /// leads over it, it answers `false`.
+    ///
+    /// # Errors
+    ///
+    /// Memory was refused.
+    pub(crate) fn lead(&mut self, goal: &Goal, act: &Act, row: u64) -> Result<bool, AllocError>
+        requires stands { (acts : List Act) × AreAllFacts acts self.old }
+        requires within { AreAllWithin (2 ^ 62) self.old }
+        ensures led { IfOk result (λ goes. OnTrue goes ((pieces : List Piece)
+            (events : List Event) → row ≡ length (events_of pieces ++ events)
+            → AreAllPaths goal.now pieces self.old
+            → AreAllPaths goal.now (Whole act.now events ∷ pieces) self.new)) }
+        ensures none { IfOk result (λ goes. OnFalse goes ((pieces : List Piece)
+            → AreAllPaths goal.now pieces self.old
+            → (device : Device) × HasNoWay pieces act.now device)) }
+        ensures within { IfOk result (λ goes. OnTrue goes ((limit : ℕ)
+            → AreAllWithin limit self.old → AreAllWithin (limit + 2 ^ 32) self.new)) }
+        ensures kept { KeepChains self.old.chains.links.items self.new.chains.links.items }
+    {
+        let weight = weight_of(goal, Device::Changer);
+        let chains = &mut self.chains;
+        if !paths::lead::<Changer, _>(&mut self.changer, chains, &weight, act, row)? {
+            return Ok(false);
+        }
+        let weight = weight_of(goal, Device::Bill);
+        let chains = &mut self.chains;
+        if !paths::lead::<Bill, _>(&mut self.bill, chains, &weight, act, row)? {
+            return Ok(false);
+        }
+        let weight = weight_of(goal, Device::Reader(ReaderUnit::First));
+        let chains = &mut self.chains;
+        if !paths::lead::<FirstReader, _>(&mut self.first_reader, chains, &weight, act, row)? {
+            return Ok(false);
+        }
+        let weight = weight_of(goal, Device::Reader(ReaderUnit::Second));
+        let chains = &mut self.chains;
+        if !paths::lead::<SecondReader, _>(&mut self.second_reader, chains, &weight, act, row)? {
+            return Ok(false);
+        }
+        Ok(true)
+    }
+    /// The best entry of a device's paths, whatever its state is.
+    fn best(&self, device: Device) -> Best
+        ensures { (entry : ℕ × Best) → Contains (paths_in self.now device).entries.items entry
+            → IsBestOf (paths_in self.now device).entries.items result }
+    {
+        match device {
+            Device::Changer => paths::best_of(&self.changer),
+            Device::Bill => paths::best_of(&self.bill),
+            Device::Reader(unit) => match unit {
+                ReaderUnit::First => paths::best_of(&self.first_reader),
+                ReaderUnit::Second => paths::best_of(&self.second_reader),
+            },
+        }
+    }
+
+    /// The marks of a best way of a device that has one, with their rows, the oldest first.
+    ///
+    /// # Errors
+    ///
+    /// Memory was refused.
+    pub(crate) fn marks(
+        &self,
+        alloc: Global,
+        device: Device,
+    ) -> Result<Vec<(u64, Mark)>, AllocError>
+        requires { (goal : Goal) × (pieces : List Piece) × AreAllPaths goal pieces self.now
+            × HasWay pieces device }
+        ensures { IfOk result (λ marks. (goal : Goal) (pieces : List Piece)
+            → AreAllPaths goal pieces self.now → HasWay pieces device
+            → AreBestMarks goal pieces device marks.items) }
+    {
+        let best = self.best(device);
+        self.chains.read(alloc, best.chain)
+    }
+}

@@ -1,0 +1,328 @@
+//! The best ways of one device and the controller to each state that is possible now.
+
+ghost use Rattle.std.specs.Prelude.{◌≡◌, ◌<◌, ◌≤◌, ◌+◌, ◌^◌, ℕ, ℤ, List, [], ◌∷◌, ◌++◌, true};
+ghost use Rattle.std.specs.Prelude.{Contains, IfOk, IfSome, length};
+ghost use Rattle.std.specs.Bool.{OnFalse, OnTrue};
+ghost use Rattle.mdb_bus.specs.declared.act.Act.{Act};
+ghost use Rattle.mdb_bus.specs.declared.scope.Beginning.TheVariants.{PowerOn};
+ghost use Rattle.mdb_bus.specs.ActLists.{Piece, Whole, acts_of, events_of};
+ghost use Rattle.mdb_cash.specs.Choices.{CanStand};
+ghost use Rattle.mdb_words.specs.declared.event.Event.{Event};
+ghost use Rattle.mdb_follow.specs.Choosing.{Choices, Follows};
+ghost use Rattle.mdb_explained_runs.specs.Marks.{marks_at};
+ghost use Rattle.mdb_follow.specs.Sums.{Sums};
+ghost use Rattle.mdb_explained_runs.specs.declared.explain.best.Best.{Best};
+ghost use Rattle.mdb_explained_runs.specs.declared.explain.chains.Link.{Link};
+ghost use Rattle.mdb_explained_runs.specs.inner.Chains.{IsChain, KeepChains};
+ghost use Rattle.mdb_explained_runs.specs.inner.Paths.{AreEntriesWithin, AreLed, ArePaths, AreStarts};
+ghost use Rattle.mdb_explained_runs.specs.inner.Paths.{GoesOnFrom, HasAsGood, HasCodeAt, IsBestOf};
+ghost use Rattle.mdb_explained_runs.specs.inner.Paths.{IsEntryWithin, TakesIn, TakesSteps};
+ghost use Rattle.mdb_explained_runs.specs.declared.explain.best.Weight.{Weight};
+
+use super::best::{Best, Weight, marks_of};
+use super::chains::Chains;
+use mdb_bus::{Act, Beginning};
+use mdb_cash::{Choice, Pair, other_choice};
+use std::alloc::{AllocError, Global};
+use std::mem;
+
+/// The best ways of one device and the controller, in a recording that begins at power-on.
+///
+/// `N` is the number of the pair's states.
+#[derive(Drop)]
+pub(crate) struct Paths<F: Drop, const N: usize> {
+    /// What is known after the acts so far.
+    facts: F,
+    /// The states that are possible now, by their codes, each with the best way there.
+    entries: Vec<(usize, Best)>,
+    /// Room for those after the next act.
+    next: Room<N>,
+}
+
+/// Room for entries while they are made.
+#[derive(Drop)]
+struct Room<const N: usize> {
+    entries: Vec<(usize, Best)>,
+    /// Where the entry of each code stands. Under a code that has none there may be anything.
+    places: [usize; N],
+}
+
+/// The paths through no act.
+///
+/// # Errors
+///
+/// Memory was refused.
+pub(crate) fn start<P: Pair, const N: usize>(
+    alloc: Global,
+) -> Result<Paths<P::Facts, N>, AllocError>
+    requires { N ≡ P.CODES }
+    ensures stands { IfOk result (λ paths. (weight : Weight) (links : List Link)
+        → ArePaths (P.stands_for PowerOn) P.code_of P.device (P.machine PowerOn) weight links []
+        paths) }
+    ensures within { IfOk result (λ paths. (links : List Link)
+        → AreEntriesWithin P.CODES 0 links paths.entries.items) }
+{
+    let entries = starts::<P>(alloc)?;
+    let facts = P::facts_start(&Beginning::PowerOn);
+    Ok(Paths {
+        facts,
+        entries,
+        next: Room {
+            entries: Vec::new(alloc),
+            places: [0; N],
+        },
+    })
+}
+
+/// The entries of the states in which the pair may start.
+///
+/// # Errors
+///
+/// Memory was refused.
+fn starts<P: Pair>(alloc: Global) -> Result<Vec<(usize, Best)>, AllocError>
+    ensures { IfOk result (λ entries. AreStarts P.CODES P.code_of (P.machine PowerOn) P.CODES
+        entries.items) }
+{
+    let mut entries = Vec::new(alloc);
+    for code in 0..P::CODES {
+        if P::may_start(&Beginning::PowerOn, P::state(code)) {
+            entries.push((code, Best::NOTHING))?;
+        }
+    }
+    Ok(entries)
+}
+
+/// Leads paths over an act that ends at a row. Where no way leads over it, it answers `false`; the
+/// caller has met the offence before.
+///
+/// # Errors
+///
+/// Memory was refused.
+pub(crate) fn lead<P: Pair, const N: usize>(
+    paths: &mut Paths<P::Facts, N>,
+    chains: &mut Chains,
+    weight: &Weight,
+    act: &Act,
+    row: u64,
+) -> Result<bool, AllocError>
+    requires size { N ≡ P.CODES }
+    requires stands { (acts : List Act) × P.stands_for PowerOn paths.old.facts acts }
+    requires within { AreEntriesWithin P.CODES (2 ^ 62) chains.old.links.items
+        paths.old.entries.items }
+    ensures led { IfOk result (λ goes. OnTrue goes ((pieces : List Piece) (events : List Event)
+        → row ≡ length (events_of pieces ++ events)
+        → ArePaths (P.stands_for PowerOn) P.code_of P.device (P.machine PowerOn) weight.now
+        chains.old.links.items pieces paths.old
+        → ArePaths (P.stands_for PowerOn) P.code_of P.device (P.machine PowerOn) weight.now
+        chains.new.links.items (Whole act.now events ∷ pieces) paths.new)) }
+    ensures none { IfOk result (λ goes. OnFalse goes ((pieces : List Piece)
+        → ArePaths (P.stands_for PowerOn) P.code_of P.device (P.machine PowerOn) weight.now
+        chains.old.links.items pieces paths.old
+        → (choices : Choices (act.now ∷ acts_of pieces)) (state : P.State) (sums : Sums)
+        → Follows (P.machine PowerOn) (act.now ∷ acts_of pieces) choices state sums → ⊥)) }
+    ensures within { IfOk result (λ _. (limit : ℕ)
+        → AreEntriesWithin P.CODES limit chains.old.links.items paths.old.entries.items
+        → AreEntriesWithin P.CODES (limit + 2 ^ 32) chains.new.links.items
+        paths.new.entries.items) }
+    ensures kept { KeepChains chains.old.links.items chains.new.links.items }
+{
+    if P::concerns(act) {
+        fill::<P, N>(
+            &paths.facts,
+            act,
+            row,
+            weight,
+            &paths.entries,
+            &mut paths.next,
+            chains,
+        )?;
+        if paths.next.entries.is_empty() {
+            return Ok(false);
+        }
+        mem::swap(&mut paths.entries, &mut paths.next.entries);
+    }
+    P::learn(&mut paths.facts, act);
+    Ok(true)
+}
+
+/// The best of all entries; the one of no act where there is none.
+pub(crate) fn best_of<F: Drop, const N: usize>(paths: &Paths<F, N>) -> Best
+    ensures { (entry : ℕ × Best) → Contains paths.now.entries.items entry
+        → IsBestOf paths.now.entries.items result }
+{
+    let Some(((_, first), rest)) = paths.entries.split_first() else {
+        return Best::NOTHING;
+    };
+    let mut best = *first;
+    for (_, other) in rest {
+        if best.is_worse_than(other) {
+            best = *other;
+        }
+    }
+    best
+}
+
+/// Makes the entries after an act that ends at a row from those before it.
+///
+/// # Errors
+///
+/// Memory was refused.
+fn fill<P: Pair, const N: usize>(
+    facts: &P::Facts,
+    act: &Act,
+    row: u64,
+    weight: &Weight,
+    from: &[(usize, Best)],
+    room: &mut Room<N>,
+    chains: &mut Chains,
+) -> Result<(), AllocError>
+    requires size { N ≡ P.CODES }
+    requires settled { P.settled facts.now act.now ≡ true }
+    requires within { AreEntriesWithin P.CODES (2 ^ 62) chains.old.links.items from.now }
+    ensures led { IfOk result (λ _. (acts : List Act) → P.stands_for PowerOn facts.now acts
+        → AreLed P.CODES (CanStand act.now) P.code_of ((P.machine PowerOn).Step acts act.now)
+        weight.now row chains.old.links.items chains.new.links.items from.now
+        room.new.entries.items) }
+    ensures kept { KeepChains chains.old.links.items chains.new.links.items }
+{
+    room.entries.clear();
+    for entry in from {
+        take_steps::<P, N>(facts, act, row, weight, entry, room, chains)?;
+    }
+    Ok(())
+}
+
+/// Takes in what the steps by an act lead to from an entry, under each choice that can stand on it.
+///
+/// # Errors
+///
+/// Memory was refused.
+fn take_steps<P: Pair, const N: usize>(
+    facts: &P::Facts,
+    act: &Act,
+    row: u64,
+    weight: &Weight,
+    entry: &(usize, Best),
+    room: &mut Room<N>,
+    chains: &mut Chains,
+) -> Result<(), AllocError>
+    requires size { N ≡ P.CODES }
+    requires settled { P.settled facts.now act.now ≡ true }
+    requires within { IsEntryWithin P.CODES (2 ^ 62) chains.old.links.items entry.now }
+    ensures takes { IfOk result (λ _. (acts : List Act) → P.stands_for PowerOn facts.now acts
+        → TakesSteps P.CODES (CanStand act.now) P.code_of ((P.machine PowerOn).Step acts act.now)
+        weight.now row chains.old.links.items chains.new.links.items entry.now
+        room.old.entries.items room.new.entries.items) }
+    ensures kept { KeepChains chains.old.links.items chains.new.links.items }
+{
+    take_step::<P, N>(facts, act, row, weight, Choice::Plain, entry, room, chains)?;
+    if let Some(choice) = other_choice(act) {
+        take_step::<P, N>(facts, act, row, weight, choice, entry, room, chains)?;
+    }
+    Ok(())
+}
+
+/// Takes in what the step by an act, if there is one, leads to from an entry, under a choice.
+///
+/// # Errors
+///
+/// Memory was refused.
+fn take_step<P: Pair, const N: usize>(
+    facts: &P::Facts,
+    act: &Act,
+    row: u64,
+    weight: &Weight,
+    choice: Choice,
+    entry: &(usize, Best),
+    room: &mut Room<N>,
+    chains: &mut Chains,
+) -> Result<(), AllocError>
+    requires size { N ≡ P.CODES }
+    requires settled { P.settled facts.now act.now ≡ true }
+    requires can { CanStand act.now choice }
+    requires within { IsEntryWithin P.CODES (2 ^ 62) chains.old.links.items entry.now }
+    ensures takes { IfOk result (λ _. (acts : List Act) → P.stands_for PowerOn facts.now acts
+        → TakesSteps P.CODES (λ one. one ≡ choice) P.code_of
+        ((P.machine PowerOn).Step acts act.now) weight.now row chains.old.links.items
+        chains.new.links.items entry.now room.old.entries.items room.new.entries.items) }
+    ensures kept { KeepChains chains.old.links.items chains.new.links.items }
+{
+    let Some((next, gains)) = P::step(facts, act, entry.0, choice) else {
+        return Ok(());
+    };
+    let value = entry.1.value + weight.of(&gains);
+    take_in(room, chains, &entry.1, row, choice, next, value)?;
+    Ok(())
+}
+
+/// Takes in a way that goes on from a best one with a choice at a row: as the entry of its code, or
+/// in place of one that is worse. A link is made only where it is taken in.
+///
+/// # Errors
+///
+/// Memory was refused.
+fn take_in<const N: usize>(
+    room: &mut Room<N>,
+    chains: &mut Chains,
+    before: &Best,
+    row: u64,
+    choice: Choice,
+    code: usize,
+    value: i64,
+) -> Result<(), AllocError>
+    requires code { code < N }
+    requires few { before.now.marks < 2 ^ 63 }
+    requires chain { IsChain chains.old.links.items before.now.chain }
+    ensures takes { IfOk result (λ _. TakesIn
+        (GoesOnFrom chains.old.links.items chains.new.links.items before.now row choice code value)
+        room.old.entries.items room.new.entries.items) }
+    ensures has { IfOk result (λ _. HasAsGood room.new.entries.items code value
+        (before.now.marks + length (marks_at row choice))) }
+    ensures kept { KeepChains chains.old.links.items chains.new.links.items }
+{
+    let marks = before.marks + marks_of(choice);
+    match room.place_of(code) {
+        Some(place) => {
+            if !room.entries[place].1.is_beaten_by(value, marks) {
+                return Ok(());
+            }
+            let chain = chains.extend(before.chain, row, choice)?;
+            room.entries[place] = (
+                code,
+                Best {
+                    value,
+                    marks,
+                    chain,
+                },
+            );
+        }
+        None => {
+            let chain = chains.extend(before.chain, row, choice)?;
+            room.places[code] = room.entries.len();
+            room.entries.push((
+                code,
+                Best {
+                    value,
+                    marks,
+                    chain,
+                },
+            ))?;
+        }
+    }
+    Ok(())
+}
+
+impl<const N: usize> Room<N> {
+    /// Where the entry of a code stands; `None` where there is none.
+    fn place_of(&self, code: usize) -> Option<usize>
+        requires { code < N }
+        ensures { IfSome result (HasCodeAt self.now.entries.items code) }
+    {
+        let place = self.places[code];
+        if place < self.entries.len() && self.entries[place].0 == code {
+            Some(place)
+        } else {
+            None
+        }
+    }
+}

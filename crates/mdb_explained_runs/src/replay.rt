@@ -1,0 +1,284 @@
+//! The replay of a recording: the run from power-on with given marks.
+
+ghost use Rattle.std.specs.Prelude.{◌≡◌, ◌<◌, ◌≤◌, ◌+◌, ◌*◌, ◌^◌, ◌↔◌, ℕ, List, [], ◌∷◌, ◌++◌};
+ghost use Rattle.std.specs.Prelude.{Some, None, Err, IfSome, IfOk, IfErr, IsOk, IsSome};
+ghost use Rattle.std.specs.Prelude.{IsSomeAnd, IsTrue, OnErr};
+ghost use Rattle.std.specs.Bool.{OnFalse, OnTrue};
+ghost use Rattle.std.specs.Option.{ForNone, ForSome};
+ghost use Rattle.mdb_words.specs.declared.event.Event.{Event};
+ghost use Rattle.mdb_bus.specs.Bus.{ended_act};
+ghost use Rattle.mdb_bus.specs.Scopes as scopes;
+ghost use Rattle.mdb_explained_runs.specs.Marks as marks;
+ghost use Rattle.mdb_explained_runs.specs.ReplayFaults.{MayStandAt, row_of};
+ghost use Rattle.mdb_follow.specs.SilenceSteps.{AreFew};
+ghost use Rattle.mdb_explained_runs.specs.inner.TrackSteps.{AreTracksWithin};
+
+use crate::tracks::{Tracks, report_of};
+use crate::{Mark, laws};
+use mdb_bus::{Act, Bus, LinkFault, Scope, laws as bus_laws};
+use mdb_cash::Choice;
+use mdb_follow::{Offence, ROWS_MAX, Report, Silences, laws as follow_laws, sender_of};
+use mdb_msgs::DeviceSet;
+use mdb_words::{Event, Time};
+
+/// Why rows with these marks have no run.
+#[derive(Clone, Copy, PartialEq, Eq, Debug)]
+pub enum ReplayFault {
+    /// The first row that is impossible with these marks.
+    Offence(Offence),
+    /// A mark that can't stand at this row, counted from 1. The row ends no act, or an act of
+    /// another kind than the mark needs: an ACK, or a reply that can report a restart.
+    Mark(u64),
+}
+
+/// The run of a recording from power-on with given marks: one state of each device and of the
+/// controller. It allocates nothing.
+#[derive(Drop)]
+pub struct Replay {
+    bus: Bus,
+    tracks: Tracks,
+    silences: Silences,
+    rows: u64,
+    fault: Option<ReplayFault>,
+    /// Room for the act that a row ends. Between rows what is in it is of no matter.
+    act: Act,
+    ghost few: { rows ≤ 100000000 },
+    ghost within: { ForNone fault (AreTracksWithin (rows * 2 ^ 32) tracks) },
+    ghost few_silences: { AreFew rows silences },
+    ghost numbered: { ForSome fault (λ fault. row_of fault ≡ rows + 1) },
+}
+
+impl Replay {
+    ghost use Rattle.mdb_bus.specs.Scopes.{power_on};
+    ghost use Rattle.mdb_explained_runs.specs.declared.mark.Mark.{Mark};
+    ghost use Rattle.mdb_explained_runs.specs.Marks.{with_mark};
+    ghost use Rattle.mdb_explained_runs.specs.ReplayFaults.{HasMarkedRun, IsReplayFault};
+    ghost use Rattle.mdb_explained_runs.specs.Replays.{IsReplayReport, StandsFor, fault_of, rows_of};
+    ghost use Rattle.mdb_explained_runs.specs.Replays.{scope_of};
+    ghost use Rattle.mdb_explained_runs.specs.inner.ReplaySteps.{HasReplayed, HasStopped};
+
+    /// The replay before the first row: all devices are followed.
+    pub fn new() -> Replay
+        ensures stands { StandsFor result [] [] }
+        ensures empty { rows_of result ≡ 0 }
+        ensures scope { scope_of result ≡ power_on }
+    {
+        Replay::scoped(&Scope::POWER_ON)
+    }
+
+    /// The replay before the first row: these devices are left out.
+    pub fn leaving_out(devices: DeviceSet) -> Replay
+        ensures stands { StandsFor result [] [] }
+        ensures empty { rows_of result ≡ 0 }
+        ensures scope { scope_of result ≡ scopes.leaving_out devices }
+    {
+        Replay::scoped(&Scope::leaving_out(devices))
+    }
+
+    /// How many rows were accepted.
+    pub fn rows(&self) -> u64
+        ensures { result ≡ rows_of self.now }
+    {
+        self.rows
+    }
+
+    /// Takes the next row, with a mark that stands on the act that it ends, or with none.
+    ///
+    /// # Errors
+    ///
+    /// The fault of the first row that cannot be with these marks, or that ends no act on which
+    /// its mark may stand. From then on each call answers it again, and nothing changes.
+    pub fn feed(&mut self, event: Event, mark: Option<Mark>) -> Result<(), ReplayFault>
+        requires { rows_of self.old < ROWS_MAX }
+        ensures reached { (events : List Event) (marks : List (ℕ × Mark))
+            → StandsFor self.old events marks → IfOk result (λ _. StandsFor self.new
+            (events ++ event ∷ []) (with_mark (rows_of self.old + 1) mark marks)) }
+        ensures has_run { (events : List Event) (marks : List (ℕ × Mark))
+            → StandsFor self.old events marks
+            → IfOk result (λ _. HasMarkedRun (scope_of self.old) (events ++ event ∷ [])
+            (with_mark (rows_of self.old + 1) mark marks)) }
+        ensures fault { (events : List Event) (marks : List (ℕ × Mark))
+            → StandsFor self.old events marks
+            → IfErr result (IsReplayFault (scope_of self.old) events marks event mark) }
+        ensures noted { IfErr result (λ fault. fault_of self.new ≡ Some fault) }
+        ensures numbered { IfErr result (λ fault. row_of fault ≡ rows_of self.new + 1) }
+        ensures counted { IfOk result (λ _. rows_of self.new ≡ rows_of self.old + 1) }
+        ensures uncounted { OnErr result (rows_of self.new ≡ rows_of self.old) }
+        ensures repeats { IfSome (fault_of self.old) (λ fault.
+            (result ≡ Err fault) × (self.new ≡ self.old)) }
+        ensures scope { scope_of self.new ≡ scope_of self.old }
+    {
+        follow_laws::ways_with_choices_join();
+        if let Some(fault) = self.fault {
+            return Err(fault);
+        }
+        if self.take(event, mark) {
+            Ok(())
+        } else {
+            Err(self.noted())
+        }
+    }
+
+    /// What the rows so far tell in this run: each range is of one value.
+    ///
+    /// # Errors
+    ///
+    /// The fault of a row that cannot be, or that has a mark that may not stand there.
+    pub fn report(&self) -> Result<Report, ReplayFault>
+        ensures report { (events : List Event) (marks : List (ℕ × Mark))
+            → StandsFor self.now events marks
+            → IfOk result (IsReplayReport (scope_of self.now) events marks) }
+        ensures answers { (events : List Event) (marks : List (ℕ × Mark))
+            → StandsFor self.now events marks → IsOk result }
+        ensures fault { IfSome (fault_of self.now) (λ fault. result ≡ Err fault) }
+    {
+        follow_laws::ways_with_choices_join();
+        follow_laws::ways_split_with_choices();
+        laws::marks_tell_what_is_chosen();
+        bus_laws::transcripts_have_one_act_list();
+        if let Some(fault) = self.fault {
+            return Err(fault);
+        }
+        let tracks = &self.tracks;
+        let accounts = [
+            tracks.changer.cell.first,
+            tracks.bill.cell.first,
+            tracks.changer.cell.second,
+            tracks.first_reader.cell.first,
+            tracks.first_reader.cell.second,
+            tracks.second_reader.cell.first,
+            tracks.second_reader.cell.second,
+        ];
+        Ok(report_of(self.rows, accounts, tracks, &self.silences))
+    }
+
+    /// Takes the next row, after rows that can be. Answers whether it can be too: where it can't,
+    /// its fault is noted.
+    fn take(&mut self, event: Event, mark: Option<Mark>) -> bool
+        requires room { rows_of self.old < ROWS_MAX }
+        requires going { fault_of self.old ≡ None }
+        ensures reached { OnTrue result ((events : List Event) (marks : List (ℕ × Mark))
+            → StandsFor self.old events marks → StandsFor self.new
+            (events ++ event ∷ []) (with_mark (rows_of self.old + 1) mark marks)) }
+        ensures going { OnTrue result (fault_of self.new ≡ None) }
+        ensures counted { OnTrue result (rows_of self.new ≡ rows_of self.old + 1) }
+        ensures fault { OnFalse result (IsSomeAnd (fault_of self.new) (λ fault.
+            (events : List Event) (marks : List (ℕ × Mark)) → StandsFor self.old events marks
+            → IsReplayFault (scope_of self.old) events marks event mark fault)) }
+        ensures scope { scope_of self.new ≡ scope_of self.old }
+        ensures uncounted { OnFalse result (rows_of self.new ≡ rows_of self.old) }
+    {
+        follow_laws::ways_with_choices_join();
+        follow_laws::ways_split_with_choices();
+        laws::marks_tell_what_is_chosen();
+        bus_laws::transcripts_have_one_act_list();
+        match self.bus.feed_into(event, &mut self.act) {
+            Err(fault) => {
+                self.fault = Some(offence_of(self.rows, fault));
+                false
+            }
+            Ok(ended) => {
+                if !may_stand_at(mark, ended, &self.act) {
+                    self.fault = Some(ReplayFault::Mark(self.rows + 1));
+                    return false;
+                }
+                if !ended {
+                    self.rows += 1;
+                    return true;
+                }
+                self.follow(event.start(), choice_by(mark))
+            }
+        }
+    }
+
+    /// Follows the act that was ended by a row that started at a time, under a choice. Answers
+    /// whether each track has a step by it: where one hasn't, the offence is noted.
+    fn follow(&mut self, at: Time, choice: Choice) -> bool
+        requires room { rows_of self.old < ROWS_MAX }
+        requires going { fault_of self.old ≡ None }
+        ensures followed { OnTrue result
+            (HasReplayed self.old self.old.act choice at self.new) }
+        ensures stopped { OnFalse result
+            (IsSomeAnd (fault_of self.new) (HasStopped self.old self.old.act choice self.new)) }
+        ensures scope { scope_of self.new ≡ scope_of self.old }
+    {
+        match self.tracks.lead(&self.act, choice) {
+            Ok(()) => {
+                let first = &self.tracks.first_reader.facts;
+                let second = &self.tracks.second_reader.facts;
+                self.silences.follow(&self.act, at, first, second);
+                self.rows += 1;
+                true
+            }
+            Err(rule) => {
+                let blame = sender_of(&self.act);
+                self.fault = Some(offence_of(self.rows, LinkFault { rule, blame }));
+                false
+            }
+        }
+    }
+
+    /// The fault that was noted.
+    fn noted(&self) -> ReplayFault
+        requires { IsSome (fault_of self.now) }
+        ensures { fault_of self.now ≡ Some result }
+    {
+        match self.fault {
+            Some(fault) => fault,
+            None => unreachable!(),
+        }
+    }
+
+    /// The replay before the first row, of a recording that is taken so.
+    fn scoped(scope: &Scope) -> Replay
+        requires { scope.now.begins ≡ scopes.power_on.begins }
+        ensures stands { StandsFor result [] [] }
+        ensures empty { rows_of result ≡ 0 }
+        ensures scope { scope_of result ≡ scope.now }
+    {
+        Replay {
+            bus: Bus::scoped(scope),
+            tracks: Tracks::start(),
+            silences: Silences::NONE,
+            rows: 0,
+            fault: None,
+            act: Act::Foreign,
+        }
+    }
+}
+
+/// The offence of the row after so many rows.
+fn offence_of(rows: u64, fault: LinkFault) -> ReplayFault
+    requires { rows < ROWS_MAX }
+    ensures { result ≡ ReplayFault.Offence (record {
+      row = rows + 1;
+      rule = fault.rule;
+      blame = fault.blame;
+    }) }
+{
+    ReplayFault::Offence(Offence {
+        row: rows + 1,
+        rule: fault.rule,
+        blame: fault.blame,
+    })
+}
+
+/// Whether a mark, if there is one, may stand at a row that ends this act or none.
+fn may_stand_at(mark: Option<Mark>, ended: bool, act: &Act) -> bool
+    ensures { IsTrue result ↔ MayStandAt mark (ended_act ended act.now) }
+{
+    match mark {
+        None => true,
+        Some(mark) => ended && mark.may_stand_on(act),
+    }
+}
+
+/// What a mark, or no mark, says was chosen.
+fn choice_by(mark: Option<Mark>) -> Choice
+    ensures { result ≡ marks.choice_by mark }
+{
+    match mark {
+        None => Choice::Plain,
+        Some(mark) => mark.choice(),
+    }
+}

@@ -1,0 +1,74 @@
+//! A device and the controller, as a replay follows them.
+
+ghost use Rattle.std.specs.Prelude.{◌≡◌, ◌<◌, ◌↔◌, ◌^◌, List, []};
+ghost use Rattle.std.specs.Bool.{OnFalse, OnTrue};
+ghost use Rattle.mdb_bus.specs.declared.act.Act.{Act};
+ghost use Rattle.mdb_bus.specs.declared.scope.Beginning.TheVariants.{PowerOn};
+ghost use Rattle.mdb_follow.specs.Choosing.{Choices};
+ghost use Rattle.mdb_explained_runs.specs.Tracks.{HasNoStepFrom, IsTrack};
+ghost use Rattle.mdb_explained_runs.specs.inner.TrackSteps.{IsTrackWithin, Leads};
+
+use mdb_bus::{Act, Beginning};
+use mdb_cash::{Choice, Pair};
+use mdb_follow::{Account, Cell};
+
+/// A device and the controller, as a replay follows them in a recording from power-on. It keeps
+/// what is known after the acts so far, the state, the bounds of the accounts, each with one value,
+/// and the number of amounts without a value.
+#[derive(Drop)]
+pub(crate) struct Track<F: Drop, S: Drop> {
+    pub(crate) facts: F,
+    state: S,
+    pub(crate) cell: Cell,
+    pub(crate) unvalued: u64,
+}
+
+/// The track after no act. The code of the state at power-on is 0.
+pub(crate) fn start<P: Pair>() -> Track<P::Facts, P::State>
+    requires some { 0 < P.CODES }
+    requires starts { (state : P.State)
+        → (P.machine PowerOn).Starts state ↔ (P.code_of state ≡ 0) }
+    requires none { P.unvalued PowerOn [] ≡ 0 }
+    ensures stands { IsTrack (P.stands_for PowerOn) (P.machine PowerOn) (P.unvalued PowerOn)
+        result [] tt }
+    ensures within { IsTrackWithin 0 result }
+{
+    Track {
+        facts: P::facts_start(&Beginning::PowerOn),
+        state: P::state(0),
+        cell: Cell {
+            first: Account::NOTHING,
+            second: Account::NOTHING,
+        },
+        unvalued: 0,
+    }
+}
+
+/// Leads a track over an act under a choice. Answers whether there is a step: from power-on each
+/// act is settled, so there is one at most. Where there is none, nothing changes.
+pub(crate) fn lead<P: Pair>(
+    track: &mut Track<P::Facts, P::State>,
+    act: &Act,
+    choice: Choice,
+) -> bool
+    requires { IsTrackWithin (2 ^ 62) track.old }
+    ensures led { OnTrue result (Leads (P.stands_for PowerOn) (P.machine PowerOn)
+        (P.unvalued PowerOn) track.old act.now choice track.new) }
+    ensures none { OnFalse result ((acts : List Act) (chosen : Choices acts)
+        → IsTrack (P.stands_for PowerOn) (P.machine PowerOn) (P.unvalued PowerOn) track.old acts
+        chosen → HasNoStepFrom (P.machine PowerOn) acts act.now choice track.old.state) }
+{
+    if !P::settles(&track.facts, act) {
+        return false;
+    }
+    match P::step_from(&track.facts, act, choice, track.state) {
+        None => false,
+        Some((after, gains)) => {
+            track.state = after;
+            track.cell = track.cell.moved(&gains);
+            track.unvalued += P::unvalued_by(&track.facts, act);
+            P::learn(&mut track.facts, act);
+            true
+        }
+    }
+}

@@ -1,0 +1,12 @@
+pub mod Decodings
+pub mod Bytes
+pub mod HexDigits
+pub mod Merges
+pub mod Orders
+pub mod Part
+pub mod PlainRecords
+pub mod PlainRows
+pub mod Powers
+pub mod Readings
+pub mod Records
+pub mod Tallies

@@ -1,0 +1,14 @@
+pub mod Encodings
+pub mod Fields
+pub mod Hex
+pub mod Names
+pub mod Numbers
+pub mod Order
+pub mod Part
+pub mod ReadBack
+pub mod Records
+pub mod Refusals
+pub mod Rows
+pub mod Times
+pub mod Told
+pub mod inner

@@ -1,3 +1,0 @@
-pub mod Decoded
-pub mod Decoding
-pub mod Steps

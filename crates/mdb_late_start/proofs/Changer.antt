@@ -1,0 +1,164 @@
+-- What the changer does, it may do in mid-session: what is so of its conduct.
+use Rattle.std.proofs.Common.{◌≡◌, ◌⊎◌, inl, inr, ℕ, ◌<◌, true, false, List, [], ◌∷◌, refl, ap, sym, ◌∙◌, ◌&&◌, if◌then◌else◌, map}
+use Rattle.std.specs.List.{AllByRecursion}
+use Rattle.mdb_msgs.specs.declared.command.Command.{Command}
+use Rattle.mdb_msgs.specs.declared.command.Device.TheVariants as devices
+use Rattle.mdb_msgs.specs.declared.reply.Reply.{Reply}
+use Rattle.mdb_msgs.specs.declared.reply.Reply.TheVariants as replies
+use Rattle.mdb_msgs.specs.declared.setups.Setups.{Setups}
+use Rattle.mdb_bus.specs.Acts.{IsReply}
+use Rattle.mdb_bus.specs.declared.scope.Beginning.{Beginning}
+use Rattle.mdb_cash.specs.declared.choice.Choice.{Choice}
+use Rattle.mdb_cash.specs.declared.gains.Gains.{Gains}
+use Rattle.mdb_cash.specs.Kept.{kept_of}
+use Rattle.mdb_late_start.specs.MidSession.{StaysInMidSession}
+use Rattle.mdb_late_start.proofs.Keepers.{AlsoSteps, IsEnabledIn, IsSteady, in_end, step_in_end, told_first, told_on}
+use Rattle.mdb_msgs.specs.Changer.{IsChangerMsg}
+use Rattle.mdb_msgs.specs.declared.command.ChangerCommand.{ChangerCommand}
+use Rattle.mdb_msgs.specs.declared.command.ChangerCommand.TheVariants as changer
+use Rattle.mdb_msgs.specs.declared.reply.changer.ChangerMsg.{ChangerMsg}
+use Rattle.mdb_msgs.specs.declared.reply.changer.ChangerMsg.TheVariants as messages
+use Rattle.mdb_cash.specs.declared.changer.activity.ChangerActivity.{ChangerActivity}
+use Rattle.mdb_cash.specs.declared.changer.activity.ChangerActivity.TheVariants.{CashBox, Dispensed, Tube}
+use Rattle.mdb_cash.specs.declared.changer.state.ChangerState.{ChangerState}
+use Rattle.mdb_cash.specs.Changer.{AskStep, MayBeNew, TakeStep, asks_coins, conduct, deposited, dispensed_value, is_last, paid_by_hand}
+use Rattle.mdb_cash.specs.ChangerFacts.{Facts, KnownFacts, tables}
+use Rattle.mdb_cash.specs.ChangerMessages.{part_of}
+use Rattle.mdb_cash.specs.Gains.{controller_gains, device_gains, no_gains}
+
+-- a deposit is of a type below 16
+abbrev Fits : ChangerActivity → Type 0
+Fits (CashBox coin) = coin < 16
+Fits (Tube coin) = coin < 16
+Fits (Dispensed count coin) = Unit {0}
+
+-- what an ask or an ACK comes to is the same where the setup table is, and where it is no DISPENSE
+same_asked : (known : KnownFacts) (facts : Facts) (coins : ℕ) (gains_of : ℕ → Gains)
+    → (known.setup ≡ facts.setup) ⊎ (asks_coins (changer.Dispense coins) ≡ false)
+    → gains_of (dispensed_value known.setup coins) ≡ gains_of (dispensed_value facts.setup coins)
+same_asked known facts coins gains_of (inl same) =
+    ap (λ setup. gains_of (dispensed_value setup coins)) same
+same_asked known facts coins gains_of (inr none) = absurd cc
+
+-- what the controller asks it may ask in the end
+asks : (known : KnownFacts) (facts : Facts) (command : ChangerCommand)
+    (before after : ChangerState) (gains : Gains) → AskStep facts command before after gains
+    → AlsoSteps (AskStep (in_end known facts) command before after)
+    ((known.setup ≡ facts.setup) ⊎ (asks_coins command ≡ false)) gains
+asks known facts (changer.Dispense coins) before after gains step =
+    let again = before.dispense_owed && is_last facts.last_asked coins in
+    record {
+      other = if again then no_gains
+          else controller_gains 0 (dispensed_value known.setup coins);
+      step = (step.0, refl);
+      same = λ is. same_asked known facts coins
+          (λ value. if again then no_gains else controller_gains 0 value) is
+          ∙ sym step.1;
+    }
+asks known facts changer.Reset before after gains step =
+    record { other = gains; step = step; same = λ is. refl }
+asks known facts _ before after gains step =
+    record { other = gains; step = step; same = λ is. refl }
+
+-- and so with what the changer takes
+acks : (known : KnownFacts) (facts : Facts) (command : ChangerCommand) (choice : Choice)
+    (before after : ChangerState) (gains : Gains)
+    → TakeStep facts command choice before after gains
+    → AlsoSteps (TakeStep (in_end known facts) command choice before after)
+    ((known.setup ≡ facts.setup) ⊎ (asks_coins command ≡ false)) gains
+acks known facts (changer.Dispense coins) choice before after gains step = record {
+  other = device_gains 0 (dispensed_value known.setup coins);
+  step = (step.0, refl);
+  same = λ is. same_asked known facts coins (device_gains 0) is ∙ sym step.1;
+}
+acks known facts changer.Reset choice before after gains step =
+    record { other = gains; step = step; same = λ is. refl }
+acks known facts _ choice before after gains step =
+    record { other = gains; step = step; same = λ is. refl }
+
+-- what is kept of the messages of a reply that may answer a command
+kept_fit : (items : List ChangerMsg) → AllByRecursion IsChangerMsg items
+    → AllByRecursion Fits (kept_of (map part_of items))
+kept_fit [] all = tt
+kept_fit (messages.ManualDispense count coin in_tube ∷ items) all = (tt, kept_fit items all.1)
+kept_fit (messages.CashBox coin in_tube ∷ items) all = (all.0, kept_fit items all.1)
+kept_fit (messages.Tube coin in_tube ∷ items) all = (all.0, kept_fit items all.1)
+kept_fit (messages.Rejected coin second ∷ items) all = kept_fit items all.1
+kept_fit (messages.Slugs count ∷ items) all = kept_fit items all.1
+kept_fit (messages.Reset ∷ items) all = kept_fit items all.1
+kept_fit (messages.Status byte ∷ items) all = kept_fit items all.1
+
+-- so what a reply keeps fits
+fits : (command : Command) (reply : Reply) → IsReply command reply
+    → AllByRecursion Fits (kept_of (tables.parts_of reply))
+fits command (replies.ChangerPoll list) is = kept_fit list.items is.answers.answer.fields
+fits command _ is = tt
+
+-- new deposits may be told in the end
+may_be_new : (known : KnownFacts) (facts : Facts) (news : List ChangerActivity)
+    → IsEnabledIn known facts → AllByRecursion Fits news → AllByRecursion (MayBeNew facts) news
+    → AllByRecursion (MayBeNew (in_end known facts)) news
+may_be_new known facts [] enabled fit may = tt
+may_be_new known facts (CashBox coin ∷ news) enabled fit may =
+    (enabled coin fit.0 may.0, may_be_new known facts news enabled fit.1 may.1)
+may_be_new known facts (Tube coin ∷ news) enabled fit may =
+    (enabled coin fit.0 may.0, may_be_new known facts news enabled fit.1 may.1)
+may_be_new known facts (Dispensed count coin ∷ news) enabled fit may =
+    (tt, may_be_new known facts news enabled fit.1 may.1)
+
+-- it holds no messages by what is asked that it didn't hold before
+ask_holds : (facts : Facts) (command : ChangerCommand) (before after : ChangerState)
+    (gains : Gains) → AskStep facts command before after gains → after.holds ≡ true
+    → before.holds ≡ true
+ask_holds facts (changer.Dispense coins) before after gains step is =
+    sym (ap (λ (s : ChangerState). s.holds) step.0) ∙ is
+ask_holds facts changer.Reset before after gains step is =
+    sym (ap (λ (s : ChangerState). s.holds) step.0) ∙ is
+ask_holds facts _ before after gains step is =
+    sym (ap (λ (s : ChangerState). s.holds) step.0) ∙ is
+
+-- so with what the changer takes: RESET ends it, and nothing else that it takes changes it
+ack_holds : (facts : Facts) (command : ChangerCommand) (choice : Choice)
+    (before after : ChangerState) (gains : Gains)
+    → TakeStep facts command choice before after gains → after.holds ≡ true
+    → before.holds ≡ true
+ack_holds facts (changer.Dispense coins) choice before after gains step is =
+    sym (ap (λ (s : ChangerState). s.holds) step.0) ∙ is
+ack_holds facts changer.Reset choice before after gains step is =
+    absurd (no_truth (sym (ap (λ (s : ChangerState). s.holds) step.0) ∙ is))
+  where
+    no_truth : false ≡ true → ⊥
+    no_truth same = cc
+ack_holds facts _ choice before after gains step is =
+    sym (ap (λ (s : ChangerState). s.holds) step.0) ∙ is
+
+-- all that is so of its conduct
+steady : IsSteady tables conduct Fits
+steady = record {
+  asks = asks;
+  acks = acks;
+  fits = fits;
+  tells_news = λ known facts choice news before after enabled fit step.
+      (may_be_new known facts news enabled fit step.0, step.1);
+  first_gain = λ one other same. ap deposited same;
+  second_gain = λ one other same. ap paid_by_hand same;
+  no_first = λ facts message none. absurd cc;
+  no_second = λ facts message none. absurd cc;
+  power_on_free = refl;
+  heard = λ state. refl;
+  ask_holds = ask_holds;
+  ack_holds = ack_holds;
+  news_hold = λ facts choice news before after step. ap (λ (s : ChangerState). s.holds) step.1;
+}
+
+-- so it may do in mid-session what it does
+pub changer_stays : (begins : Beginning) (setups : Setups)
+    → StaysInMidSession begins setups devices.Changer
+changer_stays begins setups = record {
+  starts = told_first tables conduct Fits steady begins;
+  goes_on = told_on tables conduct Fits steady begins;
+  step = λ later front act choice before after gains names told step.
+      let goes = step_in_end tables conduct Fits steady begins setups later front act choice before
+      after gains names told step in
+      record { other = goes.other; step = goes.step; valued = goes.valued; alike = goes.alike };
+}

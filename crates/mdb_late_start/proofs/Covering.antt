@@ -1,0 +1,215 @@
+-- What is known of a device that keeps messages, in the end of a recording by itself and in the
+-- whole of it: what the end knows, the whole knows too, and a type that is enabled in the whole
+-- is enabled in the end. Lists of acts stand newest first.
+use Rattle.std.proofs.Common.{◌≡◌, ℕ, ◌<◌, Bool, true, false, not, ◌&&◌, ◌||◌, List, [], ◌∷◌, ◌++◌, Option, Some, None, refl, ap, sym, subst, ◌∙◌, option_map, if◌then◌else◌}
+use Rattle.std.specs.Int.{bit_at}
+use Rattle.std.specs.List.{list_any}
+use Rattle.std.proofs.lemmas.Bool.{eq-eqb}
+use Rattle.std.proofs.lemmas.List.Folds.{list_any-append}
+use Rattle.std.proofs.lemmas.Nat.Bits.{bit_at_ones}
+use Rattle.mdb_msgs.specs.declared.command.Command.{Command}
+use Rattle.mdb_msgs.specs.declared.setups.Setups.{Setups}
+use Rattle.mdb_bus.specs.declared.act.Act.{Act}
+use Rattle.mdb_bus.specs.declared.scope.Beginning.{Beginning}
+use Rattle.mdb_bus.specs.declared.scope.Beginning.TheVariants.{PowerOn, Joined}
+use Rattle.mdb_cash.specs.declared.kept.Part.{Part}
+use Rattle.mdb_cash.specs.declared.past.Effect.{Effect}
+use Rattle.mdb_cash.specs.declared.past.Effect.TheVariants as effects
+use Rattle.mdb_cash.specs.Kept.{has_reset, kept_of}
+use Rattle.mdb_cash.specs.Keeper.{KnownFacts, Tables, asked_by, effect_of, known_of, parts_by, setup_by}
+use Rattle.mdb_cash.specs.Known.{Known, Unknown, Is, known_before, known_by}
+use Rattle.mdb_cash.specs.Past.{acts_from, effect_by, enables, known_past, last_list, last_told, or_else, powers_on, runs_on, unless_empty}
+use Rattle.mdb_late_start.specs.MidSession.{IsNothingOr}
+
+-- what one knows, the other knows too
+abbrev pub Covers : {X : Type 0} → Known X → Known X → Type 0
+Covers (Is x) whole = whole ≡ Is x
+Covers Unknown whole = Unit {0}
+
+-- what the first tells that tells something, however they are taken together
+first_of_three : {X : Type 0} (first second third : Option X)
+    → or_else first (or_else second third) ≡ or_else (or_else first second) third
+first_of_three (Some x) second third = refl
+first_of_three None second third = refl
+
+-- what the last act tells that tells something, in the end or else in front of it
+told_over : {X : Type 0} (tells : Act → Option X) (later front : List Act)
+    → last_told tells (later ++ front) ≡ or_else (last_told tells later) (last_told tells front)
+told_over tells [] front = refl
+told_over tells (act ∷ later) front =
+    ap (or_else (tells act)) (told_over tells later front)
+    ∙ first_of_three (tells act) (last_told tells later) (last_told tells front)
+
+-- what was asked last counts as something told
+asked_over : {X : Type 0} (first second : Option X)
+    → option_map (λ (x : X). Some x) (or_else first second)
+    ≡ or_else (option_map (λ (x : X). Some x) first) (option_map (λ (x : X). Some x) second)
+asked_over (Some x) second = refl
+asked_over None second = refl
+
+-- what is told last in the end is told last in the whole
+covers_told : {X : Type 0} (begins : Beginning) (setups : Setups) (none : X)
+    (first second : Option X)
+    → Covers (known_by (Joined setups) none first) (known_by begins none (or_else first second))
+covers_told begins setups none (Some x) second = refl
+covers_told begins setups none None second = tt
+
+-- so it is for the whole by another name
+covers_over : {X : Type 0} (begins : Beginning) (setups : Setups) (none : X)
+    (first second whole : Option X) → whole ≡ or_else first second
+    → Covers (known_by (Joined setups) none first) (known_by begins none whole)
+covers_over begins setups none first second whole is =
+    subst (λ w. Covers (known_by (Joined setups) none first) (known_by begins none w)) (sym is)
+    (covers_told begins setups none first second)
+
+-- after a boundary in the end, the acts from the last boundary on are those of the end
+from_end : (powers : Act → Bool) (later front : List Act) → list_any powers later ≡ true
+    → acts_from powers (later ++ front) ≡ acts_from powers later
+from_end powers [] front some = absurd cc
+from_end powers (act ∷ later) front some =
+    at_act (powers act) some (from_end powers later front)
+  where
+    at_act : (b : Bool) → (b || list_any powers later) ≡ true
+        → (list_any powers later ≡ true
+        → acts_from powers (later ++ front) ≡ acts_from powers later)
+        → act ∷ (if b then [] else acts_from powers (later ++ front))
+        ≡ act ∷ (if b then [] else acts_from powers later)
+    at_act true any more = refl
+    at_act false any more = ap (λ acts. act ∷ acts) (more any)
+
+-- after a boundary in the end, the device of the whole runs on no longer
+runs_no_more : (begins : Beginning) (effect : Command → Effect) (later front : List Act)
+    → list_any (powers_on effect) later ≡ true → runs_on begins effect (later ++ front) ≡ false
+runs_no_more PowerOn effect later front some = refl
+runs_no_more (Joined setups) effect later front some =
+    ap not (list_any-append (powers_on effect) later front
+    ∙ ap (λ b. b || list_any (powers_on effect) front) some)
+
+-- whatever the first is
+or_true : (b : Bool) → (b || true) ≡ true
+or_true true = refl
+or_true false = refl
+
+-- a mask of 16 ones enables each type
+all_enabled : (kind : ℕ) → kind < 16 → enables kind (effects.Enable 65535) ≡ true
+all_enabled kind few = eq-eqb (bit_at 65535 kind) 1 (bit_at_ones 16 kind few)
+
+-- whether a type is enabled in the end, from whether it is in the whole: `any` is whether there is
+-- a boundary in the end
+end_enables : (any whole end runs full : Bool) → (any ≡ true → whole ≡ end)
+    → (any ≡ true → runs ≡ false) → full ≡ true → (whole || (runs && full)) ≡ true
+    → (end || (not any && full)) ≡ true
+end_enables false whole end runs full same stops ones is = ap (λ b. end || b) ones ∙ or_true end
+end_enables true whole true runs full same stops ones is = refl
+end_enables true true false runs full same stops ones is =
+    let no : true ≡ false = same refl in absurd cc
+end_enables true false false true full same stops ones is =
+    let no : true ≡ false = stops refl in absurd cc
+end_enables true false false false full same stops ones is = absurd cc
+
+-- whether a reset message is owed in the whole, from whether it is in the end
+end_owes : (any whole end runs : Bool) → (any ≡ true → whole ≡ end) → (any ≡ true → runs ≡ false)
+    → (not end && not (not any)) ≡ true → (not whole && not runs) ≡ true
+end_owes false whole true runs same stops is = absurd cc
+end_owes false whole false runs same stops is = absurd cc
+end_owes true false end false same stops is = refl
+end_owes true true true runs same stops is = absurd cc
+end_owes true true false runs same stops is = let no : true ≡ false = same refl in absurd cc
+end_owes true false end true same stops is = let no : true ≡ false = stops refl in absurd cc
+
+-- a type that is enabled in the whole is enabled in the end
+enabled_end : {M : Type 0} (begins : Beginning) (setups : Setups) (effect : Command → Effect)
+    (parts : Act → List (Part M)) (later front : List Act) (kind : ℕ) → kind < 16
+    → (known_past begins effect parts (later ++ front)).enabled kind ≡ true
+    → (known_past (Joined setups) effect parts later).enabled kind ≡ true
+enabled_end begins setups effect parts later front kind few =
+    let powers = powers_on effect in
+    end_enables (list_any powers later)
+    (list_any (λ act. enables kind (effect_by effect act)) (acts_from powers (later ++ front)))
+    (list_any (λ act. enables kind (effect_by effect act)) (acts_from powers later))
+    (runs_on begins effect (later ++ front)) (enables kind (effects.Enable 65535))
+    (λ some. ap (list_any (λ act. enables kind (effect_by effect act)))
+    (from_end powers later front some))
+    (runs_no_more begins effect later front) (all_enabled kind few)
+
+-- where a reset message is owed in the end, it is in the whole
+owed_end : {M : Type 0} (begins : Beginning) (setups : Setups) (effect : Command → Effect)
+    (parts : Act → List (Part M)) (later front : List Act)
+    → (known_past (Joined setups) effect parts later).reset_owed ≡ true
+    → (known_past begins effect parts (later ++ front)).reset_owed ≡ true
+owed_end begins setups effect parts later front =
+    let powers = powers_on effect in
+    end_owes (list_any powers later)
+    (list_any (λ act. has_reset (parts act)) (acts_from powers (later ++ front)))
+    (list_any (λ act. has_reset (parts act)) (acts_from powers later))
+    (runs_on begins effect (later ++ front))
+    (λ some. ap (list_any (λ act. has_reset (parts act))) (from_end powers later front some))
+    (runs_no_more begins effect later front)
+
+-- what of a setup table is told in the end, or known in front of it
+setup_end : {X : Type 0} (told elsewhere here : Option X) (setup : X) → IsNothingOr elsewhere here
+    → or_else told elsewhere ≡ Some setup → or_else told here ≡ Some setup
+setup_end (Some told) elsewhere here setup are is = is
+setup_end None (Some known) here setup are is = are ∙ is
+setup_end None None here setup are is = absurd cc
+
+-- What is known in the end (`end`), by what is in the whole: what was asked and told last is known
+-- in the whole too, where it is in the end; what the end says of types and of the reset message
+-- lets a device do what it may in the whole.
+pub record IsKnownInEnd {Setup Asked M : Type 0} (whole end : KnownFacts Setup Asked M)
+    : Type 0 where
+  pub asked : Covers end.last_asked whole.last_asked
+  pub kept : Covers end.past.last_kept whole.past.last_kept
+  pub owed : end.past.reset_owed ≡ true → whole.past.reset_owed ≡ true
+  pub enabled : (kind : ℕ) → kind < 16 → whole.past.enabled kind ≡ true
+      → end.past.enabled kind ≡ true
+
+-- so it is with what is known of the end of a recording
+pub known_in_end : {Own Setup Asked M : Type 0} (tables : Tables Own Setup Asked M)
+    (begins : Beginning) (setups : Setups) (later front : List Act)
+    → IsKnownInEnd (known_of tables begins (later ++ front))
+    (known_of tables (Joined setups) later)
+known_in_end {Asked = Asked} tables begins setups later front = record {
+  asked = covers_over begins setups None
+      (option_map (λ (a : Asked). Some a) (last_told (asked_by tables) later))
+      (option_map (λ (a : Asked). Some a) (last_told (asked_by tables) front)) _
+      (ap (option_map (λ (a : Asked). Some a)) (told_over (asked_by tables) later front)
+      ∙ asked_over (last_told (asked_by tables) later) (last_told (asked_by tables) front));
+  kept = covers_over begins setups [] (last_list (parts_by tables) later)
+      (last_list (parts_by tables) front) _
+      (told_over (λ act. unless_empty (kept_of (parts_by tables act))) later front);
+  owed = owed_end begins setups (effect_of tables) (parts_by tables) later front;
+  enabled = enabled_end begins setups (effect_of tables) (parts_by tables) later front;
+}
+
+-- how the device is set up by the end, so it is by the whole, where what was told from elsewhere is
+-- what was known in front of the end
+pub known_setup_end : {Own Setup Asked M : Type 0} (tables : Tables Own Setup Asked M)
+    (begins : Beginning) (setups : Setups) (later front : List Act) (setup : Setup)
+    → IsNothingOr (tables.setup_known setups) (known_of tables begins front).setup
+    → (known_of tables (Joined setups) later).setup ≡ Some setup
+    → (known_of tables begins (later ++ front)).setup ≡ Some setup
+known_setup_end tables begins setups later front setup are is =
+    ap (λ o. or_else o (known_before tables.setup_known begins))
+    (told_over (setup_by tables) later front)
+    ∙ sym (first_of_three (last_told (setup_by tables) later) (last_told (setup_by tables) front)
+    (known_before tables.setup_known begins))
+    ∙ setup_end (last_told (setup_by tables) later) (tables.setup_known setups)
+    (known_of tables begins front).setup setup are is
+
+-- a recording from power-on is set up as one in mid-session of which nothing was told
+pub same_setup : {Own Setup Asked M : Type 0} (tables : Tables Own Setup Asked M)
+    (begins : Beginning) (setups : Setups) (later front : List Act) → begins ≡ PowerOn
+    → front ≡ [] → tables.setup_known setups ≡ None
+    → (known_of tables (Joined setups) later).setup
+    ≡ (known_of tables begins (later ++ front)).setup
+same_setup tables begins setups later front power_on empty none =
+    ap (or_else (last_told (setup_by tables) later)) none
+    ∙ sym (ap (λ b. or_else (last_told (setup_by tables) (later ++ front))
+    (known_before tables.setup_known b)) power_on
+    ∙ ap (λ acts. or_else (last_told (setup_by tables) acts) None)
+    (ap (λ acts. later ++ acts) empty ∙ append_none later))
+  where
+    append_none : (acts : List Act) → acts ++ [] ≡ acts
+    append_none [] = refl
+    append_none (act ∷ acts) = ap (λ more. act ∷ more) (append_none acts)

@@ -1,0 +1,558 @@
+-- The end of a transcript has an act list of its own, as a recording that begins in mid-session:
+-- the pieces that begin in it stand there as they stood, and what is left of the others stands as
+-- foreign words.
+use Rattle.std.proofs.Common.{ap, refl, sym, subst, ◌∙◌, ◌≡◌, ◌++◌, ◌⊎◌, arith, inl, inr, ℕ, List, [], ◌∷◌, Option, Some, None, append_assoc}
+use Rattle.std.proofs.lemmas.List.{append-nil}
+use Rattle.mdb_words.specs.declared.limits.TheConstants.{WORD_GAP_MIN}
+use Rattle.mdb_words.specs.declared.event.Event.{Event}
+use Rattle.mdb_words.specs.declared.event.Event.TheVariants.{Word, Break}
+use Rattle.mdb_words.specs.declared.word.Line.TheVariants.{Controller, Peripheral}
+use Rattle.mdb_msgs.specs.declared.command.Command.{Command}
+use Rattle.mdb_msgs.specs.declared.command.Command.TheVariants as commands
+use Rattle.mdb_msgs.specs.declared.command.ReaderCommand.TheVariants as readers
+use Rattle.mdb_msgs.specs.declared.command.ReaderUnit.TheVariants.{First, Second}
+use Rattle.mdb_msgs.specs.declared.setups.Setups.{Setups}
+use Rattle.mdb_bus.specs.declared.act.Act.TheVariants as acts
+use Rattle.mdb_bus.specs.declared.levels.Levels.{Levels}
+use Rattle.mdb_bus.specs.declared.scope.Scope.{Scope}
+use Rattle.mdb_bus.specs.Acts.{IsBlockWord, IsForeign, IsForeignOpening, IsForeignWord}
+use Rattle.mdb_bus.specs.ActLists.{Piece, Whole, AskTail, ReplyTail, RepeatTail, Position, Quiet, InAsk, Asked, InReply, Replied, Returned, InRepeat, InForeign, ArePieces, AreSpaced, BlockMayCome, ForeignMayCome, IsActList, IsLow, IsPiece, IsSaid, MayCome, MayStand, NotBefore, PieceFitsLevels, events_of, last_of, left_by, level_for, levels_after, levels_of, piece_events, position_of}
+use Rattle.mdb_bus.specs.LeavingOut.{with_foreign}
+use Rattle.mdb_late_start.specs.Cuts.{BeginAnew, IsBreakEvent, IsCut, from_later}
+use Rattle.mdb_late_start.proofs.CutWords.{AreForeignWords, Kind, foreign_both, foreign_end, kind_of}
+
+-- A list of two parts is divided at another place: in the first part, or after an element of the
+-- second.
+abbrev IsDivided : {X : Type 0} → List X → List X → List X → List X → Type 0
+IsDivided {X = X} xs ys front end =
+    ((middle : List X) × (xs ≡ front ++ middle) × (end ≡ middle ++ ys))
+    ⊎ ((x : X) × (middle : List X) × (front ≡ xs ++ x ∷ middle) × (ys ≡ x ∷ middle ++ end))
+
+-- so are lists with one element more in front
+divided_later : {X : Type 0} (x y : X) (xs ys front end : List X) → x ≡ y
+    → IsDivided xs ys front end → IsDivided (x ∷ xs) ys (y ∷ front) end
+divided_later x y xs ys front end same (inl (middle, before, after)) =
+    let whole : x ∷ xs ≡ y ∷ (front ++ middle) = cc in
+    inl (middle, whole, after)
+divided_later x y xs ys front end same (inr (z, middle, before, after)) =
+    let whole : y ∷ front ≡ x ∷ (xs ++ z ∷ middle) = cc in
+    inr (z, middle, whole, after)
+
+-- a list that is put together in two ways is divided so
+divide : {X : Type 0} (xs ys front end : List X) → xs ++ ys ≡ front ++ end
+    → IsDivided xs ys front end
+divide [] ys [] end is = inl ([], refl, sym is)
+divide [] ys (y ∷ front) end is = inr (y, front, refl, is)
+divide (x ∷ xs) ys [] end is = inl (x ∷ xs, refl, sym is)
+divide (x ∷ xs) ys (y ∷ front) end is =
+    let first : x ≡ y = cc in
+    let rest : xs ++ ys ≡ front ++ end = cc in
+    divided_later x y xs ys front end first (divide xs ys front end rest)
+
+-- the last row is the one after the others
+last_push : (events : List Event) (event : Event) → last_of (events ++ event ∷ []) ≡ Some event
+last_push [] event = refl
+last_push (x ∷ []) event = refl
+last_push (x ∷ y ∷ ys) event = last_push (y ∷ ys) event
+
+-- nothing, or what is there
+abbrev IsNoneOr : {X : Type 0} → Option X → Option X → Type 0
+IsNoneOr None there = Unit {0}
+IsNoneOr (Some here) there = there ≡ Some here
+
+-- what is the same is none or the same
+none_or_same : {X : Type 0} (one other : Option X) → other ≡ one → IsNoneOr one other
+none_or_same None other same = tt
+none_or_same (Some here) other same = same
+
+-- the last row of an end is none, or that of the whole
+last_in_end : (front end : List Event) → IsNoneOr (last_of end) (last_of (front ++ end))
+last_in_end [] end = none_or_same (last_of end) (last_of end) refl
+last_in_end (x ∷ []) [] = tt
+last_in_end (x ∷ []) (e ∷ end) = none_or_same (last_of (e ∷ end)) (last_of (e ∷ end)) refl
+last_in_end (x ∷ y ∷ front) end = last_in_end (y ∷ front) end
+
+-- where no row stands before it, a block that may come may come all the more
+block_first : (position : Position) (from : Option Event) (to : Event)
+    → BlockMayCome position from to → BlockMayCome position None to
+block_first Quiet from to comes = tt
+block_first (InAsk bytes) from to comes = comes
+block_first (Asked command) from to comes = tt
+block_first (InReply command bytes) from to comes = comes
+block_first (Replied command reply) from to comes = tt
+block_first (Returned command reply) from to comes = tt
+block_first (InRepeat command reply words) from to comes = comes
+block_first InForeign from to comes = tt
+
+-- so may a foreign act
+foreign_first : (position : Position) (from : Option Event) (to : Event)
+    → ForeignMayCome position from to → ForeignMayCome position None to
+foreign_first position from to (inl opens) =
+    inl (opens.0, block_first position from to opens.1)
+foreign_first position from to (inr further) = inr (further.0, further.1, tt)
+
+-- and each piece
+comes_first : (piece : Piece) (position : Position) (from : Option Event) (to : Event)
+    → MayCome piece position from to → MayCome piece position None to
+comes_first (Whole (acts.Ask command) events) position from to comes =
+    block_first position from to comes
+comes_first (Whole (acts.Ack command) events) position from to comes = (comes.0, (tt, tt))
+comes_first (Whole (acts.Nak command) events) position from to comes = (comes.0, (tt, tt))
+comes_first (Whole (acts.Reply command reply) events) position from to comes =
+    (comes.0, (tt, tt))
+comes_first (Whole (acts.VmcAck command reply) events) position from to comes =
+    (comes.0, (tt, tt))
+comes_first (Whole (acts.VmcNak command reply) events) position from to comes =
+    (comes.0, (tt, tt))
+comes_first (Whole (acts.VmcRet command reply) events) position from to comes =
+    (comes.0, (tt, tt))
+comes_first (Whole (acts.Repeat command reply) events) position from to comes =
+    (comes.0, (tt, tt))
+comes_first (Whole acts.Foreign events) position from to comes =
+    foreign_first position from to comes
+comes_first (Whole (acts.Break length) events) position from to comes = tt
+comes_first (AskTail bytes events) position from to comes = block_first position from to comes
+comes_first (ReplyTail command bytes events) position from to comes = (comes.0, (tt, tt))
+comes_first (RepeatTail command reply words events) position from to comes = (comes.0, (tt, tt))
+
+-- so it may come after no row, or the same
+comes_after : (piece : Piece) (position : Position) (here there : Option Event) (to : Event)
+    → IsNoneOr here there → MayCome piece position there to → MayCome piece position here to
+comes_after piece position None there to less comes = comes_first piece position there to comes
+comes_after piece position (Some here) there to less comes =
+    subst (λ (from : Option Event). MayCome piece position from to) less comes
+
+-- and a word in time is in time after no row, or the same
+late_after : (here there : Option Event) (to : Event) → IsNoneOr here there
+    → NotBefore WORD_GAP_MIN there to → NotBefore WORD_GAP_MIN here to
+late_after None there to less late = tt
+late_after (Some here) there to less late =
+    subst (λ (from : Option Event). NotBefore WORD_GAP_MIN from to) less late
+
+-- each row comes a word's length after the one before it
+abbrev AreLate : Option Event → List Event → Type 0
+AreLate from [] = Unit {0}
+AreLate from (event ∷ events) = NotBefore WORD_GAP_MIN from event × AreLate (Some event) events
+
+-- the events of a piece do
+late_others : (first : Event) (others : List Event) → AreSpaced (first ∷ others)
+    → AreLate (Some first) others
+late_others first [] spaced = tt
+late_others first (next ∷ others) spaced = (spaced.0, late_others next others spaced.2)
+
+-- and so do those of an end
+late_end : (from : Option Event) (front end : List Event) → AreLate from (front ++ end)
+    → AreLate None end
+late_end from [] [] late = tt
+late_end from [] (event ∷ end) late = (tt, late.1)
+late_end from (event ∷ front) end late = late_end (Some event) front end late.1
+
+-- further words of foreign traffic stand, each an act by itself
+words_stand : (scope : Scope) (events : List Event) (pieces : List Piece)
+    → ArePieces scope pieces → position_of scope pieces ≡ InForeign
+    → AreLate (last_of (events_of pieces)) events → AreForeignWords events
+    → ArePieces scope (with_foreign events pieces)
+words_stand scope [] pieces are here late words = are
+words_stand scope (event ∷ events) pieces are here late words =
+    let Late : Option Event → Type 0 = λ from. AreLate from events in
+    let piece : IsPiece scope (Whole acts.Foreign (event ∷ [])) = record {
+      said = inr (event, refl, words.0);
+      spaced = tt;
+    } in
+    let stands : MayStand scope pieces (Whole acts.Foreign (event ∷ [])) = record {
+      first = event;
+      others = [];
+      begins = refl;
+      comes = inr (words.0, here, late.0);
+      levels = tt;
+    } in
+    words_stand scope events (Whole acts.Foreign (event ∷ []) ∷ pieces) (piece, stands, are)
+    refl (subst Late (sym (last_push (events_of pieces) event)) late.1) words.1
+
+-- the rows of pieces with foreign acts after them
+foreign_rows : (events : List Event) (pieces : List Piece)
+    → events_of (with_foreign events pieces) ≡ events_of pieces ++ events
+foreign_rows [] pieces = sym (append-nil (events_of pieces))
+foreign_rows (event ∷ events) pieces =
+    foreign_rows events (Whole acts.Foreign (event ∷ []) ∷ pieces)
+    ∙ append_assoc (events_of pieces) (event ∷ []) events
+
+-- foreign acts leave foreign traffic
+foreign_position : (scope : Scope) (events : List Event) (pieces : List Piece)
+    → position_of scope pieces ≡ InForeign
+    → position_of scope (with_foreign events pieces) ≡ InForeign
+foreign_position scope [] pieces here = here
+foreign_position scope (event ∷ events) pieces here =
+    foreign_position scope events (Whole acts.Foreign (event ∷ []) ∷ pieces) refl
+
+-- foreign acts of two lists of events, one after the other
+foreign_joined : (events others : List Event) (pieces : List Piece)
+    → with_foreign (events ++ others) pieces ≡ with_foreign others (with_foreign events pieces)
+foreign_joined [] others pieces = refl
+foreign_joined (event ∷ events) others pieces =
+    foreign_joined events others (Whole acts.Foreign (event ∷ []) ∷ pieces)
+
+-- foreign acts tell no level
+foreign_levels : (events : List Event) (pieces : List Piece)
+    → levels_of (with_foreign events pieces) ≡ levels_of pieces
+foreign_levels [] pieces = refl
+foreign_levels (event ∷ events) pieces =
+    foreign_levels events (Whole acts.Foreign (event ∷ []) ∷ pieces)
+
+-- each reader was told nothing, or the same
+abbrev LessTold : Levels → Levels → Type 0
+LessTold one other = IsNoneOr one.first other.first × IsNoneOr one.second other.second
+
+-- that stays so with a command
+told_after : (asked : Command) (one other : Levels) → LessTold one other
+    → LessTold (levels_after asked one) (levels_after asked other)
+told_after (commands.Reader First (readers.SetupConfig level columns rows display)) one other less =
+    (refl, less.1)
+told_after (commands.Reader Second (readers.SetupConfig level columns rows display)) one other
+    less = (less.0, refl)
+told_after asked one other less = less
+
+-- so it is in the end of pieces
+less_told : (later : List Piece) (words : List Event) (before : List Piece)
+    → LessTold (levels_of (later ++ with_foreign words [])) (levels_of (later ++ before))
+less_told [] words before =
+    subst (λ (levels : Levels). LessTold levels (levels_of before)) (sym (foreign_levels words []))
+    (tt, tt)
+less_told (Whole (acts.Ask asked) events ∷ later) words before =
+    told_after asked (levels_of (later ++ with_foreign words [])) (levels_of (later ++ before))
+    (less_told later words before)
+less_told (piece ∷ later) words before = less_told later words before
+
+-- a level that is none or the same is low if it was
+is_low : (one other : Option ℕ) → IsNoneOr one other → IsLow other → IsLow one
+is_low None other less low = tt
+is_low (Some level) other less low = subst IsLow less low
+
+-- and so is that of a command's reader
+low_for : (command : Command) (one other : Levels) → LessTold one other
+    → IsLow (level_for command other) → IsLow (level_for command one)
+low_for (commands.Reader First command) one other less low =
+    is_low one.first other.first less.0 low
+low_for (commands.Reader Second command) one other less low =
+    is_low one.second other.second less.1 low
+low_for command one other less low = low
+
+-- so what a piece says of levels fits as it did
+levels_fit : (piece : Piece) (one other : Levels) → LessTold one other
+    → PieceFitsLevels other piece → PieceFitsLevels one piece
+levels_fit (Whole (acts.Reply command reply) events) one other less fits =
+    λ high. low_for command one other less (fits high)
+levels_fit piece one other less fits = fits
+
+-- a foreign opening is one in a recording that begins later, too
+opening_stays : (setups : Setups) (scope : Scope) (bytes : List ℕ) → IsForeignOpening scope bytes
+    → IsForeignOpening (from_later setups scope) bytes
+opening_stays setups scope [] opening = opening
+opening_stays setups scope (first ∷ []) opening = opening
+opening_stays setups scope (first ∷ second ∷ []) opening = opening
+opening_stays setups scope (first ∷ second ∷ third ∷ bytes) opening = opening
+
+-- so is a foreign act
+foreign_stays : (setups : Setups) (scope : Scope) (events : List Event) → IsForeign scope events
+    → IsForeign (from_later setups scope) events
+foreign_stays setups scope events (inl opens) =
+    inl (opens.0, opening_stays setups scope opens.0 opens.1, opens.2)
+foreign_stays setups scope events (inr further) = inr further
+
+-- and all that is said
+pub said_stays : (setups : Setups) (scope : Scope) (piece : Piece) → IsSaid scope piece
+    → IsSaid (from_later setups scope) piece
+said_stays setups scope (Whole (acts.Ask command) events) said =
+    (record { spells = said.0.spells; followed = said.0.followed }, said.1)
+said_stays setups scope (Whole acts.Foreign events) said =
+    foreign_stays setups scope events said
+said_stays setups scope (AskTail bytes events) said =
+    let front = said.0 in (
+      record {
+        some = front.some;
+        command = front.command;
+        rest = front.rest;
+        open_end = front.open_end;
+        spelled = record {
+          spells = front.spelled.spells;
+          followed = front.spelled.followed;
+        };
+      },
+      said.1,
+    )
+said_stays setups scope piece said = said
+
+-- What a cut leaves of a transcript, and that what goes on of the pieces in front of it are foreign
+-- words.
+record Cutting (scope : Scope) (setups : Setups) (front end : List Event) (pieces : List Piece)
+    : Type 0 where
+  later : List Piece
+  words : List Event
+  before : List Piece
+  order : pieces ≡ later ++ before
+  in_front : ArePieces scope before
+  rows : events_of before ≡ front ++ words
+  stand : ArePieces (from_later setups scope) (later ++ with_foreign words [])
+  whole : events_of (later ++ with_foreign words []) ≡ end
+  foreign : AreForeignWords words
+
+-- the last row in the end, before a piece, is none, or the one that is there
+last_before : (scope : Scope) (setups : Setups) (front middle : List Event) (pieces : List Piece)
+    → events_of pieces ≡ front ++ middle → (cut : Cutting scope setups front middle pieces)
+    → IsNoneOr (last_of (events_of (cut.later ++ with_foreign cut.words [])))
+    (last_of (events_of pieces))
+last_before scope setups front middle pieces are cut =
+    let Here : List Event → Type 0 = λ rows. IsNoneOr (last_of rows) (last_of (events_of pieces)) in
+    let There : List Event → Type 0 = λ rows. IsNoneOr (last_of middle) (last_of rows) in
+    subst Here (sym cut.whole) (subst There (sym are) (last_in_end front middle))
+
+-- a piece in the end stands after what is in the end
+stands_on : (scope : Scope) (setups : Setups) (front middle end : List Event) (piece : Piece)
+    (pieces : List Piece) → IsPiece scope piece → (stands : MayStand scope pieces piece)
+    → end ≡ middle ++ piece_events piece → (cut : Cutting scope setups front middle pieces)
+    → MayCome piece
+    (position_of (from_later setups scope) (cut.later ++ with_foreign cut.words []))
+    (last_of (events_of (cut.later ++ with_foreign cut.words []))) stands.first
+    → Cutting scope setups front end (piece ∷ pieces)
+stands_on scope setups front middle end piece pieces is stands ends cut comes =
+    let Told : List Piece → Type 0 =
+    λ ps. LessTold (levels_of (cut.later ++ with_foreign cut.words [])) (levels_of ps) in
+    record {
+      later = piece ∷ cut.later;
+      words = cut.words;
+      before = cut.before;
+      order = ap (λ ps. piece ∷ ps) cut.order;
+      in_front = cut.in_front;
+      rows = cut.rows;
+      stand = (
+        record { said = said_stays setups scope piece is.said; spaced = is.spaced },
+        record {
+          first = stands.first;
+          others = stands.others;
+          begins = stands.begins;
+          comes = comes;
+          levels = levels_fit piece (levels_of (cut.later ++ with_foreign cut.words []))
+              (levels_of pieces)
+              (subst Told (sym cut.order) (less_told cut.later cut.words cut.before))
+              stands.levels;
+        },
+        cut.stand,
+      );
+      whole = ap (λ rows. rows ++ piece_events piece) cut.whole ∙ sym ends;
+      foreign = cut.foreign;
+    }
+
+-- a piece that begins with a foreign word, after such words alone, stands as foreign words
+stands_as_words : (scope : Scope) (setups : Setups) (front middle end : List Event) (piece : Piece)
+    (pieces : List Piece) → ArePieces scope (piece ∷ pieces) → (first : Event)
+    (others : List Event) → piece_events piece ≡ first ∷ others
+    → end ≡ middle ++ piece_events piece → (cut : Cutting scope setups front middle pieces)
+    → cut.later ≡ [] → AreForeignWords (first ∷ others)
+    → AreLate (last_of middle) (first ∷ others)
+    → Cutting scope setups front end (piece ∷ pieces)
+stands_as_words scope setups front middle end piece pieces are first others begins ends cut none
+    words late =
+    let new = from_later setups scope in
+    let Stand : List Piece → Type 0 = λ ps. ArePieces new (ps ++ with_foreign cut.words []) in
+    let Rows : List Piece → Type 0 =
+    λ ps. events_of (ps ++ with_foreign cut.words []) ≡ middle in
+    let Before : List Piece → Type 0 = λ ps. ArePieces scope (piece ∷ ps) in
+    let Late : List Event → Type 0 = λ rows. AreLate (last_of rows) (first ∷ others) in
+    let Words : List Event → Type 0 = λ rows. AreForeignWords rows in
+    let New : List Piece → Type 0 = λ ps. ArePieces new ps in
+    let Pieces : List Event → Type 0 =
+    λ rows. ArePieces new (with_foreign rows (with_foreign cut.words [])) in
+    let same : pieces ≡ cut.before = cut.order ∙ ap (λ ps. ps ++ cut.before) none in
+    let stand : ArePieces new (with_foreign cut.words []) = subst Stand none cut.stand in
+    let whole : events_of (with_foreign cut.words []) ≡ middle = subst Rows none cut.whole in
+    let all : cut.words ≡ middle = sym (foreign_rows cut.words []) ∙ whole in
+    record {
+      later = [];
+      words = cut.words ++ piece_events piece;
+      before = piece ∷ cut.before;
+      order = ap (λ ps. piece ∷ ps) same;
+      in_front = subst Before same are;
+      rows = ap (λ rows. rows ++ piece_events piece) cut.rows
+          ∙ append_assoc front cut.words (piece_events piece);
+      stand = subst New (sym (foreign_joined cut.words (piece_events piece) []))
+          (subst Pieces (sym begins)
+          (words_stand new (first ∷ others) (with_foreign cut.words []) stand
+          (foreign_position new cut.words [] refl) (subst Late (sym whole) late) words));
+      whole = foreign_rows (cut.words ++ piece_events piece) []
+          ∙ (ap (λ rows. rows ++ piece_events piece) all ∙ sym ends);
+      foreign = foreign_both cut.words (piece_events piece) cut.foreign
+          (subst Words (sym begins) words);
+    }
+
+-- a piece in the end, where no piece began in it before
+stands_first : (scope : Scope) (setups : Setups) (front middle end : List Event) (piece : Piece)
+    (pieces : List Piece) → ArePieces scope (piece ∷ pieces) → (first : Event)
+    (others : List Event) → piece_events piece ≡ first ∷ others
+    → end ≡ middle ++ piece_events piece → (cut : Cutting scope setups front middle pieces)
+    → cut.later ≡ [] → AreForeignWords others
+    → IsNoneOr (last_of middle) (last_of (events_of pieces))
+    → (IsForeignWord first × NotBefore WORD_GAP_MIN (last_of (events_of pieces)) first)
+    → Cutting scope setups front end (piece ∷ pieces)
+stands_first scope setups front middle end piece pieces are first others begins ends cut none words
+    less way =
+    stands_as_words scope setups front middle end piece pieces are first others begins ends cut none
+    (way.0, words) (
+      late_after (last_of middle) (last_of (events_of pieces)) first less way.1,
+      late_others first others (subst AreSpaced begins are.0.spaced),
+    )
+
+-- a piece in the end
+stands_in_end : (scope : Scope) (setups : Setups) (front middle end : List Event) (piece : Piece)
+    (pieces : List Piece) → ArePieces scope (piece ∷ pieces)
+    → events_of pieces ≡ front ++ middle → end ≡ middle ++ piece_events piece
+    → (cut : Cutting scope setups front middle pieces) (later : List Piece) → cut.later ≡ later
+    → Cutting scope setups front end (piece ∷ pieces)
+stands_in_end scope setups front middle end piece pieces are rows ends cut (top ∷ later) is =
+    let new = from_later setups scope in
+    let stands = are.1 in
+    let here : position_of scope pieces ≡ left_by top =
+    ap (position_of scope) (cut.order ∙ ap (λ ps. ps ++ cut.before) is) in
+    let there : position_of new (cut.later ++ with_foreign cut.words []) ≡ left_by top =
+    ap (λ ps. position_of new (ps ++ with_foreign cut.words [])) is in
+    let At : Position → Type 0 =
+    λ position. MayCome piece position
+    (last_of (events_of (cut.later ++ with_foreign cut.words []))) stands.first in
+    stands_on scope setups front middle end piece pieces are.0 stands ends cut
+    (subst At (here ∙ sym there)
+    (comes_after piece (position_of scope pieces)
+    (last_of (events_of (cut.later ++ with_foreign cut.words []))) (last_of (events_of pieces))
+    stands.first (last_before scope setups front middle pieces rows cut) stands.comes))
+stands_in_end scope setups front middle end piece pieces are rows ends cut [] none =
+    let new = from_later setups scope in
+    let stands = are.1 in
+    let kind : Kind piece (last_of (events_of pieces)) stands.first stands.others =
+    kind_of scope piece (position_of scope pieces) (last_of (events_of pieces)) stands.first
+    stands.others are.0.said stands.begins stands.comes in
+    let there : position_of new (cut.later ++ with_foreign cut.words []) ≡ InForeign =
+    ap (λ ps. position_of new (ps ++ with_foreign cut.words [])) none
+    ∙ foreign_position new cut.words [] refl in
+    let At : Position → Type 0 =
+    λ position. MayCome piece position
+    (last_of (events_of (cut.later ++ with_foreign cut.words []))) stands.first in
+    let less = last_before scope setups front middle pieces rows cut in
+    let Less : List Event → Type 0 =
+    λ rows. IsNoneOr (last_of rows) (last_of (events_of pieces)) in
+    elim kind.way [
+      | inl way ↦ stands_first scope setups front middle end piece pieces are stands.first
+          stands.others stands.begins ends cut none kind.words (subst Less cut.whole less) way
+      | inr comes ↦ stands_on scope setups front middle end piece pieces are.0 stands ends cut
+          (subst At (sym there)
+          (comes_after piece InForeign
+          (last_of (events_of (cut.later ++ with_foreign cut.words [])))
+          (last_of (events_of pieces)) stands.first less comes))
+    ]
+
+-- a cut inside a piece leaves foreign words of it
+cut_inside : (scope : Scope) (setups : Setups) (front end : List Event) (piece : Piece)
+    (pieces : List Piece) → ArePieces scope (piece ∷ pieces)
+    → events_of (piece ∷ pieces) ≡ front ++ end → (event : Event) (middle : List Event)
+    → piece_events piece ≡ event ∷ middle ++ end
+    → Cutting scope setups front end (piece ∷ pieces)
+cut_inside scope setups front end piece pieces are whole event middle is =
+    let new = from_later setups scope in
+    let stands = are.1 in
+    let both : stands.first ∷ stands.others ≡ event ∷ (middle ++ end) = sym stands.begins ∙ is in
+    let rest : stands.others ≡ middle ++ end = cc in
+    let kind : Kind piece (last_of (events_of pieces)) stands.first stands.others =
+    kind_of scope piece (position_of scope pieces) (last_of (events_of pieces)) stands.first
+    stands.others are.0.said stands.begins stands.comes in
+    let words : AreForeignWords end =
+    foreign_end middle end (subst AreForeignWords rest kind.words) in
+    let late : AreLate (Some stands.first) stands.others =
+    late_others stands.first stands.others (subst AreSpaced stands.begins are.0.spaced) in
+    record {
+      later = [];
+      words = end;
+      before = piece ∷ pieces;
+      order = refl;
+      in_front = are;
+      rows = whole;
+      stand = words_stand new end [] tt refl
+          (late_end (Some stands.first) middle end
+          (subst (AreLate (Some stands.first)) rest late)) words;
+      whole = foreign_rows end [];
+      foreign = words;
+    }
+
+-- a cut of pieces with one more: before its events, or inside them
+cut_on : (scope : Scope) (setups : Setups) (front end : List Event) (piece : Piece)
+    (pieces : List Piece) → ArePieces scope (piece ∷ pieces)
+    → events_of (piece ∷ pieces) ≡ front ++ end
+    → ((middle : List Event) → events_of pieces ≡ front ++ middle
+    → Cutting scope setups front middle pieces)
+    → IsDivided (events_of pieces) (piece_events piece) front end
+    → Cutting scope setups front end (piece ∷ pieces)
+cut_on scope setups front end piece pieces are whole earlier (inl (middle, rows, ends)) =
+    let cut = earlier middle rows in
+    stands_in_end scope setups front middle end piece pieces are rows ends cut cut.later refl
+cut_on scope setups front end piece pieces are whole earlier (inr (event, middle, rows, ends)) =
+    cut_inside scope setups front end piece pieces are whole event middle ends
+
+-- pieces in order may be cut anywhere
+cut_at : (scope : Scope) (setups : Setups) (pieces : List Piece) (front end : List Event)
+    → ArePieces scope pieces → events_of pieces ≡ front ++ end
+    → Cutting scope setups front end pieces
+cut_at scope setups [] [] [] are whole = record {
+  later = [];
+  words = [];
+  before = [];
+  order = refl;
+  in_front = tt;
+  rows = refl;
+  stand = tt;
+  whole = refl;
+  foreign = tt;
+}
+cut_at scope setups [] [] (event ∷ end) are whole = absurd cc
+cut_at scope setups [] (event ∷ front) end are whole = absurd cc
+cut_at scope setups (piece ∷ pieces) front end are whole =
+    cut_on scope setups front end piece pieces are whole
+    (λ middle rows. cut_at scope setups pieces front middle are.2 rows)
+    (divide (events_of pieces) (piece_events piece) front end whole)
+
+-- the rows of an end begin with its foreign words
+rows_begin : (later : List Piece) (words : List Event)
+    → events_of (later ++ with_foreign words []) ≡ words ++ events_of later
+rows_begin [] words = foreign_rows words [] ∙ sym (append-nil words)
+rows_begin (piece ∷ later) words =
+    ap (λ rows. rows ++ piece_events piece) (rows_begin later words)
+    ∙ append_assoc words (events_of later) (piece_events piece)
+
+-- a foreign word begins nothing anew
+begins_nothing : (event : Event) → IsForeignWord event → IsBlockWord event ⊎ IsBreakEvent event → ⊥
+begins_nothing (Word at Controller word) low (inl high) = omega (arith, low, high)
+begins_nothing (Word at Controller word) low (inr break) = absurd break
+begins_nothing (Word at Peripheral word) low (inl high) = absurd high
+begins_nothing (Word at Peripheral word) low (inr break) = absurd break
+begins_nothing (Break at length) low anew = absurd low
+
+-- so an end that begins anew has no foreign words in front
+none_anew : (words rest : List Event) → AreForeignWords words → BeginAnew (words ++ rest)
+    → words ≡ []
+none_anew [] rest foreign anew = refl
+none_anew (word ∷ words) rest foreign anew = absurd (begins_nothing word foreign.0 anew)
+
+-- the end of a transcript has an act list of its own
+pub ends_have_act_lists : (scope : Scope) (setups : Setups) (front end : List Event)
+    (pieces : List Piece) → IsActList scope pieces (front ++ end)
+    → IsCut scope setups front end pieces
+ends_have_act_lists scope setups front end pieces list =
+    let cut = cut_at scope setups pieces front end list.in_order list.whole in
+    let rows : end ≡ cut.words ++ events_of cut.later =
+    sym cut.whole ∙ rows_begin cut.later cut.words in
+    record {
+      later = cut.later;
+      words = cut.words;
+      before = cut.before;
+      order = cut.order;
+      in_front = cut.in_front;
+      rows = cut.rows;
+      act_list = record { in_order = cut.stand; whole = cut.whole };
+      clean = λ anew. none_anew cut.words (events_of cut.later) cut.foreign
+          (subst BeginAnew rows anew);
+    }

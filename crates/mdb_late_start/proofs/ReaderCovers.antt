@@ -1,0 +1,136 @@
+-- What is known of a reader in the end of a recording by itself is known in the whole recording,
+-- too.
+use Rattle.std.proofs.Common.{◌≡◌, Bool, true, false, ◌&&◌, ◌||◌, List, [], ◌∷◌, ◌++◌, Option, Some, None, refl, ap, sym, subst, ◌∙◌}
+use Rattle.mdb_msgs.specs.declared.command.ReaderUnit.{ReaderUnit}
+use Rattle.mdb_msgs.specs.declared.setups.Setups.{Setups}
+use Rattle.mdb_msgs.specs.Setups.{config_known}
+use Rattle.mdb_bus.specs.declared.act.Act.{Act}
+use Rattle.mdb_bus.specs.declared.scope.Beginning.{Beginning}
+use Rattle.mdb_bus.specs.declared.scope.Beginning.TheVariants.{PowerOn, Joined}
+use Rattle.mdb_cash.specs.Known.{Allows, AllowsKept, Known, Is, Unknown}
+use Rattle.mdb_cash.specs.Past.{last_told, or_else}
+use Rattle.mdb_cash.specs.PastValues.{known_more}
+use Rattle.mdb_cashless.specs.ReaderFacts.{KnownFacts, amount_by, config_by, known_of}
+use Rattle.mdb_cashless.specs.ReaderValues.{known_with}
+use Rattle.mdb_cashless.specs.inner.ReaderWays.{goes_on}
+use Rattle.mdb_late_start.specs.MidSession.{HasTold, IsNothingOr}
+
+-- what is known here is known there, too
+abbrev pub IsKnownToo : {X : Type 0} → Known X → Known X → Type 0
+IsKnownToo Unknown there = Unit {0}
+IsKnownToo (Is x) there = there ≡ Is x
+
+-- what is known of a reader here is known there, but for the config message
+pub record Covers (here there : KnownFacts) : Type 0 where
+  pub asked : IsKnownToo here.asked there.asked
+  pub taken : IsKnownToo here.taken there.taken
+  pub last_kept : IsKnownToo here.past.last_kept there.past.last_kept
+  pub amount : IsNothingOr here.amount there.amount
+  pub reset_owed : here.past.reset_owed ≡ true → there.past.reset_owed ≡ true
+
+-- it stays so after one act more
+known_too_more : {X : Type 0} (told : Option X) (here there : Known X) → IsKnownToo here there
+    → IsKnownToo (known_more told here) (known_more told there)
+known_too_more (Some x) here there too = refl
+known_too_more None here there too = too
+
+-- what is told first counts first here and there
+nothing_more : {X : Type 0} (told here there : Option X) → IsNothingOr here there
+    → IsNothingOr (or_else told here) (or_else told there)
+nothing_more (Some x) here there is = refl
+nothing_more None here there is = is
+
+-- a reset message that is owed here is owed there
+owed_more : (unreset powers here there : Bool) → (here ≡ true → there ≡ true)
+    → (unreset && (powers || here)) ≡ true → (unreset && (powers || there)) ≡ true
+owed_more true true here there owed is = refl
+owed_more true false here there owed is = owed is
+owed_more false powers here there owed is = is
+
+-- all of it stays known there after one act more
+covers_more : (unit : ReaderUnit) (act : Act) (here there : KnownFacts) → Covers here there
+    → Covers (known_with unit act here) (known_with unit act there)
+covers_more unit act here there covers = record {
+  asked = known_too_more _ here.asked there.asked covers.asked;
+  taken = known_too_more _ here.taken there.taken covers.taken;
+  last_kept = known_too_more _ here.past.last_kept there.past.last_kept covers.last_kept;
+  amount = nothing_more _ here.amount there.amount covers.amount;
+  reset_owed = owed_more _ _ here.past.reset_owed there.past.reset_owed covers.reset_owed;
+}
+
+-- of no act in mid-session nothing is known that may not be known there
+pub covers : (unit : ReaderUnit) (begins : Beginning) (setups : Setups) (later front : List Act)
+    → Covers (known_of (Joined setups) unit later) (known_of begins unit (later ++ front))
+covers unit begins setups [] front = record {
+  asked = tt;
+  taken = tt;
+  last_kept = tt;
+  amount = tt;
+  reset_owed = λ owed. absurd cc;
+}
+covers unit begins setups (act ∷ later) front =
+    let here = known_of (Joined setups) unit later in
+    let there = known_of begins unit (later ++ front) in
+    subst (λ (k : KnownFacts). Covers k (known_of begins unit (act ∷ (later ++ front))))
+    (goes_on unit (Joined setups) act later)
+    (subst (λ (k : KnownFacts). Covers (known_with unit act here) k)
+    (goes_on unit begins act (later ++ front))
+    (covers_more unit act here there (covers unit begins setups later front)))
+
+-- and the config message is known there, where what is told from elsewhere was known in front
+pub config_covers : (unit : ReaderUnit) (begins : Beginning) (setups : Setups)
+    (later front : List Act)
+    → IsNothingOr (config_known setups unit) (known_of begins unit front).config
+    → IsNothingOr (known_of (Joined setups) unit later).config
+    (known_of begins unit (later ++ front)).config
+config_covers unit begins setups [] front are = are
+config_covers unit begins setups (act ∷ later) front are =
+    let here = known_of (Joined setups) unit later in
+    let there = known_of begins unit (later ++ front) in
+    subst (λ (k : KnownFacts). IsNothingOr k.config
+    (known_of begins unit (act ∷ (later ++ front))).config)
+    (goes_on unit (Joined setups) act later)
+    (subst (λ (k : KnownFacts). IsNothingOr (known_with unit act here).config k.config)
+    (goes_on unit begins act (later ++ front))
+    (nothing_more (config_by unit act) here.config there.config
+    (config_covers unit begins setups later front are)))
+
+-- what may count there may count here
+pub allows_too : {X : Type 0} (here there : Known X) (x : X) → IsKnownToo here there
+    → Allows there x → Allows here x
+allows_too Unknown there x too allows = tt
+allows_too (Is y) there x too allows = subst (λ k. Allows k x) too allows
+
+-- so may a last kept list, where a device that holds messages has told a list there
+pub allows_kept_too : {M : Type 0} (here there : Known (List M)) (holds : Bool) (last : List M)
+    → IsKnownToo here there → HasTold holds there → AllowsKept there holds last
+    → AllowsKept here holds last
+allows_kept_too (Is y) there holds last too told allows =
+    subst (λ k. AllowsKept k holds last) too allows
+allows_kept_too Unknown Unknown holds last too told allows = allows
+allows_kept_too Unknown (Is k) holds last too told allows =
+    λ held empty. told held (ap (λ l. Is l) (sym allows ∙ empty))
+
+-- Where both are one recording from power-on on, and nothing was told from elsewhere, the same
+-- config message and the same amount are known.
+pub same_config : (unit : ReaderUnit) (begins : Beginning) (setups : Setups)
+    (later front : List Act) → begins ≡ PowerOn → front ≡ [] → config_known setups unit ≡ None
+    → (known_of (Joined setups) unit later).config
+    ≡ (known_of begins unit (later ++ front)).config
+same_config unit begins setups [] front power_on empty unknown =
+    let nothing : (known_of begins unit front).config ≡ None =
+    ap (λ b. (known_of b unit front).config) power_on
+    ∙ ap (λ f. (known_of PowerOn unit f).config) empty in
+    unknown ∙ sym nothing
+same_config unit begins setups (act ∷ later) front power_on empty unknown =
+    sym (ap (λ (k : KnownFacts). k.config) (goes_on unit (Joined setups) act later))
+    ∙ ap (λ c. or_else (config_by unit act) c)
+    (same_config unit begins setups later front power_on empty unknown)
+    ∙ ap (λ (k : KnownFacts). k.config) (goes_on unit begins act (later ++ front))
+
+-- the same of the amount
+pub same_amount : (unit : ReaderUnit) (later front : List Act) → front ≡ []
+    → last_told (amount_by unit) later ≡ last_told (amount_by unit) (later ++ front)
+same_amount unit [] front empty = sym (ap (λ f. last_told (amount_by unit) f) empty)
+same_amount unit (act ∷ later) front empty =
+    ap (λ a. or_else (amount_by unit act) a) (same_amount unit later front empty)

@@ -1,0 +1,122 @@
+-- What the validator does, it may do in mid-session: what is so of its conduct.
+use Rattle.std.proofs.Common.{◌≡◌, ℕ, ◌<◌, true, false, List, [], ◌∷◌, refl, ap, sym, subst, ◌∙◌}
+use Rattle.std.specs.List.{AllByRecursion}
+use Rattle.mdb_msgs.specs.declared.command.Device.TheVariants as devices
+use Rattle.mdb_msgs.specs.declared.setups.Setups.{Setups}
+use Rattle.mdb_bus.specs.declared.scope.Beginning.{Beginning}
+use Rattle.mdb_cash.specs.declared.choice.Choice.{Choice}
+use Rattle.mdb_cash.specs.declared.gains.Gains.{Gains}
+use Rattle.mdb_cash.specs.Kept.{kept_of}
+use Rattle.mdb_late_start.specs.MidSession.{StaysInMidSession}
+use Rattle.mdb_late_start.proofs.Keepers.{IsEnabledIn, IsSteady, in_end, step_in_end, told_first, told_on}
+use Rattle.mdb_msgs.specs.declared.command.BillCommand.{BillCommand}
+use Rattle.mdb_msgs.specs.declared.command.BillCommand.TheVariants as bill
+use Rattle.mdb_cash.specs.declared.bill.activity.BillActivity.{BillActivity}
+use Rattle.mdb_cash.specs.declared.bill.activity.BillActivity.TheVariants as activity
+use Rattle.mdb_cash.specs.declared.bill.state.BillState.{BillState}
+use Rattle.mdb_cash.specs.declared.bill.state.BillType.{BillType}
+use Rattle.mdb_cash.specs.declared.bill.state.Escrow.{Escrow}
+use Rattle.mdb_cash.specs.Bill.{MovesBill, MovesBills, TakeStep, conduct, is_stacked, stacked}
+use Rattle.mdb_cash.specs.BillFacts.{Facts, KnownFacts, tables}
+
+-- nothing is asked of its messages: a new one names a type itself
+abbrev Fits : BillActivity → Type 0
+Fits message = Unit {0}
+
+-- so all fit
+all_fit : (kept : List BillActivity) → AllByRecursion Fits kept
+all_fit [] = tt
+all_fit (message ∷ kept) = (tt, all_fit kept)
+
+-- a type that is enabled is so in the end
+type_enabled : (known : KnownFacts) (facts : Facts) (type : BillType) (number : ℕ)
+    → IsEnabledIn known facts → type.number ≡ number → facts.past.enabled number ≡ true
+    → known.past.enabled number ≡ true
+type_enabled known facts type number enabled is on =
+    enabled number (subst (λ n. n < 16) is type.few) on
+
+-- bills may move in the end
+moves_in_end : (known : KnownFacts) (facts : Facts) (message : BillActivity)
+    (before after : Escrow) → IsEnabledIn known facts → MovesBill facts message before after
+    → MovesBill (in_end known facts) message before after
+moves_in_end known facts (activity.Stacked number) before after enabled moves = (
+  moves.0,
+  moves.1,
+  type_enabled known facts moves.0 number enabled moves.1 moves.2,
+  moves.3,
+  moves.4,
+)
+moves_in_end known facts (activity.Escrow number) before after enabled moves = (
+  moves.0,
+  moves.1,
+  type_enabled known facts moves.0 number enabled moves.1 moves.2,
+  moves.3,
+  moves.4,
+)
+moves_in_end known facts (activity.Returned number) before after enabled moves = moves
+
+-- and so with bills in order
+all_move : (known : KnownFacts) (facts : Facts) (news : List BillActivity)
+    (before after : Escrow) → IsEnabledIn known facts → MovesBills facts news before after
+    → MovesBills (in_end known facts) news before after
+all_move known facts [] before after enabled move = move
+all_move known facts (message ∷ news) before after enabled move = (
+  move.0,
+  moves_in_end known facts message before move.0 enabled move.1,
+  all_move known facts news move.0 after enabled move.2,
+)
+
+-- what tells of no bill that was stacked adds nothing
+no_bill : (facts : Facts) (message : BillActivity) → is_stacked message ≡ false
+    → stacked facts.setup message ≡ 0
+no_bill facts (activity.Stacked number) none = absurd cc
+no_bill facts (activity.Escrow number) none = refl
+no_bill facts (activity.Returned number) none = refl
+
+-- whether it holds messages ends by RESET, and is left as it is by other commands that it takes
+ack_holds : (facts : Facts) (command : BillCommand) (choice : Choice)
+    (before after : BillState) (gains : Gains) → TakeStep command before after gains
+    → after.holds ≡ true → before.holds ≡ true
+ack_holds facts bill.Reset choice before after gains step is =
+    absurd (no_truth (sym (ap (λ (s : BillState). s.holds) step.0) ∙ is))
+  where
+    no_truth : false ≡ true → ⊥
+    no_truth same = cc
+ack_holds facts (bill.Escrow order) choice before after gains step is =
+    sym (ap (λ (s : BillState). s.holds) step.0) ∙ is
+ack_holds facts _ choice before after gains step is =
+    sym (ap (λ (s : BillState). s.holds) step.0) ∙ is
+
+-- all that is so of its conduct
+steady : IsSteady tables conduct Fits
+steady = record {
+  asks = λ known facts command before after gains step.
+      record { other = gains; step = step; same = λ is. refl };
+  acks = λ known facts command choice before after gains step.
+      record { other = gains; step = step; same = λ is. refl };
+  fits = λ command reply is. all_fit (kept_of (tables.parts_of reply));
+  tells_news = λ known facts choice news before after enabled fit step.
+      (all_move known facts news _ after.escrow enabled step.0, step.1);
+  first_gain = λ one other same. ap stacked same;
+  second_gain = λ one other same. refl;
+  no_first = no_bill;
+  no_second = λ facts message none. refl;
+  power_on_free = refl;
+  heard = λ state. refl;
+  ask_holds = λ facts command before after gains step is.
+      sym (ap (λ (s : BillState). s.holds) step.0) ∙ is;
+  ack_holds = ack_holds;
+  news_hold = λ facts choice news before after step. step.1;
+}
+
+-- so it may do in mid-session what it does
+pub validator_stays : (begins : Beginning) (setups : Setups)
+    → StaysInMidSession begins setups devices.Bill
+validator_stays begins setups = record {
+  starts = told_first tables conduct Fits steady begins;
+  goes_on = told_on tables conduct Fits steady begins;
+  step = λ later front act choice before after gains names told step.
+      let goes = step_in_end tables conduct Fits steady begins setups later front act choice before
+      after gains names told step in
+      record { other = goes.other; step = goes.step; valued = goes.valued; alike = goes.alike };
+}

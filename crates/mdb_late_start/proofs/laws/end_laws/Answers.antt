@@ -1,0 +1,13 @@
+use Rattle.mdb_late_start.proofs.EachStays.{each_stays}
+use Rattle.mdb_late_start.proofs.laws.end_laws.Goals as goal
+
+pub returns : goal.returns
+returns c = record {
+  cut = c.ends_of_transcripts_have_act_lists.ensures;
+  one = c.transcripts_have_one_act_list.ensures;
+  names = c.acts_name_replies_of_their_commands.ensures;
+  splits = c.ways_split.ensures;
+  joins = c.ways_join.ensures;
+  stays = each_stays c.the_changer_stays_in_mid_session.ensures
+      c.the_validator_stays_in_mid_session.ensures c.a_reader_stays_in_mid_session.ensures;
+}

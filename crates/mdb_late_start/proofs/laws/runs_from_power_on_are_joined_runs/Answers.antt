@@ -1,0 +1,5 @@
+use Rattle.mdb_late_start.proofs.FromPowerOn.{run_joined}
+use Rattle.mdb_late_start.proofs.laws.runs_from_power_on_are_joined_runs.Goals as goal
+
+pub returns : goal.returns
+returns c = run_joined c.end_laws.ensures c.act_lists_from_power_on_are_joined_ones.ensures

@@ -1,0 +1,169 @@
+//! Laws of the ends of recordings. Each function's contract is the law, and its body calls the laws
+//! that it rests on.
+
+ghost use Rattle.std.specs.Prelude.{◌≡◌, ℕ, ◌++◌, List, Result, Ok};
+ghost use Rattle.mdb_words.specs.declared.event.Event.{Event};
+ghost use Rattle.mdb_msgs.specs.declared.command.Device.{Device};
+ghost use Rattle.mdb_msgs.specs.declared.command.Device.TheVariants as devices;
+ghost use Rattle.mdb_msgs.specs.declared.command.ReaderUnit.{ReaderUnit};
+ghost use Rattle.mdb_msgs.specs.declared.device_set.DeviceSet.{DeviceSet};
+ghost use Rattle.mdb_msgs.specs.declared.setups.Setups.{Setups};
+ghost use Rattle.mdb_bus.specs.ActLists.{IsActList, Piece, acts_of};
+ghost use Rattle.mdb_bus.specs.Scopes.{joined, leaving_out};
+ghost use Rattle.mdb_bus.specs.declared.scope.Beginning.{Beginning};
+ghost use Rattle.mdb_bus.specs.declared.scope.Beginning.TheVariants.{Joined, PowerOn};
+ghost use Rattle.mdb_bus.specs.declared.scope.Scope.{Scope};
+ghost use Rattle.mdb_follow.specs.AccountNames.{account_device, sums_of};
+ghost use Rattle.mdb_follow.specs.LeavingOut.{IsNotKnown};
+ghost use Rattle.mdb_follow.specs.Report.{IsReport, account_of, device_unvalued, unvalued_of};
+ghost use Rattle.mdb_follow.specs.Runs.{AllSums, IsReached, IsWay, Run};
+ghost use Rattle.mdb_follow.specs.declared.account_name.AccountName.{AccountName};
+ghost use Rattle.mdb_follow.specs.declared.report.Report.{Report};
+ghost use Rattle.mdb_text.specs.declared.outcome.Outcome.{Outcome};
+ghost use Rattle.mdb_text.specs.declared.outcome.Outcome.TheVariants.{Yes};
+ghost use Rattle.mdb_verdict.specs.declared.fault.RunFault.{RunFault};
+ghost use Rattle.mdb_verdict.specs.Verdict.{IsAnswer, IsOwnAnswer};
+ghost use Rattle.mdb_late_start.specs.Cuts.{BeginAnew, IsCut, from_later};
+ghost use Rattle.mdb_late_start.specs.Ends.{AreAlike, CameToWithin, Passes, both_sums};
+ghost use Rattle.mdb_late_start.specs.MidSession.{AreOf, StaysInMidSession};
+ghost use Rattle.mdb_late_start.specs.inner.EndLaws.{EndLaws};
+
+use mdb_bus::laws as links;
+use mdb_follow::laws as follow;
+use mdb_words::laws as rows;
+
+/// The end of a recording has an act list of its own, wherever the recording is cut. Checked as a
+/// recording that begins while the machine was running, it has the pieces that begin in it, and
+/// foreign words before them.
+pub fn ends_of_transcripts_have_act_lists()
+    ensures { (scope : Scope) (setups : Setups) (front end : List Event) (pieces : List Piece)
+        → IsActList scope pieces (front ++ end) → IsCut scope setups front end pieces }
+{}
+
+/// The act list of a recording from power-on is also that of the same rows, checked as a recording
+/// that begins while the machine was running.
+pub fn act_lists_from_power_on_are_joined_ones()
+    ensures { (setups : Setups) (without : DeviceSet) (pieces : List Piece) (rows : List Event)
+        → IsActList (leaving_out without) pieces rows
+        → IsActList (joined setups without) pieces rows }
+{}
+
+/// Every step of the changer from power-on is allowed in a recording that begins while it was
+/// running.
+pub fn the_changer_stays_in_mid_session()
+    ensures { (begins : Beginning) (setups : Setups)
+        → StaysInMidSession begins setups devices.Changer }
+{}
+
+/// Every step of the validator from power-on is allowed in a recording that begins while it was
+/// running.
+pub fn the_validator_stays_in_mid_session()
+    ensures { (begins : Beginning) (setups : Setups)
+        → StaysInMidSession begins setups devices.Bill }
+{}
+
+/// Every step of a reader from power-on is allowed in a recording that begins while it was running.
+pub fn a_reader_stays_in_mid_session()
+    ensures { (begins : Beginning) (setups : Setups) (unit : ReaderUnit)
+        → StaysInMidSession begins setups (devices.Reader unit) }
+{}
+
+/// What the laws of runs rest on.
+fn end_laws()
+    ensures { EndLaws }
+{
+    ends_of_transcripts_have_act_lists();
+    the_changer_stays_in_mid_session();
+    the_validator_stays_in_mid_session();
+    a_reader_stays_in_mid_session();
+    links::transcripts_have_one_act_list();
+    links::acts_name_replies_of_their_commands();
+    follow::ways_split();
+    follow::ways_join();
+}
+
+/// Each run from power-on is also a run of a recording that begins while the machine was running.
+/// It has the same act list and loss, the same choices and the same states. It has the same sums
+/// for each device of which nothing is known from elsewhere.
+pub fn runs_from_power_on_are_joined_runs()
+    ensures { (setups : Setups) (without : DeviceSet) (rows : List Event) (sums : AllSums)
+        (run : Run (leaving_out without) rows sums) → (more : AllSums)
+        × IsActList (joined setups without) run.pieces rows
+        × (way : IsWay (Joined setups) run.loss run.pieces run.states more)
+        × AreAlike PowerOn (Joined setups) run.loss run.pieces run.states run.states sums more
+        run.way way
+        × ((device : Device) → IsNotKnown (Joined setups) device → more device ≡ sums device) }
+{
+    act_lists_from_power_on_are_joined_ones();
+    end_laws();
+}
+
+/// Nobody is blamed because a recording begins late. If rows are reached, each end of them is
+/// reached as a recording that begins while the machine was running, wherever it is cut.
+pub fn ends_of_reached_rows_are_reached()
+    ensures { (scope : Scope) (setups : Setups) (front end : List Event)
+        → IsReached scope (front ++ end) → IsReached (from_later setups scope) end }
+{
+    end_laws();
+}
+
+/// If the end of rows begins anew, each run of the rows passes the end of the rows before it.
+pub fn runs_pass_where_an_end_begins_anew()
+    ensures { (scope : Scope) (front end : List Event) (sums : AllSums)
+        (run : Run scope (front ++ end) sums) → BeginAnew end
+        → Passes scope (front ++ end) sums run front }
+{
+    end_laws();
+}
+
+/// If an end begins anew, each run of the whole rows has a run of the end that gains the same
+/// there. It does so in both accounts of each device that leaves no amount without a value in the
+/// end. What is known of that device from elsewhere must be how it was set up before the end.
+pub fn runs_of_ends_gain_what_whole_runs_gain_there()
+    ensures { (scope : Scope) (setups : Setups) (front end : List Event) (sums : AllSums)
+        (run : Run scope (front ++ end) sums) → BeginAnew end
+        → (passes : Passes scope (front ++ end) sums run front) → (gained : AllSums)
+        × Run (from_later setups scope) end gained
+        × ((device : Device) → AreOf setups scope.begins device (acts_of passes.before)
+        → unvalued_of (Joined setups) device (acts_of passes.later) ≡ 0
+        → sums device ≡ both_sums (passes.sums_then device) (gained device)) }
+{
+    end_laws();
+}
+
+/// So the true sums lie within the bounds. If an end begins anew, take what an account gained in
+/// it, in any run of the whole rows. It lies within the bounds of the end's report: the device's
+/// count, the controller's count, and the difference. This holds for each device that leaves no
+/// amount without a value in the end. What is known of that device from elsewhere must be how it
+/// was set up before the end.
+pub fn what_came_in_an_end_lies_within_its_bounds()
+    ensures { (scope : Scope) (setups : Setups) (front end : List Event) (sums : AllSums)
+        (run : Run scope (front ++ end) sums) (report : Report) → BeginAnew end
+        → (passes : Passes scope (front ++ end) sums run front)
+        → IsReport (from_later setups scope) end report → (account : AccountName)
+        → AreOf setups scope.begins (account_device account) (acts_of passes.before)
+        → device_unvalued (account_device account) report ≡ 0
+        → CameToWithin (account_of account report) (sums_of account passes.sums_then)
+        (sums_of account sums) }
+{
+    end_laws();
+    follow::reports_name_the_accounts_of_runs();
+    follow::reports_name_the_decimals_and_silences_of_devices();
+}
+
+/// If the answer to the records of a text is yes, the answer to each end of them is yes too. The
+/// end is checked as a recording that begins while the machine was running. It may be cut anywhere,
+/// and anything may be known of the devices from elsewhere. Refused reads, writes and memory are
+/// excepted.
+pub fn ends_of_yeses_are_yeses()
+    ensures { (scope : Scope) (setups : Setups) (limit : ℕ) (front end : List (List (List ℕ)))
+        (report : Report) (answer : Result Outcome RunFault)
+        → IsAnswer scope limit (front ++ end) (Ok (Yes report))
+        → IsAnswer (from_later setups scope) limit end answer → IsOwnAnswer answer
+        → (other : Report) × (answer ≡ Ok (Yes other)) }
+{
+    ends_of_reached_rows_are_reached();
+    follow::fronts_of_reached_rows_are_reached();
+    rows::fields_are_of_one_event();
+    rows::rows_are_never_refused();
+}

@@ -1,8 +1,0 @@
-use Rattle.mdb_bus.specs.declared.scope.Beginning.TheVariants.{PowerOn}
-use Rattle.mdb_marks.specs.inner.Paths.{AreStarts}
-use Rattle.mdb_marks.proofs.explain.paths.starts.Given as goal
-
-abbrev pub invariant-loop-code : goal.invariant-loop-code
-invariant-loop-code g l =
-    let p = g.P.Pair in
-    AreStarts p.CODES p.code_of (p.machine PowerOn) l.code l.entries.items

@@ -1,6 +1,0 @@
-use Rattle.mdb_marks.proofs.ReplayReports.{report_of_run}
-use Rattle.mdb_marks.proofs.laws.rows_with_a_marked_run_have_a_replay_report.Goals as goal
-
-pub returns : goal.returns
-returns c scope = report_of_run c.ways_split_with_choices.ensures
-    c.marks_tell_what_is_chosen.ensures scope (c.transcripts_have_one_act_list.ensures scope)

@@ -1,0 +1,159 @@
+-- What the import of a table answers, and what it writes.
+use Rattle.std.specs.Prelude.{◌≡◌, ◌⊎◌, ◌+◌, ◌&&◌, ℕ, List, [], ◌∷◌, ◌++◌, ⊤, length, filter, not}
+use Rattle.std.specs.Prelude.{Bool, true, Option, Some, None, Result, Ok, Err}
+use Rattle.std.specs.List.{list_any}
+use Rattle.std.specs.Io.KnownBytes.{Appends}
+use Rattle.mdb_words.specs.Event.{start_of}
+use Rattle.mdb_words.specs.declared.event.Event.{Event}
+use Rattle.mdb_records.specs.declared.ReadFault.{ReadFault}
+use Rattle.mdb_records.specs.declared.ReadFault.TheVariants as reading
+use Rattle.mdb_exports.specs.Records.{export_records}
+use Rattle.mdb_exports.specs.Told.{is_controllers, is_marked, is_peripherals, told_count}
+use Rattle.mdb_exports.specs.Part.{is_from, is_until}
+use Rattle.mdb_exports.specs.Rows.{rows_text}
+use Rattle.mdb_exports.specs.Order.{IsAfter}
+use Rattle.mdb_writing.specs.Written.{HasTaken}
+use Rattle.mdb_exports.specs.declared.told.Imported.{Imported}
+use Rattle.mdb_saleae.specs.Columns.{IsColumns, IsHeaderFault}
+use Rattle.mdb_saleae.specs.Refusals.{IsFault}
+use Rattle.mdb_saleae.specs.Rows.{AreEvents, AreRows, IsTableRow, last_start}
+use Rattle.mdb_saleae.specs.declared.columns.Columns.{Columns}
+use Rattle.mdb_saleae.specs.declared.fault.RowFault.{RowFault}
+use Rattle.mdb_saleae.specs.declared.fault.SaleaeFault.{SaleaeFault}
+use Rattle.mdb_saleae.specs.declared.fault.SaleaeFault.TheVariants.{NoHeader, BadHeader, BadRecord}
+use Rattle.mdb_saleae.specs.declared.fault.SaleaeFault.TheVariants.{BadRow, Read, Write, Memory}
+use Rattle.mdb_saleae.specs.declared.options.SaleaeOptions.{SaleaeOptions}
+
+-- whether an event is in the part that was asked for
+abbrev pub is_taken : SaleaeOptions → Event → Bool
+is_taken options event =
+    is_from options.from (start_of event) && is_until options.until (start_of event)
+
+-- an event before the part that was asked for
+abbrev pub is_before : SaleaeOptions → Event → Bool
+is_before options event = not (is_from options.from (start_of event))
+
+-- an event after that part
+abbrev pub is_behind : SaleaeOptions → Event → Bool
+is_behind options event =
+    is_from options.from (start_of event) && not (is_until options.until (start_of event))
+
+-- the rows of the events of the part that was asked for, as text
+abbrev pub part_text : SaleaeOptions → List Event → List ℕ
+part_text options events = rows_text (filter (is_taken options) events)
+
+-- What is told of all events: how many were written, and how many are before and after the part,
+-- whether there is a marked word, and one on each line. A table has a header, and none of its
+-- records is passed over.
+pub record IsTold (options : SaleaeOptions) (events : List Event) (imported : Imported)
+    : Type 0 where
+  pub header : imported.header ≡ true
+  pub passed : imported.passed ≡ 0
+  pub rows : imported.rows ≡ told_count (is_taken options) events
+  pub before : imported.before ≡ told_count (is_before options) events
+  pub after : imported.after ≡ told_count (is_behind options) events
+  pub marked : imported.marked ≡ list_any is_marked events
+  pub controller : imported.controller ≡ list_any is_controllers events
+  pub peripheral : imported.peripheral ≡ list_any is_peripherals events
+
+-- the first records behind the header stand for events, and the text is that of their rows
+pub record ImportedUpTo (options : SaleaeOptions) (columns : Columns)
+    (rows : List (List (List ℕ))) (done : List (List (List ℕ))) (events : List Event)
+    (rest : List (List (List ℕ))) (text : List ℕ) : Type 0 where
+  pub split : rows ≡ done ++ rest
+  pub are : AreRows options columns None done events
+  pub lines : text ≡ part_text options events
+
+-- a record is no row of an event that is later than those before it, and why it isn't
+pub record IsRefusedRow (options : SaleaeOptions) (columns : Columns) (events : List Event)
+    (named : List (List ℕ)) (at : Option ℕ) (fault : RowFault) : Type 0 where
+  pub no_row : (event : Event) → IsTableRow options columns named event
+      → IsAfter (last_start None events) event → ⊥
+  pub why : IsFault options columns (last_start None events) named at fault
+
+-- a record is refused, and the text is that of the rows before it. The header is the first record.
+pub record ImportedToFault (options : SaleaeOptions) (columns : Columns)
+    (rows : List (List (List ℕ))) (number : ℕ) (at : Option ℕ) (fault : RowFault)
+    (text : List ℕ) : Type 0 where
+  pub done : List (List (List ℕ))
+  pub events : List Event
+  pub named : List (List ℕ)
+  pub rest : List (List (List ℕ))
+  pub before : ImportedUpTo options columns rows done events (named ∷ rest) text
+  pub counted : number ≡ length done + 2
+  pub refused : IsRefusedRow options columns events named at fault
+
+-- some first records behind the header stand for events, and the text is that of their rows
+pub record ImportedInPart (options : SaleaeOptions) (columns : Columns)
+    (rows : List (List (List ℕ))) (text : List ℕ) : Type 0 where
+  pub done : List (List (List ℕ))
+  pub events : List Event
+  pub rest : List (List (List ℕ))
+  pub are : ImportedUpTo options columns rows done events rest text
+
+-- the answer to the records behind a header, and the text that is written of them
+abbrev pub IsRowsImport : SaleaeOptions → Columns → List (List (List ℕ))
+    → Result Imported SaleaeFault → List ℕ → Type 0
+IsRowsImport options columns rows (Ok imported) text =
+    (events : List Event) × AreRows options columns None rows events
+    × IsTold options events imported × (text ≡ part_text options events)
+IsRowsImport options columns rows (Err (BadRecord number fault)) text =
+    ImportedToFault options columns rows number None fault text
+IsRowsImport options columns rows (Err (BadRow number at fault)) text =
+    ImportedToFault options columns rows number (Some at) fault text
+IsRowsImport options columns rows (Err Read) text = ImportedInPart options columns rows text
+IsRowsImport options columns rows (Err Memory) text = ImportedInPart options columns rows text
+IsRowsImport options columns rows (Err other) text = ⊥
+
+-- what is answered where no columns were found
+abbrev pub IsHeaderAnswer : List (List (List ℕ)) → Result Imported SaleaeFault → Type 0
+IsHeaderAnswer records (Err NoHeader) = records ≡ []
+IsHeaderAnswer records (Err (BadHeader fault)) =
+    (header : List (List ℕ)) × (rows : List (List (List ℕ))) × (records ≡ header ∷ rows)
+    × IsHeaderFault header fault × ((columns : Columns) → IsColumns header columns → ⊥)
+IsHeaderAnswer records (Err Read) = ⊤
+IsHeaderAnswer records (Err Memory) = ⊤
+IsHeaderAnswer records other = ⊥
+
+-- the answer to the records of a table whose header has these columns
+pub record IsTableImport (options : SaleaeOptions) (records : List (List (List ℕ)))
+    (answer : Result Imported SaleaeFault) (text : List ℕ) : Type 0 where
+  pub header : List (List ℕ)
+  pub rows : List (List (List ℕ))
+  pub columns : Columns
+  pub split : records ≡ header ∷ rows
+  pub are : IsColumns header columns
+  pub import : IsRowsImport options columns rows answer text
+
+-- the answer to the records of a table, and the text that is written of them
+abbrev pub IsImport : SaleaeOptions → List (List (List ℕ)) → Result Imported SaleaeFault → List ℕ
+    → Type 0
+IsImport options records answer text =
+    IsTableImport options records answer text ⊎ (IsHeaderAnswer records answer × (text ≡ []))
+
+-- the writer took a front of a text that is written of the records, with whatever answer
+pub record IsCutShort (options : SaleaeOptions) (records : List (List (List ℕ)))
+    (before after : Option (List ℕ)) : Type 0 where
+  pub answer : Result Imported SaleaeFault
+  pub text : List ℕ
+  pub import : IsImport options records answer text
+  pub taken : HasTaken before after text
+
+-- The same of the bytes that a writer held before and after. It took the text of the answer; or the
+-- answer is that it failed, and it took a front of a text.
+abbrev pub Imports : SaleaeOptions → List (List (List ℕ)) → Option (List ℕ) → Option (List ℕ)
+    → Result Imported SaleaeFault → Type 0
+Imports options records before after answer =
+    ((text : List ℕ) × IsImport options records answer text × Appends before after text)
+    ⊎ ((answer ≡ Err Write) × IsCutShort options records before after)
+
+-- a table whose bytes are this text: all its rows are written, and nothing else
+abbrev pub IsImported : SaleaeOptions → List ℕ → Option (List ℕ) → Option (List ℕ) → Type 0
+IsImported options text before after =
+    (events : List Event) × AreEvents options (export_records text) events
+    × Appends before after (part_text options events)
+
+-- what a fault of reading is told as
+abbrev pub read_fault_of : ReadFault → SaleaeFault
+read_fault_of reading.Read = Read
+read_fault_of reading.Memory = Memory

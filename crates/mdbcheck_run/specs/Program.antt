@@ -1,0 +1,295 @@
+-- What the words of a command line name, and what the program's exit status says.
+use Rattle.std.specs.Prelude.{◌≡◌, ◌≢◌, ◌⊎◌, ◌++◌, ℕ, Bool, true, false, List, [], ◌∷◌, codes, Option}
+use Rattle.std.specs.Prelude.{Some, None, Result, Ok, Err}
+use Rattle.std.specs.Io.KnownBytes.{Appends}
+use Rattle.command_words.specs.Grammar.{Command, NameCommand, Uses, chosen, is_used}
+use Rattle.command_words.specs.Manual.{AskForManual, Manual}
+use Rattle.mdb_msgs.specs.declared.command.Device.{Device}
+use Rattle.mdb_msgs.specs.declared.device_set.DeviceSet.{DeviceSet}
+use Rattle.mdb_msgs.specs.declared.device_set.TheConstants.DeviceSet.{NONE}
+use Rattle.mdb_msgs.specs.Devices.{device_word}
+use Rattle.mdb_msgs.specs.DeviceSets.{has, with_device}
+use Rattle.mdb_msgs.specs.declared.setups.Setups.{Setups}
+use Rattle.mdb_msgs.specs.SetupData.{IsSetupOf}
+use Rattle.mdb_msgs.specs.Setups.{nothing_known}
+use Rattle.mdb_bus.specs.declared.fault.LinkFault.{LinkFault}
+use Rattle.mdb_follow.specs.AccountNames.{account_word}
+use Rattle.mdb_follow.specs.declared.follower.TheConstants.{ROWS_MAX}
+use Rattle.mdb_follow.specs.declared.goal.Goal.{Goal}
+use Rattle.mdb_follow.specs.declared.offence.Offence.{Offence}
+use Rattle.mdb_follow.specs.declared.report.Report.{Report}
+use Rattle.mdb_explain.specs.Explain.{IsCutExplanation, IsExplainedIn, bound_word}
+use Rattle.mdb_text.specs.Known.{known_devices}
+use Rattle.mdb_explain.specs.Replay.{IsCutReplayIn, IsReplayed, StopsAt}
+use Rattle.mdb_show.specs.Lines.{LineForm}
+use Rattle.mdb_show.specs.Show.{IsCutShortIn, IsShownToFaultIn, IsShownWholeIn}
+use Rattle.mdb_show.specs.ShowJson.{json_lines}
+use Rattle.mdb_show.specs.ShowText.{bytes_text, text_lines}
+use Rattle.mdb_text.specs.Accounts.{side_word}
+use Rattle.mdb_text.specs.Text.{report_text}
+use Rattle.mdb_verdict.specs.CutReport.{IsCutIn}
+use Rattle.mdb_verdict.specs.Verdict.{IsImpossible, IsPossible}
+use Rattle.mdb_text.specs.declared.outcome.Outcome.{Outcome}
+use Rattle.mdb_text.specs.declared.outcome.Outcome.TheVariants.{Yes, No}
+use Rattle.mdb_verdict.specs.declared.fault.RunFault.{RunFault}
+use Rattle.mdb_json.specs.Json.{json_line}
+use Rattle.mdb_bus.specs.declared.scope.Scope.{Scope}
+use Rattle.mdb_bus.specs.Scopes.{leaving_out, joined as in_mid_session}
+use Rattle.mdb_writing.specs.Written.{HasTaken}
+use Rattle.mdbcheck_run.specs.declared.manual.TheConstants.{ABOUT, CHECK, EXPLAIN, MANUAL, REPLAY, REST, SHOW}
+use Rattle.mdbcheck_run.specs.declared.form.Form.{Form}
+use Rattle.mdbcheck_run.specs.declared.form.Form.TheVariants.{Text, Json}
+
+-- the word of a device, and bytes as `show` writes them after it
+abbrev pub setup_text : Device → List ℕ → List ℕ
+setup_text device bytes = device_word device ++ bytes_text bytes
+
+-- ---- the commands
+
+-- what `check` knows
+abbrev pub check_command : Command
+check_command = record {
+  name = codes "check";
+  options = codes "setup" ∷ codes "without" ∷ [];
+  flags = codes "joined" ∷ codes "json" ∷ [];
+  words = [];
+  further = [];
+}
+
+-- what `show` and `replay` know
+abbrev pub show_command : Command
+show_command = record {
+  name = codes "show";
+  options = codes "without" ∷ [];
+  flags = codes "json" ∷ [];
+  words = [];
+  further = [];
+}
+
+abbrev pub replay_command : Command
+replay_command = record show_command { name = codes "replay" }
+
+-- what `explain` knows: its words are those of a goal
+abbrev pub explain_command : Command
+explain_command = record {
+  name = codes "explain";
+  options = codes "without" ∷ [];
+  flags = [];
+  words = codes "ACCOUNT" ∷ codes "SIDE" ∷ codes "BOUND" ∷ [];
+  further = [];
+}
+
+-- what `manual` knows: the name of a command, which may be missing
+abbrev pub manual_command : Command
+manual_command = record {
+  name = codes "manual";
+  options = [];
+  flags = [];
+  words = [];
+  further = codes "COMMAND" ∷ [];
+}
+
+-- the texts of the manual
+abbrev pub mdbcheck_manual : Manual
+mdbcheck_manual = record {
+  about = ABOUT.now;
+  parts = (codes "check", CHECK.now) ∷ (codes "show", SHOW.now)
+      ∷ (codes "explain", EXPLAIN.now) ∷ (codes "replay", REPLAY.now)
+      ∷ (codes "manual", MANUAL.now) ∷ [];
+  rest = REST.now;
+}
+
+-- ---- what options ask for
+
+-- the words are those of the devices of a set
+abbrev pub AreDevices : List (List ℕ) → DeviceSet → Type 0
+AreDevices [] devices = devices ≡ NONE
+AreDevices (word ∷ rest) devices = (device : Device) × (others : DeviceSet)
+    × (word ≡ device_word device) × AreDevices rest others × (devices ≡ with_device others device)
+
+-- the form that is asked for, by whether there is `--json`
+abbrev pub form_of : Bool → Form
+form_of true = Json
+form_of false = Text
+
+-- A value of `--setup`, the next after those with which this was known: the answer to SETUP of a
+-- device that isn't left out, and of which nothing was known.
+pub record AddsSetup (left_out : DeviceSet) (before : Setups) (text : List ℕ) (after : Setups)
+    : Type 0 where
+  pub device : Device
+  pub bytes : List ℕ
+  pub spelled : text ≡ setup_text device bytes
+  pub followed : has left_out device ≡ false
+  pub new : has (known_devices before) device ≡ false
+  pub is : IsSetupOf device bytes before after
+
+-- The values of `--setup`, in their order, and what is known with them.
+abbrev pub AreSetups : DeviceSet → Setups → List (List ℕ) → Setups → Type 0
+AreSetups left_out before [] after = after ≡ before
+AreSetups left_out before (text ∷ more) after = (next : Setups)
+    × AddsSetup left_out before text next × AreSetups left_out next more after
+
+-- A recording from power-on on is asked for, with no setup data, and it is taken so.
+pub record IsFromPowerOn (values : List ℕ → List (List ℕ)) (used : List ℕ → Bool)
+    (left_out : DeviceSet) (scope : Scope) : Type 0 where
+  pub not_joined : used (codes "joined") ≡ false
+  pub no_setups : values (codes "setup") ≡ []
+  pub is : scope ≡ leaving_out left_out
+
+-- A recording in mid-session is asked for, with these setup data, and it is taken so.
+pub record IsJoined (values : List ℕ → List (List ℕ)) (used : List ℕ → Bool)
+    (left_out : DeviceSet) (scope : Scope) : Type 0 where
+  pub joined : used (codes "joined") ≡ true
+  pub setups : Setups
+  pub told : AreSetups left_out nothing_known (values (codes "setup")) setups
+  pub is : scope ≡ in_mid_session setups left_out
+
+-- The values of the options of `check`, and whether each flag was used, ask for a recording that is
+-- taken so.
+abbrev pub AskToCheck : (List ℕ → List (List ℕ)) → (List ℕ → Bool) → Scope → Type 0
+AskToCheck values used scope = (left_out : DeviceSet)
+    × AreDevices (values (codes "without")) left_out
+    × (IsFromPowerOn values used left_out scope ⊎ IsJoined values used left_out scope)
+
+-- Those of `show`, `explain` and `replay`, which take no recording from mid-session on.
+abbrev pub AskToShow : (List ℕ → List (List ℕ)) → Scope → Type 0
+AskToShow values scope = (left_out : DeviceSet)
+    × AreDevices (values (codes "without")) left_out × (scope ≡ leaving_out left_out)
+
+-- The words of `explain` are those of this goal.
+pub record AskForGoal (values : List ℕ → List (List ℕ)) (goal : Goal) : Type 0 where
+  pub account : values (codes "ACCOUNT") ≡ account_word goal.account ∷ []
+  pub side : values (codes "SIDE") ≡ side_word goal.side ∷ []
+  pub bound : values (codes "BOUND") ≡ bound_word goal.bound ∷ []
+
+-- ---- what words name
+
+-- the words of a command line, the program's name first, name `check`, of a recording that is taken
+-- so, with an answer in this form
+abbrev pub NamesCheck : List (List ℕ) → Scope → Form → Type 0
+NamesCheck words scope form = (uses : Uses) × NameCommand words check_command uses
+    × AskToCheck (λ name. chosen name uses) (λ name. is_used name uses) scope
+    × (form ≡ form_of (is_used (codes "json") uses))
+
+-- they name `show`
+abbrev pub NamesShow : List (List ℕ) → Scope → Form → Type 0
+NamesShow words scope form = (uses : Uses) × NameCommand words show_command uses
+    × AskToShow (λ name. chosen name uses) scope × (form ≡ form_of (is_used (codes "json") uses))
+
+-- they name `replay`
+abbrev pub NamesReplay : List (List ℕ) → Scope → Form → Type 0
+NamesReplay words scope form = (uses : Uses) × NameCommand words replay_command uses
+    × AskToShow (λ name. chosen name uses) scope × (form ≡ form_of (is_used (codes "json") uses))
+
+-- they name `explain` with a goal; it writes text alone
+abbrev pub NamesExplain : List (List ℕ) → Goal → Scope → Type 0
+NamesExplain words goal scope = (uses : Uses) × NameCommand words explain_command uses
+    × AskForGoal (λ name. chosen name uses) goal × AskToShow (λ name. chosen name uses) scope
+
+-- they name `manual`, and ask for this text of it
+abbrev pub NamesManual : List (List ℕ) → List ℕ → Type 0
+NamesManual words text = (uses : Uses) × NameCommand words manual_command uses
+    × AskForManual mdbcheck_manual (chosen (codes "COMMAND") uses) text
+
+-- they name one of the tasks that read a recording
+abbrev pub NameAReading : List (List ℕ) → Type 0
+NameAReading words = (scope : Scope)
+    × (((form : Form) × NamesCheck words scope form) ⊎ ((form : Form) × NamesShow words scope form)
+    ⊎ ((goal : Goal) × NamesExplain words goal scope)
+    ⊎ ((form : Form) × NamesReplay words scope form))
+
+-- they name one of the tasks
+abbrev pub NameATask : List (List ℕ) → Type 0
+NameATask words = NameAReading words ⊎ ((text : List ℕ) × NamesManual words text)
+
+-- what is written of an answer: its text, or its line of JSON
+abbrev pub answer_text : Form → Scope → Outcome → List ℕ
+answer_text Text scope outcome = report_text scope outcome
+answer_text Json scope outcome = json_line scope outcome
+
+-- the lines that are written of what is shown: those of the text, or objects of JSON
+abbrev pub lines_in : Form → LineForm
+lines_in Text = text_lines
+lines_in Json = json_lines
+
+-- What the statuses of `check` say of the records of a text, and of the bytes that the writer held
+-- before and after. At 2 nothing was written, or the writer failed, and took a front of what is
+-- written of the verdict that there is.
+pub record SaysChecked (scope : Scope) (form : Form) (records : List (List (List ℕ)))
+    (before after : Option (List ℕ)) (status : ℕ) : Type 0 where
+  pub possible : status ≡ 0 → (report : Report) × IsPossible scope ROWS_MAX records report
+      × Appends before after (answer_text form scope (Yes report))
+  pub impossible : status ≡ 1 → (offence : Offence) × IsImpossible scope ROWS_MAX records offence
+      × Appends before after (answer_text form scope (No offence))
+  pub unanswered : status ≡ 2 → (after ≡ before)
+      ⊎ IsCutIn (answer_text form) scope ROWS_MAX records before after
+
+-- The same of `show`. At 2 a front of a text was written that the records are shown with: its lines
+-- up to the fault, or fewer, where the writer failed.
+pub record SaysShown (scope : Scope) (form : Form) (records : List (List (List ℕ)))
+    (before after : Option (List ℕ)) (status : ℕ) : Type 0 where
+  pub whole : status ≡ 0 → (text : List ℕ) × IsShownWholeIn (lines_in form) scope records text
+      × Appends before after text
+  pub to_fault : status ≡ 1 → (fault : LinkFault) × (text : List ℕ)
+      × IsShownToFaultIn (lines_in form) scope records fault text × Appends before after text
+  pub unanswered : status ≡ 2 → IsCutShortIn (lines_in form) scope records before after
+
+-- What the statuses of `explain` say, as those of `check` do: at 0 an explanation was written.
+pub record SaysExplained (scope : Scope) (goal : Goal) (records : List (List (List ℕ)))
+    (before after : Option (List ℕ)) (status : ℕ) : Type 0 where
+  pub possible : status ≡ 0 → (report : Report) × IsPossible scope ROWS_MAX records report
+      × IsExplainedIn scope goal records before after (Yes report)
+  pub impossible : status ≡ 1 → (offence : Offence) × IsImpossible scope ROWS_MAX records offence
+      × Appends before after (report_text scope (No offence))
+  pub unanswered : status ≡ 2
+      → (after ≡ before) ⊎ IsCutExplanation scope ROWS_MAX goal records before after
+
+-- What the statuses of `replay` say of the records of an input, as those of `check` do.
+pub record SaysReplayed (scope : Scope) (form : Form) (records : List (List (List ℕ)))
+    (before after : Option (List ℕ)) (status : ℕ) : Type 0 where
+  pub possible : status ≡ 0 → (report : Report) × IsReplayed scope ROWS_MAX records report
+      × Appends before after (answer_text form scope (Yes report))
+  pub impossible : status ≡ 1 → (offence : Offence) × StopsAt scope ROWS_MAX records (Ok offence)
+      × Appends before after (answer_text form scope (No offence))
+  pub unanswered : status ≡ 2
+      → (after ≡ before)
+      ⊎ IsCutReplayIn (answer_text form) scope ROWS_MAX records before after
+
+-- What the statuses of `manual` say: at 0 its text was written. At 2 the writer failed, and took a
+-- front of it. There is no other.
+pub record SaysManual (text : List ℕ) (before after : Option (List ℕ)) (status : ℕ) : Type 0 where
+  pub written : status ≡ 0 → Appends before after text
+  pub no_other : status ≢ 1
+  pub broken : status ≡ 2 → HasTaken before after text
+
+-- What the status of the program says: what it says of the task that the words name, of a recording
+-- that is taken as they ask and in the form that they ask for, or of the manual; or that the words
+-- were refused, with nothing written. Words that name no task always are. (That others are for want of memory alone is
+-- a promise of a private function, `task_of`.)
+pub data Says (words : List (List ℕ)) (records : List (List (List ℕ)))
+    (before after : Option (List ℕ)) (status : ℕ) : Type 0 where
+  checked : (scope : Scope) (form : Form) → NamesCheck words scope form
+      → SaysChecked scope form records before after status → Says words records before after status
+  shown : (scope : Scope) (form : Form) → NamesShow words scope form
+      → SaysShown scope form records before after status → Says words records before after status
+  explained : (scope : Scope) (goal : Goal) → NamesExplain words goal scope
+      → SaysExplained scope goal records before after status
+      → Says words records before after status
+  replayed : (scope : Scope) (form : Form) → NamesReplay words scope form
+      → SaysReplayed scope form records before after status
+      → Says words records before after status
+  told : (text : List ℕ) → NamesManual words text → SaysManual text before after status
+      → Says words records before after status
+  refused : status ≡ 2 → after ≡ before → Says words records before after status
+
+-- The rest serves private functions: the status for an answer of `check`, `explain` or `replay`, and
+-- of `show`.
+abbrev pub status_of : {Fault : Type 0} → Result Outcome Fault → ℕ
+status_of (Ok (Yes report)) = 0
+status_of (Ok (No offence)) = 1
+status_of (Err fault) = 2
+
+abbrev pub show_status_of : Result (Option LinkFault) RunFault → ℕ
+show_status_of (Ok None) = 0
+show_status_of (Ok (Some fault)) = 1
+show_status_of (Err fault) = 2

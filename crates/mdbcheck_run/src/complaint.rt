@@ -1,0 +1,107 @@
+//! What standard error is told where there is no answer.
+
+ghost use Rattle.std.specs.Prelude.{◌≡◌};
+ghost use Rattle.mdb_writing.specs.Written.{HasTaken};
+ghost use Rattle.mdbcheck_run.specs.Complaint.{IsToldCause, cause_line, excess_line};
+
+use csv::ByteRecord;
+use mdb_records::{ReadCause, Records};
+use mdb_verdict::RunFault;
+use mdb_words::RowFault;
+use mdb_writing::{Excerpt, write_text};
+use std::io::{Read, Write};
+
+/// What a record may be.
+#[derive(Clone, Copy, PartialEq, Eq, Debug)]
+pub(crate) enum Wanted {
+    /// A row of a transcript.
+    Row,
+    /// A mark row, or a row of a transcript.
+    MarkOrRow,
+}
+
+/// Writes one line on a fault: at a record that is none of what it may be the form that is wanted
+/// and what stands there, where the reading failed its cause. The records are those that the fault
+/// was met with. Where the line is refused, nothing more is tried.
+pub(crate) fn complain<R: Read + Drop, E: Write>(
+    fault: RunFault,
+    wanted: Wanted,
+    records: &Records<R>,
+    err: &mut E,
+)
+    ensures excess { fault ≡ RunFault.TooLong
+        → HasTaken (E.contents err.old) (E.contents err.new) excess_line }
+    ensures read { fault ≡ RunFault.Read
+        → IsToldCause records.now (E.contents err.old) (E.contents err.new) }
+{
+    match fault {
+        RunFault::BadRow { .. } => {
+            let _ = complain_of_row(fault, wanted, records.row(), err);
+        }
+        RunFault::TooLong => tell(err, text_of_excess()),
+        RunFault::Read => tell(err, text_of_cause(records.cause())),
+        RunFault::Write | RunFault::Memory => {
+            let _ = writeln!(err, "mdbcheck: {fault}");
+        }
+    }
+}
+
+/// Writes a line, or a front of it where that fails.
+fn tell<E: Write>(err: &mut E, line: &str)
+    ensures { HasTaken (E.contents err.old) (E.contents err.new) line.now }
+{
+    let _ = write_text(err, line.as_bytes());
+}
+
+/// Writes the line on a record that is no row.
+fn complain_of_row<E: Write>(
+    fault: RunFault,
+    wanted: Wanted,
+    row: &ByteRecord,
+    err: &mut E,
+) -> std::io::Result<()> {
+    let mut found = Excerpt::of_record();
+    for place in 0..row.len() {
+        found.add_field(row.get(place).unwrap_or(&[]));
+    }
+    let form = form_of(fault, wanted, row);
+    writeln!(err, "mdbcheck: {fault}: wanted {form}, found \"{found}\"")
+}
+
+/// The form that is wanted where a record is refused: that of a row, or of a mark, where it was
+/// taken for one in front of the rows.
+fn form_of(fault: RunFault, wanted: Wanted, row: &ByteRecord) -> &'static str {
+    let is_misplaced = matches!(
+        fault,
+        RunFault::BadRow {
+            fault: RowFault::BadLine,
+            ..
+        }
+    );
+    let is_for_mark = row.len() == 3 && matches!(row.get(1), Some([b'L' | b'R']));
+    if wanted == Wanted::MarkOrRow && is_for_mark && !is_misplaced {
+        "ROW,L,- or ROW,R,-"
+    } else {
+        "TIME,LINE,VALUE"
+    }
+}
+
+/// The line on more rows than the program reads.
+fn text_of_excess() -> &'static str
+    ensures { result.now ≡ excess_line }
+{
+    "mdbcheck: more than 100000000 rows\n"
+}
+
+/// The line on an input that can't be read.
+fn text_of_cause(cause: ReadCause) -> &'static str
+    ensures { result.now ≡ cause_line cause }
+{
+    match cause {
+        ReadCause::Failed => "mdbcheck: the input can't be read\n",
+        ReadCause::WouldBlock => {
+            "mdbcheck: the input can't be read: it would have to be waited for\n"
+        }
+        ReadCause::OverLimit => "mdbcheck: the input has more than 6400000000 bytes\n",
+    }
+}

@@ -1,0 +1,46 @@
+//! Laws of command lines. Each function's contract is the law, and its body calls the laws that it
+//! rests on.
+
+ghost use Rattle.std.specs.Prelude.{◌≡◌, ◌⊎◌, ℕ, List};
+ghost use Rattle.mdb_bus.specs.declared.scope.Scope.{Scope};
+ghost use Rattle.mdb_follow.specs.declared.goal.Goal.{Goal};
+ghost use Rattle.mdbcheck_run.specs.Program.{NameAReading, NamesCheck, NamesExplain, NamesManual};
+ghost use Rattle.mdbcheck_run.specs.Program.{NamesReplay, NamesShow};
+ghost use Rattle.mdbcheck_run.specs.declared.form.Form.{Form};
+
+use command_words::laws as command_lines;
+use mdb_msgs::laws as messages;
+
+/// The words of a command line name one task at most, of a recording that is taken in one way, with
+/// what is written in one form, `explain` with one goal, and `manual` with one text.
+///
+/// So where they name one, the status of the program says what it says of that task and of that
+/// recording, or it is 2, and nothing was written. (The program does that for want of memory alone:
+/// that is a promise of the private `task_of`.)
+pub fn command_lines_name_one_task()
+    ensures check { (words : List (List ℕ)) (a b : Scope) (form other : Form)
+        → NamesCheck words a form → NamesCheck words b other → (a ≡ b) × (form ≡ other) }
+    ensures show { (words : List (List ℕ)) (a b : Scope) (form other : Form)
+        → NamesShow words a form → NamesShow words b other → (a ≡ b) × (form ≡ other) }
+    ensures explain { (words : List (List ℕ)) (goal other : Goal) (a b : Scope)
+        → NamesExplain words goal a → NamesExplain words other b
+        → (goal ≡ other) × (a ≡ b) }
+    ensures replay { (words : List (List ℕ)) (a b : Scope) (form other : Form)
+        → NamesReplay words a form → NamesReplay words b other → (a ≡ b) × (form ≡ other) }
+    ensures not_both { (words : List (List ℕ)) (a b : Scope) (form other : Form)
+        → NamesCheck words a form → NamesShow words b other → ⊥ }
+    ensures no_check { (words : List (List ℕ)) (a b : Scope) (form other : Form)
+        → NamesCheck words a form → NamesReplay words b other → ⊥ }
+    ensures no_show { (words : List (List ℕ)) (a b : Scope) (form other : Form)
+        → NamesShow words a form → NamesReplay words b other → ⊥ }
+    ensures explain_only { (words : List (List ℕ)) (goal : Goal) (a b : Scope) (form : Form)
+        → NamesExplain words goal a
+        → NamesCheck words b form ⊎ NamesShow words b form ⊎ NamesReplay words b form → ⊥ }
+    ensures manual { (words : List (List ℕ)) (text other : List ℕ)
+        → NamesManual words text → NamesManual words other → text ≡ other }
+    ensures manual_only { (words : List (List ℕ)) (text : List ℕ)
+        → NamesManual words text → NameAReading words → ⊥ }
+{
+    command_lines::words_name_one_command();
+    messages::answer_tells_one_setup();
+}

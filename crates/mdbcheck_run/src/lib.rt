@@ -1,0 +1,18 @@
+//! The program `mdbcheck`, as a function of its words.
+//!
+//! [`run`] does what the words of a command line ask, and writes to standard error why there is no
+//! answer.
+#![tactic(auto)]
+
+mod command_line;
+mod complaint;
+mod form;
+mod goal_words;
+pub mod laws;
+mod manual;
+mod program;
+mod refusal;
+mod refused;
+mod setup_value;
+
+pub use program::run;

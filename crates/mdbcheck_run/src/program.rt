@@ -1,0 +1,319 @@
+//! The program over its words.
+
+ghost use Rattle.std.specs.Prelude.{◌≡◌, ◌≢◌, ◌<◌, ◌⊎◌, ℕ, List, None, Ok, Err};
+ghost use Rattle.std.specs.Prelude.{IfSome, length, map, option_map, string_bytes};
+ghost use Rattle.command_words.specs.Manual.{manual_text};
+ghost use Rattle.mdbcheck_run.specs.Complaint.{IsToldCause, excess_line};
+ghost use Rattle.mdbcheck_run.specs.Program.{NameAReading, NameATask, Says};
+ghost use Rattle.mdbcheck_run.specs.Program.{SaysChecked, SaysExplained, SaysManual, SaysReplayed};
+ghost use Rattle.mdbcheck_run.specs.Program.{SaysShown};
+ghost use Rattle.mdbcheck_run.specs.Program.{lines_in, mdbcheck_manual, show_status_of, status_of};
+ghost use Rattle.mdb_show.specs.Show.{ShowsIn};
+ghost use Rattle.mdb_bus.specs.Scopes.{leaving_out};
+ghost use Rattle.mdb_verdict.specs.declared.verdict.TheConstants.{BYTES_MAX};
+ghost use Rattle.mdb_writing.specs.Written.{HasTaken};
+ghost use Rattle.mdb_records.specs.ToCome.{IsOverLimit, ToCome, limit_of};
+ghost use Rattle.csv.specs.Reading.{default_config, records, strip_bom};
+
+use super::command_line::{PROGRAM, Task, task_of};
+use super::complaint::{Wanted, complain};
+use super::form::Form;
+use super::refusal::Refusal;
+use super::refused::tell_refusal;
+use command_words::write_manual;
+use mdb_bus::{LinkFault, Scope};
+use mdb_explain::{MarkedFault, explain_records, replay_records};
+use mdb_follow::{Goal, ROWS_MAX};
+use mdb_msgs::DeviceSet;
+use mdb_records::Records;
+use mdb_show::{show_json_records, show_records};
+use mdb_text::Outcome;
+use mdb_verdict::{BYTES_MAX, RunFault, check_records, records_of};
+use mdb_writing::WriteFailed;
+use std::alloc::Global;
+use std::io::{Read, Write};
+
+/// The status of a transcript that can have been, or has no link fault.
+const POSSIBLE: u8 = 0;
+
+/// The status of a transcript that cannot have been, or has a link fault.
+const IMPOSSIBLE: u8 = 1;
+
+/// The status where there is no verdict, and the acts aren't shown to the end.
+const NO_VERDICT: u8 = 2;
+
+/// Runs the program for the words of its command line, the program's name first, and returns its
+/// exit status.
+///
+/// `check`:
+///
+/// - 0: the recording is possible, and its report is on `out`.
+/// - 1: it is impossible, and the report on `out` shows why.
+///
+/// `show`:
+///
+/// - 0: each act of the recording has a line on `out`.
+/// - 1: a row breaks a rule of the link. The last line on `out` reports it, and the lines before it
+///   are those of the acts.
+///
+/// `explain`:
+///
+/// - 0: the recording is possible, and an explanation of the goal is on `out`: marks, and then the
+///   rows.
+/// - 1: it is impossible, and the report on `out` shows why.
+///
+/// `replay`:
+///
+/// - 0: the recording has a run with the marks before it, and its report is on `out`.
+/// - 1: it has none, and the report on `out` shows why.
+///
+/// `manual`:
+///
+/// - 0: the manual, or the part on the command that is named, is on `out`. It needs no input.
+///
+/// With status 2 there is no such answer. Either the task met a fault, or the words aren't a
+/// command of the program. Words that ask for help or for the version count as none too. One line
+/// on `err` shows why. If `err` refuses the line, the status is the same.
+///
+/// With `--json`, `check` and `replay` write their report as one line of JSON, and `show` a line of
+/// JSON for each act.
+pub fn run<R: Read + Drop, W: Write, E: Write>(
+    alloc: Global,
+    words: Vec<String>,
+    reader: R,
+    out: &mut W,
+    err: &mut E,
+) -> u8
+    ensures status { result < 3 }
+    ensures says { IfSome (R.remaining reader) (λ text. Says (map string_bytes words.items)
+        (records default_config (strip_bom text)) (W.contents out.old) (W.contents out.new)
+        result) }
+    ensures named { NameATask (map string_bytes words.items)
+        ⊎ ((result ≡ NO_VERDICT) × (out.new ≡ out.old)) }
+    ensures whole { NameAReading (map string_bytes words.items)
+        → IfSome (R.remaining reader) (λ text. BYTES_MAX < length text → result ≢ POSSIBLE) }
+    ensures silent { result < 2 → err.new ≡ err.old }
+{
+    match task_of(alloc, words.as_slice()) {
+        Ok(Task::Check(scope, form)) => run_check(alloc, &scope, form, reader, out, err),
+        Ok(Task::Show(scope, form)) => run_show(alloc, &scope, form, reader, out, err),
+        Ok(Task::Explain(goal, without)) => { run_explain(alloc, without, &goal, reader, out, err) }
+        Ok(Task::Replay(without, form)) => run_replay(alloc, without, form, reader, out, err),
+        Ok(Task::Manual(part)) => run_manual(part, out, err),
+        Err(refusal) => refuse(alloc, refusal, words.as_slice(), err),
+    }
+}
+
+/// Gives the verdict on the text that the reader has left.
+fn run_check<R: Read + Drop, W: Write, E: Write>(
+    alloc: Global,
+    scope: &Scope,
+    form: Form,
+    reader: R,
+    out: &mut W,
+    err: &mut E,
+) -> u8
+    ensures status { result < 3 }
+    ensures says { IfSome (R.remaining reader) (λ text. SaysChecked scope.now form
+        (records default_config (strip_bom text)) (W.contents out.old) (W.contents out.new)
+        result) }
+    ensures whole { IfSome (R.remaining reader) (λ text. BYTES_MAX < length text
+        → result ≢ POSSIBLE) }
+    ensures silent { result < 2 → err.new ≡ err.old }
+{
+    let mut records = input_of(alloc, reader);
+    let answer = check_records(alloc, &form, scope, &mut records, out, ROWS_MAX);
+    finish_check(answer, Wanted::Row, &records, err)
+}
+
+/// Shows the acts of the text that the reader has left.
+fn run_show<R: Read + Drop, W: Write, E: Write>(
+    alloc: Global,
+    scope: &Scope,
+    form: Form,
+    reader: R,
+    out: &mut W,
+    err: &mut E,
+) -> u8
+    ensures status { result < 3 }
+    ensures says { IfSome (R.remaining reader) (λ text. SaysShown scope.now form
+        (records default_config (strip_bom text)) (W.contents out.old) (W.contents out.new)
+        result) }
+    ensures whole { IfSome (R.remaining reader) (λ text. BYTES_MAX < length text
+        → result ≢ POSSIBLE) }
+    ensures silent { result < 2 → err.new ≡ err.old }
+{
+    let mut records = input_of(alloc, reader);
+    let answer = show_in(alloc, scope, form, &mut records, out);
+    finish_show(answer, &records, err)
+}
+
+/// Replays the text that the reader has left: marks, and then a transcript.
+fn run_replay<R: Read + Drop, W: Write, E: Write>(
+    alloc: Global,
+    without: DeviceSet,
+    form: Form,
+    reader: R,
+    out: &mut W,
+    err: &mut E,
+) -> u8
+    ensures status { result < 3 }
+    ensures says { IfSome (R.remaining reader) (λ text. SaysReplayed (leaving_out without) form
+        (records default_config (strip_bom text)) (W.contents out.old) (W.contents out.new)
+        result) }
+    ensures whole { IfSome (R.remaining reader) (λ text. BYTES_MAX < length text
+        → result ≢ POSSIBLE) }
+    ensures silent { result < 2 → err.new ≡ err.old }
+{
+    let mut records = input_of(alloc, reader);
+    let answer = replay_records(alloc, &form, without, &mut records, out);
+    finish_replay(answer, &records, err)
+}
+
+/// Explains the text that the reader has left.
+fn run_explain<R: Read + Drop, W: Write, E: Write>(
+    alloc: Global,
+    without: DeviceSet,
+    goal: &Goal,
+    reader: R,
+    out: &mut W,
+    err: &mut E,
+) -> u8
+    ensures status { result < 3 }
+    ensures says { IfSome (R.remaining reader) (λ text. SaysExplained (leaving_out without) goal.now
+        (records default_config (strip_bom text)) (W.contents out.old) (W.contents out.new)
+        result) }
+    ensures whole { IfSome (R.remaining reader) (λ text. BYTES_MAX < length text
+        → result ≢ POSSIBLE) }
+    ensures silent { result < 2 → err.new ≡ err.old }
+{
+    let mut records = input_of(alloc, reader);
+    let answer = explain_records(alloc, without, &mut records, out, goal);
+    finish_check(answer, Wanted::Row, &records, err)
+}
+
+/// Prints the manual, or a part of it.
+fn run_manual<W: Write, E: Write>(part: Option<&str>, out: &mut W, err: &mut E) -> u8
+    ensures status { result < 3 }
+    ensures says { SaysManual
+        (manual_text mdbcheck_manual (option_map (λ text. text.now) part.entry))
+        (W.contents out.old) (W.contents out.new) result }
+    ensures silent { result < 2 → err.new ≡ err.old }
+{
+    match write_manual(&PROGRAM, part, out) {
+        Ok(()) => POSSIBLE,
+        Err(WriteFailed) => {
+            let _ = writeln!(err, "mdbcheck: {}", WriteFailed);
+            NO_VERDICT
+        }
+    }
+}
+
+/// Shows the records that are still to come in this form.
+fn show_in<R: Read + Drop, W: Write>(
+    alloc: Global,
+    scope: &Scope,
+    form: Form,
+    records: &mut Records<R>,
+    out: &mut W,
+) -> Result<Option<LinkFault>, RunFault>
+    ensures shows { (all : List (List (List ℕ))) → ToCome R.remaining records.old all
+        → ShowsIn (lines_in form) scope.now all (W.contents out.old) (W.contents out.new) result }
+    ensures whole { IsOverLimit R.remaining records.old → result ≢ Ok None }
+{
+    match form {
+        Form::Text => show_records(alloc, scope, records, out),
+        Form::Json => show_json_records(alloc, scope, records, out),
+    }
+}
+
+/// The records of the text that the reader has left, of which at most [`BYTES_MAX`] bytes are read.
+fn input_of<R: Read + Drop>(alloc: Global, reader: R) -> Records<R>
+    ensures records { IfSome (R.remaining reader) (λ text.
+        ToCome R.remaining result (records default_config (strip_bom text))) }
+    ensures over { IfSome (R.remaining reader) (λ text.
+        BYTES_MAX < length text → IsOverLimit R.remaining result) }
+    ensures limit { limit_of result ≡ BYTES_MAX }
+{
+    records_of(alloc, reader, BYTES_MAX)
+}
+
+/// The status of a verdict or of an explanation; a fault is told.
+fn finish_check<R: Read + Drop, E: Write>(
+    answer: Result<Outcome, RunFault>,
+    wanted: Wanted,
+    records: &Records<R>,
+    err: &mut E,
+) -> u8
+    ensures status { result ≡ status_of answer }
+    ensures silent { result < 2 → err.new ≡ err.old }
+    ensures excess { answer ≡ Err RunFault.TooLong
+        → HasTaken (E.contents err.old) (E.contents err.new) excess_line }
+    ensures read { answer ≡ Err RunFault.Read
+        → IsToldCause records.now (E.contents err.old) (E.contents err.new) }
+{
+    match answer {
+        Ok(Outcome::Yes(_)) => POSSIBLE,
+        Ok(Outcome::No(_)) => IMPOSSIBLE,
+        Err(fault) => {
+            complain(fault, wanted, records, err);
+            NO_VERDICT
+        }
+    }
+}
+
+/// The status of a replay; a fault is told.
+fn finish_replay<R: Read + Drop, E: Write>(
+    answer: Result<Outcome, MarkedFault>,
+    records: &Records<R>,
+    err: &mut E,
+) -> u8
+    ensures status { result ≡ status_of answer }
+    ensures silent { result < 2 → err.new ≡ err.old }
+    ensures excess { answer ≡ Err (MarkedFault.Run RunFault.TooLong)
+        → HasTaken (E.contents err.old) (E.contents err.new) excess_line }
+    ensures read { answer ≡ Err (MarkedFault.Run RunFault.Read)
+        → IsToldCause records.now (E.contents err.old) (E.contents err.new) }
+{
+    match answer {
+        Ok(outcome) => finish_check(Ok(outcome), Wanted::MarkOrRow, records, err),
+        Err(MarkedFault::Run(fault)) => {
+            finish_check(Err(fault), Wanted::MarkOrRow, records, err)
+        }
+        Err(fault) => {
+            let _ = writeln!(err, "mdbcheck: {fault}");
+            NO_VERDICT
+        }
+    }
+}
+
+/// The status of what was shown; a fault is told.
+fn finish_show<R: Read + Drop, E: Write>(
+    answer: Result<Option<LinkFault>, RunFault>,
+    records: &Records<R>,
+    err: &mut E,
+) -> u8
+    ensures status { result ≡ show_status_of answer }
+    ensures silent { result < 2 → err.new ≡ err.old }
+    ensures excess { answer ≡ Err RunFault.TooLong
+        → HasTaken (E.contents err.old) (E.contents err.new) excess_line }
+    ensures read { answer ≡ Err RunFault.Read
+        → IsToldCause records.now (E.contents err.old) (E.contents err.new) }
+{
+    match answer {
+        Ok(None) => POSSIBLE,
+        Ok(Some(_)) => IMPOSSIBLE,
+        Err(fault) => {
+            complain(fault, Wanted::Row, records, err);
+            NO_VERDICT
+        }
+    }
+}
+
+/// Tells why a command line with these words is refused.
+fn refuse<E: Write>(alloc: Global, refusal: Refusal, words: &[String], err: &mut E) -> u8
+    ensures { result ≡ NO_VERDICT }
+{
+    tell_refusal(alloc, refusal, words, err);
+    NO_VERDICT
+}

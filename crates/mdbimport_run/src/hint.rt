@@ -1,0 +1,91 @@
+//! What a header or record of a table of edges is likely to be refused for.
+
+use csv::ByteRecord;
+use mdb_edges::{EdgesOptions, FormFault};
+use mdb_exports::bare;
+use thiserror::Error;
+
+/// The likely cause of a refusal.
+#[derive(Clone, Copy, PartialEq, Eq, Debug, Error)]
+pub(crate) enum Hint {
+    /// Semicolons stand between the fields.
+    #[error("are its fields parted by semicolons, and not by commas?")]
+    Semicolons,
+    /// Tabs stand between the fields.
+    #[error("are its fields parted by tabs, and not by commas?")]
+    Tabs,
+    /// A column is called as is wanted, but for the case of its letters.
+    #[error("does a name differ by great and small letters alone?")]
+    Case,
+    /// A decimal comma stands between commas.
+    #[error("is there a decimal comma that doesn't stand in quotes?")]
+    DecimalComma,
+}
+
+/// How many fields the records of a table have at least: a time and two levels.
+const FEWEST: usize = 3;
+
+/// The likely cause of a record that is misformed, if one is known.
+pub(crate) fn hint_of(options: &EdgesOptions, fault: FormFault, row: &ByteRecord) -> Option<Hint> {
+    if has(row, b';') {
+        return Some(Hint::Semicolons);
+    }
+    if has(row, b'\t') {
+        return Some(Hint::Tabs);
+    }
+    match fault {
+        FormFault::Columns => {
+            if is_called(row, &options.controller) || is_called(row, &options.peripheral) {
+                Some(Hint::Case)
+            } else {
+                None
+            }
+        }
+        FormFault::FieldCount => {
+            if row.len() > FEWEST && has_digits_alone(row, 0) && has_digits_alone(row, 1) {
+                Some(Hint::DecimalComma)
+            } else {
+                None
+            }
+        }
+        FormFault::NoHeader | FormFault::BadTime | FormFault::LongTime => None,
+    }
+}
+
+/// Whether a byte stands in a field of a record.
+fn has(row: &ByteRecord, byte: u8) -> bool {
+    for place in 0..row.len() {
+        if field_at(row, place).iter().any(|it| *it == byte) {
+            return true;
+        }
+    }
+    false
+}
+
+/// Whether a column behind the first is called by a name but for the case of its letters, if one was
+/// told and none is called by that itself.
+fn is_called(row: &ByteRecord, name: &Option<String>) -> bool {
+    let Some(name) = name else {
+        return false;
+    };
+    let mut is_near = false;
+    for place in 1..row.len() {
+        let field = bare(field_at(row, place));
+        if field == name.as_bytes() {
+            return false;
+        }
+        is_near = is_near || field.eq_ignore_ascii_case(name.as_bytes());
+    }
+    is_near
+}
+
+/// Whether a field has digits, and nothing else.
+fn has_digits_alone(row: &ByteRecord, place: usize) -> bool {
+    let field = bare(field_at(row, place));
+    !field.is_empty() && field.iter().all(|it| it.is_ascii_digit())
+}
+
+/// A field of a record; no bytes where it has so few.
+fn field_at(row: &ByteRecord, place: usize) -> &[u8] {
+    row.get(place).unwrap_or(&[])
+}

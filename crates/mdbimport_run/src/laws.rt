@@ -1,0 +1,52 @@
+//! Laws of command lines and of what is written. Each function's contract is the law, and its body
+//! calls the laws that it rests on.
+
+ghost use Rattle.std.specs.Prelude.{◌≡◌, ◌⊎◌, List, ℕ};
+ghost use Rattle.mdb_words.specs.declared.event.Event.{Event};
+ghost use Rattle.mdb_exports.specs.ReadBack.{AreReadBack};
+ghost use Rattle.mdb_rows_import.specs.declared.options.RowsOptions.{RowsOptions};
+ghost use Rattle.mdb_sigrok.specs.Part.{part_of};
+ghost use Rattle.mdb_sigrok.specs.Trace.{AreRowsOfTrace};
+ghost use Rattle.mdb_sigrok.specs.declared.options.SigrokOptions.{SigrokOptions};
+ghost use Rattle.mdb_saleae.specs.declared.options.SaleaeOptions.{SaleaeOptions};
+ghost use Rattle.mdb_edges.specs.declared.options.EdgesOptions.{EdgesOptions};
+ghost use Rattle.mdbimport_run.specs.Program.{AskTheSame, AskTheSameOfEdges, AskTheSameOfTable};
+ghost use Rattle.mdbimport_run.specs.Program.{NameAnImport, NameEdges, NameManual, NameRows};
+ghost use Rattle.mdbimport_run.specs.Program.{NameSaleae, NameSigrok};
+ghost use Rattle.mdbimport_run.specs.Program.{NamesEdges, NamesManual, NamesRows};
+ghost use Rattle.mdbimport_run.specs.Program.{NamesSaleae, NamesSigrok};
+
+use command_words::laws as command_lines;
+
+/// Words name at most one task, with options that ask for one thing.
+///
+/// So where a clause says that words name a task with some options, these are the ones.
+pub fn command_lines_name_one_task()
+    ensures rows { (words : List (List ℕ)) (a b : RowsOptions)
+        → NameRows words a → NameRows words b → AskTheSame a b }
+    ensures sigrok { (words : List (List ℕ)) (a b : SigrokOptions)
+        → NameSigrok words a → NameSigrok words b → a ≡ b }
+    ensures saleae { (words : List (List ℕ)) (a b : SaleaeOptions)
+        → NameSaleae words a → NameSaleae words b → AskTheSameOfTable a b }
+    ensures edges { (words : List (List ℕ)) (a b : EdgesOptions)
+        → NameEdges words a → NameEdges words b → AskTheSameOfEdges a b }
+    ensures rows_alone { (words : List (List ℕ)) → NamesRows words
+        → NamesSigrok words ⊎ (NamesSaleae words ⊎ NamesEdges words) → ⊥ }
+    ensures sigrok_alone { (words : List (List ℕ)) → NamesSigrok words
+        → NamesSaleae words ⊎ NamesEdges words → ⊥ }
+    ensures saleae_alone { (words : List (List ℕ)) → NamesSaleae words
+        → NamesEdges words → ⊥ }
+    ensures manual { (words : List (List ℕ)) (page other : List ℕ)
+        → NameManual words page → NameManual words other → page ≡ other }
+    ensures manual_alone { (words : List (List ℕ)) → NamesManual words
+        → NameAnImport words → ⊥ }
+{
+    command_lines::words_name_one_command();
+}
+
+/// What is written of a trace is read as just the rows that were written, as is what is written of
+/// an export or a table.
+pub fn rows_of_traces_are_read_back()
+    ensures { (options : SigrokOptions) (text : List ℕ) (rows : List Event)
+        → AreRowsOfTrace options.swap text rows → AreReadBack (part_of options rows) }
+{}

@@ -1,0 +1,141 @@
+//! The manual: what `mdbimport manual` prints. The man page is made of it (`tools/manual`).
+
+/// What the program is.
+pub const ABOUT: &str = "\
+NAME
+    mdbimport - rows of a recorded vending bus, from what recorders write
+
+SYNOPSIS
+        mdbimport sigrok < TRACE > ROWS
+        mdbimport rows < EXPORT > ROWS
+        mdbimport saleae < CSV > ROWS
+        mdbimport edges < CSV > ROWS
+        mdbimport manual [COMMAND]
+
+DESCRIPTION
+    mdbimport reads the export of a recorder from standard input, and writes
+    the rows that mdbcheck(1) reads to standard output. It guesses nothing,
+    and leaves nothing out without a word. What it can't be sure of is
+    refused, with the number of the record and, if it can be read, its time.
+
+    Options stand after the command. Each may stand once, but for --swap and
+    --invert. --unit=ms, in one word, means the same as two words.
+
+";
+
+/// `rows`.
+pub const ROWS: &str = "\
+ROWS
+        mdbimport rows [--unit s|ms|us|ns] [--controller NAME]
+            [--peripheral NAME] [--from T] [--until T] < EXPORT > ROWS
+
+    Imports rows in other forms: with a header, semicolons or tabs, in
+    seconds, milliseconds or nanoseconds, with a decimal comma, times of day,
+    0x, lost zeros, other names for the lines, in UTF-16. If the time of a
+    refused record can be read, it also names the time to go on with --from.
+
+    --unit s|ms|us|ns
+                     The unit of the times. Only times of day need none.
+    --controller NAME, --peripheral NAME
+                     What the export calls the two lines, besides M and S.
+    --from T, --until T
+                     A part of the export. T is a time in the microseconds of
+                     the rows, and both ends belong to the part. A bad record
+                     whose own time is outside the part is passed over, and
+                     counted.
+
+";
+
+/// `sigrok`.
+pub const SIGROK: &str = "\
+SIGROK
+        mdbimport sigrok [--swap] [--from T] [--until T] < TRACE > ROWS
+
+    Imports the trace that sigrok-cli writes of its decoder uart.
+    sigrok-trace.md has the command for it.
+
+    --swap           The channel RX is the controller's line.
+    --from T, --until T
+                     A part of the trace. T is a time in the microseconds of
+                     the rows, and both ends belong to the part.
+
+";
+
+/// `saleae`.
+pub const SALEAE: &str = "\
+SALEAE
+        mdbimport saleae [--controller NAME] [--peripheral NAME]
+            [--break T] [--from T] [--until T] < CSV > ROWS
+
+    Imports the table that Logic 2 exports of its analyser Async Serial, with
+    nine bits a word. saleae.md has its form.
+
+    --controller NAME, --peripheral NAME
+                     What the table calls the two lines.
+    --break T        How long each break was, in microseconds. The table
+                     doesn't show it. Without this option a break is refused.
+    --from T, --until T
+                     A part of the table. T is a time in the microseconds of
+                     the rows, and both ends belong to the part.
+
+";
+
+/// `edges`.
+pub const EDGES: &str = "\
+EDGES
+        mdbimport edges [--unit s|ms|us|ns] [--controller NAME]
+            [--peripheral NAME] [--invert] [--from T] [--until T]
+            < CSV > ROWS
+
+    Decodes a table of the times at which each channel changed. edges.md has
+    its form.
+
+    --unit s|ms|us|ns
+                     The unit of the times: seconds if none is given.
+    --controller NAME, --peripheral NAME
+                     What the table calls the two channels.
+    --invert         The levels of the table are upside down.
+    --from T, --until T
+                     A part of the table. T is a time in the microseconds of
+                     the rows, and both ends belong to the part.
+
+";
+
+/// `manual`.
+pub const MANUAL: &str = "\
+MANUAL
+        mdbimport manual [COMMAND]
+
+    Prints this manual, or the part on one command. It reads no input.
+
+";
+
+/// What is the same for all commands.
+pub const REST: &str = "\
+EXIT STATUS
+    0                All rows of the export, or of the part that is asked for,
+                     are on standard output, or the manual is. Lines on
+                     standard error may say what was passed over, and what is
+                     likely to be wrong with the recording.
+    2                Not all rows are there. A line on standard error says
+                     why.
+
+EXAMPLES
+    Check a trace of sigrok-cli, with no file in between:
+
+        mdbimport sigrok < reset-and-poll.json | mdbcheck check
+
+    Rows in milliseconds, in which the lines have names of their own:
+
+        mdbimport rows --unit ms --controller TX --peripheral RX \\
+            < milliseconds.csv > bus.csv
+
+    A tenth of a second of a table of edges:
+
+        mdbimport edges --controller \"Channel 0\" --peripheral \"Channel 1\" \\
+            --from 0 --until 100000 < edges.csv > bus.csv
+
+SEE ALSO
+    mdbcheck(1), sigrok-cli(1), and the pages importing.md and recording.md in
+    share/doc/mdbcheck/docs/bench
+";

@@ -1,0 +1,26 @@
+//! Why a command line is refused.
+
+use clap::error::ErrorKind;
+
+/// Why a command line is refused.
+#[derive(Clone, Copy, PartialEq, Eq, Debug)]
+pub enum Refusal {
+    /// For what `clap` reports about its words, for an option that is given twice, for a word of
+    /// `manual` that is no command, or because memory was refused.
+    Words(ErrorKind),
+    /// For a value of one of its options.
+    Value(ValueFault),
+}
+
+/// Why a value is refused.
+#[derive(Clone, Copy, PartialEq, Eq, Debug)]
+pub enum ValueFault {
+    /// That of `--unit` is none of `s`, `ms`, `us` and `ns`.
+    Unit,
+    /// That of `--controller` or `--peripheral` is empty, M, S or B, or both have one name.
+    Name,
+    /// That of `--break` is no length in microseconds, below 1000000000.
+    Length,
+    /// That of `--from` or `--until` isn't 1 to 15 digits, a time in microseconds.
+    Time,
+}
