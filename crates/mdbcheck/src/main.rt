@@ -2,6 +2,7 @@
 //! output whether the recording is possible.
 #![tactic(auto)]
 
+use mdb_progress::Progress;
 use std::io::BufReader;
 use std::process::ExitCode;
 use std::{env, io};
@@ -19,16 +20,18 @@ fn words(rt: &HostRuntime) -> io::Result<Vec<String>> {
 }
 
 /// Hands the words and the standard streams to `mdbcheck_run::run`, and answers its status. Where
-/// there is no memory for what is asked at once, a line says so, as of any other want of memory.
+/// there is no memory for what is asked at once, a line says so, as of any other want of memory. A
+/// long run shows how far it is where standard error is a terminal.
 fn run(rt: &HostRuntime, words: Vec<String>) -> u8 {
-    match BufReader::with_capacity(rt.alloc(), READ_SIZE, rt.stdin()) {
-        Ok(input) => mdbcheck_run::run(
-            rt.alloc(),
-            words,
-            input,
-            &mut rt.stdout(),
-            &mut rt.stderr(),
-        ),
+    let progress = Progress::new(rt, rt.stderr(), "mdbcheck");
+    match BufReader::with_capacity(rt.alloc(), READ_SIZE, progress.reader(rt.stdin())) {
+        Ok(input) => {
+            let mut out = progress.output(rt.stdout());
+            let mut err = progress.writer(rt.stderr());
+            let status = mdbcheck_run::run(rt.alloc(), words, input, &mut out, &mut err);
+            progress.end();
+            status
+        }
         Err(error) => {
             let _ = eprintln!(rt; "mdbcheck: {error}");
             NOT_BEGUN

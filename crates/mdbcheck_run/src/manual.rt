@@ -29,6 +29,9 @@ DESCRIPTION
     the same as two words. mdbcheck opens no file itself. It reads no
     configuration and no environment variable.
 
+    If standard error is a terminal, a run that takes longer than a second
+    shows there how many rows it has read, until it writes its output.
+
 ";
 
 /// `check`.

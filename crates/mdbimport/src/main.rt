@@ -2,6 +2,7 @@
 //! rows to standard output in the form that `mdbcheck` reads.
 #![tactic(auto)]
 
+use mdb_progress::Progress;
 use std::io::BufReader;
 use std::process::ExitCode;
 use std::{env, io};
@@ -19,12 +20,17 @@ fn words(rt: &HostRuntime) -> io::Result<Vec<String>> {
 }
 
 /// Hands the words and the standard streams to `mdbimport_run::run`, and answers its status. Where
-/// there is no memory for what is asked at once, a line says so, as of any other want of memory.
+/// there is no memory for what is asked at once, a line says so, as of any other want of memory. A
+/// long run shows how far it is where standard error is a terminal.
 fn run(rt: &HostRuntime, words: Vec<String>) -> u8 {
-    match BufReader::with_capacity(rt.alloc(), READ_SIZE, rt.stdin()) {
+    let progress = Progress::new(rt, rt.stderr(), "mdbimport");
+    match BufReader::with_capacity(rt.alloc(), READ_SIZE, progress.reader(rt.stdin())) {
         Ok(input) => {
-            let (mut out, mut err) = (rt.stdout(), rt.stderr());
-            mdbimport_run::run(rt.alloc(), words, input, &mut out, &mut err).status()
+            let mut out = progress.output(rt.stdout());
+            let mut err = progress.writer(rt.stderr());
+            let status = mdbimport_run::run(rt.alloc(), words, input, &mut out, &mut err).status();
+            progress.end();
+            status
         }
         Err(error) => {
             let _ = eprintln!(rt; "mdbimport: {error}");

@@ -21,6 +21,9 @@ DESCRIPTION
     Options stand after the command. Each may stand once, but for --swap and
     --invert. --unit=ms, in one word, means the same as two words.
 
+    If standard error is a terminal, a run that takes longer than a second
+    shows there how many rows it has read.
+
 ";
 
 /// `rows`.
